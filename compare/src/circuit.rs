@@ -1,0 +1,266 @@
+//! The plain circuit of a rule, its conditions, and the gates that each setting needs.
+
+use crate::answer::{Answer, Refusal};
+use crate::law::*;
+use crate::rule::{self, Expression, Rule, Statement};
+
+/// The number of a gate of the plain circuit; never that of a wire (see `write::Wire`).
+#[derive(Clone, Copy, Debug, PartialEq, Eq, PartialOrd, Ord)]
+pub struct GateNumber(pub usize);
+
+#[derive(Clone, Debug, PartialEq, Eq)]
+pub enum Gate {
+    /// A variable's starting value.
+    Start(usize, Kind),
+    Word(u32),
+    Bit(bool),
+    Operation(u8, Vec<GateNumber>),
+    /// Condition, first value, second value.
+    Choice(GateNumber, GateNumber, GateNumber),
+}
+
+impl Gate {
+    /// The code that the gate's record of a circuit file begins with.
+    pub fn code(&self) -> u8 {
+        match self {
+            Gate::Start(_, Kind::Word) => WORD_INPUT,
+            Gate::Start(_, Kind::Bit) => BIT_INPUT,
+            Gate::Word(_) => WORD,
+            Gate::Bit(_) => BIT,
+            Gate::Operation(code, _) => *code,
+            Gate::Choice(..) => CHOICE,
+        }
+    }
+
+    /// Every gate that this one reads; a choice reads all three.
+    pub fn arguments(&self) -> Vec<GateNumber> {
+        match self {
+            Gate::Start(..) | Gate::Word(_) | Gate::Bit(_) => Vec::new(),
+            Gate::Operation(_, arguments) => arguments.clone(),
+            Gate::Choice(condition, first, second) => vec![*condition, *first, *second],
+        }
+    }
+
+    pub fn cost(&self) -> usize {
+        match self {
+            Gate::Operation(code, _) => operation(*code).map_or(0, |row| row.cost),
+            Gate::Choice(..) => CHOICE_COST,
+            _ => 0,
+        }
+    }
+
+    /// Costly is an operation of the table with a cost above 0; so a choice is not.
+    pub fn costly(&self) -> bool {
+        matches!(self, Gate::Operation(..)) && self.cost() > 0
+    }
+}
+
+/// A set of settings; setting j is member j.
+#[derive(Clone, Debug, PartialEq, Eq)]
+pub struct Settings(pub [bool; SETTINGS]);
+
+impl Settings {
+    pub fn none() -> Settings {
+        Settings([false; SETTINGS])
+    }
+
+    pub fn meets(&self, other: &Settings) -> bool {
+        (0..SETTINGS).any(|j| self.0[j] && other.0[j])
+    }
+
+    /// Whether changing bit t alone moves some setting in or out.
+    pub fn rests_on(&self, t: usize) -> bool {
+        (0..SETTINGS).any(|j| self.0[j] != self.0[j ^ (1 << t)])
+    }
+
+    /// The set as hexadecimal digits, capitals, setting 0 the lowest bit of the last digit.
+    pub fn hex(&self) -> String {
+        let mut text = String::new();
+        for digit in (0..SETTINGS / 4).rev() {
+            let figure = (0..4)
+                .filter(|bit| self.0[4 * digit + bit])
+                .map(|bit| 1 << bit)
+                .sum::<u32>();
+            text.push_str(&format!("{figure:X}"));
+        }
+        text
+    }
+}
+
+#[derive(Clone, Debug, PartialEq, Eq)]
+pub struct Circuit {
+    pub gates: Vec<Gate>,
+    /// Every variable's last gate.
+    pub outputs: Vec<GateNumber>,
+    /// The gates standing first in a choice, each once, rising.
+    pub conditions: Vec<GateNumber>,
+}
+
+impl Circuit {
+    pub fn gate(&self, number: GateNumber) -> &Gate {
+        &self.gates[number.0]
+    }
+
+    /// The cost before fusing.
+    pub fn cost(&self) -> usize {
+        self.gates.iter().map(Gate::cost).sum()
+    }
+}
+
+/// Makes the gates of a whole rule, however many they come to.
+pub fn make(rule: &Rule) -> Circuit {
+    let mut maker = Maker { gates: Vec::new() };
+    let mut present = Vec::new();
+    for (variable, &kind) in rule.kinds.iter().enumerate() {
+        present.push(maker.add(Gate::Start(variable, kind)));
+    }
+    maker.block(&rule.block, &mut present);
+
+    let mut conditions: Vec<GateNumber> = maker
+        .gates
+        .iter()
+        .filter_map(|gate| match gate {
+            Gate::Choice(condition, _, _) => Some(*condition),
+            _ => None,
+        })
+        .collect();
+    conditions.sort();
+    conditions.dedup();
+    Circuit {
+        gates: maker.gates,
+        outputs: present,
+        conditions,
+    }
+}
+
+struct Maker {
+    gates: Vec<Gate>,
+}
+
+impl Maker {
+    fn add(&mut self, gate: Gate) -> GateNumber {
+        self.gates.push(gate);
+        GateNumber(self.gates.len() - 1)
+    }
+
+    /// Makes a block's gates, moves the variables' present gates, and says for each variable
+    /// whether the block assigns it, ifs within it included.
+    fn block(&mut self, block: &[Statement], present: &mut [GateNumber]) -> Vec<bool> {
+        let mut assigned = vec![false; present.len()];
+        for statement in block {
+            match statement {
+                Statement::Assign(variable, value) => {
+                    present[*variable] = self.expression(value, present);
+                    assigned[*variable] = true;
+                }
+                Statement::Skip => {}
+                Statement::If(condition, first, second) => {
+                    let condition = self.expression(condition, present);
+                    // Both blocks start from the variables as before the first.
+                    let mut after_first = present.to_vec();
+                    let mut after_second = present.to_vec();
+                    let in_first = self.block(first, &mut after_first);
+                    let in_second = self.block(second, &mut after_second);
+                    for variable in 0..present.len() {
+                        if in_first[variable] || in_second[variable] {
+                            present[variable] = self.add(Gate::Choice(
+                                condition,
+                                after_first[variable],
+                                after_second[variable],
+                            ));
+                            assigned[variable] = true;
+                        }
+                    }
+                }
+            }
+        }
+        assigned
+    }
+
+    /// Arguments left to right, then their operation; a variable stands for its present gate.
+    fn expression(&mut self, expression: &Expression, present: &[GateNumber]) -> GateNumber {
+        match expression {
+            Expression::Variable(variable) => present[*variable],
+            Expression::Word(word) => self.add(Gate::Word(*word)),
+            Expression::Bit(bit) => self.add(Gate::Bit(*bit)),
+            Expression::Operation(code, arguments) => {
+                let arguments = arguments
+                    .iter()
+                    .map(|argument| self.expression(argument, present))
+                    .collect();
+                self.add(Gate::Operation(*code, arguments))
+            }
+        }
+    }
+}
+
+/// A rule that rows 1 to 11 accept, with its plain circuit.
+#[derive(Debug)]
+pub struct Accepted {
+    pub rule: Rule,
+    pub circuit: Circuit,
+}
+
+impl Accepted {
+    pub fn answer(&self) -> Answer {
+        Answer::of_plain(self.circuit.gates.len(), self.circuit.cost())
+    }
+}
+
+/// Reads a rule by all its rows; the place of 10 and 11 is the file's length.
+pub fn accept(bytes: &[u8]) -> Result<Accepted, Refusal> {
+    let rule = rule::read(bytes)?;
+    let circuit = make(&rule);
+    if circuit.gates.len() > GATES_MAX {
+        return Err(Refusal::at(10, bytes.len()));
+    }
+    if circuit.conditions.len() > CONDITIONS_MAX {
+        return Err(Refusal::at(11, bytes.len()));
+    }
+    Ok(Accepted { rule, circuit })
+}
+
+/// The operation "read a rule".
+pub fn read_rule(bytes: &[u8]) -> Answer {
+    match accept(bytes) {
+        Ok(accepted) => accepted.answer(),
+        Err(refusal) => refusal.into(),
+    }
+}
+
+/// Every gate's precondition: for each setting a search from the outputs.
+/// The circuit has at most as many conditions as settings have bits.
+pub fn preconditions(circuit: &Circuit) -> Vec<Settings> {
+    let mut needs = vec![Settings::none(); circuit.gates.len()];
+    for j in 0..SETTINGS {
+        for (gate, needed) in needed_under(circuit, j).into_iter().enumerate() {
+            needs[gate].0[j] = needed;
+        }
+    }
+    needs
+}
+
+fn needed_under(circuit: &Circuit, j: usize) -> Vec<bool> {
+    let mut needed = vec![false; circuit.gates.len()];
+    let mut waiting = circuit.outputs.clone();
+    while let Some(number) = waiting.pop() {
+        if needed[number.0] {
+            continue;
+        }
+        needed[number.0] = true;
+        match circuit.gate(number) {
+            Gate::Choice(condition, first, second) => {
+                let t = circuit
+                    .conditions
+                    .iter()
+                    .position(|c| c == condition)
+                    .expect("a choice's first gate is a condition");
+                let picked = if j >> t & 1 == 1 { first } else { second };
+                waiting.push(*condition);
+                waiting.push(*picked);
+            }
+            gate => waiting.extend(gate.arguments()),
+        }
+    }
+    needed
+}

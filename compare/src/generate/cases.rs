@@ -1,0 +1,173 @@
+//! Whole cases of the conformance stream.
+
+use super::{inputs, plans, rules, Random};
+use crate::circuit::{accept, preconditions, Accepted};
+use crate::examples::P1;
+use crate::law::*;
+use crate::stream::{Case, CHECK, DIRECT, FUSED, PLAIN, READ, WRITE};
+use crate::write::fuse;
+
+/// What a case should come to. Most cases come to just that, some by chance to something else.
+#[derive(Clone, Copy, PartialEq, Eq)]
+enum Aim {
+    Success,
+    Rule,
+    Plan,
+    /// Inputs and result places, or the circuit buffer.
+    Last,
+}
+
+pub fn case(random: &mut Random) -> Case {
+    let operation = match random.below(100) {
+        0..=17 => READ,
+        18..=35 => DIRECT,
+        36..=55 => CHECK,
+        56..=73 => WRITE,
+        74..=91 => FUSED,
+        _ => PLAIN,
+    };
+    let aim = aim(random, operation);
+    let mut case = Case {
+        operation,
+        ..Case::default()
+    };
+    if aim == Aim::Rule {
+        refused_rule(random, &mut case);
+        return case;
+    }
+    // A rule whose plan can be what is aimed at: not every rule has joins or circles.
+    let wanted = random.among(20, 30) as u8;
+    loop {
+        let bytes = rules::accepted(random);
+        let accepted = accept(&bytes).expect("made so");
+        let needs = preconditions(&accepted.circuit);
+        let ground = plans::Ground::new(&accepted.circuit, &needs);
+        let plan = match (operation, aim) {
+            // An operation that takes no plan ignores whatever stands there.
+            (READ | DIRECT | PLAIN, _) if random.chance(80) => Vec::new(),
+            (READ | DIRECT | PLAIN, _) => plans::any(random, &ground),
+            (_, Aim::Plan) if random.chance(10) => plans::any(random, &ground),
+            (_, Aim::Plan) => match plans::refused(random, &ground, wanted) {
+                Some(plan) => plan,
+                None => continue,
+            },
+            _ => plans::valid(random, &ground),
+        };
+        // Circuits with something joined are worth more: mostly go on until there is one.
+        let joined = plan.len() > PLAN_BYTES_MIN;
+        if matches!(operation, CHECK | WRITE | FUSED) && !joined && random.chance(70) {
+            continue;
+        }
+        give_inputs(random, &mut case, aim, &accepted);
+        give_room(random, &mut case, aim, &accepted, &plan);
+        case.first = bytes;
+        case.second = plan;
+        return case;
+    }
+}
+
+fn aim(random: &mut Random, operation: u8) -> Aim {
+    let (rule, plan, last) = match operation {
+        READ => (55, 0, 0),
+        DIRECT => (15, 0, 25),
+        CHECK => (8, 57, 0),
+        WRITE => (8, 15, 17),
+        FUSED => (8, 15, 17),
+        _ => (25, 0, 0),
+    };
+    let turn = random.below(100);
+    if turn < rule {
+        Aim::Rule
+    } else if turn < rule + plan {
+        Aim::Plan
+    } else if turn < rule + plan + last {
+        Aim::Last
+    } else {
+        Aim::Success
+    }
+}
+
+/// A refused rule; what comes after it may be right or wrong and must not matter.
+fn refused_rule(random: &mut Random, case: &mut Case) {
+    case.first = if random.chance(85) {
+        let wanted = random.among(1, 11) as u8;
+        rules::refused(random, wanted)
+    } else {
+        rules::damaged(random)
+    };
+    if case.operation != READ {
+        case.second = match random.below(3) {
+            0 => Vec::new(),
+            1 => P1.to_vec(),
+            _ => (0..random.below(12)).map(|_| random.any() as u8).collect(),
+        };
+        case.inputs = (0..random.below(5)).map(|_| random.word()).collect();
+    }
+    if takes_room(case.operation) {
+        case.room = random.pick(&[0, 1, 3, 5, 32, 40]);
+    }
+}
+
+fn takes_room(operation: u8) -> bool {
+    matches!(operation, DIRECT | WRITE | FUSED)
+}
+
+fn give_inputs(random: &mut Random, case: &mut Case, aim: Aim, accepted: &Accepted) {
+    let kinds = &accepted.rule.kinds;
+    if !matches!(case.operation, DIRECT | FUSED) && random.chance(80) {
+        return;
+    }
+    case.inputs = inputs(random, kinds);
+    if aim != Aim::Last || case.operation == WRITE {
+        return;
+    }
+    if random.chance(35) {
+        match random.below(4) {
+            0 => case.inputs.clear(),
+            1 => case.inputs.push(random.word()),
+            2 => {
+                case.inputs.pop();
+            }
+            _ => {
+                let count = random.below(256);
+                case.inputs.resize(count, 7);
+            }
+        }
+    }
+    for (place, input) in case.inputs.iter_mut().enumerate() {
+        if kinds.get(place) == Some(&Kind::Bit) && random.chance(25) {
+            *input = random.pick(&[2, 3, 256, 1 << 31, u32::MAX]);
+        }
+    }
+}
+
+fn give_room(random: &mut Random, case: &mut Case, aim: Aim, accepted: &Accepted, plan: &[u8]) {
+    if !takes_room(case.operation) {
+        return;
+    }
+    let wanted = if case.operation == WRITE {
+        let needs = preconditions(&accepted.circuit);
+        match crate::plan::check(&accepted.circuit, needs, plan) {
+            Ok(plan) => fuse(&accepted.circuit, &plan).file().len(),
+            Err(_) => random.among(0, 200),
+        }
+    } else {
+        accepted.rule.kinds.len()
+    };
+    let short = aim == Aim::Last && (case.operation == WRITE || random.chance(40));
+    let room = if short && wanted > 0 {
+        match random.below(3) {
+            0 => wanted - 1,
+            1 => random.below(wanted),
+            _ => 0,
+        }
+    } else {
+        match random.below(4) {
+            0 => wanted + 1,
+            1 => wanted + random.below(20),
+            2 if case.operation == WRITE => CIRCUIT_BYTES_MAX.max(wanted),
+            _ => wanted,
+        }
+    };
+    case.room = room as u16;
+}

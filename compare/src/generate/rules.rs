@@ -1,0 +1,480 @@
+//! Rules: accepted ones of many shapes, ones at a limit, and ones refused by a wanted number.
+
+use super::{damage, Random};
+use crate::circuit::{accept, make, read_rule};
+use crate::law::*;
+use crate::rule::{bytes_of, Block, Expression, Rule, Statement};
+
+/// A rule that reading accepts.
+pub fn accepted(random: &mut Random) -> Vec<u8> {
+    loop {
+        let rule = match random.below(20) {
+            0 => at_gates(random, GATES_MAX),
+            1 => at_conditions(random, CONDITIONS_MAX),
+            2 => at_depth(random, EXPRESSION_DEPTH_MAX),
+            3 => at_nesting(random, IF_DEPTH_MAX),
+            4 => wide(random),
+            5 => dead(random),
+            _ => tree(random),
+        };
+        let bytes = if random.chance(2) {
+            at_size(random, rule, RULE_BYTES_MAX)
+        } else {
+            bytes_of(&rule)
+        };
+        if accept(&bytes).is_ok() {
+            return bytes;
+        }
+    }
+}
+
+/// A rule that reading refuses by the wanted number, 1 to 11, found by trying.
+pub fn refused(random: &mut Random, wanted: u8) -> Vec<u8> {
+    loop {
+        let bytes = try_refused(random, wanted);
+        if read_rule(&bytes).number == wanted {
+            return bytes;
+        }
+    }
+}
+
+fn try_refused(random: &mut Random, wanted: u8) -> Vec<u8> {
+    // The limits just broken, where the wanted number is that of a limit.
+    let rule = match wanted {
+        1 => {
+            let rule = tree(random);
+            return if random.chance(50) {
+                let mut bytes = bytes_of(&rule);
+                bytes.truncate(random.below(RULE_BYTES_MIN));
+                bytes
+            } else {
+                let more = random.pick(&[1, 1, 2, 100]);
+                at_size(random, rule, RULE_BYTES_MAX + more)
+            };
+        }
+        8 if random.chance(70) => {
+            let over = random.among(1, 3);
+            if random.chance(50) {
+                at_depth(random, EXPRESSION_DEPTH_MAX + over)
+            } else {
+                at_nesting(random, IF_DEPTH_MAX + over)
+            }
+        }
+        10 => {
+            let over = random.pick(&[1, 1, 2, 50]);
+            at_gates(random, GATES_MAX + over)
+        }
+        11 => {
+            let over = random.pick(&[1, 1, 2, 5]);
+            at_conditions(random, CONDITIONS_MAX + over)
+        }
+        _ => tree(random),
+    };
+    let mut bytes = bytes_of(&rule);
+    let head = RULE_MARK.len() + 1 + rule.kinds.len();
+    match wanted {
+        2 => bytes[random.below(RULE_MARK.len())] ^= 1 << random.below(8),
+        3 if random.chance(50) => {
+            bytes[RULE_MARK.len()] = random.pick(&[0, 33, 34, 128, 255]);
+        }
+        3 => {
+            let place = random.among(RULE_MARK.len() + 1, head - 1);
+            bytes[place] = random.pick(&[2, 3, 16, 255]);
+        }
+        // From the shortest size on, cut anywhere, the kind bytes included.
+        4 if random.chance(30) => bytes.truncate(random.among(RULE_BYTES_MIN, bytes.len() - 1)),
+        4 | 5 | 6 | 7 | 9 => damage(random, &mut bytes, head),
+        _ => {}
+    }
+    // Often a second fault somewhere, so that it is seen which one decides.
+    if random.chance(30) {
+        damage(random, &mut bytes, 0);
+    }
+    bytes
+}
+
+/// Any bytes that look a little like a rule.
+pub fn damaged(random: &mut Random) -> Vec<u8> {
+    let mut bytes = if random.chance(80) {
+        bytes_of(&tree(random))
+    } else {
+        accepted(random)
+    };
+    for _ in 0..random.among(1, 3) {
+        damage(random, &mut bytes, 0);
+    }
+    bytes
+}
+
+/// What a random rule is made by.
+struct Maker<'a> {
+    random: &'a mut Random,
+    kinds: Vec<Kind>,
+    /// The word and bit operations that this rule likes, so that gates of one operation abound.
+    liked: [u8; 2],
+    ifs_left: usize,
+}
+
+fn kinds(random: &mut Random) -> Vec<Kind> {
+    let count = match random.below(20) {
+        0 => VARIABLES_MIN,
+        1 => VARIABLES_MAX,
+        _ => random.among(2, 6),
+    };
+    let words = random.pick(&[30, 60, 60, 80, 100]);
+    (0..count)
+        .map(|_| {
+            if random.chance(words) {
+                Kind::Word
+            } else {
+                Kind::Bit
+            }
+        })
+        .collect()
+}
+
+fn maker(random: &mut Random) -> Maker<'_> {
+    let kinds = kinds(random);
+    let liked = [PRODUCT, random.pick(&[LESS, LESS, EQUAL, AND, OR])];
+    let ifs_left = random.among(0, CONDITIONS_MAX + 2);
+    Maker {
+        random,
+        kinds,
+        liked,
+        ifs_left,
+    }
+}
+
+/// A random rule; most, but not all, are accepted.
+pub fn tree(random: &mut Random) -> Rule {
+    let mut maker = maker(random);
+    let statements = maker.random.among(1, 6);
+    let block = maker.block(statements, 0);
+    Rule {
+        kinds: maker.kinds,
+        block,
+    }
+}
+
+impl Maker<'_> {
+    fn block(&mut self, statements: usize, ifs: usize) -> Block {
+        (0..statements).map(|_| self.statement(ifs)).collect()
+    }
+
+    fn statement(&mut self, ifs: usize) -> Statement {
+        if self.random.chance(7) {
+            return Statement::Skip;
+        }
+        if ifs < IF_DEPTH_MAX && self.ifs_left > 0 && self.random.chance(45) {
+            self.ifs_left -= 1;
+            let condition = self.condition();
+            let count = self.random.pick(&[0, 1, 1, 2, 2, 3]);
+            let first = self.block(count, ifs + 1);
+            let second = if self.random.chance(50) {
+                self.mirror(&first)
+            } else {
+                let count = self.random.pick(&[0, 0, 1, 1, 2, 3]);
+                self.block(count, ifs + 1)
+            };
+            return Statement::If(condition, first, second);
+        }
+        let depth = self
+            .random
+            .pick(&[1, 2, 2, 2, 3, 3, 4, EXPRESSION_DEPTH_MAX]);
+        self.assign(depth)
+    }
+
+    fn assign(&mut self, depth: usize) -> Statement {
+        let variable = self.random.below(self.kinds.len());
+        Statement::Assign(variable, self.expression(self.kinds[variable], depth))
+    }
+
+    /// A bit variable as it stands or a comparison, rarely more.
+    fn condition(&mut self) -> Expression {
+        let depth = self.random.pick(&[1, 1, 2, 2, 2, 3]);
+        self.expression(Kind::Bit, depth)
+    }
+
+    /// A variable of the kind, if there is one.
+    fn variable(&mut self, kind: Kind) -> Option<Expression> {
+        let all: Vec<usize> = (0..self.kinds.len())
+            .filter(|&variable| self.kinds[variable] == kind)
+            .collect();
+        (!all.is_empty()).then(|| Expression::Variable(self.random.pick(&all)))
+    }
+
+    fn leaf(&mut self, kind: Kind) -> Expression {
+        if self.random.chance(80) {
+            if let Some(variable) = self.variable(kind) {
+                return variable;
+            }
+        }
+        match kind {
+            Kind::Word => Expression::Word(self.random.word()),
+            Kind::Bit => Expression::Bit(self.random.chance(50)),
+        }
+    }
+
+    /// An expression at most `depth` deep.
+    fn expression(&mut self, kind: Kind, depth: usize) -> Expression {
+        if depth == 1 || self.random.chance(15) {
+            return self.leaf(kind);
+        }
+        let liked = self.liked[kind as usize];
+        let codes: Vec<u8> = OPERATIONS
+            .iter()
+            .filter(|row| row.gives == kind)
+            .map(|row| row.code)
+            .collect();
+        let code = if self.random.chance(60) {
+            liked
+        } else {
+            self.random.pick(&codes)
+        };
+        self.operation(code, depth)
+    }
+
+    fn operation(&mut self, code: u8, depth: usize) -> Expression {
+        let row = operation(code).expect("an operation");
+        // One argument may go deep, the others stay small.
+        let deep = self.random.below(row.arguments);
+        let arguments = (0..row.arguments)
+            .map(|place| {
+                let most = if place == deep { depth } else { depth.min(3) };
+                self.expression(row.takes, most - 1)
+            })
+            .collect();
+        Expression::Operation(code, arguments)
+    }
+
+    /// The same operations on other leaves: what gives exclusive gates to join.
+    fn mirror(&mut self, block: &Block) -> Block {
+        block
+            .iter()
+            .map(|statement| match statement {
+                Statement::Assign(variable, value) => {
+                    let kind = self.kinds[*variable];
+                    let other = match self.variable(kind) {
+                        Some(Expression::Variable(other)) if self.random.chance(50) => other,
+                        _ => *variable,
+                    };
+                    Statement::Assign(other, self.mirror_expression(value))
+                }
+                Statement::Skip => Statement::Skip,
+                Statement::If(condition, first, second) => {
+                    let condition = self.mirror_expression(condition);
+                    let first = self.mirror(first);
+                    Statement::If(condition, first, self.mirror(second))
+                }
+            })
+            .collect()
+    }
+
+    fn mirror_expression(&mut self, expression: &Expression) -> Expression {
+        match expression {
+            Expression::Variable(variable) => self.leaf(self.kinds[*variable]),
+            Expression::Word(_) => self.leaf(Kind::Word),
+            Expression::Bit(_) => self.leaf(Kind::Bit),
+            Expression::Operation(code, arguments) => {
+                let arguments = arguments
+                    .iter()
+                    .map(|a| self.mirror_expression(a))
+                    .collect();
+                Expression::Operation(*code, arguments)
+            }
+        }
+    }
+}
+
+/// A rule of just so many gates: a random one filled up with constants.
+fn at_gates(random: &mut Random, gates: usize) -> Rule {
+    loop {
+        let mut rule = match random.below(4) {
+            0 => wide(random),
+            _ => tree(random),
+        };
+        while make(&rule).gates.len() < gates {
+            let variable = random.below(rule.kinds.len());
+            let value = match rule.kinds[variable] {
+                Kind::Word => Expression::Word(random.word()),
+                Kind::Bit => Expression::Bit(random.chance(50)),
+            };
+            // At the front or the end: either adds the constant's gate alone.
+            let place = random.pick(&[0, rule.block.len()]);
+            rule.block.insert(place, Statement::Assign(variable, value));
+        }
+        if make(&rule).gates.len() == gates {
+            return rule;
+        }
+    }
+}
+
+/// A rule of just so many conditions, its ifs one after the other or nested.
+fn at_conditions(random: &mut Random, conditions: usize) -> Rule {
+    loop {
+        let mut maker = maker(random);
+        maker.ifs_left = 0;
+        let mut block = Vec::new();
+        for _ in 0..conditions {
+            let code = maker.random.pick(&[LESS, EQUAL, AND, OR, NOT]);
+            let condition = maker.operation(code, 2);
+            let mut first = vec![maker.assign(2)];
+            let second = maker.mirror(&first);
+            // Nest what there is so far, or go on after it.
+            if maker.random.chance(40) && depth_of(&block) < IF_DEPTH_MAX {
+                first.append(&mut block);
+            }
+            block.push(Statement::If(condition, first, second));
+        }
+        let rule = Rule {
+            kinds: maker.kinds,
+            block,
+        };
+        if make(&rule).conditions.len() == conditions {
+            return rule;
+        }
+    }
+}
+
+fn depth_of(block: &Block) -> usize {
+    block
+        .iter()
+        .map(|statement| match statement {
+            Statement::If(_, first, second) => 1 + depth_of(first).max(depth_of(second)),
+            _ => 0,
+        })
+        .max()
+        .unwrap_or(0)
+}
+
+/// A rule with an expression of just this depth, leaning anywhere.
+fn at_depth(random: &mut Random, depth: usize) -> Rule {
+    let mut maker = maker(random);
+    let before = maker.random.below(3);
+    let mut block = maker.block(before, 0);
+    let variable = maker.random.below(maker.kinds.len());
+    let value = maker.just_deep(maker.kinds[variable], depth);
+    block.push(Statement::Assign(variable, value));
+    let after = maker.random.below(2);
+    block.extend(maker.block(after, 0));
+    Rule {
+        kinds: maker.kinds,
+        block,
+    }
+}
+
+impl Maker<'_> {
+    fn just_deep(&mut self, kind: Kind, depth: usize) -> Expression {
+        if depth == 1 {
+            return self.leaf(kind);
+        }
+        let rows: Vec<Operation> = OPERATIONS
+            .iter()
+            .copied()
+            .filter(|row| row.gives == kind)
+            .collect();
+        let row = self.random.pick(&rows);
+        let deep = self.random.below(row.arguments);
+        let arguments = (0..row.arguments)
+            .map(|place| {
+                if place == deep {
+                    self.just_deep(row.takes, depth - 1)
+                } else {
+                    self.expression(row.takes, (depth - 1).min(2))
+                }
+            })
+            .collect();
+        Expression::Operation(row.code, arguments)
+    }
+}
+
+/// A rule with ifs nested just so deep, each in either block of the one before.
+fn at_nesting(random: &mut Random, nesting: usize) -> Rule {
+    let mut maker = maker(random);
+    maker.ifs_left = 0;
+    let mut block = maker.block(1, 0);
+    for _ in 0..nesting {
+        let condition = maker.condition();
+        let statements = maker.random.below(3);
+        let other = maker.block(statements, 0);
+        let statement = if maker.random.chance(50) {
+            Statement::If(condition, block, other)
+        } else {
+            Statement::If(condition, other, block)
+        };
+        block = vec![statement];
+        if maker.random.chance(30) {
+            let more = maker.block(1, 0);
+            block.extend(more);
+        }
+    }
+    Rule {
+        kinds: maker.kinds,
+        block,
+    }
+}
+
+/// One if with many operations in both blocks: many pairs to join, up to the greatest wire count.
+fn wide(random: &mut Random) -> Rule {
+    let most = random.pick(&[4, 20, 60, 126, 126]);
+    let pairs = random.among(most / 2, most);
+    let code = random.pick(&[PRODUCT, LESS, AND]);
+    let row = operation(code).expect("an operation");
+    let mut kinds = vec![Kind::Bit, row.takes];
+    if row.gives != row.takes {
+        kinds.push(row.gives);
+    }
+    let into = kinds.len() - 1;
+    let one = |_| {
+        let argument = || Expression::Variable(1);
+        let value = Expression::Operation(code, vec![argument(), argument()]);
+        Statement::Assign(into, value)
+    };
+    Rule {
+        kinds,
+        block: vec![Statement::If(
+            Expression::Variable(0),
+            (0..pairs).map(one).collect(),
+            (0..pairs).map(one).collect(),
+        )],
+    }
+}
+
+/// Operations that nothing needs, since they are stored over: they exclude every gate.
+fn dead(random: &mut Random) -> Rule {
+    let code = random.pick(&[PRODUCT, SUM, DIFFERENCE, PRODUCT]);
+    let count = random.pick(&[2, 3, 10, 100, 254]);
+    let own = random.chance(30);
+    let statements = (0..count).map(|_| {
+        // From v0 each alone, or in a chain through v1, which makes circles of any two.
+        let first = Expression::Variable(usize::from(own));
+        let code = if random.chance(90) { PRODUCT } else { code };
+        Statement::Assign(
+            1,
+            Expression::Operation(code, vec![first, Expression::Variable(0)]),
+        )
+    });
+    let mut block: Block = statements.collect();
+    if random.chance(50) {
+        block.pop();
+        block.push(Statement::Assign(1, Expression::Word(random.word())));
+    }
+    Rule {
+        kinds: vec![Kind::Word, Kind::Word],
+        block,
+    }
+}
+
+/// A rule filled up with skips to just this size, at the front, at the end or in a block.
+fn at_size(random: &mut Random, mut rule: Rule, size: usize) -> Vec<u8> {
+    let now = bytes_of(&rule).len();
+    let skips = vec![Statement::Skip; size.saturating_sub(now)];
+    match rule.block.last_mut() {
+        Some(Statement::If(_, first, _)) if random.chance(50) => first.extend(skips),
+        _ if random.chance(50) => {
+            rule.block.splice(0..0, skips);
+        }
+        _ => rule.block.extend(skips),
+    }
+    bytes_of(&rule)
+}

@@ -1,0 +1,118 @@
+//! The numbers, codes and costs of document 01, in one place: later requests move them here.
+
+pub const RULE_MARK: [u8; 5] = [0x52, 0x55, 0x4C, 0x00, 0x01];
+pub const PLAN_MARK: [u8; 5] = [0x50, 0x4C, 0x4E, 0x00, 0x01];
+pub const CIRCUIT_MARK: [u8; 5] = [0x43, 0x49, 0x52, 0x00, 0x01];
+
+pub const RULE_BYTES_MIN: usize = 6;
+pub const RULE_BYTES_MAX: usize = 4096;
+pub const VARIABLES_MIN: usize = 1;
+pub const VARIABLES_MAX: usize = 32;
+pub const EXPRESSION_DEPTH_MAX: usize = 8;
+pub const IF_DEPTH_MAX: usize = 6;
+
+pub const GATES_MAX: usize = 256;
+pub const CONDITIONS_MAX: usize = 6;
+/// One setting for each way of giving every condition 0 or 1.
+pub const SETTINGS: usize = 1 << CONDITIONS_MAX;
+/// A guard's table has one bit for each setting.
+pub const TABLE_BYTES: usize = SETTINGS / 8;
+
+pub const PLAN_BYTES_MIN: usize = 9;
+pub const PLAN_BYTES_MAX: usize = 1024;
+pub const GROUP_SIZE_MIN: usize = 2;
+
+pub const WIRES_MAX: usize = 640;
+pub const CIRCUIT_BYTES_MAX: usize = 16_384;
+
+// Codes of statements.
+pub const CLOSE: u8 = 0x00;
+pub const ASSIGN: u8 = 0x01;
+pub const SKIP: u8 = 0x02;
+pub const IF: u8 = 0x03;
+
+// Codes of expressions that are no operation.
+pub const VARIABLE: u8 = 0x10;
+pub const WORD: u8 = 0x11;
+pub const BIT: u8 = 0x12;
+
+// Codes of operations.
+pub const SUM: u8 = 0x20;
+pub const DIFFERENCE: u8 = 0x21;
+pub const PRODUCT: u8 = 0x22;
+pub const LESS: u8 = 0x23;
+pub const EQUAL: u8 = 0x24;
+pub const AND: u8 = 0x25;
+pub const OR: u8 = 0x26;
+pub const NOT: u8 = 0x27;
+
+// Codes of circuit records that no expression has.
+pub const WORD_INPUT: u8 = 0x00;
+pub const BIT_INPUT: u8 = 0x01;
+pub const CHOICE: u8 = 0x30;
+pub const PICK: u8 = 0x31;
+pub const GUARD: u8 = 0x32;
+
+pub const CHOICE_COST: usize = 3;
+pub const PICK_COST_A_PAIR: usize = 2;
+pub const GUARD_COST: usize = 1;
+
+/// What a figure is: a word of 32 bits or a bit. The numbers are the kind bytes of a rule.
+#[derive(Clone, Copy, Debug, PartialEq, Eq)]
+pub enum Kind {
+    Word = 0,
+    Bit = 1,
+}
+
+impl Kind {
+    pub fn of_byte(byte: u8) -> Option<Kind> {
+        match byte {
+            0x00 => Some(Kind::Word),
+            0x01 => Some(Kind::Bit),
+            _ => None,
+        }
+    }
+}
+
+/// One row of document 01's table of operations. All arguments of an operation are of one kind.
+#[derive(Clone, Copy, Debug, PartialEq, Eq)]
+pub struct Operation {
+    pub code: u8,
+    pub arguments: usize,
+    pub takes: Kind,
+    pub gives: Kind,
+    pub cost: usize,
+}
+
+#[rustfmt::skip]
+pub const OPERATIONS: [Operation; 8] = [
+    Operation { code: SUM,        arguments: 2, takes: Kind::Word, gives: Kind::Word, cost: 0 },
+    Operation { code: DIFFERENCE, arguments: 2, takes: Kind::Word, gives: Kind::Word, cost: 0 },
+    Operation { code: PRODUCT,    arguments: 2, takes: Kind::Word, gives: Kind::Word, cost: 15 },
+    Operation { code: LESS,       arguments: 2, takes: Kind::Word, gives: Kind::Bit,  cost: 40 },
+    Operation { code: EQUAL,      arguments: 2, takes: Kind::Word, gives: Kind::Bit,  cost: 20 },
+    Operation { code: AND,        arguments: 2, takes: Kind::Bit,  gives: Kind::Bit,  cost: 1 },
+    Operation { code: OR,         arguments: 2, takes: Kind::Bit,  gives: Kind::Bit,  cost: 1 },
+    Operation { code: NOT,        arguments: 1, takes: Kind::Bit,  gives: Kind::Bit,  cost: 0 },
+];
+
+/// The row of an operation's code, if it is one.
+pub fn operation(code: u8) -> Option<Operation> {
+    OPERATIONS.iter().copied().find(|row| row.code == code)
+}
+
+/// What an operation gives on its arguments' figures; a bit is 0 or 1.
+/// `second` is not looked at by "not".
+pub fn work_out(code: u8, first: u32, second: u32) -> u32 {
+    match code {
+        SUM => first.wrapping_add(second),
+        DIFFERENCE => first.wrapping_sub(second),
+        PRODUCT => first.wrapping_mul(second),
+        LESS => u32::from(first < second),
+        EQUAL => u32::from(first == second),
+        AND => u32::from(first == 1 && second == 1),
+        OR => u32::from(first == 1 || second == 1),
+        NOT => u32::from(first != 1),
+        _ => unreachable!("not an operation's code"),
+    }
+}

@@ -1,0 +1,14 @@
+//! Linnetshelf's tool once more, written from document 01 alone, to compare bytes with.
+
+pub mod answer;
+pub mod circuit;
+pub mod direct;
+pub mod examples;
+pub mod generate;
+pub mod good;
+pub mod law;
+pub mod plan;
+pub mod rule;
+pub mod run;
+pub mod stream;
+pub mod write;

@@ -1,0 +1,448 @@
+//! Every example of document 01, worked out by hand there, and those of CONFORMANCE.md.
+
+use compare::answer::Answer;
+use compare::circuit::{accept, preconditions, read_rule, Gate, GateNumber};
+use compare::examples::{P1, R1, R2, R7, R8};
+use compare::law::*;
+use compare::plan::check_plan;
+use compare::rule::{bytes_of, read, Expression, Rule, Statement};
+use compare::run::figures_of_file;
+use compare::stream::{lines, Case, STREAM_MARK};
+use compare::{direct, good, run, write};
+
+const UNTOUCHED: u32 = 3_735_928_559;
+
+fn refused(number: u8, place: usize) -> Answer {
+    Answer {
+        number,
+        place,
+        ..Answer::default()
+    }
+}
+
+fn plan(gates: u16, groups: &[&[u16]]) -> Vec<u8> {
+    let mut bytes = PLAN_MARK.to_vec();
+    bytes.extend(gates.to_be_bytes());
+    bytes.extend((groups.len() as u16).to_be_bytes());
+    for group in groups {
+        bytes.push(group.len() as u8);
+        for member in *group {
+            bytes.extend(member.to_be_bytes());
+        }
+    }
+    bytes
+}
+
+fn changed(place: usize, byte: u8) -> Vec<u8> {
+    let mut bytes = R1.to_vec();
+    bytes[place] = byte;
+    bytes
+}
+
+fn hex(text: &str) -> Vec<u8> {
+    text.split_whitespace()
+        .map(|pair| u8::from_str_radix(pair, 16).unwrap())
+        .collect()
+}
+
+#[test]
+fn example_1_circuit_of_r1() {
+    let circuit = accept(&R1).ok().unwrap().circuit;
+    let n = GateNumber;
+    assert_eq!(
+        circuit.gates,
+        vec![
+            Gate::Start(0, Kind::Bit),
+            Gate::Start(1, Kind::Word),
+            Gate::Start(2, Kind::Word),
+            Gate::Operation(PRODUCT, vec![n(1), n(2)]),
+            Gate::Operation(PRODUCT, vec![n(2), n(2)]),
+            Gate::Choice(n(0), n(3), n(4)),
+        ]
+    );
+    assert_eq!(circuit.outputs, vec![n(0), n(5), n(2)]);
+    assert_eq!(circuit.conditions, vec![n(0)]);
+    let needs: Vec<String> = preconditions(&circuit).iter().map(|s| s.hex()).collect();
+    assert_eq!(needs[3], "AAAAAAAAAAAAAAAA");
+    assert_eq!(needs[4], "5555555555555555");
+    for always in [0, 2, 5] {
+        assert_eq!(needs[always], "FFFFFFFFFFFFFFFF");
+    }
+    assert_eq!(needs[1], "AAAAAAAAAAAAAAAA");
+    assert_eq!(read_rule(&R1), Answer::of_plain(6, 33));
+}
+
+#[test]
+fn example_2_direct_runs() {
+    let mut results = [UNTOUCHED; 4];
+    let done = Answer::of_plain(6, 33);
+    assert_eq!(direct::run(&R1, &[1, 6, 7], &mut results), done);
+    assert_eq!(results, [1, 42, 7, UNTOUCHED]);
+    assert_eq!(direct::run(&R1, &[0, 6, 7], &mut results[..3]), done);
+    assert_eq!(results, [0, 49, 7, UNTOUCHED]);
+
+    let mut results = [UNTOUCHED; 3];
+    assert_eq!(direct::run(&R1, &[2, 6, 7], &mut results), refused(41, 0));
+    // 40 before 41 before 42, and nothing is written.
+    assert_eq!(direct::run(&R1, &[2, 6], &mut results[..2]), refused(40, 0));
+    assert_eq!(
+        direct::run(&R1, &[2, 6, 7], &mut results[..2]),
+        refused(41, 0)
+    );
+    assert_eq!(
+        direct::run(&R1, &[1, 6, 7], &mut results[..2]),
+        refused(42, 0)
+    );
+    assert_eq!(results, [UNTOUCHED; 3]);
+    // Rule before inputs.
+    assert_eq!(
+        direct::run(&R1[..28], &[2, 6], &mut results),
+        refused(4, 28)
+    );
+}
+
+#[test]
+fn example_3_the_whole_file() {
+    let file = hex("43 49 52 00 01 03 00 09 01 00 00 01 00 02 \
+         32 01 00 00 00 00 00 00 00 00 00 02 32 01 00 00 00 00 00 00 00 00 00 01 \
+         31 02 00 03 00 01 00 04 00 02 31 02 00 03 00 02 00 04 00 02 \
+         22 00 05 00 06 30 00 00 00 07 00 07 00 00 00 08 00 02");
+    assert_eq!(file.len(), 76);
+    let done = Answer::of_fused(6, 9, 76, 33, 28);
+    for room in [76, 77, 100] {
+        let mut buffer = vec![0xEE; room];
+        assert_eq!(write::write(&R1, &P1, &mut buffer), done);
+        assert_eq!(buffer[..76], file);
+        assert!(buffer[76..].iter().all(|&byte| byte == 0xEE));
+    }
+    let mut buffer = [0xEE; 75];
+    assert_eq!(write::write(&R1, &P1, &mut buffer), refused(50, 0));
+    assert_eq!(buffer, [0xEE; 75]);
+
+    assert_eq!(figures_of_file(&file, &[1, 6, 7]), Some(vec![1, 42, 7]));
+    assert_eq!(figures_of_file(&file, &[0, 6, 7]), Some(vec![0, 49, 7]));
+    let mut results = [UNTOUCHED; 4];
+    assert_eq!(run::run(&R1, &P1, &[1, 6, 7], &mut results), done);
+    assert_eq!(results, [1, 42, 7, UNTOUCHED]);
+    assert_eq!(run::run(&R1, &P1, &[0, 6, 7], &mut results), done);
+    assert_eq!(results, [0, 49, 7, UNTOUCHED]);
+}
+
+#[test]
+fn example_4_refusals_of_reading() {
+    let mut more = R1.to_vec();
+    more.push(0x00);
+    for (bytes, number, place) in [
+        (R1[..28].to_vec(), 4, 28),
+        (more, 9, 29),
+        (changed(11, 0x03), 6, 11),
+        (changed(11, 0x01), 7, 11),
+        (changed(14, 0x28), 5, 14),
+        (changed(14, 0x23), 7, 14),
+    ] {
+        assert_eq!(read_rule(&bytes), refused(number, place));
+        // Rule before plan and buffer.
+        assert_eq!(check_plan(&bytes, &[]), refused(number, place));
+        assert_eq!(
+            write::write(&bytes, &P1, &mut [0xEE; 10]),
+            refused(number, place)
+        );
+    }
+}
+
+#[test]
+fn readings_of_design_section_7() {
+    let with = |tail: &str| {
+        let mut bytes = hex("52 55 4C 00 01 02 00 01");
+        bytes.extend(hex(tail));
+        read(&bytes).map_err(|refusal| (refusal.number, refusal.place))
+    };
+    // `12 02` where a word is wanted: 7 on the code; where a bit is wanted: 5 on the byte.
+    assert_eq!(with("01 00 12 02 00"), Err((7, 10)));
+    assert_eq!(with("01 01 12 02 00"), Err((5, 11)));
+    // A known code out of its position is 5.
+    assert_eq!(with("01 00 02 00"), Err((5, 10)));
+    assert_eq!(with("10 00 00"), Err((5, 8)));
+    assert_eq!(with("20 00 00"), Err((5, 8)));
+    // At depth 9: 5, then 7, then 8 on one byte; a variable is 8 on its code.
+    let deep = "01 00 20 20 20 20 20 20 20 20 ";
+    assert_eq!(with(&format!("{deep} 28")), Err((5, 18)));
+    assert_eq!(with(&format!("{deep} 12 02")), Err((7, 18)));
+    assert_eq!(with(&format!("{deep} 11 00")), Err((8, 18)));
+    assert_eq!(with(&format!("{deep} 10 FF")), Err((8, 18)));
+    assert_eq!(with(&format!("{deep} 20")), Err((8, 18)));
+    assert_eq!(with(&format!("{deep} 23")), Err((7, 18)));
+    assert_eq!(with(deep), Err((4, 18)));
+    // Sizes of 0 and 1 are laid out for 23 and refused by 24; equal neighbours are 25.
+    assert_eq!(check_plan(&R1, &plan(6, &[&[]])), refused(24, 0));
+    assert_eq!(check_plan(&R1, &plan(6, &[&[3]])), refused(24, 0));
+    assert_eq!(check_plan(&R1, &plan(6, &[&[3, 3]])), refused(25, 0));
+    // Lowest over the whole file: 24 in the second group before 25 in the first.
+    assert_eq!(check_plan(&R1, &plan(6, &[&[4, 3], &[3]])), refused(24, 0));
+    assert_eq!(
+        check_plan(&R1, &plan(6, &[&[3, 4], &[3, 9]])),
+        refused(25, 0)
+    );
+    assert_eq!(
+        check_plan(&R1, &plan(6, &[&[3, 4], &[3, 4]])),
+        refused(26, 0)
+    );
+}
+
+#[test]
+fn example_5_a_choice_is_not_costly() {
+    assert_eq!(check_plan(&R1, &plan(6, &[&[3, 5]])), refused(27, 0));
+}
+
+#[test]
+fn example_6_a_joined_gate_waits_for_its_conditions() {
+    let circuit = accept(&R2).ok().unwrap().circuit;
+    assert_eq!(circuit.gates.len(), 11);
+    for (gate, code) in [(4, PRODUCT), (7, PRODUCT), (5, LESS), (6, LESS)] {
+        assert_eq!(circuit.gates[gate].code(), code);
+    }
+    let done = Answer::of_plain(11, 15 + 40 + 40 + 15 + 3 * 3);
+    assert_eq!(check_plan(&R2, &plan(11, &[&[4, 7]])), done);
+    assert_eq!(check_plan(&R2, &plan(11, &[&[5, 6]])), done);
+    for both in [plan(11, &[&[4, 7], &[5, 6]]), plan(11, &[&[5, 6], &[4, 7]])] {
+        assert_eq!(check_plan(&R2, &both), refused(30, 0));
+    }
+}
+
+/// The two files of example 6, worked out by hand: a guard over two conditions, and a group that
+/// is written after a later gate since it waits for it.
+#[test]
+fn example_6_the_files() {
+    let table = "00 00 00 00 00 00 00";
+    let head = "43 49 52 00 01 04 00 0E 01 00 00 01 00 02 01 03";
+    let products = format!(
+        "{head} 23 00 01 00 02 32 01 00 00 {table} 02 32 02 00 00 00 04 {table} 04 \
+         31 02 00 05 00 01 00 06 00 01 31 02 00 05 00 01 00 06 00 02 22 00 07 00 08 \
+         23 00 09 00 02 30 00 04 00 09 00 01 30 00 00 00 01 00 0B 30 00 00 00 0A 00 03 \
+         00 00 00 0C 00 02 00 0D"
+    );
+    let comparisons = format!(
+        "{head} 22 00 01 00 01 32 01 00 00 {table} 02 32 01 00 00 {table} 01 \
+         31 02 00 05 00 04 00 06 00 01 31 02 00 05 00 02 00 06 00 02 23 00 07 00 08 \
+         22 00 01 00 02 30 00 09 00 0A 00 01 30 00 00 00 01 00 0B 30 00 00 00 09 00 03 \
+         00 00 00 0C 00 02 00 0D"
+    );
+    for (group, text, after) in [
+        ([4, 7], products, 40 + 2 + 8 + 15 + 40 + 9),
+        ([5, 6], comparisons, 15 + 2 + 8 + 40 + 15 + 9),
+    ] {
+        let file = hex(&text);
+        let mut buffer = vec![0xEE; file.len()];
+        assert_eq!(
+            write::write(&R2, &plan(11, &[&group]), &mut buffer),
+            Answer::of_fused(11, 14, file.len(), 119, after)
+        );
+        assert_eq!(buffer, file);
+    }
+}
+
+#[test]
+fn example_7_a_wait_inside_one_group() {
+    assert_eq!(read_rule(&R7), Answer::of_plain(4, 30));
+    assert_eq!(check_plan(&R7, &plan(4, &[&[1, 2]])), refused(30, 0));
+}
+
+#[test]
+fn example_8_conditions_are_free() {
+    assert_eq!(read_rule(&R8), Answer::of_plain(11, 2 * (40 + 15 + 3)));
+    assert_eq!(check_plan(&R8, &plan(11, &[&[5, 9]])), refused(29, 0));
+}
+
+#[test]
+fn example_9_arithmetic() {
+    for (code, first, second, result) in [
+        (SUM, u32::MAX, 1, 0),
+        (DIFFERENCE, 0, 1, u32::MAX),
+        (PRODUCT, 65536, 65536, 0),
+    ] {
+        let value =
+            Expression::Operation(code, vec![Expression::Variable(0), Expression::Variable(1)]);
+        let bytes = bytes_of(&Rule {
+            kinds: vec![Kind::Word, Kind::Word],
+            block: vec![Statement::Assign(0, value)],
+        });
+        let mut results = [UNTOUCHED; 2];
+        assert_eq!(
+            direct::run(&bytes, &[first, second], &mut results).number,
+            0
+        );
+        assert_eq!(results, [result, second]);
+        assert_eq!(
+            run::run(&bytes, &plan(3, &[]), &[first, second], &mut results).number,
+            0
+        );
+        assert_eq!(results, [result, second]);
+    }
+}
+
+#[test]
+fn example_10_limits() {
+    // Ifs one after the other, each on a comparison of its own.
+    let ifs = |count: usize| {
+        let less =
+            Expression::Operation(LESS, vec![Expression::Variable(0), Expression::Variable(0)]);
+        let one = Statement::If(
+            less,
+            vec![Statement::Assign(0, Expression::Variable(0))],
+            vec![],
+        );
+        bytes_of(&Rule {
+            kinds: vec![Kind::Word],
+            block: vec![one; count],
+        })
+    };
+    assert_eq!(read_rule(&ifs(6)), Answer::of_plain(13, 6 * 43));
+    assert_eq!(read_rule(&ifs(7)), refused(11, ifs(7).len()));
+
+    let deep = |depth: usize| {
+        let mut value = Expression::Variable(0);
+        for _ in 1..depth {
+            value = Expression::Operation(SUM, vec![Expression::Variable(0), value]);
+        }
+        bytes_of(&Rule {
+            kinds: vec![Kind::Word],
+            block: vec![Statement::Assign(0, value)],
+        })
+    };
+    assert_eq!(read_rule(&deep(8)), Answer::of_plain(8, 0));
+    // Header 7, assign 2, seven times code 20 and its first argument (3 bytes), the eighth 20;
+    // its first argument stands 9 deep.
+    assert_eq!(read_rule(&deep(9)), refused(8, 7 + 2 + 3 * 7 + 1));
+
+    // 256 and 257 gates.
+    let constants = |count: usize| {
+        bytes_of(&Rule {
+            kinds: vec![Kind::Bit],
+            block: vec![Statement::Assign(0, Expression::Bit(true)); count],
+        })
+    };
+    assert_eq!(read_rule(&constants(255)), Answer::of_plain(256, 0));
+    assert_eq!(
+        read_rule(&constants(256)),
+        refused(10, constants(256).len())
+    );
+}
+
+#[test]
+fn an_if_that_assigns_nothing_makes_no_choice() {
+    let empty = Statement::If(Expression::Variable(0), vec![Statement::Skip], vec![]);
+    let bytes = bytes_of(&Rule {
+        kinds: vec![Kind::Bit],
+        block: vec![empty],
+    });
+    let circuit = accept(&bytes).ok().unwrap().circuit;
+    assert_eq!(circuit.gates.len(), 1);
+    assert!(circuit.conditions.is_empty());
+}
+
+#[test]
+fn the_good_rule_is_what_it_should_be() {
+    let bytes = good::good_bytes();
+    assert!((150..=400).contains(&bytes.len()));
+    assert_eq!(bytes, std::fs::read("data/good.rul").unwrap());
+    let accepted = accept(&bytes).ok().unwrap();
+    assert_eq!(accepted.circuit.conditions.len(), 6);
+    assert!(accepted.rule.kinds.len() >= 4);
+
+    fn depth(expression: &Expression, codes: &mut Vec<u8>) -> usize {
+        match expression {
+            Expression::Variable(_) => codes.push(VARIABLE),
+            Expression::Word(_) => codes.push(WORD),
+            Expression::Bit(_) => codes.push(BIT),
+            Expression::Operation(code, arguments) => {
+                codes.push(*code);
+                let deepest = arguments.iter().map(|a| depth(a, codes)).max();
+                return 1 + deepest.unwrap();
+            }
+        }
+        1
+    }
+    /// Greatest depth of expressions and of ifs.
+    fn depths(block: &[Statement], codes: &mut Vec<u8>) -> (usize, usize) {
+        let mut greatest = (0, 0);
+        for statement in block {
+            let (expression, ifs) = match statement {
+                Statement::Assign(_, value) => {
+                    codes.push(ASSIGN);
+                    (depth(value, codes), 0)
+                }
+                Statement::Skip => {
+                    codes.push(SKIP);
+                    (0, 0)
+                }
+                Statement::If(condition, first, second) => {
+                    codes.push(IF);
+                    let own = depth(condition, codes);
+                    let first = depths(first, codes);
+                    let second = depths(second, codes);
+                    (own.max(first.0).max(second.0), 1 + first.1.max(second.1))
+                }
+            };
+            greatest = (greatest.0.max(expression), greatest.1.max(ifs));
+        }
+        greatest
+    }
+    let mut codes = Vec::new();
+    assert_eq!(depths(&accepted.rule.block, &mut codes), (8, 6));
+    for code in [1, 2, 3, 0x10, 0x11, 0x12].into_iter().chain(0x20..=0x27) {
+        assert!(codes.contains(&code), "{code:02X} is not used");
+    }
+}
+
+#[test]
+fn the_stream_of_conformance() {
+    let print = |stream: &[u8]| {
+        let mut all = Vec::new();
+        lines(stream, |line| all.push(line.to_string()));
+        all
+    };
+    let case = |operation: u8, room: u16| Case {
+        operation,
+        room,
+        first: R1.to_vec(),
+        second: P1.to_vec(),
+        inputs: vec![1, 6, 7],
+        ..Case::default()
+    };
+    let mut stream = STREAM_MARK.to_vec();
+    for (operation, room) in [
+        (1, 0),
+        (2, 3),
+        (2, 2),
+        (3, 0),
+        (4, 80),
+        (4, 75),
+        (5, 4),
+        (6, 0),
+    ] {
+        case(operation, room).put(&mut stream);
+    }
+    let wanted = [
+        "0 0 6 0 0 33 0",
+        "0 0 6 0 0 33 0 | 1 42 7",
+        "42 0 0 0 0 0 0 | 3735928559 3735928559",
+        "0 0 6 0 0 33 0",
+        "0 0 6 9 76 33 28 | 4349520001030009010000010002320100000000000000000002320100000000000000000001\
+         3102000300010004000231020003000200040002220005000630000000070007000000080002 4",
+        "50 0 0 0 0 0 0 | - 75",
+        "0 0 6 9 76 33 28 | 1 42 7 3735928559",
+        "0 0 6 0 0 33 0 | 01.0.0.0.FFFFFFFFFFFFFFFF 00.1.0.0.AAAAAAAAAAAAAAAA \
+         00.2.0.0.FFFFFFFFFFFFFFFF 22.1.2.0.AAAAAAAAAAAAAAAA 22.2.2.0.5555555555555555 \
+         30.0.3.4.FFFFFFFFFFFFFFFF",
+    ];
+    let wanted = wanted.map(String::from);
+    assert_eq!(print(&stream), wanted);
+    // Cut inside the last case, and another version.
+    let mut cut = wanted.clone();
+    *cut.last_mut().unwrap() = "refused".to_string();
+    assert_eq!(print(&stream[..stream.len() - 1]), cut);
+    stream[4] = 2;
+    assert_eq!(print(&stream), ["refused"]);
+    assert_eq!(print(&[]), ["refused"]);
+    assert_eq!(print(&STREAM_MARK), Vec::<String>::new());
+}

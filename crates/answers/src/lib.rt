@@ -1,0 +1,64 @@
+// How an operation answers, and how a reader of bytes goes on.
+ghost use mathlib.Core.Path.{_≡_};
+ghost use Prim.Native.Nat.{_≤_};
+ghost use lib.ListN.{length};
+ghost use Rattle.answers.specs.Answers.{refusal, answerOf};
+ghost use Rattle.answers.specs.Parsing.{stepOf, readMark};
+
+// The seven numbers that every operation of the tool returns.
+#[repr(C)]
+pub struct Answer {
+    pub number: u8,
+    pub place: usize,
+    pub gates: usize,
+    pub wires: usize,
+    pub bytes: usize,
+    pub before: usize,
+    pub after: usize,
+}
+
+// Where a reader stands: past what it read, or at a refusal's number and place.
+pub enum Step {
+    Past(usize),
+    Refused(u8, usize),
+}
+
+// A refusal has its number and place, and counts nothing.
+pub fn refused(number: u8, place: usize) -> Answer
+    ensures { λ r. ⌜ r ≡ refusal number place ⌝ }
+{
+    Answer {
+        number,
+        place,
+        gates: 0,
+        wires: 0,
+        bytes: 0,
+        before: 0,
+        after: 0,
+    }
+}
+
+// The answer of a reader that counts nothing.
+pub fn of_step(step: Step) -> Answer
+    ensures { λ r. ⌜ r ≡ answerOf step ⌝ }
+{
+    match step {
+        Step::Past(_) => refused(0, 0),
+        Step::Refused(number, place) => refused(number, place),
+    }
+}
+
+// The bytes of `mark` stand at the start of the file, or the number lies on the first that does not.
+pub fn read_mark(s: &[u8], mark: &[u8], number: u8) -> Step
+    requires { ⌜ length (now mark) ≤ length (now s) ⌝ }
+    ensures { λ r. ⌜ r ≡ stepOf (readMark number (now (mark .entry)) (now (s .entry)) 0) ⌝ }
+{
+    let mut at = 0;
+    while at < mark.len() {
+        if s[at] != mark[at] {
+            return Step::Refused(number, at);
+        }
+        at += 1;
+    }
+    Step::Past(at)
+}

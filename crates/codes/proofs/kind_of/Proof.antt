@@ -1,0 +1,13 @@
+use mathlib.Core.Path.{sym}
+use Rattle.codes.specs.CodeLaws.{kind-bit, kind-word}
+use Rattle.codes.proofs.kind_of.Statement.{statement}
+use Rattle.codes.proofs.kind_of.Tie as tie
+
+returns : tie.Need-returns
+returns c = sym (kind-bit _ (c .if1 .taken))
+
+returns-2 : tie.Need-returns-2
+returns-2 c = sym (kind-word _ (c .if1 .left))
+
+pub kind-of-spec : {M : Type 1} → statement M
+kind-of-spec = tie.close (tie.spec returns returns-2)

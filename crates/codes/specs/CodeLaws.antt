@@ -1,0 +1,91 @@
+-- Laws of kinds and code bytes. Assumes nothing.
+use Prim.Native.Nat.{ℕ, _<_, _≤_}
+use native.Mathlib.Omega.{arith}
+use mathlib.Core.Path.{_≡_, refl, sym, ap, _∙_}
+use mathlib.Core.Logic.{_⊎_, inl, inr}
+use mathlib.Core.Bool.{Bool, true, false, _&&_, false≢true}
+use lib.Dec.{eqb, leb}
+use borrow.Author.Tests.{ne-eqb, le-leb, lt-leb}
+use Rattle.codes.specs.Codes.{pick, kindOf, sameKind, plain, rowOf, operationOf, codeOf}
+use Rattle.codes.specs.declared.Kind.{Kind}
+use Rattle.codes.specs.declared.Kind.the-variants as kind
+use Rattle.codes.specs.declared.Operation.{Operation}
+use Rattle.codes.specs.declared.Operation.the-variants.{Sum, Difference, Product, LessThan, Equal, And, Or, Not}
+use Rattle.codes.specs.declared.Form.{Form}
+use Rattle.codes.specs.declared.Form.the-variants.{End, Assign, Skip, Branch, Variable, Word, Bit, Apply, Unknown}
+use Rattle.codes.specs.declared.Code.{Code}
+
+-- kinds that the test takes for the same are the same
+pub same-kind : (a b : Kind) → sameKind a b ≡ true → a ≡ b
+same-kind kind.Word kind.Word h = refl
+same-kind kind.Word kind.Bit h = absurd (false≢true h)
+same-kind kind.Bit kind.Word h = absurd (false≢true h)
+same-kind kind.Bit kind.Bit h = refl
+
+pub kind-bit : (b : ℕ) → b ≡ 1 → kindOf b ≡ kind.Bit
+unfolding kindOf
+kind-bit b h = rw h
+
+pub kind-word : (b : ℕ) → (b ≡ 1 → ⊥) → kindOf b ≡ kind.Word
+unfolding kindOf
+kind-word b h = rw (ne-eqb b 1 h)
+
+-- a byte of the operation range is that operation's row
+pub code-operation : (b : ℕ) → 0x20 ≤ b → b ≤ 0x27 → codeOf b ≡ rowOf (operationOf b)
+unfolding codeOf
+code-operation b l h =
+    simp (
+      ne-eqb b 0x00 (omega arith),
+      ne-eqb b 0x01 (omega arith),
+      ne-eqb b 0x02 (omega arith),
+      ne-eqb b 0x03 (omega arith),
+      ne-eqb b 0x10 (omega arith),
+      ne-eqb b 0x11 (omega arith),
+      ne-eqb b 0x12 (omega arith),
+      le-leb _ _ l,
+      le-leb _ _ h,
+    )
+
+-- any other byte is unknown
+pub code-unknown : (b : ℕ) → (b ≡ 0x00 → ⊥) → (b ≡ 0x01 → ⊥) → (b ≡ 0x02 → ⊥) → (b ≡ 0x03 → ⊥) → (b ≡ 0x10 → ⊥) → (b ≡ 0x11 → ⊥) → (b ≡ 0x12 → ⊥) → (b < 0x20) ⊎ (0x27 < b) → codeOf b ≡ plain Unknown kind.Word
+unfolding codeOf
+code-unknown b h0 h1 h2 h3 h4 h5 h6 (inl h) =
+    simp (ne-eqb b 0x00 h0, ne-eqb b 0x01 h1, ne-eqb b 0x02 h2, ne-eqb b 0x03 h3, ne-eqb b 0x10 h4, ne-eqb b 0x11 h5, ne-eqb b 0x12 h6, lt-leb _ _ h)
+code-unknown b h0 h1 h2 h3 h4 h5 h6 (inr h) =
+    simp (ne-eqb b 0x00 h0, ne-eqb b 0x01 h1, ne-eqb b 0x02 h2, ne-eqb b 0x03 h3, ne-eqb b 0x10 h4, ne-eqb b 0x11 h5, ne-eqb b 0x12 h6, le-leb 0x20 b (omega arith), lt-leb _ _ h)
+
+-- a code that opens an operation is that operation's row
+row-form : (op : Operation) → rowOf op .form ≡ Apply op
+row-form Sum = refl
+row-form Difference = refl
+row-form Product = refl
+row-form LessThan = refl
+row-form Equal = refl
+row-form And = refl
+row-form Or = refl
+row-form Not = refl
+
+IsRow : Operation → Code → Type 0
+IsRow op c = c .form ≡ Apply op → c ≡ rowOf op
+
+plain-row : (op : Operation) (t : Bool) (f : Form) (k : Kind) (rest : Code) → (f ≡ Apply op → ⊥) → IsRow op rest → IsRow op (pick t (plain f k) rest)
+unfolding IsRow
+plain-row op true f k rest n h e = absurd (n e)
+plain-row op false f k rest n h e = h e
+
+table-row : (op o : Operation) (t : Bool) → IsRow op (pick t (rowOf o) (plain Unknown kind.Word))
+unfolding IsRow
+table-row op o true e = let q : Apply o ≡ Apply op = sym (row-form o) ∙ e in let r : o ≡ op = cc in ap rowOf r
+table-row op o false e = let z : _≡_ {A = ℕ} 0 1 = cc in absurd (omega arith)
+
+pub form-row : (b : ℕ) (op : Operation) → codeOf b .form ≡ Apply op → codeOf b ≡ rowOf op
+unfolding codeOf IsRow
+form-row b op =
+    plain-row op (eqb b 0x00) End kind.Word _ (λ e. let z : _≡_ {A = ℕ} 0 1 = cc in omega arith)
+    (plain-row op (eqb b 0x01) Assign kind.Word _ (λ e. let z : _≡_ {A = ℕ} 0 1 = cc in omega arith)
+    (plain-row op (eqb b 0x02) Skip kind.Word _ (λ e. let z : _≡_ {A = ℕ} 0 1 = cc in omega arith)
+    (plain-row op (eqb b 0x03) Branch kind.Word _ (λ e. let z : _≡_ {A = ℕ} 0 1 = cc in omega arith)
+    (plain-row op (eqb b 0x10) Variable kind.Word _ (λ e. let z : _≡_ {A = ℕ} 0 1 = cc in omega arith)
+    (plain-row op (eqb b 0x11) Word kind.Word _ (λ e. let z : _≡_ {A = ℕ} 0 1 = cc in omega arith)
+    (plain-row op (eqb b 0x12) Bit kind.Bit _ (λ e. let z : _≡_ {A = ℕ} 0 1 = cc in omega arith)
+    (table-row op (operationOf b) (leb 0x20 b && leb b 0x27))))))))

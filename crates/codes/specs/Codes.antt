@@ -1,0 +1,72 @@
+-- Document 01, "The rule file": kinds, code bytes and the operation table.
+use Prim.Native.Nat.{ℕ}
+use mathlib.Core.Bool.{Bool, true, false, _&&_}
+use lib.Dec.{eqb, leb, ltb}
+use Rattle.codes.specs.declared.Kind.{Kind}
+use Rattle.codes.specs.declared.Kind.the-variants as kind
+use Rattle.codes.specs.declared.Operation.{Operation}
+use Rattle.codes.specs.declared.Operation.the-variants.{Sum, Difference, Product, LessThan, Equal, And, Or, Not}
+use Rattle.codes.specs.declared.Form.{Form}
+use Rattle.codes.specs.declared.Form.the-variants.{End, Assign, Skip, Branch, Variable, Word, Bit, Apply, Unknown}
+use Rattle.codes.specs.declared.Code.{Code}
+
+abbrev pub pick : {A : Type 0} → Bool → A → A → A
+pick true a b = a
+pick false a b = b
+
+-- kind byte 00 word, 01 bit
+unfoldable pub kindOf : ℕ → Kind
+kindOf b = pick (eqb b 0x01) kind.Bit kind.Word
+
+abbrev pub sameKind : Kind → Kind → Bool
+sameKind kind.Word kind.Word = true
+sameKind kind.Word kind.Bit = false
+sameKind kind.Bit kind.Word = false
+sameKind kind.Bit kind.Bit = true
+
+-- a row of the operation table: kind of the arguments, kind of the result, arity, cost
+abbrev pub row : Operation → Kind → Kind → ℕ → ℕ → Code
+row op takes gives arity cost = record { form = Apply op; takes = takes; gives = gives; arity = arity; cost = cost }
+
+abbrev pub rowOf : Operation → Code
+rowOf Sum = row Sum kind.Word kind.Word 2 0
+rowOf Difference = row Difference kind.Word kind.Word 2 0
+rowOf Product = row Product kind.Word kind.Word 2 15
+rowOf LessThan = row LessThan kind.Word kind.Bit 2 40
+rowOf Equal = row Equal kind.Word kind.Bit 2 20
+rowOf And = row And kind.Bit kind.Bit 2 1
+rowOf Or = row Or kind.Bit kind.Bit 2 1
+rowOf Not = row Not kind.Bit kind.Bit 1 0
+
+-- An operation of this table with a cost above 0 is costly.
+abbrev pub costly : Operation → Bool
+costly op = ltb 0 (rowOf op .cost)
+
+-- the operation of a byte 20 to 27
+unfoldable pub operationOf : ℕ → Operation
+operationOf b =
+    pick (eqb b 0x20) Sum
+    (pick (eqb b 0x21) Difference
+    (pick (eqb b 0x22) Product
+    (pick (eqb b 0x23) LessThan
+    (pick (eqb b 0x24) Equal
+    (pick (eqb b 0x25) And
+    (pick (eqb b 0x26) Or
+    Not))))))
+
+-- a code that is no operation: it takes no argument and costs nothing
+abbrev pub plain : Form → Kind → Code
+plain form gives = record { form = form; takes = kind.Word; gives = gives; arity = 0; cost = 0 }
+
+-- Statements 00 to 03; expressions 10 variable, 11 word constant, 12 bit constant, else an operation.
+unfoldable pub codeOf : ℕ → Code
+codeOf b =
+    pick (eqb b 0x00) (plain End kind.Word)
+    (pick (eqb b 0x01) (plain Assign kind.Word)
+    (pick (eqb b 0x02) (plain Skip kind.Word)
+    (pick (eqb b 0x03) (plain Branch kind.Word)
+    (pick (eqb b 0x10) (plain Variable kind.Word)
+    (pick (eqb b 0x11) (plain Word kind.Word)
+    (pick (eqb b 0x12) (plain Bit kind.Bit)
+    (pick (leb 0x20 b && leb b 0x27) (rowOf (operationOf b))
+    (plain Unknown kind.Word))))))))

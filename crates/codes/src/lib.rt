@@ -1,0 +1,179 @@
+// The codes of a rule file: what each opens, and the operation table.
+ghost use mathlib.Core.Path.{_≡_};
+ghost use mathlib.Core.Bool.{_&&_, _||_};
+ghost use Prim.Native.Nat.{_≤_};
+ghost use lib.Dec.{eqb};
+ghost use Rattle.codes.specs.Results.{bitOf, resultOf};
+ghost use Rattle.codes.specs.Codes.{kindOf, sameKind, plain, row, rowOf, operationOf, codeOf};
+
+// What a figure is: a word of 32 bits or a bit.
+pub enum Kind {
+    Word,
+    Bit,
+}
+
+// The operations of the table.
+pub enum Operation {
+    Sum,
+    Difference,
+    Product,
+    LessThan,
+    Equal,
+    And,
+    Or,
+    Not,
+}
+
+// What a code byte opens.
+pub enum Form {
+    End,
+    Assign,
+    Skip,
+    Branch,
+    Variable,
+    Word,
+    Bit,
+    Apply(Operation),
+    Unknown,
+}
+
+// A code byte read: its form, the kind of its arguments and of its result, their count and its cost.
+pub struct Code {
+    pub form: Form,
+    pub takes: Kind,
+    pub gives: Kind,
+    pub arity: u8,
+    pub cost: u8,
+}
+
+// The kind that a kind byte names.
+pub fn kind_of(b: u8) -> Kind
+    ensures { λ r. ⌜ r ≡ kindOf b ⌝ }
+{
+    if b == 1 { Kind::Bit } else { Kind::Word }
+}
+
+pub fn same_kind(a: Kind, b: Kind) -> bool
+    ensures { λ r. ⌜ r ≡ sameKind a b ⌝ }
+{
+    match a {
+        Kind::Word => match b {
+            Kind::Word => true,
+            Kind::Bit => false,
+        },
+        Kind::Bit => match b {
+            Kind::Word => false,
+            Kind::Bit => true,
+        },
+    }
+}
+
+// A code with no arguments.
+fn plain_code(form: Form, gives: Kind) -> Code
+    ensures { λ r. ⌜ r ≡ plain form gives ⌝ }
+{
+    Code {
+        form,
+        takes: Kind::Word,
+        gives,
+        arity: 0,
+        cost: 0,
+    }
+}
+
+// A row of the operation table.
+fn table_row(op: Operation, takes: Kind, gives: Kind, arity: u8, cost: u8) -> Code
+    ensures { λ r. ⌜ r ≡ row op takes gives arity cost ⌝ }
+{
+    Code {
+        form: Form::Apply(op),
+        takes,
+        gives,
+        arity,
+        cost,
+    }
+}
+
+// The operation's row of the table.
+pub fn row_of(op: Operation) -> Code
+    ensures { λ r. ⌜ r ≡ rowOf op ⌝ }
+{
+    match op {
+        Operation::Sum => table_row(Operation::Sum, Kind::Word, Kind::Word, 2, 0),
+        Operation::Difference => table_row(Operation::Difference, Kind::Word, Kind::Word, 2, 0),
+        Operation::Product => table_row(Operation::Product, Kind::Word, Kind::Word, 2, 15),
+        Operation::LessThan => table_row(Operation::LessThan, Kind::Word, Kind::Bit, 2, 40),
+        Operation::Equal => table_row(Operation::Equal, Kind::Word, Kind::Bit, 2, 20),
+        Operation::And => table_row(Operation::And, Kind::Bit, Kind::Bit, 2, 1),
+        Operation::Or => table_row(Operation::Or, Kind::Bit, Kind::Bit, 2, 1),
+        Operation::Not => table_row(Operation::Not, Kind::Bit, Kind::Bit, 1, 0),
+    }
+}
+
+// The operation of a byte of the operation range.
+fn operation_of(b: u8) -> Operation
+    requires { ⌜ (0x20 ≤ b) × (b ≤ 0x27) ⌝ }
+    ensures { λ r. ⌜ r ≡ operationOf b ⌝ }
+{
+    match b {
+        0x20 => Operation::Sum,
+        0x21 => Operation::Difference,
+        0x22 => Operation::Product,
+        0x23 => Operation::LessThan,
+        0x24 => Operation::Equal,
+        0x25 => Operation::And,
+        0x26 => Operation::Or,
+        _ => Operation::Not,
+    }
+}
+
+// The decision over the code bytes, each giving kind, arity and cost.
+pub fn code_of(b: u8) -> Code
+    ensures { λ r. ⌜ r ≡ codeOf b ⌝ }
+{
+    match b {
+        0x00 => plain_code(Form::End, Kind::Word),
+        0x01 => plain_code(Form::Assign, Kind::Word),
+        0x02 => plain_code(Form::Skip, Kind::Word),
+        0x03 => plain_code(Form::Branch, Kind::Word),
+        0x10 => plain_code(Form::Variable, Kind::Word),
+        0x11 => plain_code(Form::Word, Kind::Word),
+        0x12 => plain_code(Form::Bit, Kind::Bit),
+        0x20..=0x27 => row_of(operation_of(b)),
+        _ => plain_code(Form::Unknown, Kind::Word),
+    }
+}
+
+// The operation's result on the figures of its arguments.
+pub fn apply(op: Operation, a: u32, b: u32) -> u32
+    ensures { λ r. ⌜ r ≡ resultOf op a b ⌝ }
+{
+    match op {
+        Operation::Sum => words::sum(a, b),
+        Operation::Difference => words::difference(a, b),
+        Operation::Product => words::product(a, b),
+        Operation::LessThan => bit(a < b),
+        Operation::Equal => bit(a == b),
+        Operation::And => and(a, b),
+        Operation::Or => or(a, b),
+        Operation::Not => bit(a != 1),
+    }
+}
+
+fn bit(test: bool) -> u32
+    ensures { λ r. ⌜ r ≡ bitOf test ⌝ }
+{
+    if test { 1 } else { 0 }
+}
+
+fn and(a: u32, b: u32) -> u32
+    ensures { λ r. ⌜ r ≡ bitOf (eqb a 1 && eqb b 1) ⌝ }
+{
+    if a == 1 { bit(b == 1) } else { 0 }
+}
+
+fn or(a: u32, b: u32) -> u32
+    ensures { λ r. ⌜ r ≡ bitOf (eqb a 1 || eqb b 1) ⌝ }
+{
+    if a == 1 { 1 } else { bit(b == 1) }
+}

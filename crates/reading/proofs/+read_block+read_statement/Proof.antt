@@ -1,0 +1,291 @@
+use mathlib.Core.Path.{_≡_, refl, sym, ap, _∙_}
+use native.Mathlib.Omega.{arith}
+use denote.Ref.{now}
+use lib.ListN.{length}
+use Rattle.codes.specs.declared.Kind.the-variants.{Bit}
+use Rattle.codes.specs.declared.Form.the-variants as form
+use Rattle.answers.specs.Parsing.{stepOf}
+use Rattle.answers.specs.ParsingLaws.{forward-past}
+use Rattle.reading.specs.Limits.{deepest}
+use Rattle.reading.specs.Expressions.{readExpr}
+use Rattle.reading.specs.ExpressionLaws.{expr-forward}
+use Rattle.reading.specs.Blocks.{readBlock, readStatement}
+use Rattle.reading.specs.FuelLaws.{block-forward, statement-forward}
+use Rattle.reading.specs.BlockLaws.{statement-as, branch-deep, branch-refused, branch-first, branch-second, block-short, block-end, block-refused, block-more}
+use borrow.Author.Needs.{needs}
+use Prim.Native.Nat.{ℕ, _+_, _-_, _*_, _<_, _≤_}
+use borrow.Fn.Kinds.{In}
+use borrow.Fn.PlainCycle.{Measures, is, falls, and}
+use Rattle.reading.proofs.read_block.Reads as read-block
+use Rattle.reading.proofs.read_block.Kinds as read-block-kinds
+use Rattle.reading.proofs.+read_block+read_statement.Lts-read_block as read-block-lts
+use Rattle.reading.proofs.read_statement.Reads as read-statement
+use Rattle.reading.proofs.read_statement.Kinds as read-statement-kinds
+use Rattle.reading.proofs.+read_block+read_statement.Lts-read_statement as read-statement-lts
+use Rattle.codes.proofs.code_of.Reads as code-of-reads
+use Rattle.reading.proofs.read_assign.Reads as read-assign-reads
+use Rattle.reading.proofs.read_expr.Reads as read-expr-reads
+use Rattle.reading.proofs.+read_block+read_statement.{statement}
+use Rattle.reading.proofs.+read_block+read_statement.Tie.{close}
+
+abbrev μ-read-block : Measures 1 read-block-kinds.ps ℕ
+μ-read-block κs a = 2 * (length (now (a .0)) - a .1 .0) + 1
+
+abbrev μ-read-statement : Measures 1 read-statement-kinds.ps ℕ
+μ-read-statement κs a = 2 * (length (now (a .0)) - a .1 .0)
+
+abbrev read-block-at : ℕ → In 1 read-block-kinds.ps
+read-block-at t =
+    and 1 read-block-kinds.ps (is 1 read-block-kinds.ps μ-read-block t) read-block.Pre
+
+abbrev read-block-below : ℕ → In 1 read-block-kinds.ps
+read-block-below t =
+    and 1 read-block-kinds.ps (falls 1 read-block-kinds.ps _<_ μ-read-block t) read-block.Pre
+
+abbrev read-statement-at : ℕ → In 1 read-statement-kinds.ps
+read-statement-at t =
+    and
+    1
+    read-statement-kinds.ps
+    (is 1 read-statement-kinds.ps μ-read-statement t)
+    read-statement.Pre
+
+abbrev read-statement-below : ℕ → In 1 read-statement-kinds.ps
+read-statement-below t =
+    and
+    1
+    read-statement-kinds.ps
+    (falls 1 read-statement-kinds.ps _<_ μ-read-statement t)
+    read-statement.Pre
+
+abbrev read-block-Inv-loop : read-block-lts.InvT-loop
+read-block-Inv-loop s at nest here₀ here =
+    (at ≤ here) × (stepOf (readBlock s nest here) ≡ stepOf (readBlock s nest at))
+
+abbrev read-block-μ-loop : read-block-lts.MeasureT-loop
+read-block-μ-loop s at nest here₀ here = length s - here
+
+abbrev read-block-claims : ℕ → read-block-lts.Claims
+read-block-claims t = (read-statement-below t, read-statement.Post)
+
+abbrev read-statement-claims : ℕ → read-statement-lts.Claims
+read-statement-claims t = (code-of-reads.Asked, code-of-reads.Learnt, read-assign-reads.Asked, read-assign-reads.Learnt, read-expr-reads.Asked, read-expr-reads.Learnt, read-block-below t, read-block.Post)
+
+read-block-loop-holds : (t : ℕ) → read-block-lts.Need-loop-holds (read-block-claims t) (read-block-at t) read-block.Post read-block-Inv-loop read-block-μ-loop
+read-block-loop-holds t c = (search needs, refl)
+
+read-block-returns : (t : ℕ) → read-block-lts.Need-returns (read-block-claims t) (read-block-at t) read-block.Post read-block-Inv-loop read-block-μ-loop
+read-block-returns t c = let a = c .before .before .before .args in let l = c .before .loop in ap stepOf (sym (block-short (now (a .s)) (a .nest) (l .here) (c .if1 .taken))) ∙ l .inv .1
+
+read-block-shared-slice-read-if2 : (t : ℕ) → read-block-lts.Need-shared-slice-read-if2 (read-block-claims t) (read-block-at t) read-block.Post read-block-Inv-loop read-block-μ-loop
+read-block-shared-slice-read-if2 t c = search needs
+
+read-block-add-t13 : (t : ℕ) → read-block-lts.Need-add-t13 (read-block-claims t) (read-block-at t) read-block.Post read-block-Inv-loop read-block-μ-loop
+read-block-add-t13 t c = search needs
+
+read-block-returns-2 : (t : ℕ) → read-block-lts.Need-returns-2 (read-block-claims t) (read-block-at t) read-block.Post read-block-Inv-loop read-block-μ-loop
+read-block-returns-2 t c = let a = c .before .before .before .before .before .args in let l = c .before .before .before .loop in block-end (now (a .s)) (a .nest) (l .here) (c .before .before .if1 .left) (c .if2 .taken) ∙ l .inv .1
+
+read-block-read-statement-requires : (t : ℕ) → read-block-lts.Need-read-statement-requires (read-block-claims t) (read-block-at t) read-block.Post read-block-Inv-loop read-block-μ-loop
+read-block-read-statement-requires t c κs = search needs
+
+read-block-enum-known-next : (t : ℕ) → read-block-lts.Need-enum-known-next (read-block-claims t) (read-block-at t) read-block.Post read-block-Inv-loop read-block-μ-loop
+read-block-enum-known-next t c = search needs
+
+read-block-loop-less : (t : ℕ) → read-block-lts.Need-loop-less (read-block-claims t) (read-block-at t) read-block.Post read-block-Inv-loop read-block-μ-loop
+read-block-loop-less t c =
+    let a = c .before .before .before .before .before .before .before .before .before .args in let l = c .before .before .before .before .before .before .before .loop in
+    omega (arith, forward-past (readStatement (now (a .s)) (a .nest) (l .here)) (statement-forward (now (a .s)) (a .nest) (l .here)) (sym (c .before .next .given .1) ∙ c .before .before .before .read-statement .ensures))
+
+read-block-loop-again : (t : ℕ) → read-block-lts.Need-loop-again (read-block-claims t) (read-block-at t) read-block.Post read-block-Inv-loop read-block-μ-loop
+read-block-loop-again t c =
+    let a = c .before .before .before .before .before .before .before .before .before .args in let l = c .before .before .before .before .before .before .before .loop in
+    let step = sym (c .before .next .given .1) ∙ c .before .before .before .read-statement .ensures in (
+      omega (arith, forward-past (readStatement (now (a .s)) (a .nest) (l .here)) (statement-forward (now (a .s)) (a .nest) (l .here)) step),
+      block-more (now (a .s)) (a .nest) (l .here) (c .before .before .before .before .before .before .if1 .left) (c .before .before .before .before .if2 .left) step ∙ l .inv .1,
+    )
+
+read-block-enum-known-number : (t : ℕ) → read-block-lts.Need-enum-known-number (read-block-claims t) (read-block-at t) read-block.Post read-block-Inv-loop read-block-μ-loop
+read-block-enum-known-number t c = search needs
+
+read-block-returns-3 : (t : ℕ) → read-block-lts.Need-returns-3 (read-block-claims t) (read-block-at t) read-block.Post read-block-Inv-loop read-block-μ-loop
+read-block-returns-3 t c =
+    let a = c .before .before .before .before .before .before .before .before .before .args in let l = c .before .before .before .before .before .before .before .loop in
+    block-refused (now (a .s)) (a .nest) (l .here) (c .before .before .before .before .before .before .if1 .left) (c .before .before .before .before .if2 .left) (sym (c .before .number .given .1) ∙ c .before .before .before .read-statement .ensures) ∙ l .inv .1
+
+read-statement-shared-slice-read-code-of :
+    (t : ℕ) → read-statement-lts.Need-shared-slice-read-code-of (read-statement-claims t) (read-statement-at t) read-statement.Post
+read-statement-shared-slice-read-code-of t c = search needs
+
+read-statement-code-of-requires : (t : ℕ) → read-statement-lts.Need-code-of-requires (read-statement-claims t) (read-statement-at t) read-statement.Post
+read-statement-code-of-requires t c κs = search needs
+
+read-statement-enum-told : (t : ℕ) → read-statement-lts.Need-enum-told (read-statement-claims t) (read-statement-at t) read-statement.Post
+read-statement-enum-told t c = search needs
+
+read-statement-read-assign-requires : (t : ℕ) → read-statement-lts.Need-read-assign-requires (read-statement-claims t) (read-statement-at t) read-statement.Post
+read-statement-read-assign-requires t c κs = search needs
+
+read-statement-enum-told-2 : (t : ℕ) → read-statement-lts.Need-enum-told-2 (read-statement-claims t) (read-statement-at t) read-statement.Post
+read-statement-enum-told-2 t c = search needs
+
+read-statement-add-t15 : (t : ℕ) → read-statement-lts.Need-add-t15 (read-statement-claims t) (read-statement-at t) read-statement.Post
+read-statement-add-t15 t c = search needs
+
+read-statement-enum-told-3 : (t : ℕ) → read-statement-lts.Need-enum-told-3 (read-statement-claims t) (read-statement-at t) read-statement.Post
+read-statement-enum-told-3 t c = search needs
+
+read-statement-returns : (t : ℕ) → read-statement-lts.Need-returns (read-statement-claims t) (read-statement-at t) read-statement.Post
+read-statement-returns t c = let a = c .before .before .before .before .before .before .args in branch-deep (now (a .s)) (a .nest) (a .at) (c .before .before .before .code-of .result) (c .before .before .before .code-of .ensures) (c .before .enum-told3 .given .1) (c .if1 .taken)
+
+read-statement-add-read-expr : (t : ℕ) → read-statement-lts.Need-add-read-expr (read-statement-claims t) (read-statement-at t) read-statement.Post
+read-statement-add-read-expr t c = search needs
+
+read-statement-read-expr-requires : (t : ℕ) → read-statement-lts.Need-read-expr-requires (read-statement-claims t) (read-statement-at t) read-statement.Post
+read-statement-read-expr-requires t c κs = search needs
+
+read-statement-enum-known-first : (t : ℕ) → read-statement-lts.Need-enum-known-first (read-statement-claims t) (read-statement-at t) read-statement.Post
+read-statement-enum-known-first t c = search needs
+
+read-statement-sub-read-block : (t : ℕ) → read-statement-lts.Need-sub-read-block (read-statement-claims t) (read-statement-at t) read-statement.Post
+read-statement-sub-read-block t c = search needs
+
+read-statement-read-block-requires : (t : ℕ) → read-statement-lts.Need-read-block-requires (read-statement-claims t) (read-statement-at t) read-statement.Post
+read-statement-read-block-requires t c κs =
+    let a = c .before .before .before .before .before .before .before .before .before .before .args in
+    omega (arith, forward-past (readExpr deepest (now (a .s)) Bit (a .at + 1)) (expr-forward deepest (now (a .s)) Bit (a .at + 1)) (sym (c .before .first .given .1) ∙ c .before .before .before .read-expr .ensures))
+
+read-statement-enum-known-second : (t : ℕ) → read-statement-lts.Need-enum-known-second (read-statement-claims t) (read-statement-at t) read-statement.Post
+read-statement-enum-known-second t c = search needs
+
+read-statement-sub-read-block-2 : (t : ℕ) → read-statement-lts.Need-sub-read-block-2 (read-statement-claims t) (read-statement-at t) read-statement.Post
+read-statement-sub-read-block-2 t c = search needs
+
+read-statement-read-block-requires-2 : (t : ℕ) → read-statement-lts.Need-read-block-requires-2 (read-statement-claims t) (read-statement-at t) read-statement.Post
+read-statement-read-block-requires-2 t c κs =
+    let a = c .before .before .before .before .before .before .before .before .before .before .before .before .before .before .args in
+    let first = c .before .before .before .before .before .first .given .0 .0 in
+    omega (
+      arith,
+      forward-past (readExpr deepest (now (a .s)) Bit (a .at + 1)) (expr-forward deepest (now (a .s)) Bit (a .at + 1)) (sym (c .before .before .before .before .before .first .given .1) ∙ c .before .before .before .before .before .before .before .read-expr .ensures),
+      forward-past (readBlock (now (a .s)) (a .nest - 1) first) (block-forward (now (a .s)) (a .nest - 1) first) (sym (c .before .second .given .1) ∙ c .before .before .before .read-block .ensures),
+    )
+
+read-statement-enum-known-number : (t : ℕ) → read-statement-lts.Need-enum-known-number (read-statement-claims t) (read-statement-at t) read-statement.Post
+read-statement-enum-known-number t c = search needs
+
+read-statement-enum-known-number-2 : (t : ℕ) → read-statement-lts.Need-enum-known-number-2 (read-statement-claims t) (read-statement-at t) read-statement.Post
+read-statement-enum-known-number-2 t c = search needs
+
+read-statement-enum-told-4 : (t : ℕ) → read-statement-lts.Need-enum-told-4 (read-statement-claims t) (read-statement-at t) read-statement.Post
+read-statement-enum-told-4 t c = search needs
+
+read-statement-enum-told-5 : (t : ℕ) → read-statement-lts.Need-enum-told-5 (read-statement-claims t) (read-statement-at t) read-statement.Post
+read-statement-enum-told-5 t c = search needs
+
+read-statement-enum-told-6 : (t : ℕ) → read-statement-lts.Need-enum-told-6 (read-statement-claims t) (read-statement-at t) read-statement.Post
+read-statement-enum-told-6 t c = search needs
+
+read-statement-enum-told-7 : (t : ℕ) → read-statement-lts.Need-enum-told-7 (read-statement-claims t) (read-statement-at t) read-statement.Post
+read-statement-enum-told-7 t c = search needs
+
+read-statement-enum-told-8 : (t : ℕ) → read-statement-lts.Need-enum-told-8 (read-statement-claims t) (read-statement-at t) read-statement.Post
+read-statement-enum-told-8 t c = search needs
+
+read-statement-enum-told-9 : (t : ℕ) → read-statement-lts.Need-enum-told-9 (read-statement-claims t) (read-statement-at t) read-statement.Post
+read-statement-enum-told-9 t c = search needs
+
+read-statement-returns-2 : (t : ℕ) → read-statement-lts.Need-returns-2 (read-statement-claims t) (read-statement-at t) read-statement.Post
+read-statement-returns-2 t c = let a = c .before .before .before .before .before .before .args in c .read-assign .ensures ∙ ap stepOf (sym (statement-as (now (a .s)) (a .nest) (a .at) (c .before .before .before .code-of .result) form.Assign (c .before .before .before .code-of .ensures) (c .before .enum-told .given .1)))
+
+read-statement-returns-3 : (t : ℕ) → read-statement-lts.Need-returns-3 (read-statement-claims t) (read-statement-at t) read-statement.Post
+read-statement-returns-3 t c = let a = c .before .before .before .before .before .args in ap stepOf (sym (statement-as (now (a .s)) (a .nest) (a .at) (c .before .before .code-of .result) form.Skip (c .before .before .code-of .ensures) (c .enum-told2 .given .1)))
+
+read-statement-returns-4 : (t : ℕ) → read-statement-lts.Need-returns-4 (read-statement-claims t) (read-statement-at t) read-statement.Post
+read-statement-returns-4 t c =
+    let a = c .before .before .before .before .before .before .before .before .before .before .before .before .before .before .before .args in
+    branch-second (now (a .s)) (a .nest) (a .at) (c .before .before .before .before .before .before .before .before .before .before .before .before .code-of .result) (c .before .before .before .before .before .before .before .before .before .before .before .before .code-of .ensures) (c .before .before .before .before .before .before .before .before .before .before .enum-told3 .given .1) (c .before .before .before .before .before .before .before .before .before .if1 .left)
+    (sym (c .before .before .before .before .before .before .first .given .1) ∙ c .before .before .before .before .before .before .before .before .read-expr .ensures) (sym (c .before .before .second .given .1) ∙ c .before .before .before .before .read-block .ensures) (c .read-block2 .ensures)
+
+read-statement-returns-5 : (t : ℕ) → read-statement-lts.Need-returns-5 (read-statement-claims t) (read-statement-at t) read-statement.Post
+read-statement-returns-5 t c =
+    let a = c .before .before .before .before .before .before .before .before .before .before .before .before .before .before .args in
+    branch-first (now (a .s)) (a .nest) (a .at) (c .before .before .before .before .before .before .before .before .before .before .before .code-of .result) (c .before .before .before .before .before .before .before .before .before .before .before .code-of .ensures) (c .before .before .before .before .before .before .before .before .before .enum-told3 .given .1) (c .before .before .before .before .before .before .before .before .if1 .left)
+    (sym (c .before .before .before .before .before .first .given .1) ∙ c .before .before .before .before .before .before .before .read-expr .ensures) (sym (c .before .number .given .1) ∙ c .before .before .before .read-block .ensures)
+
+read-statement-returns-6 : (t : ℕ) → read-statement-lts.Need-returns-6 (read-statement-claims t) (read-statement-at t) read-statement.Post
+read-statement-returns-6 t c =
+    let a = c .before .before .before .before .before .before .before .before .before .before .args in
+    branch-refused (now (a .s)) (a .nest) (a .at) (c .before .before .before .before .before .before .before .code-of .result) (c .before .before .before .before .before .before .before .code-of .ensures) (c .before .before .before .before .before .enum-told3 .given .1) (c .before .before .before .before .if1 .left) (sym (c .before .number2 .given .1) ∙ c .before .before .before .read-expr .ensures)
+
+read-statement-returns-7 : (t : ℕ) → read-statement-lts.Need-returns-7 (read-statement-claims t) (read-statement-at t) read-statement.Post
+read-statement-returns-7 t c = let a = c .before .before .before .before .before .args in ap stepOf (sym (statement-as (now (a .s)) (a .nest) (a .at) (c .before .before .code-of .result) form.End (c .before .before .code-of .ensures) (c .enum-told4 .given .1)))
+
+read-statement-returns-8 : (t : ℕ) → read-statement-lts.Need-returns-8 (read-statement-claims t) (read-statement-at t) read-statement.Post
+read-statement-returns-8 t c = let a = c .before .before .before .before .before .args in ap stepOf (sym (statement-as (now (a .s)) (a .nest) (a .at) (c .before .before .code-of .result) form.Variable (c .before .before .code-of .ensures) (c .enum-told5 .given .1)))
+
+read-statement-returns-9 : (t : ℕ) → read-statement-lts.Need-returns-9 (read-statement-claims t) (read-statement-at t) read-statement.Post
+read-statement-returns-9 t c = let a = c .before .before .before .before .before .args in ap stepOf (sym (statement-as (now (a .s)) (a .nest) (a .at) (c .before .before .code-of .result) form.Word (c .before .before .code-of .ensures) (c .enum-told6 .given .1)))
+
+read-statement-returns-10 : (t : ℕ) → read-statement-lts.Need-returns-10 (read-statement-claims t) (read-statement-at t) read-statement.Post
+read-statement-returns-10 t c = let a = c .before .before .before .before .before .args in ap stepOf (sym (statement-as (now (a .s)) (a .nest) (a .at) (c .before .before .code-of .result) form.Bit (c .before .before .code-of .ensures) (c .enum-told7 .given .1)))
+
+read-statement-returns-11 : (t : ℕ) → read-statement-lts.Need-returns-11 (read-statement-claims t) (read-statement-at t) read-statement.Post
+read-statement-returns-11 t c = let a = c .before .before .before .before .before .args in ap stepOf (sym (statement-as (now (a .s)) (a .nest) (a .at) (c .before .before .code-of .result) (form.Apply (c .enum-told8 .given .0 .0)) (c .before .before .code-of .ensures) (c .enum-told8 .given .1)))
+
+read-statement-returns-12 : (t : ℕ) → read-statement-lts.Need-returns-12 (read-statement-claims t) (read-statement-at t) read-statement.Post
+read-statement-returns-12 t c = let a = c .before .before .before .before .before .args in ap stepOf (sym (statement-as (now (a .s)) (a .nest) (a .at) (c .before .before .code-of .result) form.Unknown (c .before .before .code-of .ensures) (c .enum-told9 .given .1)))
+
+pub +read-block+read-statement-spec : {M : Type 1} → statement M
++read-block+read-statement-spec = close μ-read-block μ-read-statement (λ t. read-block-lts.spec (read-block-claims t) (read-block-at t)
+    read-block.Post
+    read-block-Inv-loop
+    read-block-μ-loop
+    (read-block-loop-holds t)
+    (read-block-returns t)
+    (read-block-shared-slice-read-if2 t)
+    (read-block-add-t13 t)
+    (read-block-returns-2 t)
+    (read-block-read-statement-requires t)
+    (read-block-enum-known-next t)
+    (read-block-loop-less t)
+    (read-block-loop-again t)
+    (read-block-enum-known-number t)
+    (read-block-returns-3 t))
+    λ t. read-statement-lts.spec (read-statement-claims t) (read-statement-at t)
+    read-statement.Post
+    (read-statement-shared-slice-read-code-of t)
+    (read-statement-code-of-requires t)
+    (read-statement-enum-told t)
+    (read-statement-read-assign-requires t)
+    (read-statement-enum-told-2 t)
+    (read-statement-add-t15 t)
+    (read-statement-enum-told-3 t)
+    (read-statement-returns t)
+    (read-statement-add-read-expr t)
+    (read-statement-read-expr-requires t)
+    (read-statement-enum-known-first t)
+    (read-statement-sub-read-block t)
+    (read-statement-read-block-requires t)
+    (read-statement-enum-known-second t)
+    (read-statement-sub-read-block-2 t)
+    (read-statement-read-block-requires-2 t)
+    (read-statement-enum-known-number t)
+    (read-statement-enum-known-number-2 t)
+    (read-statement-enum-told-4 t)
+    (read-statement-enum-told-5 t)
+    (read-statement-enum-told-6 t)
+    (read-statement-enum-told-7 t)
+    (read-statement-enum-told-8 t)
+    (read-statement-enum-told-9 t)
+    (read-statement-returns-2 t)
+    (read-statement-returns-3 t)
+    (read-statement-returns-4 t)
+    (read-statement-returns-5 t)
+    (read-statement-returns-6 t)
+    (read-statement-returns-7 t)
+    (read-statement-returns-8 t)
+    (read-statement-returns-9 t)
+    (read-statement-returns-10 t)
+    (read-statement-returns-11 t)
+    (read-statement-returns-12 t)

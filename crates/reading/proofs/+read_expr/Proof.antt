@@ -1,0 +1,213 @@
+use mathlib.Core.Path.{sym, ap, _∙_}
+use borrow.Author.Tests.{not-true, not-false}
+use denote.Ref.{now}
+use Rattle.codes.specs.declared.Form.the-variants.{End, Assign, Skip, Branch, Variable, Word, Bit, Unknown}
+use Rattle.answers.specs.Parsing.{stepOf}
+use Rattle.reading.specs.ExpressionLaws.{expr-short, expr-as, expr-kind, expr-deep, expr-refused, expr-one, expr-two}
+use borrow.Author.Needs.{needs}
+use Prim.Native.Nat.{ℕ, _<_}
+use borrow.Fn.Kinds.{In}
+use borrow.Fn.PlainCycle.{Measures, is, falls, and}
+use Rattle.reading.proofs.read_expr.Reads as read-expr
+use Rattle.reading.proofs.read_expr.Kinds as read-expr-kinds
+use Rattle.reading.proofs.+read_expr.Lts-read_expr as read-expr-lts
+use Rattle.codes.proofs.code_of.Reads as code-of-reads
+use Rattle.codes.proofs.same_kind.Reads as same-kind-reads
+use Rattle.reading.proofs.read_bit.Reads as read-bit-reads
+use Rattle.reading.proofs.read_variable.Reads as read-variable-reads
+use Rattle.reading.proofs.read_word.Reads as read-word-reads
+use Rattle.reading.proofs.+read_expr.{statement}
+use Rattle.reading.proofs.+read_expr.Tie.{close}
+
+abbrev μ-read-expr : Measures 1 read-expr-kinds.ps ℕ
+μ-read-expr κs a = a .1 .1 .1 .0
+
+abbrev read-expr-at : ℕ → In 1 read-expr-kinds.ps
+read-expr-at t = and 1 read-expr-kinds.ps (is 1 read-expr-kinds.ps μ-read-expr t) read-expr.Pre
+
+abbrev read-expr-below : ℕ → In 1 read-expr-kinds.ps
+read-expr-below t =
+    and 1 read-expr-kinds.ps (falls 1 read-expr-kinds.ps _<_ μ-read-expr t) read-expr.Pre
+
+abbrev read-expr-claims : ℕ → read-expr-lts.Claims
+read-expr-claims t = (code-of-reads.Asked, code-of-reads.Learnt, read-variable-reads.Asked, read-variable-reads.Learnt, read-word-reads.Asked, read-word-reads.Learnt, read-bit-reads.Asked, read-bit-reads.Learnt, same-kind-reads.Asked, same-kind-reads.Learnt, read-expr-below t, read-expr.Post)
+
+read-expr-returns : (t : ℕ) → read-expr-lts.Need-returns (read-expr-claims t) (read-expr-at t) read-expr.Post
+read-expr-returns t c = let a = c .before .before .args in expr-short (a .deep) (now (a .s)) (a .want) (a .at) (c .if1 .taken)
+
+read-expr-shared-slice-read-code-of : (t : ℕ) → read-expr-lts.Need-shared-slice-read-code-of (read-expr-claims t) (read-expr-at t) read-expr.Post
+read-expr-shared-slice-read-code-of t c = search needs
+
+read-expr-code-of-requires : (t : ℕ) → read-expr-lts.Need-code-of-requires (read-expr-claims t) (read-expr-at t) read-expr.Post
+read-expr-code-of-requires t c κs = search needs
+
+read-expr-enum-told : (t : ℕ) → read-expr-lts.Need-enum-told (read-expr-claims t) (read-expr-at t) read-expr.Post
+read-expr-enum-told t c = search needs
+
+read-expr-read-variable-requires : (t : ℕ) → read-expr-lts.Need-read-variable-requires (read-expr-claims t) (read-expr-at t) read-expr.Post
+read-expr-read-variable-requires t c κs = search needs
+
+read-expr-enum-told-2 : (t : ℕ) → read-expr-lts.Need-enum-told-2 (read-expr-claims t) (read-expr-at t) read-expr.Post
+read-expr-enum-told-2 t c = search needs
+
+read-expr-read-word-requires : (t : ℕ) → read-expr-lts.Need-read-word-requires (read-expr-claims t) (read-expr-at t) read-expr.Post
+read-expr-read-word-requires t c κs = search needs
+
+read-expr-enum-told-3 : (t : ℕ) → read-expr-lts.Need-enum-told-3 (read-expr-claims t) (read-expr-at t) read-expr.Post
+read-expr-enum-told-3 t c = search needs
+
+read-expr-read-bit-requires : (t : ℕ) → read-expr-lts.Need-read-bit-requires (read-expr-claims t) (read-expr-at t) read-expr.Post
+read-expr-read-bit-requires t c κs = search needs
+
+read-expr-enum-told-4 : (t : ℕ) → read-expr-lts.Need-enum-told-4 (read-expr-claims t) (read-expr-at t) read-expr.Post
+read-expr-enum-told-4 t c = search needs
+
+read-expr-same-kind-requires : (t : ℕ) → read-expr-lts.Need-same-kind-requires (read-expr-claims t) (read-expr-at t) read-expr.Post
+read-expr-same-kind-requires t c κs = search needs
+
+read-expr-returns-2 : (t : ℕ) → read-expr-lts.Need-returns-2 (read-expr-claims t) (read-expr-at t) read-expr.Post
+read-expr-returns-2 t c =
+    let a = c .before .before .before .before .before .before .before .before .args in
+    expr-kind (a .deep) (now (a .s)) (a .want) (a .at) (c .before .before .before .before .code-of .result) (c .before .before .before .before .before .before .if1 .left) (c .before .before .before .before .code-of .ensures) (c .before .before .enum-told4 .given .0 .0) (c .before .before .enum-told4 .given .1) (sym (c .before .same-kind .ensures) ∙ not-true _ (c .if2 .taken))
+
+read-expr-returns-3 : (t : ℕ) → read-expr-lts.Need-returns-3 (read-expr-claims t) (read-expr-at t) read-expr.Post
+read-expr-returns-3 t c =
+    let a = c .before .before .before .before .before .before .before .before .before .args in
+    expr-deep (a .deep) (now (a .s)) (a .want) (a .at) (c .before .before .before .before .before .code-of .result) (c .before .before .before .before .before .before .before .if1 .left) (c .before .before .before .before .before .code-of .ensures) (c .before .before .before .enum-told4 .given .0 .0) (c .before .before .before .enum-told4 .given .1) (sym (c .before .before .same-kind .ensures) ∙ not-false _ (c .before .if2 .left)) (c .if3 .taken)
+
+read-expr-add-read-expr : (t : ℕ) → read-expr-lts.Need-add-read-expr (read-expr-claims t) (read-expr-at t) read-expr.Post
+read-expr-add-read-expr t c = search needs
+
+read-expr-sub-read-expr : (t : ℕ) → read-expr-lts.Need-sub-read-expr (read-expr-claims t) (read-expr-at t) read-expr.Post
+read-expr-sub-read-expr t c = search needs
+
+read-expr-read-expr-requires : (t : ℕ) → read-expr-lts.Need-read-expr-requires (read-expr-claims t) (read-expr-at t) read-expr.Post
+read-expr-read-expr-requires t c κs = search needs
+
+read-expr-enum-known-next : (t : ℕ) → read-expr-lts.Need-enum-known-next (read-expr-claims t) (read-expr-at t) read-expr.Post
+read-expr-enum-known-next t c = search needs
+
+read-expr-sub-read-expr-2 : (t : ℕ) → read-expr-lts.Need-sub-read-expr-2 (read-expr-claims t) (read-expr-at t) read-expr.Post
+read-expr-sub-read-expr-2 t c = search needs
+
+read-expr-read-expr-requires-2 : (t : ℕ) → read-expr-lts.Need-read-expr-requires-2 (read-expr-claims t) (read-expr-at t) read-expr.Post
+read-expr-read-expr-requires-2 t c κs = search needs
+
+read-expr-enum-known-number : (t : ℕ) → read-expr-lts.Need-enum-known-number (read-expr-claims t) (read-expr-at t) read-expr.Post
+read-expr-enum-known-number t c = search needs
+
+read-expr-enum-told-5 : (t : ℕ) → read-expr-lts.Need-enum-told-5 (read-expr-claims t) (read-expr-at t) read-expr.Post
+read-expr-enum-told-5 t c = search needs
+
+read-expr-enum-told-6 : (t : ℕ) → read-expr-lts.Need-enum-told-6 (read-expr-claims t) (read-expr-at t) read-expr.Post
+read-expr-enum-told-6 t c = search needs
+
+read-expr-enum-told-7 : (t : ℕ) → read-expr-lts.Need-enum-told-7 (read-expr-claims t) (read-expr-at t) read-expr.Post
+read-expr-enum-told-7 t c = search needs
+
+read-expr-enum-told-8 : (t : ℕ) → read-expr-lts.Need-enum-told-8 (read-expr-claims t) (read-expr-at t) read-expr.Post
+read-expr-enum-told-8 t c = search needs
+
+read-expr-enum-told-9 : (t : ℕ) → read-expr-lts.Need-enum-told-9 (read-expr-claims t) (read-expr-at t) read-expr.Post
+read-expr-enum-told-9 t c = search needs
+
+read-expr-returns-4 : (t : ℕ) → read-expr-lts.Need-returns-4 (read-expr-claims t) (read-expr-at t) read-expr.Post
+read-expr-returns-4 t c =
+    let a = c .before .before .before .before .before .before .before .args in
+    c .read-variable .ensures ∙ ap stepOf (sym (expr-as (a .deep) (now (a .s)) (a .want) (a .at) (c .before .before .before .code-of .result) (c .before .before .before .before .before .if1 .left) (c .before .before .before .code-of .ensures) Variable (c .before .enum-told .given .1)))
+
+read-expr-returns-5 : (t : ℕ) → read-expr-lts.Need-returns-5 (read-expr-claims t) (read-expr-at t) read-expr.Post
+read-expr-returns-5 t c =
+    let a = c .before .before .before .before .before .before .before .args in
+    c .read-word .ensures ∙ ap stepOf (sym (expr-as (a .deep) (now (a .s)) (a .want) (a .at) (c .before .before .before .code-of .result) (c .before .before .before .before .before .if1 .left) (c .before .before .before .code-of .ensures) Word (c .before .enum-told2 .given .1)))
+
+read-expr-returns-6 : (t : ℕ) → read-expr-lts.Need-returns-6 (read-expr-claims t) (read-expr-at t) read-expr.Post
+read-expr-returns-6 t c =
+    let a = c .before .before .before .before .before .before .before .args in
+    c .read-bit .ensures ∙ ap stepOf (sym (expr-as (a .deep) (now (a .s)) (a .want) (a .at) (c .before .before .before .code-of .result) (c .before .before .before .before .before .if1 .left) (c .before .before .before .code-of .ensures) Bit (c .before .enum-told3 .given .1)))
+
+read-expr-returns-7 : (t : ℕ) → read-expr-lts.Need-returns-7 (read-expr-claims t) (read-expr-at t) read-expr.Post
+read-expr-returns-7 t c =
+    let a = c .before .before .before .before .before .before .before .before .before .before .before .before .before .before .before .args in
+    expr-one (a .deep) (now (a .s)) (a .want) (a .at) (c .before .before .before .before .before .before .before .before .before .before .before .code-of .result) (c .before .before .before .before .before .before .before .before .before .before .before .before .before .if1 .left) (c .before .before .before .before .before .before .before .before .before .before .before .code-of .ensures) (c .before .before .before .before .before .before .before .before .before .enum-told4 .given .0 .0) (c .before .before .before .before .before .before .before .before .before .enum-told4 .given .1)
+    (sym (c .before .before .before .before .before .before .before .before .same-kind .ensures) ∙ not-false _ (c .before .before .before .before .before .before .before .if2 .left)) (c .before .before .before .before .before .before .if3 .left)
+    (sym (c .before .before .before .next .given .1) ∙ c .before .before .before .before .before .read-expr .ensures) (c .if4 .taken)
+
+read-expr-returns-8 : (t : ℕ) → read-expr-lts.Need-returns-8 (read-expr-claims t) (read-expr-at t) read-expr.Post
+read-expr-returns-8 t c =
+    let a = c .before .before .before .before .before .before .before .before .before .before .before .before .before .before .before .before .args in
+    expr-two (a .deep) (now (a .s)) (a .want) (a .at) (c .before .before .before .before .before .before .before .before .before .before .before .before .code-of .result) (c .before .before .before .before .before .before .before .before .before .before .before .before .before .before .if1 .left) (c .before .before .before .before .before .before .before .before .before .before .before .before .code-of .ensures) (c .before .before .before .before .before .before .before .before .before .before .enum-told4 .given .0 .0) (c .before .before .before .before .before .before .before .before .before .before .enum-told4 .given .1)
+    (sym (c .before .before .before .before .before .before .before .before .before .same-kind .ensures) ∙ not-false _ (c .before .before .before .before .before .before .before .before .if2 .left)) (c .before .before .before .before .before .before .before .if3 .left)
+    (sym (c .before .before .before .before .next .given .1) ∙ c .before .before .before .before .before .before .read-expr .ensures) (c .before .if4 .left) (c .read-expr2 .ensures)
+
+read-expr-returns-9 : (t : ℕ) → read-expr-lts.Need-returns-9 (read-expr-claims t) (read-expr-at t) read-expr.Post
+read-expr-returns-9 t c =
+    let a = c .before .before .before .before .before .before .before .before .before .before .before .before .before .args in
+    expr-refused (a .deep) (now (a .s)) (a .want) (a .at) (c .before .before .before .before .before .before .before .before .before .code-of .result) (c .before .before .before .before .before .before .before .before .before .before .before .if1 .left) (c .before .before .before .before .before .before .before .before .before .code-of .ensures) (c .before .before .before .before .before .before .before .enum-told4 .given .0 .0) (c .before .before .before .before .before .before .before .enum-told4 .given .1)
+    (sym (c .before .before .before .before .before .before .same-kind .ensures) ∙ not-false _ (c .before .before .before .before .before .if2 .left)) (c .before .before .before .before .if3 .left)
+    (sym (c .before .number .given .1) ∙ c .before .before .before .read-expr .ensures)
+
+read-expr-returns-10 : (t : ℕ) → read-expr-lts.Need-returns-10 (read-expr-claims t) (read-expr-at t) read-expr.Post
+read-expr-returns-10 t c =
+    let a = c .before .before .before .before .before .before .args in
+    ap stepOf (sym (expr-as (a .deep) (now (a .s)) (a .want) (a .at) (c .before .before .code-of .result) (c .before .before .before .before .if1 .left) (c .before .before .code-of .ensures) End (c .enum-told5 .given .1)))
+
+read-expr-returns-11 : (t : ℕ) → read-expr-lts.Need-returns-11 (read-expr-claims t) (read-expr-at t) read-expr.Post
+read-expr-returns-11 t c =
+    let a = c .before .before .before .before .before .before .args in
+    ap stepOf (sym (expr-as (a .deep) (now (a .s)) (a .want) (a .at) (c .before .before .code-of .result) (c .before .before .before .before .if1 .left) (c .before .before .code-of .ensures) Assign (c .enum-told6 .given .1)))
+
+read-expr-returns-12 : (t : ℕ) → read-expr-lts.Need-returns-12 (read-expr-claims t) (read-expr-at t) read-expr.Post
+read-expr-returns-12 t c =
+    let a = c .before .before .before .before .before .before .args in
+    ap stepOf (sym (expr-as (a .deep) (now (a .s)) (a .want) (a .at) (c .before .before .code-of .result) (c .before .before .before .before .if1 .left) (c .before .before .code-of .ensures) Skip (c .enum-told7 .given .1)))
+
+read-expr-returns-13 : (t : ℕ) → read-expr-lts.Need-returns-13 (read-expr-claims t) (read-expr-at t) read-expr.Post
+read-expr-returns-13 t c =
+    let a = c .before .before .before .before .before .before .args in
+    ap stepOf (sym (expr-as (a .deep) (now (a .s)) (a .want) (a .at) (c .before .before .code-of .result) (c .before .before .before .before .if1 .left) (c .before .before .code-of .ensures) Branch (c .enum-told8 .given .1)))
+
+read-expr-returns-14 : (t : ℕ) → read-expr-lts.Need-returns-14 (read-expr-claims t) (read-expr-at t) read-expr.Post
+read-expr-returns-14 t c =
+    let a = c .before .before .before .before .before .before .args in
+    ap stepOf (sym (expr-as (a .deep) (now (a .s)) (a .want) (a .at) (c .before .before .code-of .result) (c .before .before .before .before .if1 .left) (c .before .before .code-of .ensures) Unknown (c .enum-told9 .given .1)))
+
+pub +read-expr-spec : {M : Type 1} → statement M
++read-expr-spec = close μ-read-expr λ t. read-expr-lts.spec (read-expr-claims t) (read-expr-at t)
+    read-expr.Post
+    (read-expr-returns t)
+    (read-expr-shared-slice-read-code-of t)
+    (read-expr-code-of-requires t)
+    (read-expr-enum-told t)
+    (read-expr-read-variable-requires t)
+    (read-expr-enum-told-2 t)
+    (read-expr-read-word-requires t)
+    (read-expr-enum-told-3 t)
+    (read-expr-read-bit-requires t)
+    (read-expr-enum-told-4 t)
+    (read-expr-same-kind-requires t)
+    (read-expr-returns-2 t)
+    (read-expr-returns-3 t)
+    (read-expr-add-read-expr t)
+    (read-expr-sub-read-expr t)
+    (read-expr-read-expr-requires t)
+    (read-expr-enum-known-next t)
+    (read-expr-sub-read-expr-2 t)
+    (read-expr-read-expr-requires-2 t)
+    (read-expr-enum-known-number t)
+    (read-expr-enum-told-5 t)
+    (read-expr-enum-told-6 t)
+    (read-expr-enum-told-7 t)
+    (read-expr-enum-told-8 t)
+    (read-expr-enum-told-9 t)
+    (read-expr-returns-4 t)
+    (read-expr-returns-5 t)
+    (read-expr-returns-6 t)
+    (read-expr-returns-7 t)
+    (read-expr-returns-8 t)
+    (read-expr-returns-9 t)
+    (read-expr-returns-10 t)
+    (read-expr-returns-11 t)
+    (read-expr-returns-12 t)
+    (read-expr-returns-13 t)
+    (read-expr-returns-14 t)

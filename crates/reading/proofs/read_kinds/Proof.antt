@@ -1,0 +1,63 @@
+use borrow.Author.Needs.{needs}
+use Prim.Native.Nat.{_≤_}
+use mathlib.Core.Path.{_≡_, refl, sym, ap, _∙_}
+use lib.ListN.{length}
+use Rattle.answers.specs.Parsing.{stepOf}
+use Rattle.reading.specs.Header.{readKinds}
+use Rattle.reading.specs.RuleLaws.{kinds-none, kinds-short, kinds-wrong, kinds-more}
+use Rattle.reading.proofs.read_kinds.Statement.{statement}
+use Rattle.reading.proofs.read_kinds.Tie as tie
+
+abbrev Inv-loop : tie.InvT-loop
+Inv-loop s from count at₀ left₀ at left =
+    (at ≤ length s) × (readKinds count s from ≡ readKinds left s at)
+
+abbrev μ-loop : tie.MeasureT-loop
+μ-loop s from count at₀ left₀ at left = left
+
+loop-holds : tie.Need-loop-holds Inv-loop μ-loop
+loop-holds c = (c .pre .0, refl)
+
+returns : tie.Need-returns Inv-loop μ-loop
+returns c = let l = c .before .before .loop in ap stepOf (sym (l .inv .1 ∙ kinds-short _ _ _ (c .before .loop-test .taken) (c .if1 .taken)))
+
+shared-slice-read-if2 : tie.Need-shared-slice-read-if2 Inv-loop μ-loop
+shared-slice-read-if2 c = search needs
+
+returns-2 : tie.Need-returns-2 Inv-loop μ-loop
+returns-2 c =
+    let l = c .before .before .before .before .loop in
+    ap stepOf (sym (l .inv .1 ∙ kinds-wrong _ _ _ (c .before .before .before .loop-test .taken) (c .before .before .if1 .left) (c .if2 .taken)))
+
+add-at : tie.Need-add-at Inv-loop μ-loop
+add-at c = search needs
+
+sub-left : tie.Need-sub-left Inv-loop μ-loop
+sub-left c = search needs
+
+loop-less : tie.Need-loop-less Inv-loop μ-loop
+loop-less c = search needs
+
+loop-again : tie.Need-loop-again Inv-loop μ-loop
+loop-again c =
+    let l = c .before .before .before .before .loop in
+    (search needs, l .inv .1 ∙ kinds-more _ _ _ (c .before .before .before .loop-test .taken) (c .before .before .if1 .left) (c .if2 .left))
+
+returns-3 : tie.Need-returns-3 Inv-loop μ-loop
+returns-3 c = ap stepOf (sym (c .before .loop .inv .1 ∙ kinds-none _ _ _ (c .loop-test .left)))
+
+pub read-kinds-spec : {M : Type 1} → statement M
+read-kinds-spec =
+    tie.close
+    (tie.spec
+    Inv-loop
+    μ-loop
+    loop-holds
+    returns
+    shared-slice-read-if2
+    returns-2
+    add-at
+    sub-left
+    loop-less
+    loop-again
+    returns-3)

@@ -1,0 +1,41 @@
+use mathlib.Core.Path.{ap, sym, _∙_}
+use Rattle.answers.specs.Answers.{answerOf}
+use Rattle.answers.specs.Parsing.{Parsed, stepOf}
+use Rattle.reading.specs.Tree.{Block}
+use Rattle.reading.specs.RuleLaws.{rule-small, rule-large}
+use borrow.Author.Needs.{needs}
+use Rattle.reading.proofs.read_rule.Statement.{statement}
+use Rattle.reading.proofs.read_rule.Tie as tie
+
+refused-requires : tie.Need-refused-requires
+refused-requires c κs = search needs
+
+returns : tie.Need-returns
+returns c = c .refused .ensures ∙ ap (λ (m : Parsed Block). answerOf (stepOf m)) (sym (rule-small _ (c .before .if1 .taken)))
+
+refused-requires-2 : tie.Need-refused-requires-2
+refused-requires-2 c κs = search needs
+
+returns-2 : tie.Need-returns-2
+returns-2 c = c .refused2 .ensures ∙ ap (λ (m : Parsed Block). answerOf (stepOf m)) (sym (rule-large _ (c .before .if2 .taken)))
+
+read-bytes-requires : tie.Need-read-bytes-requires
+read-bytes-requires c κs = search needs
+
+of-step-requires : tie.Need-of-step-requires
+of-step-requires c κs = search needs
+
+returns-3 : tie.Need-returns-3
+returns-3 c = c .of-step .ensures ∙ ap answerOf (c .before .read-bytes .ensures)
+
+pub read-rule-spec : {M : Type 1} → statement M
+read-rule-spec =
+    tie.close
+    (tie.spec
+    refused-requires
+    returns
+    refused-requires-2
+    returns-2
+    read-bytes-requires
+    of-step-requires
+    returns-3)

@@ -1,0 +1,43 @@
+-- Document 01, "The rule file": 52 55 4C ("RUL"), version 00 01, one byte V (1 to 32), V kind bytes (00 word, 01 bit).
+use Prim.Native.Nat.{ℕ, zero, suc, _+_, _≤_}
+use mathlib.Core.List.{List, [], _∷_}
+use lib.ListN.{length, getD}
+use lib.Dec.{ltb, leb}
+use Rattle.codes.specs.Codes.{kindOf}
+use Rattle.codes.specs.declared.Kind.{Kind}
+use Rattle.answers.specs.Parsing.{Parsed, parsed, unless, _>>=_, readMark}
+use Rattle.reading.specs.Limits.{mostVariables, lastKind}
+
+-- "RUL" and the version
+abbrev pub mark : List ℕ
+mark = 0x52 ∷ 0x55 ∷ 0x4C ∷ 0x00 ∷ 0x01 ∷ []
+
+-- V, and the kind of variable x, as the file gives them
+abbrev pub variables : List ℕ → ℕ
+variables s = getD s 5 0
+
+abbrev pub kindAt : List ℕ → ℕ → Kind
+kindAt s x = kindOf (getD s (6 + x) 0)
+
+-- the file has a kind byte for every variable
+abbrev pub HasKinds : List ℕ → Type 0
+HasKinds s = 6 + variables s ≤ length s
+
+-- V
+unfoldable pub readCount : List ℕ → ℕ → Parsed ℕ
+readCount s at =
+    unless (ltb 0 (getD s at 0)) 3 at
+    (unless (leb (getD s at 0) mostVariables) 3 at
+    (parsed (getD s at 0) (at + 1)))
+
+-- n kind bytes
+unfoldable pub readKinds : ℕ → List ℕ → ℕ → Parsed (Unit {0})
+readKinds zero s at = parsed tt at
+readKinds (suc n) s at =
+    unless (ltb at (length s)) 4 (length s)
+    (unless (leb (getD s at 0) lastKind) 3 at
+    (readKinds n s (at + 1)))
+
+-- all that stands before the block
+unfoldable pub readHeader : List ℕ → Parsed (Unit {0})
+readHeader s = readMark 2 mark s 0 >>= λ _ at. readCount s at >>= λ v at. readKinds v s at

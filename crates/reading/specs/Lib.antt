@@ -1,0 +1,11 @@
+pub mod Limits
+pub mod Header
+pub mod Tree
+pub mod Expressions
+pub mod Blocks
+pub mod Rule
+pub mod ExpressionLaws
+pub mod FuelLaws
+pub mod BlockLaws
+pub mod RuleLaws
+pub mod Examples

@@ -1,0 +1,25 @@
+-- Document 01, "The rule file": its limits, all in this place.
+use Prim.Native.Nat.{ℕ}
+
+-- a rule has 6 to 4,096 bytes
+abbrev pub leastBytes : ℕ
+leastBytes = 6
+
+abbrev pub mostBytes : ℕ
+mostBytes = 4096
+
+-- V is 1 to 32
+abbrev pub mostVariables : ℕ
+mostVariables = 32
+
+-- kind bytes are 00 word and 01 bit
+abbrev pub lastKind : ℕ
+lastKind = 1
+
+-- expressions are at most 8 deep
+abbrev pub deepest : ℕ
+deepest = 8
+
+-- ifs nest at most 6 deep
+abbrev pub nested : ℕ
+nested = 6

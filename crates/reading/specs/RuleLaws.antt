@@ -1,0 +1,136 @@
+-- Laws of reading a header and a whole rule, one for each step of the code. Assumes nothing.
+use Prim.Native.Nat.{ℕ, zero, suc, _+_, _-_, _<_, _≤_}
+use native.Mathlib.Omega.{arith}
+use native.Mathlib.Numerals.{sub-one}
+use mathlib.Core.Path.{_≡_, refl, sym, ap, _∙_}
+use mathlib.Core.List.{List}
+use lib.ListN.{length, getD}
+use lib.Dec.{ltb, leb}
+use borrow.Author.Tests.{le-ltb, lt-ltb, le-leb, lt-leb, ltb-true, leb-true}
+use Rattle.answers.specs.Parsing.{Parsed, parsed, refused, stepOf, unless, _>>=_, readMark}
+use Rattle.answers.specs.ParsingLaws.{past-then, refused-then, past-unless, past-parts, mark-past}
+use Rattle.answers.specs.declared.Step.{Step}
+use Rattle.answers.specs.declared.Step.the-variants.{Past, Refused}
+use Rattle.reading.specs.Limits.{mostVariables, lastKind, nested}
+use Rattle.reading.specs.Header.{mark, variables, HasKinds, readCount, readKinds, readHeader}
+use Rattle.reading.specs.Tree.{Block}
+use Rattle.reading.specs.Blocks.{readBlock}
+use Rattle.reading.specs.Rule.{nothingAfter, readRule}
+
+-- kind bytes
+pub kinds-none : (n : ℕ) (s : List ℕ) (at : ℕ) → n ≤ 0 → readKinds n s at ≡ parsed tt at
+unfolding readKinds
+kinds-none zero s at z = refl
+kinds-none (suc n) s at z = absurd (omega arith)
+
+module _ (s : List ℕ) (at : ℕ) where
+  pub kinds-short : (n : ℕ) → 0 < n → length s ≤ at → readKinds n s at ≡ refused 4 (length s)
+  unfolding readKinds
+  kinds-short zero z h = absurd (omega arith)
+  kinds-short (suc n) z h = rw (le-ltb _ _ h)
+
+  pub kinds-wrong : (n : ℕ) → 0 < n → at < length s → lastKind < getD s at 0 → readKinds n s at ≡ refused 3 at
+  unfolding readKinds
+  kinds-wrong zero z h k = absurd (omega arith)
+  kinds-wrong (suc n) z h k = rw (lt-ltb _ _ h, lt-leb _ _ k)
+
+  pub kinds-more : (n : ℕ) → 0 < n → at < length s → getD s at 0 ≤ lastKind → readKinds n s at ≡ readKinds (n - 1) s (at + 1)
+  unfolding readKinds
+  kinds-more zero z h k = absurd (omega arith)
+  kinds-more (suc n) z h k = rw (lt-ltb _ _ h, le-leb _ _ k, sub-one (suc n))
+
+-- kind bytes that were read lie in the file
+pub kinds-past : (n : ℕ) (s : List ℕ) (at : ℕ) {k : ℕ} → at ≤ length s → Past k ≡ stepOf (readKinds n s at) → (k ≡ at + n) × (k ≤ length s)
+unfolding readKinds
+kinds-past zero s at {k} l h = let e : k ≡ at = cc in (omega arith, omega arith)
+kinds-past (suc n) s at {k} l h =
+    let u = past-unless (ltb at (length s)) 4 (length s) (unless (leb (getD s at 0) lastKind) 3 at (readKinds n s (at + 1))) h in
+    let v = past-unless (leb (getD s at 0) lastKind) 3 at (readKinds n s (at + 1)) (u .1) in
+    let i : at < length s = ltb-true at (length s) (u .0) in
+    let r = kinds-past n s (at + 1) (omega arith) (v .1) in
+    (omega arith, r .1)
+
+-- the header
+module _ (s : List ℕ) where
+  afterMark : Unit {0} → ℕ → Parsed (Unit {0})
+  afterMark u at = readCount s at >>= λ v at. readKinds v s at
+
+  pub header-mark : {k p : ℕ} → Refused k p ≡ stepOf (readMark 2 mark s 0) → Refused k p ≡ stepOf (readHeader s)
+  unfolding readHeader
+  header-mark h = refused-then (readMark 2 mark s 0) _ h
+
+  module _ {n : ℕ} (m : Past n ≡ stepOf (readMark 2 mark s 0)) where
+    -- what follows the five bytes decides
+    header-open : {r : Step} → r ≡ stepOf (afterMark tt 5) → r ≡ stepOf (readHeader s)
+    unfolding readHeader afterMark
+    header-open {r} h = past-then (readMark 2 mark s 0) _ m (λ u. rw (mark-past 2 mark s 0 m) h)
+
+    pub header-none : variables s ≡ 0 → Refused 3 5 ≡ stepOf (readHeader s)
+    unfolding afterMark readCount
+    header-none z = header-open (rw (le-ltb 0 (variables s) (omega arith)))
+
+    pub header-many : mostVariables < variables s → Refused 3 5 ≡ stepOf (readHeader s)
+    unfolding afterMark readCount
+    header-many h = header-open (rw (lt-ltb 0 (variables s) (omega arith), lt-leb _ _ h))
+
+    pub header-kinds : (variables s ≡ 0 → ⊥) → variables s ≤ mostVariables → {r : Step} → r ≡ stepOf (readKinds (variables s) s 6) → r ≡ stepOf (readHeader s)
+    unfolding afterMark readCount
+    header-kinds z h q = header-open (rw (lt-ltb 0 (variables s) (omega arith), le-leb _ _ h) q)
+
+-- a header that was read: V is in range, and a kind byte for every variable stands before the block
+pub record Headed (s : List ℕ) (body : ℕ) : Type 0 where
+  pub some : 0 < variables s
+  pub few : variables s ≤ mostVariables
+  pub kinds : HasKinds s
+  pub after : body ≡ 6 + variables s
+
+count-past : (s : List ℕ) (v n : ℕ) → readCount s 5 ≡ parsed v n → (0 < variables s) × (variables s ≤ mostVariables) × (v ≡ variables s) × (n ≡ 6)
+unfolding readCount
+count-past s v n h =
+    let t : Past n ≡ stepOf (readCount s 5) = sym (ap stepOf h) in
+    let u = past-unless (ltb 0 (variables s)) 3 5 (unless (leb (variables s) mostVariables) 3 5 (parsed (variables s) 6)) t in
+    let w = past-unless (leb (variables s) mostVariables) 3 5 (parsed (variables s) 6) (u .1) in
+    let q : parsed (variables s) 6 ≡ parsed v n = rw (u .0, w .0) at h in
+    (ltb-true _ _ (u .0), leb-true _ _ (w .0), cc, cc)
+
+pub header-past : (s : List ℕ) {body : ℕ} → 6 ≤ length s → Past body ≡ stepOf (readHeader s) → Headed s body
+unfolding readHeader
+header-past s {body} six h =
+    let after : Unit {0} → ℕ → Parsed (Unit {0}) = λ u at. readCount s at >>= λ v at. readKinds v s at in
+    let kinds : ℕ → ℕ → Parsed (Unit {0}) = λ v at. readKinds v s at in
+    let m = past-parts (readMark 2 mark s 0) after h in
+    let five : m .1 ≡ 5 = mark-past 2 mark s 0 (sym (ap stepOf (m .2))) in
+    let q : Past body ≡ stepOf (readCount s 5 >>= kinds) = rw five at (m .3) in
+    let c = past-parts (readCount s 5) kinds q in
+    let v = count-past s (c .0) (c .1) (c .2) in
+    let k = kinds-past (c .0) s (c .1) (omega arith) (c .3) in
+    record { some = v .0; few = v .1; kinds = omega arith; after = omega arith }
+
+-- the whole, its size in range
+module _ (s : List ℕ) (lo : 6 ≤ length s) (hi : length s ≤ 4096) where
+  pub rule-is : readRule s ≡ (readHeader s >>= λ _ at. readBlock s nested at >>= λ b at. nothingAfter s b at)
+  unfolding readRule
+  rule-is = rw (le-leb _ _ lo, le-leb _ _ hi)
+
+  pub rule-header : {k p : ℕ} → Refused k p ≡ stepOf (readHeader s) → Refused k p ≡ stepOf (readRule s)
+  rule-header h = rw rule-is (refused-then (readHeader s) _ h)
+
+  pub rule-block : {n k p : ℕ} → Past n ≡ stepOf (readHeader s) → Refused k p ≡ stepOf (readBlock s nested n) → Refused k p ≡ stepOf (readRule s)
+  rule-block {n} h g = rw rule-is (past-then (readHeader s) _ h (λ u. refused-then (readBlock s nested n) _ g))
+
+  pub rule-after : {n m : ℕ} → Past n ≡ stepOf (readHeader s) → Past m ≡ stepOf (readBlock s nested n) → m < length s → Refused 9 m ≡ stepOf (readRule s)
+  rule-after {n} {m} h g l =
+      rw rule-is (past-then (readHeader s) _ h (λ u. past-then (readBlock s nested n) _ g (λ b. rw (lt-leb (length s) m l))))
+
+  pub rule-whole : {n m : ℕ} → Past n ≡ stepOf (readHeader s) → Past m ≡ stepOf (readBlock s nested n) → length s ≤ m → Past m ≡ stepOf (readRule s)
+  rule-whole {n} {m} h g l =
+      rw rule-is (past-then (readHeader s) _ h (λ u. past-then (readBlock s nested n) _ g (λ b. rw (le-leb (length s) m l))))
+
+-- a size out of range
+pub rule-small : (s : List ℕ) → length s < 6 → readRule s ≡ refused 1 0
+unfolding readRule
+rule-small s h = rw (lt-leb _ _ h)
+
+pub rule-large : (s : List ℕ) → 4096 < length s → readRule s ≡ refused 1 0
+unfolding readRule
+rule-large s h = rw (le-leb 6 (length s) (omega arith), lt-leb _ _ h)

@@ -1,0 +1,72 @@
+-- Laws of `over`: what a lent buffer holds after stores, and after its rest was handed on.
+use mathlib.Core.Path.{_≡_, refl, sym, ap, _∙_}
+use mathlib.Core.List.{List, [], _∷_, _++_, append-assoc, append-nil}
+use Prim.Native.Nat.{ℕ, _+_, _-_, _≤_, _<_}
+use native.Mathlib.Nat.{zero-add}
+use native.Mathlib.Numerals.{add-one}
+use native.Mathlib.Omega.{arith}
+use lib.ListN.{length, take, drop, set, length-append, length-take, length-drop}
+use lib.Seq.{sets, sets-eq, set-at, take-at, drop-at, drop-drop, take-append-seam, drop-append-seam, drop-append-add, drop-cons, take-length, drop-length, take-all}
+use borrow.Rule.Slice.PartMut.{putMid}
+use Rattle.words.specs.Buffers.{over}
+
+-- nothing written
+pub over-nil : (d : List ℕ) → over [] d ≡ d
+unfolding over
+over-nil d = refl
+
+-- a buffer keeps its length
+pub length-over : (a d : List ℕ) → length a ≤ length d → length (over a d) ≡ length d
+unfolding over
+length-over a d h = simp (length-append, length-drop) (omega arith)
+
+-- what is written, and what is left
+pub take-over : (a d : List ℕ) → take (length a) (over a d) ≡ a
+unfolding over
+take-over a d = take-append-seam a (drop (length a) d)
+
+pub drop-over : (a d : List ℕ) → drop (length a) (over a d) ≡ drop (length a) d
+unfolding over
+drop-over a d = drop-append-seam a (drop (length a) d)
+
+-- a run of stores from the start
+pub sets-over : (vs d : List ℕ) → length vs ≤ length d → sets d 0 vs ≡ over vs d
+unfolding over
+sets-over vs d h = sets-eq vs d 0 (rw zero-add h) ∙ rw zero-add
+
+-- one store behind what is written
+pub over-snoc : (bs d : List ℕ) (i v : ℕ) → length bs ≡ i → i < length d → set (over bs d) i v ≡ over (bs ++ (v ∷ [])) d
+unfolding over
+over-snoc bs d i v e h =
+    rw (e, drop-cons d i 0, set-at bs _ _ v i e, append-assoc, length-append, e, add-one)
+
+-- two runs, the second over the rest
+pub over-append : (a b d : List ℕ) → over (a ++ b) d ≡ a ++ over b (drop (length a) d)
+unfolding over
+over-append a b d = rw (append-assoc, drop-drop, length-append)
+
+-- a run hides a shorter one that was there
+pub over-over : (a b d : List ℕ) → length b ≤ length a → over a (over b d) ≡ over a d
+unfolding over
+over-over a b d h =
+    let n : length a ≡ length b + (length a - length b) = omega arith in
+    ap (λ (l : List ℕ). a ++ l) (rw n (drop-append-add b (drop (length b) d) (length a - length b) ∙ drop-drop (length a - length b) (length b) d))
+
+-- the part from n to the end, as a caller lends it
+pub rest-is : (e : List ℕ) (n : ℕ) → take (length e - n) (drop n e) ≡ drop n e
+rest-is e n = take-all (length e - n) (drop n e) (simp length-drop (omega arith))
+
+-- how much room there is in it
+pub room-rest : (e : List ℕ) (n : ℕ) → length (take (length e - n) (drop n e)) ≡ length e - n
+room-rest e n = simp (length-take, length-drop) (omega arith)
+
+-- The caller has written a, lends the rest from n on, and the callee writes b there:
+-- the caller's buffer, `putMid n (length e - n) e ys` when ys is back, is d with a and then b.
+pub over-rest : (a b d e ys : List ℕ) (n : ℕ) → n ≡ length a → length a + length b ≤ length d
+    → e ≡ over a d → ys ≡ over b (take (length e - n) (drop n e)) → putMid n (length e - n) e ys ≡ over (a ++ b) d
+unfolding over
+over-rest a b d e ys n q h p r =
+    let t : take n (a ++ drop (length a) d) ≡ a = take-at a (drop (length a) d) n (sym q) in
+    let u : drop n (a ++ drop (length a) d) ≡ drop (length a) d = drop-at a (drop (length a) d) n (sym q) in
+    let l : length (a ++ drop (length a) d) - n ≡ length (drop (length a) d) = simp (length-append, length-drop) (omega arith) in
+    rw (r, p, l, t, u, take-length, drop-length, append-nil) (simp (append-assoc, drop-drop, length-append))

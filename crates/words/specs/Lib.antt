@@ -1,0 +1,6 @@
+pub mod Numbers
+pub mod NumberLaws
+pub mod Buffers
+pub mod BufferLaws
+pub mod Lists
+pub mod Examples
