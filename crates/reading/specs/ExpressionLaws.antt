@@ -29,7 +29,7 @@ unfoldable pub below : ℕ → List ℕ → Kind → ℕ → Parsed Expr
 below zero s = λ takes place. refused 8 place
 below (suc deep) s = readExpr deep s
 
-expr-is : (deep : ℕ) (s : List ℕ) (want : Kind) (at : ℕ) → readExpr deep s want at ≡ exprWith (below deep s) s want deep at
+pub expr-is : (deep : ℕ) (s : List ℕ) (want : Kind) (at : ℕ) → readExpr deep s want at ≡ exprWith (below deep s) s want deep at
 unfolding readExpr below
 expr-is zero s want at = refl
 expr-is (suc deep) s want at = refl

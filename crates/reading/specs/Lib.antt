@@ -8,4 +8,6 @@ pub mod ExpressionLaws
 pub mod FuelLaws
 pub mod BlockLaws
 pub mod RuleLaws
+pub mod FirstByte
+pub mod FirstStatement
 pub mod Examples

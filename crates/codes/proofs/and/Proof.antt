@@ -3,9 +3,6 @@ use borrow.Author.Needs.{needs}
 use Rattle.codes.proofs.and.Statement.{statement}
 use Rattle.codes.proofs.and.Tie as tie
 
-bit-requires : tie.Need-bit-requires
-bit-requires c κs = search needs
-
 returns : tie.Need-returns
 returns c = rw (eq-eqb _ _ (c .before .if1 .taken)) (c .bit .ensures)
 
@@ -13,4 +10,4 @@ returns-2 : tie.Need-returns-2
 returns-2 c = rw (ne-eqb _ _ (c .if1 .left))
 
 pub and-spec : {M : Type 1} → statement M
-and-spec = tie.close (tie.spec bit-requires returns returns-2)
+and-spec = tie.close (tie.spec (λ c κs. search needs) returns returns-2)

@@ -7,36 +7,6 @@ use borrow.Author.Needs.{needs}
 use Rattle.codes.proofs.code_of.Statement.{statement}
 use Rattle.codes.proofs.code_of.Tie as tie
 
-plain-code-requires : tie.Need-plain-code-requires
-plain-code-requires c κs = search needs
-
-plain-code-requires-2 : tie.Need-plain-code-requires-2
-plain-code-requires-2 c κs = search needs
-
-plain-code-requires-3 : tie.Need-plain-code-requires-3
-plain-code-requires-3 c κs = search needs
-
-plain-code-requires-4 : tie.Need-plain-code-requires-4
-plain-code-requires-4 c κs = search needs
-
-plain-code-requires-5 : tie.Need-plain-code-requires-5
-plain-code-requires-5 c κs = search needs
-
-plain-code-requires-6 : tie.Need-plain-code-requires-6
-plain-code-requires-6 c κs = search needs
-
-plain-code-requires-7 : tie.Need-plain-code-requires-7
-plain-code-requires-7 c κs = search needs
-
-operation-of-requires : tie.Need-operation-of-requires
-operation-of-requires c κs = search needs
-
-row-of-requires : tie.Need-row-of-requires
-row-of-requires c κs = search needs
-
-plain-code-requires-8 : tie.Need-plain-code-requires-8
-plain-code-requires-8 c κs = search needs
-
 returns : tie.Need-returns
 unfolding codeOf
 returns c = rw (c .before .match .keys1) (c .plain-code .ensures)
@@ -77,16 +47,16 @@ pub code-of-spec : {M : Type 1} → statement M
 code-of-spec =
     tie.close
     (tie.spec
-    plain-code-requires
-    plain-code-requires-2
-    plain-code-requires-3
-    plain-code-requires-4
-    plain-code-requires-5
-    plain-code-requires-6
-    plain-code-requires-7
-    operation-of-requires
-    row-of-requires
-    plain-code-requires-8
+    (λ c κs. search needs)
+    (λ c κs. search needs)
+    (λ c κs. search needs)
+    (λ c κs. search needs)
+    (λ c κs. search needs)
+    (λ c κs. search needs)
+    (λ c κs. search needs)
+    (λ c κs. search needs)
+    (λ c κs. search needs)
+    (λ c κs. search needs)
     returns
     returns-2
     returns-3

@@ -3,9 +3,6 @@ use borrow.Author.Needs.{needs}
 use Rattle.codes.proofs.or.Statement.{statement}
 use Rattle.codes.proofs.or.Tie as tie
 
-bit-requires : tie.Need-bit-requires
-bit-requires c κs = search needs
-
 returns : tie.Need-returns
 returns c = rw (eq-eqb _ _ (c .if1 .taken))
 
@@ -13,4 +10,4 @@ returns-2 : tie.Need-returns-2
 returns-2 c = rw (ne-eqb _ _ (c .before .if1 .left)) (c .bit .ensures)
 
 pub or-spec : {M : Type 1} → statement M
-or-spec = tie.close (tie.spec bit-requires returns returns-2)
+or-spec = tie.close (tie.spec (λ c κs. search needs) returns returns-2)

@@ -4,54 +4,6 @@ use borrow.Author.Needs.{needs}
 use Rattle.codes.proofs.row_of.Statement.{statement}
 use Rattle.codes.proofs.row_of.Tie as tie
 
-enum-told : tie.Need-enum-told
-enum-told c = search needs
-
-table-row-requires : tie.Need-table-row-requires
-table-row-requires c κs = search needs
-
-enum-told-2 : tie.Need-enum-told-2
-enum-told-2 c = search needs
-
-table-row-requires-2 : tie.Need-table-row-requires-2
-table-row-requires-2 c κs = search needs
-
-enum-told-3 : tie.Need-enum-told-3
-enum-told-3 c = search needs
-
-table-row-requires-3 : tie.Need-table-row-requires-3
-table-row-requires-3 c κs = search needs
-
-enum-told-4 : tie.Need-enum-told-4
-enum-told-4 c = search needs
-
-table-row-requires-4 : tie.Need-table-row-requires-4
-table-row-requires-4 c κs = search needs
-
-enum-told-5 : tie.Need-enum-told-5
-enum-told-5 c = search needs
-
-table-row-requires-5 : tie.Need-table-row-requires-5
-table-row-requires-5 c κs = search needs
-
-enum-told-6 : tie.Need-enum-told-6
-enum-told-6 c = search needs
-
-table-row-requires-6 : tie.Need-table-row-requires-6
-table-row-requires-6 c κs = search needs
-
-enum-told-7 : tie.Need-enum-told-7
-enum-told-7 c = search needs
-
-table-row-requires-7 : tie.Need-table-row-requires-7
-table-row-requires-7 c κs = search needs
-
-enum-told-8 : tie.Need-enum-told-8
-enum-told-8 c = search needs
-
-table-row-requires-8 : tie.Need-table-row-requires-8
-table-row-requires-8 c κs = search needs
-
 returns : tie.Need-returns
 returns c = c .table-row .ensures ∙ ap rowOf (sym (c .before .enum-told .given .1))
 
@@ -80,22 +32,22 @@ pub row-of-spec : {M : Type 1} → statement M
 row-of-spec =
     tie.close
     (tie.spec
-    enum-told
-    table-row-requires
-    enum-told-2
-    table-row-requires-2
-    enum-told-3
-    table-row-requires-3
-    enum-told-4
-    table-row-requires-4
-    enum-told-5
-    table-row-requires-5
-    enum-told-6
-    table-row-requires-6
-    enum-told-7
-    table-row-requires-7
-    enum-told-8
-    table-row-requires-8
+    (λ c. search needs)
+    (λ c κs. search needs)
+    (λ c. search needs)
+    (λ c κs. search needs)
+    (λ c. search needs)
+    (λ c κs. search needs)
+    (λ c. search needs)
+    (λ c κs. search needs)
+    (λ c. search needs)
+    (λ c κs. search needs)
+    (λ c. search needs)
+    (λ c κs. search needs)
+    (λ c. search needs)
+    (λ c κs. search needs)
+    (λ c. search needs)
+    (λ c κs. search needs)
     returns
     returns-2
     returns-3

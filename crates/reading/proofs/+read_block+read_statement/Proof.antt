@@ -77,20 +77,8 @@ read-block-loop-holds t c = (search needs, refl)
 read-block-returns : (t : ℕ) → read-block-lts.Need-returns (read-block-claims t) (read-block-at t) read-block.Post read-block-Inv-loop read-block-μ-loop
 read-block-returns t c = let a = c .before .before .before .args in let l = c .before .loop in ap stepOf (sym (block-short (now (a .s)) (a .nest) (l .here) (c .if1 .taken))) ∙ l .inv .1
 
-read-block-shared-slice-read-if2 : (t : ℕ) → read-block-lts.Need-shared-slice-read-if2 (read-block-claims t) (read-block-at t) read-block.Post read-block-Inv-loop read-block-μ-loop
-read-block-shared-slice-read-if2 t c = search needs
-
-read-block-add-t13 : (t : ℕ) → read-block-lts.Need-add-t13 (read-block-claims t) (read-block-at t) read-block.Post read-block-Inv-loop read-block-μ-loop
-read-block-add-t13 t c = search needs
-
 read-block-returns-2 : (t : ℕ) → read-block-lts.Need-returns-2 (read-block-claims t) (read-block-at t) read-block.Post read-block-Inv-loop read-block-μ-loop
 read-block-returns-2 t c = let a = c .before .before .before .before .before .args in let l = c .before .before .before .loop in block-end (now (a .s)) (a .nest) (l .here) (c .before .before .if1 .left) (c .if2 .taken) ∙ l .inv .1
-
-read-block-read-statement-requires : (t : ℕ) → read-block-lts.Need-read-statement-requires (read-block-claims t) (read-block-at t) read-block.Post read-block-Inv-loop read-block-μ-loop
-read-block-read-statement-requires t c κs = search needs
-
-read-block-enum-known-next : (t : ℕ) → read-block-lts.Need-enum-known-next (read-block-claims t) (read-block-at t) read-block.Post read-block-Inv-loop read-block-μ-loop
-read-block-enum-known-next t c = search needs
 
 read-block-loop-less : (t : ℕ) → read-block-lts.Need-loop-less (read-block-claims t) (read-block-at t) read-block.Post read-block-Inv-loop read-block-μ-loop
 read-block-loop-less t c =
@@ -105,61 +93,18 @@ read-block-loop-again t c =
       block-more (now (a .s)) (a .nest) (l .here) (c .before .before .before .before .before .before .if1 .left) (c .before .before .before .before .if2 .left) step ∙ l .inv .1,
     )
 
-read-block-enum-known-number : (t : ℕ) → read-block-lts.Need-enum-known-number (read-block-claims t) (read-block-at t) read-block.Post read-block-Inv-loop read-block-μ-loop
-read-block-enum-known-number t c = search needs
-
 read-block-returns-3 : (t : ℕ) → read-block-lts.Need-returns-3 (read-block-claims t) (read-block-at t) read-block.Post read-block-Inv-loop read-block-μ-loop
 read-block-returns-3 t c =
     let a = c .before .before .before .before .before .before .before .before .before .args in let l = c .before .before .before .before .before .before .before .loop in
     block-refused (now (a .s)) (a .nest) (l .here) (c .before .before .before .before .before .before .if1 .left) (c .before .before .before .before .if2 .left) (sym (c .before .number .given .1) ∙ c .before .before .before .read-statement .ensures) ∙ l .inv .1
 
-read-statement-shared-slice-read-code-of :
-    (t : ℕ) → read-statement-lts.Need-shared-slice-read-code-of (read-statement-claims t) (read-statement-at t) read-statement.Post
-read-statement-shared-slice-read-code-of t c = search needs
-
-read-statement-code-of-requires : (t : ℕ) → read-statement-lts.Need-code-of-requires (read-statement-claims t) (read-statement-at t) read-statement.Post
-read-statement-code-of-requires t c κs = search needs
-
-read-statement-enum-told : (t : ℕ) → read-statement-lts.Need-enum-told (read-statement-claims t) (read-statement-at t) read-statement.Post
-read-statement-enum-told t c = search needs
-
-read-statement-read-assign-requires : (t : ℕ) → read-statement-lts.Need-read-assign-requires (read-statement-claims t) (read-statement-at t) read-statement.Post
-read-statement-read-assign-requires t c κs = search needs
-
-read-statement-enum-told-2 : (t : ℕ) → read-statement-lts.Need-enum-told-2 (read-statement-claims t) (read-statement-at t) read-statement.Post
-read-statement-enum-told-2 t c = search needs
-
-read-statement-add-t15 : (t : ℕ) → read-statement-lts.Need-add-t15 (read-statement-claims t) (read-statement-at t) read-statement.Post
-read-statement-add-t15 t c = search needs
-
-read-statement-enum-told-3 : (t : ℕ) → read-statement-lts.Need-enum-told-3 (read-statement-claims t) (read-statement-at t) read-statement.Post
-read-statement-enum-told-3 t c = search needs
-
 read-statement-returns : (t : ℕ) → read-statement-lts.Need-returns (read-statement-claims t) (read-statement-at t) read-statement.Post
 read-statement-returns t c = let a = c .before .before .before .before .before .before .args in branch-deep (now (a .s)) (a .nest) (a .at) (c .before .before .before .code-of .result) (c .before .before .before .code-of .ensures) (c .before .enum-told3 .given .1) (c .if1 .taken)
-
-read-statement-add-read-expr : (t : ℕ) → read-statement-lts.Need-add-read-expr (read-statement-claims t) (read-statement-at t) read-statement.Post
-read-statement-add-read-expr t c = search needs
-
-read-statement-read-expr-requires : (t : ℕ) → read-statement-lts.Need-read-expr-requires (read-statement-claims t) (read-statement-at t) read-statement.Post
-read-statement-read-expr-requires t c κs = search needs
-
-read-statement-enum-known-first : (t : ℕ) → read-statement-lts.Need-enum-known-first (read-statement-claims t) (read-statement-at t) read-statement.Post
-read-statement-enum-known-first t c = search needs
-
-read-statement-sub-read-block : (t : ℕ) → read-statement-lts.Need-sub-read-block (read-statement-claims t) (read-statement-at t) read-statement.Post
-read-statement-sub-read-block t c = search needs
 
 read-statement-read-block-requires : (t : ℕ) → read-statement-lts.Need-read-block-requires (read-statement-claims t) (read-statement-at t) read-statement.Post
 read-statement-read-block-requires t c κs =
     let a = c .before .before .before .before .before .before .before .before .before .before .args in
     omega (arith, forward-past (readExpr deepest (now (a .s)) Bit (a .at + 1)) (expr-forward deepest (now (a .s)) Bit (a .at + 1)) (sym (c .before .first .given .1) ∙ c .before .before .before .read-expr .ensures))
-
-read-statement-enum-known-second : (t : ℕ) → read-statement-lts.Need-enum-known-second (read-statement-claims t) (read-statement-at t) read-statement.Post
-read-statement-enum-known-second t c = search needs
-
-read-statement-sub-read-block-2 : (t : ℕ) → read-statement-lts.Need-sub-read-block-2 (read-statement-claims t) (read-statement-at t) read-statement.Post
-read-statement-sub-read-block-2 t c = search needs
 
 read-statement-read-block-requires-2 : (t : ℕ) → read-statement-lts.Need-read-block-requires-2 (read-statement-claims t) (read-statement-at t) read-statement.Post
 read-statement-read-block-requires-2 t c κs =
@@ -170,30 +115,6 @@ read-statement-read-block-requires-2 t c κs =
       forward-past (readExpr deepest (now (a .s)) Bit (a .at + 1)) (expr-forward deepest (now (a .s)) Bit (a .at + 1)) (sym (c .before .before .before .before .before .first .given .1) ∙ c .before .before .before .before .before .before .before .read-expr .ensures),
       forward-past (readBlock (now (a .s)) (a .nest - 1) first) (block-forward (now (a .s)) (a .nest - 1) first) (sym (c .before .second .given .1) ∙ c .before .before .before .read-block .ensures),
     )
-
-read-statement-enum-known-number : (t : ℕ) → read-statement-lts.Need-enum-known-number (read-statement-claims t) (read-statement-at t) read-statement.Post
-read-statement-enum-known-number t c = search needs
-
-read-statement-enum-known-number-2 : (t : ℕ) → read-statement-lts.Need-enum-known-number-2 (read-statement-claims t) (read-statement-at t) read-statement.Post
-read-statement-enum-known-number-2 t c = search needs
-
-read-statement-enum-told-4 : (t : ℕ) → read-statement-lts.Need-enum-told-4 (read-statement-claims t) (read-statement-at t) read-statement.Post
-read-statement-enum-told-4 t c = search needs
-
-read-statement-enum-told-5 : (t : ℕ) → read-statement-lts.Need-enum-told-5 (read-statement-claims t) (read-statement-at t) read-statement.Post
-read-statement-enum-told-5 t c = search needs
-
-read-statement-enum-told-6 : (t : ℕ) → read-statement-lts.Need-enum-told-6 (read-statement-claims t) (read-statement-at t) read-statement.Post
-read-statement-enum-told-6 t c = search needs
-
-read-statement-enum-told-7 : (t : ℕ) → read-statement-lts.Need-enum-told-7 (read-statement-claims t) (read-statement-at t) read-statement.Post
-read-statement-enum-told-7 t c = search needs
-
-read-statement-enum-told-8 : (t : ℕ) → read-statement-lts.Need-enum-told-8 (read-statement-claims t) (read-statement-at t) read-statement.Post
-read-statement-enum-told-8 t c = search needs
-
-read-statement-enum-told-9 : (t : ℕ) → read-statement-lts.Need-enum-told-9 (read-statement-claims t) (read-statement-at t) read-statement.Post
-read-statement-enum-told-9 t c = search needs
 
 read-statement-returns-2 : (t : ℕ) → read-statement-lts.Need-returns-2 (read-statement-claims t) (read-statement-at t) read-statement.Post
 read-statement-returns-2 t c = let a = c .before .before .before .before .before .before .args in c .read-assign .ensures ∙ ap stepOf (sym (statement-as (now (a .s)) (a .nest) (a .at) (c .before .before .before .code-of .result) form.Assign (c .before .before .before .code-of .ensures) (c .before .enum-told .given .1)))
@@ -243,41 +164,41 @@ pub +read-block+read-statement-spec : {M : Type 1} → statement M
     read-block-μ-loop
     (read-block-loop-holds t)
     (read-block-returns t)
-    (read-block-shared-slice-read-if2 t)
-    (read-block-add-t13 t)
+    (λ c. search needs)
+    (λ c. search needs)
     (read-block-returns-2 t)
-    (read-block-read-statement-requires t)
-    (read-block-enum-known-next t)
+    (λ c κs. search needs)
+    (λ c. search needs)
     (read-block-loop-less t)
     (read-block-loop-again t)
-    (read-block-enum-known-number t)
+    (λ c. search needs)
     (read-block-returns-3 t))
     λ t. read-statement-lts.spec (read-statement-claims t) (read-statement-at t)
     read-statement.Post
-    (read-statement-shared-slice-read-code-of t)
-    (read-statement-code-of-requires t)
-    (read-statement-enum-told t)
-    (read-statement-read-assign-requires t)
-    (read-statement-enum-told-2 t)
-    (read-statement-add-t15 t)
-    (read-statement-enum-told-3 t)
+    (λ c. search needs)
+    (λ c κs. search needs)
+    (λ c. search needs)
+    (λ c κs. search needs)
+    (λ c. search needs)
+    (λ c. search needs)
+    (λ c. search needs)
     (read-statement-returns t)
-    (read-statement-add-read-expr t)
-    (read-statement-read-expr-requires t)
-    (read-statement-enum-known-first t)
-    (read-statement-sub-read-block t)
+    (λ c. search needs)
+    (λ c κs. search needs)
+    (λ c. search needs)
+    (λ c. search needs)
     (read-statement-read-block-requires t)
-    (read-statement-enum-known-second t)
-    (read-statement-sub-read-block-2 t)
+    (λ c. search needs)
+    (λ c. search needs)
     (read-statement-read-block-requires-2 t)
-    (read-statement-enum-known-number t)
-    (read-statement-enum-known-number-2 t)
-    (read-statement-enum-told-4 t)
-    (read-statement-enum-told-5 t)
-    (read-statement-enum-told-6 t)
-    (read-statement-enum-told-7 t)
-    (read-statement-enum-told-8 t)
-    (read-statement-enum-told-9 t)
+    (λ c. search needs)
+    (λ c. search needs)
+    (λ c. search needs)
+    (λ c. search needs)
+    (λ c. search needs)
+    (λ c. search needs)
+    (λ c. search needs)
+    (λ c. search needs)
     (read-statement-returns-2 t)
     (read-statement-returns-3 t)
     (read-statement-returns-4 t)

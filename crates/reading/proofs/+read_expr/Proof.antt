@@ -35,36 +35,6 @@ read-expr-claims t = (code-of-reads.Asked, code-of-reads.Learnt, read-variable-r
 read-expr-returns : (t : ℕ) → read-expr-lts.Need-returns (read-expr-claims t) (read-expr-at t) read-expr.Post
 read-expr-returns t c = let a = c .before .before .args in expr-short (a .deep) (now (a .s)) (a .want) (a .at) (c .if1 .taken)
 
-read-expr-shared-slice-read-code-of : (t : ℕ) → read-expr-lts.Need-shared-slice-read-code-of (read-expr-claims t) (read-expr-at t) read-expr.Post
-read-expr-shared-slice-read-code-of t c = search needs
-
-read-expr-code-of-requires : (t : ℕ) → read-expr-lts.Need-code-of-requires (read-expr-claims t) (read-expr-at t) read-expr.Post
-read-expr-code-of-requires t c κs = search needs
-
-read-expr-enum-told : (t : ℕ) → read-expr-lts.Need-enum-told (read-expr-claims t) (read-expr-at t) read-expr.Post
-read-expr-enum-told t c = search needs
-
-read-expr-read-variable-requires : (t : ℕ) → read-expr-lts.Need-read-variable-requires (read-expr-claims t) (read-expr-at t) read-expr.Post
-read-expr-read-variable-requires t c κs = search needs
-
-read-expr-enum-told-2 : (t : ℕ) → read-expr-lts.Need-enum-told-2 (read-expr-claims t) (read-expr-at t) read-expr.Post
-read-expr-enum-told-2 t c = search needs
-
-read-expr-read-word-requires : (t : ℕ) → read-expr-lts.Need-read-word-requires (read-expr-claims t) (read-expr-at t) read-expr.Post
-read-expr-read-word-requires t c κs = search needs
-
-read-expr-enum-told-3 : (t : ℕ) → read-expr-lts.Need-enum-told-3 (read-expr-claims t) (read-expr-at t) read-expr.Post
-read-expr-enum-told-3 t c = search needs
-
-read-expr-read-bit-requires : (t : ℕ) → read-expr-lts.Need-read-bit-requires (read-expr-claims t) (read-expr-at t) read-expr.Post
-read-expr-read-bit-requires t c κs = search needs
-
-read-expr-enum-told-4 : (t : ℕ) → read-expr-lts.Need-enum-told-4 (read-expr-claims t) (read-expr-at t) read-expr.Post
-read-expr-enum-told-4 t c = search needs
-
-read-expr-same-kind-requires : (t : ℕ) → read-expr-lts.Need-same-kind-requires (read-expr-claims t) (read-expr-at t) read-expr.Post
-read-expr-same-kind-requires t c κs = search needs
-
 read-expr-returns-2 : (t : ℕ) → read-expr-lts.Need-returns-2 (read-expr-claims t) (read-expr-at t) read-expr.Post
 read-expr-returns-2 t c =
     let a = c .before .before .before .before .before .before .before .before .args in
@@ -74,42 +44,6 @@ read-expr-returns-3 : (t : ℕ) → read-expr-lts.Need-returns-3 (read-expr-clai
 read-expr-returns-3 t c =
     let a = c .before .before .before .before .before .before .before .before .before .args in
     expr-deep (a .deep) (now (a .s)) (a .want) (a .at) (c .before .before .before .before .before .code-of .result) (c .before .before .before .before .before .before .before .if1 .left) (c .before .before .before .before .before .code-of .ensures) (c .before .before .before .enum-told4 .given .0 .0) (c .before .before .before .enum-told4 .given .1) (sym (c .before .before .same-kind .ensures) ∙ not-false _ (c .before .if2 .left)) (c .if3 .taken)
-
-read-expr-add-read-expr : (t : ℕ) → read-expr-lts.Need-add-read-expr (read-expr-claims t) (read-expr-at t) read-expr.Post
-read-expr-add-read-expr t c = search needs
-
-read-expr-sub-read-expr : (t : ℕ) → read-expr-lts.Need-sub-read-expr (read-expr-claims t) (read-expr-at t) read-expr.Post
-read-expr-sub-read-expr t c = search needs
-
-read-expr-read-expr-requires : (t : ℕ) → read-expr-lts.Need-read-expr-requires (read-expr-claims t) (read-expr-at t) read-expr.Post
-read-expr-read-expr-requires t c κs = search needs
-
-read-expr-enum-known-next : (t : ℕ) → read-expr-lts.Need-enum-known-next (read-expr-claims t) (read-expr-at t) read-expr.Post
-read-expr-enum-known-next t c = search needs
-
-read-expr-sub-read-expr-2 : (t : ℕ) → read-expr-lts.Need-sub-read-expr-2 (read-expr-claims t) (read-expr-at t) read-expr.Post
-read-expr-sub-read-expr-2 t c = search needs
-
-read-expr-read-expr-requires-2 : (t : ℕ) → read-expr-lts.Need-read-expr-requires-2 (read-expr-claims t) (read-expr-at t) read-expr.Post
-read-expr-read-expr-requires-2 t c κs = search needs
-
-read-expr-enum-known-number : (t : ℕ) → read-expr-lts.Need-enum-known-number (read-expr-claims t) (read-expr-at t) read-expr.Post
-read-expr-enum-known-number t c = search needs
-
-read-expr-enum-told-5 : (t : ℕ) → read-expr-lts.Need-enum-told-5 (read-expr-claims t) (read-expr-at t) read-expr.Post
-read-expr-enum-told-5 t c = search needs
-
-read-expr-enum-told-6 : (t : ℕ) → read-expr-lts.Need-enum-told-6 (read-expr-claims t) (read-expr-at t) read-expr.Post
-read-expr-enum-told-6 t c = search needs
-
-read-expr-enum-told-7 : (t : ℕ) → read-expr-lts.Need-enum-told-7 (read-expr-claims t) (read-expr-at t) read-expr.Post
-read-expr-enum-told-7 t c = search needs
-
-read-expr-enum-told-8 : (t : ℕ) → read-expr-lts.Need-enum-told-8 (read-expr-claims t) (read-expr-at t) read-expr.Post
-read-expr-enum-told-8 t c = search needs
-
-read-expr-enum-told-9 : (t : ℕ) → read-expr-lts.Need-enum-told-9 (read-expr-claims t) (read-expr-at t) read-expr.Post
-read-expr-enum-told-9 t c = search needs
 
 read-expr-returns-4 : (t : ℕ) → read-expr-lts.Need-returns-4 (read-expr-claims t) (read-expr-at t) read-expr.Post
 read-expr-returns-4 t c =
@@ -176,30 +110,30 @@ pub +read-expr-spec : {M : Type 1} → statement M
 +read-expr-spec = close μ-read-expr λ t. read-expr-lts.spec (read-expr-claims t) (read-expr-at t)
     read-expr.Post
     (read-expr-returns t)
-    (read-expr-shared-slice-read-code-of t)
-    (read-expr-code-of-requires t)
-    (read-expr-enum-told t)
-    (read-expr-read-variable-requires t)
-    (read-expr-enum-told-2 t)
-    (read-expr-read-word-requires t)
-    (read-expr-enum-told-3 t)
-    (read-expr-read-bit-requires t)
-    (read-expr-enum-told-4 t)
-    (read-expr-same-kind-requires t)
+    (λ c. search needs)
+    (λ c κs. search needs)
+    (λ c. search needs)
+    (λ c κs. search needs)
+    (λ c. search needs)
+    (λ c κs. search needs)
+    (λ c. search needs)
+    (λ c κs. search needs)
+    (λ c. search needs)
+    (λ c κs. search needs)
     (read-expr-returns-2 t)
     (read-expr-returns-3 t)
-    (read-expr-add-read-expr t)
-    (read-expr-sub-read-expr t)
-    (read-expr-read-expr-requires t)
-    (read-expr-enum-known-next t)
-    (read-expr-sub-read-expr-2 t)
-    (read-expr-read-expr-requires-2 t)
-    (read-expr-enum-known-number t)
-    (read-expr-enum-told-5 t)
-    (read-expr-enum-told-6 t)
-    (read-expr-enum-told-7 t)
-    (read-expr-enum-told-8 t)
-    (read-expr-enum-told-9 t)
+    (λ c. search needs)
+    (λ c. search needs)
+    (λ c κs. search needs)
+    (λ c. search needs)
+    (λ c. search needs)
+    (λ c κs. search needs)
+    (λ c. search needs)
+    (λ c. search needs)
+    (λ c. search needs)
+    (λ c. search needs)
+    (λ c. search needs)
+    (λ c. search needs)
     (read-expr-returns-4 t)
     (read-expr-returns-5 t)
     (read-expr-returns-6 t)

@@ -12,37 +12,13 @@ use borrow.Author.Needs.{needs}
 use Rattle.reading.proofs.read_assign.Statement.{statement}
 use Rattle.reading.proofs.read_assign.Tie as tie
 
-add-if1 : tie.Need-add-if1
-add-if1 c = search needs
-
 returns : tie.Need-returns
 unfolding readAssign
 returns c = rw (le-ltb _ _ (c .if1 .taken))
 
-add-x : tie.Need-add-x
-add-x c = search needs
-
-shared-slice-read-x : tie.Need-shared-slice-read-x
-shared-slice-read-x c = search needs
-
-shared-slice-read-if2 : tie.Need-shared-slice-read-if2
-shared-slice-read-if2 c = search needs
-
-add-t11 : tie.Need-add-t11
-add-t11 c = search needs
-
 returns-2 : tie.Need-returns-2
 unfolding readAssign
 returns-2 c = rw (lt-ltb _ _ (c .before .before .before .if1 .left), le-ltb _ _ (c .if2 .taken))
-
-add-read-expr : tie.Need-add-read-expr
-add-read-expr c = search needs
-
-kind-at-requires : tie.Need-kind-at-requires
-kind-at-requires c κs = search needs
-
-read-expr-requires : tie.Need-read-expr-requires
-read-expr-requires c κs = search needs
 
 returns-3 : tie.Need-returns-3
 returns-3 c =
@@ -54,14 +30,14 @@ pub read-assign-spec : {M : Type 1} → statement M
 read-assign-spec =
     tie.close
     (tie.spec
-    add-if1
+    (λ c. search needs)
     returns
-    add-x
-    shared-slice-read-x
-    shared-slice-read-if2
-    add-t11
+    (λ c. search needs)
+    (λ c. search needs)
+    (λ c. search needs)
+    (λ c. search needs)
     returns-2
-    add-read-expr
-    kind-at-requires
-    read-expr-requires
+    (λ c. search needs)
+    (λ c κs. search needs)
+    (λ c κs. search needs)
     returns-3)

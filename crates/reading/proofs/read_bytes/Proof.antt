@@ -5,26 +5,11 @@ use borrow.Author.Needs.{needs}
 use Rattle.reading.proofs.read_bytes.Statement.{statement}
 use Rattle.reading.proofs.read_bytes.Tie as tie
 
-read-header-requires : tie.Need-read-header-requires
-read-header-requires c κs = search needs
-
-enum-known-body : tie.Need-enum-known-body
-enum-known-body c = search needs
-
 read-block-requires : tie.Need-read-block-requires
 read-block-requires c κs = let a = c .before .before .before .before .before .args in header-past (now (a .s)) (c .before .before .before .before .before .pre .0) (sym (c .before .body .given .1) ∙ c .before .before .before .read-header .ensures) .kinds
 
-enum-known-end : tie.Need-enum-known-end
-enum-known-end c = search needs
-
 returns : tie.Need-returns
 returns c = let a = c .before .before .before .before .before .before .before .before .before .before .args in rule-after (now (a .s)) (c .before .before .before .before .before .before .before .before .before .before .pre .0) (c .before .before .before .before .before .before .before .before .before .before .pre .1) (sym (c .before .before .before .before .before .before .body .given .1) ∙ c .before .before .before .before .before .before .before .before .read-header .ensures) (sym (c .before .before .end .given .1) ∙ c .before .before .before .before .read-block .ensures) (c .if1 .taken)
-
-enum-known-number : tie.Need-enum-known-number
-enum-known-number c = search needs
-
-enum-known-number-2 : tie.Need-enum-known-number-2
-enum-known-number-2 c = search needs
 
 returns-2 : tie.Need-returns-2
 returns-2 c = let a = c .before .before .before .before .before .before .before .before .before .before .args in rule-whole (now (a .s)) (c .before .before .before .before .before .before .before .before .before .before .pre .0) (c .before .before .before .before .before .before .before .before .before .before .pre .1) (sym (c .before .before .before .before .before .before .body .given .1) ∙ c .before .before .before .before .before .before .before .before .read-header .ensures) (sym (c .before .before .end .given .1) ∙ c .before .before .before .before .read-block .ensures) (c .if1 .left)
@@ -39,13 +24,13 @@ pub read-bytes-spec : {M : Type 1} → statement M
 read-bytes-spec =
     tie.close
     (tie.spec
-    read-header-requires
-    enum-known-body
+    (λ c κs. search needs)
+    (λ c. search needs)
     read-block-requires
-    enum-known-end
+    (λ c. search needs)
     returns
-    enum-known-number
-    enum-known-number-2
+    (λ c. search needs)
+    (λ c. search needs)
     returns-2
     returns-3
     returns-4)

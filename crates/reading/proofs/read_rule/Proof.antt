@@ -7,23 +7,11 @@ use borrow.Author.Needs.{needs}
 use Rattle.reading.proofs.read_rule.Statement.{statement}
 use Rattle.reading.proofs.read_rule.Tie as tie
 
-refused-requires : tie.Need-refused-requires
-refused-requires c κs = search needs
-
 returns : tie.Need-returns
 returns c = c .refused .ensures ∙ ap (λ (m : Parsed Block). answerOf (stepOf m)) (sym (rule-small _ (c .before .if1 .taken)))
 
-refused-requires-2 : tie.Need-refused-requires-2
-refused-requires-2 c κs = search needs
-
 returns-2 : tie.Need-returns-2
 returns-2 c = c .refused2 .ensures ∙ ap (λ (m : Parsed Block). answerOf (stepOf m)) (sym (rule-large _ (c .before .if2 .taken)))
-
-read-bytes-requires : tie.Need-read-bytes-requires
-read-bytes-requires c κs = search needs
-
-of-step-requires : tie.Need-of-step-requires
-of-step-requires c κs = search needs
 
 returns-3 : tie.Need-returns-3
 returns-3 c = c .of-step .ensures ∙ ap answerOf (c .before .read-bytes .ensures)
@@ -32,10 +20,10 @@ pub read-rule-spec : {M : Type 1} → statement M
 read-rule-spec =
     tie.close
     (tie.spec
-    refused-requires
+    (λ c κs. search needs)
     returns
-    refused-requires-2
+    (λ c κs. search needs)
     returns-2
-    read-bytes-requires
-    of-step-requires
+    (λ c κs. search needs)
+    (λ c κs. search needs)
     returns-3)

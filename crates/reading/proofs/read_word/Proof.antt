@@ -7,9 +7,6 @@ use borrow.Author.Needs.{needs}
 use Rattle.reading.proofs.read_word.Statement.{statement}
 use Rattle.reading.proofs.read_word.Tie as tie
 
-same-kind-requires : tie.Need-same-kind-requires
-same-kind-requires c κs = search needs
-
 returns : tie.Need-returns
 unfolding readWord
 returns c = rw (sym (c .before .same-kind .ensures) ∙ not-true _ (c .if1 .taken))
@@ -18,15 +15,9 @@ returns-2 : tie.Need-returns-2
 unfolding readWord
 returns-2 c = rw (sym (c .before .before .same-kind .ensures) ∙ not-false _ (c .before .if1 .left), none-left _ (c .if2 .taken))
 
-sub-if3 : tie.Need-sub-if3
-sub-if3 c = search needs
-
 returns-3 : tie.Need-returns-3
 unfolding readWord
 returns-3 c = rw (sym (c .before .before .before .same-kind .ensures) ∙ not-false _ (c .before .before .if1 .left), some-left _ (c .before .if2 .left), lt-leb _ _ (c .if3 .taken))
-
-add-t8 : tie.Need-add-t8
-add-t8 c = search needs
 
 returns-4 : tie.Need-returns-4
 unfolding readWord
@@ -34,4 +25,4 @@ returns-4 c = rw (sym (c .before .before .before .same-kind .ensures) ∙ not-fa
 
 pub read-word-spec : {M : Type 1} → statement M
 read-word-spec =
-    tie.close (tie.spec same-kind-requires returns returns-2 sub-if3 returns-3 add-t8 returns-4)
+    tie.close (tie.spec (λ c κs. search needs) returns returns-2 (λ c. search needs) returns-3 (λ c. search needs) returns-4)

@@ -1,0 +1,11 @@
+use mathlib.Core.Path.{refl}
+use Rattle.settings.specs.Sets.{collect}
+use Rattle.settings.proofs.whole.Statement.{statement}
+use Rattle.settings.proofs.whole.Tie as tie
+
+returns : tie.Need-returns
+unfolding collect
+returns c = refl
+
+pub whole-spec : {M : Type 1} → statement M
+whole-spec = tie.close (tie.spec returns)

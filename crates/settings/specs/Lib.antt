@@ -1,0 +1,16 @@
+pub mod Settings
+pub mod Sets
+pub mod Guards
+pub mod Holding
+pub mod Interface
+pub mod BitLaws
+pub mod ListLaws
+pub mod SettingLaws
+pub mod FlipLaws
+pub mod RestLaws
+pub mod SetLaws
+pub mod HoldLaws
+pub mod PlaceLaws
+pub mod GuardLaws
+pub mod Numbers
+pub mod Examples

@@ -1,0 +1,193 @@
+ghost use mathlib.Core.Path.{_≡_};
+ghost use Prim.Native.Nat.{_<_, _^_};
+ghost use lib.ListN.{length};
+ghost use Rattle.settings.specs.Settings.{bit};
+ghost use Rattle.settings.specs.Sets as sets;
+ghost use Rattle.settings.specs.Guards as guards;
+
+// Document 01, "Needed gates" and "The fused circuit file", at six conditions: a set of settings is 64 bits, bit j for setting j.
+
+// The conditions, at most.
+pub const CONDITIONS: u8 = 6;
+// Their settings: a set of settings has a bit for each.
+pub const SETTINGS: u8 = 64;
+
+// No setting.
+pub fn empty() -> u64
+    ensures { λ r. ⌜ r ≡ sets.empty ⌝ }
+{
+    0
+}
+
+// Every setting.
+pub fn whole() -> u64
+    ensures { λ r. ⌜ r ≡ sets.whole 64 ⌝ }
+{
+    0xFFFFFFFFFFFFFFFF
+}
+
+// Is setting j in the set s?
+pub fn has(s: u64, j: u8) -> bool
+    requires { ⌜ j < 64 ⌝ }
+    ensures { λ r. ⌜ r ≡ sets.has s j ⌝ }
+{
+    (s >> j) % 2 == 1
+}
+
+// The settings of either set.
+pub fn union(a: u64, b: u64) -> u64
+    ensures { λ r. ⌜ r ≡ sets.union a b ⌝ }
+{
+    a | b
+}
+
+// No setting is in both sets.
+pub fn excludes(a: u64, b: u64) -> bool
+    ensures { λ r. ⌜ r ≡ sets.excludes a b ⌝ }
+{
+    a & b == 0
+}
+
+// The settings that give condition t the bit 1.
+fn giving(t: u8) -> u64
+    requires { ⌜ t < 6 ⌝ }
+    ensures { λ r. ⌜ r ≡ sets.giving 64 t ⌝ }
+{
+    match t {
+        0 => 0xAAAAAAAAAAAAAAAA,
+        1 => 0xCCCCCCCCCCCCCCCC,
+        2 => 0xF0F0F0F0F0F0F0F0,
+        3 => 0xFF00FF00FF00FF00,
+        4 => 0xFFFF0000FFFF0000,
+        _ => 0xFFFFFFFF00000000,
+    }
+}
+
+// The settings that give condition t the bit 0.
+fn lacking(t: u8) -> u64
+    requires { ⌜ t < 6 ⌝ }
+    ensures { λ r. ⌜ r ≡ sets.lacking 64 t ⌝ }
+{
+    !giving(t)
+}
+
+// Those of the set s that give condition t the bit 1.
+pub fn given(t: u8, s: u64) -> u64
+    requires { ⌜ t < 6 ⌝ }
+    ensures { λ r. ⌜ r ≡ sets.given 64 t s ⌝ }
+{
+    s & giving(t)
+}
+
+// Those of the set s that give condition t the bit 0.
+pub fn without(t: u8, s: u64) -> u64
+    requires { ⌜ t < 6 ⌝ }
+    ensures { λ r. ⌜ r ≡ sets.without 64 t s ⌝ }
+{
+    s & lacking(t)
+}
+
+// 2 to the t.
+fn power(t: u8) -> u8
+    requires { ⌜ t < 6 ⌝ }
+    ensures { λ r. ⌜ r ≡ 2 ^ t ⌝ }
+{
+    1 << t
+}
+
+// The set of setting j alone.
+fn only(j: u8) -> u64
+    requires { ⌜ j < 64 ⌝ }
+    ensures { λ r. ⌜ r ≡ 2 ^ j ⌝ }
+{
+    1 << j
+}
+
+// Does s rest on condition t? Some setting j gives t the bit 0, and just one of j and j + 2^t is in s.
+pub fn rests_on(s: u64, t: u8) -> bool
+    requires { ⌜ t < 6 ⌝ }
+    ensures { λ r. ⌜ r ≡ sets.restsOn 6 s t ⌝ }
+{
+    let far = power(t);
+    ((s >> far) ^ s) & lacking(t) != 0
+}
+
+// The conditions that s rests on: bit t is 1 when s rests on condition t.
+pub fn rests(s: u64) -> u8
+    ensures { λ r. ⌜ r ≡ sets.collect 6 (sets.restsOn 6 s) ⌝ }
+{
+    let mut on: u8 = 0;
+    let mut t: u8 = 0;
+    while t < CONDITIONS {
+        if rests_on(s, t) {
+            on = on | power(t);
+        }
+        t = t + 1;
+    }
+    on
+}
+
+// Is condition t among those of `on`?
+fn among(on: u8, t: u8) -> bool
+    requires { ⌜ t < 6 ⌝ }
+    ensures { λ r. ⌜ r ≡ bit on t ⌝ }
+{
+    (on >> t) % 2 == 1
+}
+
+// The bits of a table over the conditions `on`: 2 for each condition, multiplied.
+fn size(on: u8) -> u8
+    ensures { λ r. ⌜ r ≡ 2 ^ length (guards.chosen 6 on) ⌝ }
+{
+    let mut n: u8 = 1;
+    let mut t: u8 = 0;
+    while t < CONDITIONS {
+        if among(on, t) {
+            n = n * 2;
+        }
+        t = t + 1;
+    }
+    n
+}
+
+// The setting that gives the conditions `on`, rising, the bits of j, and the others 0.
+fn spread(on: u8, j: u8) -> u8
+    ensures { λ r. ⌜ r ≡ guards.spread 6 (guards.chosen 6 on) j ⌝ }
+{
+    let mut r: u8 = 0;
+    let mut left = j;
+    let mut t: u8 = 0;
+    while t < CONDITIONS {
+        if among(on, t) {
+            if left % 2 == 1 {
+                r = r | power(t);
+            }
+            left = left / 2;
+        }
+        t = t + 1;
+    }
+    r
+}
+
+// The table of s over the conditions `on`: bit j says whether the setting that gives them the bits of j is in s.
+fn table_over(s: u64, on: u8) -> u64
+    ensures { λ r. ⌜ r ≡ guards.tableOver 6 (guards.chosen 6 on) s ⌝ }
+{
+    let n = size(on);
+    let mut r: u64 = 0;
+    let mut j: u8 = 0;
+    while j < n {
+        if has(s, spread(on, j)) {
+            r = r | only(j);
+        }
+        j = j + 1;
+    }
+    r
+}
+
+// The guard's table of s: over the conditions that s rests on.
+pub fn table(s: u64) -> u64
+    ensures { λ r. ⌜ r ≡ guards.table 6 s ⌝ }
+{
+    table_over(s, rests(s))
+}
