@@ -1,0 +1,54 @@
+-- Laws of conditions: the list holds exactly the gates that stand first in a choice gate.
+use Prim.Native.Nat.{ℕ, zero, suc, _+_, _≤_, _<_}
+use mathlib.Core.Path.{_≡_, refl}
+use mathlib.Core.List.{[], _∷_}
+use mathlib.Core.Logic.{inl, inr}
+use native.Mathlib.Omega.{arith}
+use lib.ListN.{length}
+use Rattle.words.specs.Lists.{_∈_, elem, elem→∈, ∈→elem, keep-in, keep-from, upto, from-in, from-below}
+use Rattle.gates.specs.Gates.{Gate, start, word, bit, operation, choice, Gates, gateAt, Earlier, Condition, heads, conditions}
+
+heads-tail : (k : Gate) (C : Gates) (c : ℕ) → c ∈ heads C → c ∈ heads (k ∷ C)
+heads-tail (start x) C c m = m
+heads-tail (word n) C c m = m
+heads-tail (bit b) C c m = m
+heads-tail (operation op l) C c m = m
+heads-tail (choice d a b) C c m = inr m
+
+heads-in : (C : Gates) (c i a b : ℕ) → gateAt C i ≡ choice c a b → c ∈ heads C
+heads-in [] c i a b e = let z : _≡_ {A = ℕ} 0 1 = cc in absurd (omega arith)
+heads-in (k ∷ C) c zero a b e = rw e (inl refl)
+heads-in (k ∷ C) c (suc i) a b e = heads-tail k C c (heads-in C c i a b e)
+
+heads-from : (C : Gates) (c : ℕ) → c ∈ heads C → Condition C c
+heads-from [] c m = absurd m
+heads-from (start x ∷ C) c m = let r = heads-from C c m in (suc (r .0), r .1, r .2, r .3)
+heads-from (word n ∷ C) c m = let r = heads-from C c m in (suc (r .0), r .1, r .2, r .3)
+heads-from (bit b ∷ C) c m = let r = heads-from C c m in (suc (r .0), r .1, r .2, r .3)
+heads-from (operation op l ∷ C) c m = let r = heads-from C c m in (suc (r .0), r .1, r .2, r .3)
+heads-from (choice d a b ∷ C) c (inl e) = (0, a, b, rw e refl)
+heads-from (choice d a b ∷ C) c (inr m) = let r = heads-from C c m in (suc (r .0), r .1, r .2, r .3)
+
+choice-inside : (C : Gates) (i c a b : ℕ) → gateAt C i ≡ choice c a b → i < length C
+choice-inside [] i c a b e = let z : _≡_ {A = ℕ} 0 1 = cc in absurd (omega arith)
+choice-inside (k ∷ C) zero c a b e = omega arith
+choice-inside (k ∷ C) (suc i) c a b e = omega (arith, choice-inside C i c a b e)
+
+-- a condition is in the list
+pub condition-in : (C : Gates) → Earlier C → (c : ℕ) → Condition C c → c ∈ conditions C
+unfolding conditions
+condition-in C e c (i, a, b, h) =
+    keep-in (λ d. elem d (heads C)) (upto (length C)) c
+    (from-in 0 (length C) c (omega arith) (omega (arith, choice-inside C i c a b h, e i c (rw h (inl refl)))))
+    (∈→elem c (heads C) (heads-in C c i a b h))
+
+-- what is in the list is a condition, and a gate of the circuit
+pub in-condition : (C : Gates) (c : ℕ) → c ∈ conditions C → Condition C c
+unfolding conditions
+in-condition C c m = heads-from C c (elem→∈ c (heads C) (keep-from (λ d. elem d (heads C)) (upto (length C)) c m .1))
+
+pub condition-below : (C : Gates) (c : ℕ) → c ∈ conditions C → c < length C
+unfolding conditions
+condition-below C c m =
+    let r : (0 ≤ c) × (c < 0 + length C) = from-below 0 (length C) c (keep-from (λ d. elem d (heads C)) (upto (length C)) c m .0) in
+    omega arith

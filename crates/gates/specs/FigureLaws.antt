@@ -1,0 +1,103 @@
+-- Laws of runs gate by gate: what was given stays, each gate gives its value of those before it; figures read only arguments.
+use Prim.Native.Nat.{ℕ, zero, suc, _+_, _<_}
+use mathlib.Core.Path.{_≡_, refl, sym, ap, _∙_}
+use mathlib.Core.List.{List, [], _∷_, _++_, map}
+use mathlib.Core.Logic.{inl, inr}
+use native.Mathlib.Nat.{add-zero, zero-add}
+use native.Mathlib.Omega.{arith}
+use lib.ListN.{length, getD, length-append, List·getD-append}
+use lib.Seq.{getD-append-seam}
+use Rattle.words.specs.Lists.{_∈_}
+use Rattle.gates.specs.Gates.{Gate, start, word, bit, operation, choice, Gates, gateAt, arguments, Earlier, resultOn, figure, run, runAt, figureAt}
+
+module _ {K A : Type 0} (d : A) (value : (ℕ → A) → K → A) where
+  one-more : (f : List A) (a : A) → length (f ++ (a ∷ [])) ≡ suc (length f)
+  one-more f a = rw length-append (omega arith)
+
+  pub run-length : (C : List K) (f : List A) → length (run d value C f) ≡ length f + length C
+  run-length [] f = sym (add-zero _)
+  run-length (k ∷ C) f = run-length C (f ++ (value (λ i. getD f i d) k ∷ [])) ∙ rw one-more (omega arith)
+
+  -- what was given stays
+  pub run-keeps : (C : List K) (f : List A) (i : ℕ) → i < length f → getD (run d value C f) i d ≡ getD f i d
+  run-keeps [] f i h = refl
+  run-keeps (k ∷ C) f i h = run-keeps C (f ++ (value (λ j. getD f j d) k ∷ [])) i (rw one-more (omega arith)) ∙ List·getD-append f _ d i h
+
+  -- a run of joined lists goes on from the first
+  pub run-append : (B C : List K) (f : List A) → run d value (B ++ C) f ≡ run d value C (run d value B f)
+  run-append [] C f = refl
+  run-append (k ∷ B) C f = run-append B C (f ++ (value (λ i. getD f i d) k ∷ []))
+
+  -- the gates appended change nothing before them
+  pub runAt-append : (B C : List K) (i : ℕ) → i < length B → runAt d value (B ++ C) i ≡ runAt d value B i
+  runAt-append B C i h = rw (run-append B C []) (run-keeps C (run d value B []) i (rw (run-length B []) (omega arith)))
+
+  -- the last gate gives its value of those before it
+  pub runAt-last : (C : List K) (k : K) → runAt d value (C ++ (k ∷ [])) (length C) ≡ value (runAt d value C) k
+  runAt-last C k =
+      let l : length (run d value C []) ≡ length C = run-length C [] ∙ zero-add _ in
+      rw (run-append C (k ∷ []) [])
+      (ap (λ (n : ℕ). getD (run d value C [] ++ (value (runAt d value C) k ∷ [])) n d) (sym l)
+      ∙ getD-append-seam (run d value C []) (value (runAt d value C) k) [] d)
+
+  -- thing j of C, the first of them numbered n, reads only what is numbered below it; e stands past the end
+  abbrev pub ReadsBelow : K → List K → ℕ → Type 0
+  ReadsBelow e C n = (j : ℕ) (v w : ℕ → A) → ((a : ℕ) → a < n + j → v a ≡ w a) → value v (getD C j e) ≡ value w (getD C j e)
+
+  run-values : (e : K) (C : List K) (f : List A) → ReadsBelow e C (length f)
+      → (j : ℕ) → j < length C → getD (run d value C f) (length f + j) d ≡ value (λ i. getD (run d value C f) i d) (getD C j e)
+  run-values e [] f r j h = absurd (omega arith)
+  run-values e (k ∷ C) f r zero h =
+      rw add-zero (run-keeps C (f ++ (value (λ i. getD f i d) k ∷ [])) (length f) (rw one-more (omega arith))
+      ∙ getD-append-seam f _ [] d
+      ∙ r 0 _ _ (λ a l. sym (run-keeps (k ∷ C) f a (omega arith))))
+  run-values e (k ∷ C) f r (suc j) h =
+      ap (λ (n : ℕ). getD (run d value (k ∷ C) f) n d) (rw one-more (omega arith))
+      ∙ run-values e C (f ++ (value (λ i. getD f i d) k ∷ [])) (λ i v w s. r (suc i) v w (λ a l. s a (rw one-more (omega arith)))) j (omega arith)
+
+  -- a run gives each thing its value of what the whole run gives
+  pub run-right : (e : K) (C : List K) → ReadsBelow e C 0 → (i : ℕ) → i < length C → runAt d value C i ≡ value (runAt d value C) (getD C i e)
+  run-right e C r i h = rw zero-add at (run-values e C [] r i h)
+
+-- what gates give reads only their arguments
+abbrev pub OnArguments : {A : Type 0} → ((ℕ → A) → Gate → A) → Type 0
+OnArguments {A} value = (k : Gate) (v w : ℕ → A) → ((a : ℕ) → a ∈ arguments k → v a ≡ w a) → value v k ≡ value w k
+
+pub map-same : (v w : ℕ → ℕ) (l : List ℕ) → ((a : ℕ) → a ∈ l → v a ≡ w a) → map v l ≡ map w l
+map-same v w [] h = refl
+map-same v w (a ∷ l) h = cc (h a (inl refl), map-same v w l (λ b m. h b (inr m)))
+
+pub figure-same : (inputs : List ℕ) → OnArguments (figure inputs)
+figure-same inputs (start x) v w h = refl
+figure-same inputs (word n) v w h = refl
+figure-same inputs (bit b) v w h = refl
+figure-same inputs (operation op l) v w h = ap (resultOn op) (map-same v w l h)
+figure-same inputs (choice c a b) v w h = rw (h c (inl refl), h a (inr (inl refl)), h b (inr (inr (inl refl))))
+
+-- with arguments made before their gates, a run gives each gate its value
+pub gates-right : {A : Type 0} (d : A) (value : (ℕ → A) → Gate → A) → OnArguments value → (C : Gates) → Earlier C
+    → (i : ℕ) → i < length C → runAt d value C i ≡ value (runAt d value C) (gateAt C i)
+gates-right d value o C e =
+    run-right d value (word 0) C (λ j v w s. o (gateAt C j) v w (λ a m. s a (rw zero-add (e j a m))))
+
+-- the figure of every gate is its figure of its arguments' figures
+pub figures-right : (inputs : List ℕ) (C : Gates) → Earlier C
+    → (i : ℕ) → i < length C → figureAt inputs C i ≡ figure inputs (figureAt inputs C) (gateAt C i)
+unfolding figureAt
+figures-right inputs C e = gates-right 0 (figure inputs) (figure-same inputs) C e
+
+-- figures stay when gates are appended
+pub figures-keep : (inputs : List ℕ) (B C : Gates) (i : ℕ) → i < length B → figureAt inputs (B ++ C) i ≡ figureAt inputs B i
+unfolding figureAt
+figures-keep inputs B C i h = runAt-append 0 (figure inputs) B C i h
+
+-- the figure of the gate appended
+pub figures-last : (inputs : List ℕ) (C : Gates) (k : Gate) → figureAt inputs (C ++ (k ∷ [])) (length C) ≡ figure inputs (figureAt inputs C) k
+unfolding figureAt
+figures-last inputs C k = runAt-last 0 (figure inputs) C k
+
+-- an element of a mapped list
+pub map-at : (v : ℕ → ℕ) (l : List ℕ) (i : ℕ) → i < length l → getD (map v l) i 0 ≡ v (getD l i 0)
+map-at v [] i h = absurd (omega arith)
+map-at v (a ∷ l) zero h = refl
+map-at v (a ∷ l) (suc i) h = map-at v l i (omega arith)

@@ -1,0 +1,56 @@
+-- Document 01, "The rule file": "arguments to result" of the operation table, as a relation on trees, and the sizes of words and bits.
+use Prim.Native.Nat.{ℕ, _<_, _≤_}
+use mathlib.Core.Path.{_≡_}
+use Rattle.codes.specs.Codes.{rowOf}
+use Rattle.codes.specs.declared.Code.{Code}
+use Rattle.codes.specs.declared.Kind.{Kind}
+use Rattle.codes.specs.declared.Kind.the-variants as kind
+use Rattle.reading.specs.Tree.{Expr, variable, word, bit, one, two, Statement, assign, skip, branch, Block, end, then}
+
+-- A word is 32 bits, unsigned; a bit is 0 or 1.
+abbrev pub Fits : Kind → ℕ → Type 0
+Fits kind.Word n = n < 4294967296
+Fits kind.Bit n = n ≤ 1
+
+-- over v variables of these kinds
+module _ (v : ℕ) (kinds : ℕ → Kind) where
+  -- an expression of kind k: it names only the variables, and every argument is of the kind that its operation takes
+  abbrev pub Typed : Expr → Kind → Type 0
+  Typed (variable x) k = (x < v) × (kinds x ≡ k)
+  Typed (word n) k = kind.Word ≡ k
+  Typed (bit b) k = (b ≤ 1) × (kind.Bit ≡ k)
+  Typed (one op e) k = (rowOf op .arity ≡ 1) × (rowOf op .gives ≡ k) × Typed e (rowOf op .takes)
+  Typed (two op d e) k = (rowOf op .arity ≡ 2) × (rowOf op .gives ≡ k) × Typed d (rowOf op .takes) × Typed e (rowOf op .takes)
+
+  -- P holds of every expression and its kind: an assign is of its variable's kind, an if asks a bit
+  module _ (P : Expr → Kind → Type 0) where
+    abbrev mutual
+      pub EachIn : Statement → Type 0
+      EachIn (assign x e) = (x < v) × P e (kinds x)
+      EachIn skip = Unit {0}
+      EachIn (branch c b d) = P c kind.Bit × Each b × Each d
+
+      pub Each : Block → Type 0
+      Each end = Unit {0}
+      Each (then t b) = EachIn t × Each b
+
+  -- the kinds of statements and blocks fit
+  abbrev pub TypedStatement : Statement → Type 0
+  TypedStatement = EachIn Typed
+
+  abbrev pub TypedBlock : Block → Type 0
+  TypedBlock = Each Typed
+
+  -- every word constant of an expression is a word
+  abbrev pub Words : Expr → Kind → Type 0
+  Words (variable x) k = Unit {0}
+  Words (word n) k = Fits kind.Word n
+  Words (bit b) k = Unit {0}
+  Words (one op e) k = Words e (rowOf op .takes)
+  Words (two op d e) k = Words d (rowOf op .takes) × Words e (rowOf op .takes)
+
+  abbrev pub WordsStatement : Statement → Type 0
+  WordsStatement = EachIn Words
+
+  abbrev pub WordsBlock : Block → Type 0
+  WordsBlock = Each Words

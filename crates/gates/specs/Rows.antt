@@ -1,0 +1,56 @@
+-- Document 01, "The plain circuit" and "The fused circuit file": gates as they lie in a lent array, four numbers a gate:
+-- the code that the gate's record of a circuit file begins with, then the variable of a starting value, the figure of a constant,
+-- or the argument gates; 0 where there is none.
+use Prim.Native.Nat.{ℕ}
+use mathlib.Core.Path.{_≡_, refl}
+use mathlib.Core.List.{List, [], _∷_, _++_}
+use lib.ListN.{getD}
+use Rattle.codes.specs.Codes.{operationOf}
+use Rattle.codes.specs.declared.Kind.{Kind}
+use Rattle.codes.specs.declared.Kind.the-variants as kind
+use Rattle.codes.specs.declared.Operation.{Operation}
+use Rattle.codes.specs.declared.Operation.the-variants.{Sum, Difference, Product, LessThan, Equal, And, Or, Not}
+use Rattle.reading.specs.Header.{kindAt}
+use Rattle.gates.specs.Gates.{Gate, start, operation, choice, Gates}
+use Rattle.gates.specs.Gates as gate
+
+-- 00 a word's starting value, 01 a bit's
+abbrev pub startCode : Kind → ℕ
+startCode kind.Word = 0x00
+startCode kind.Bit = 0x01
+
+-- the byte of an operation
+abbrev pub byteOf : Operation → ℕ
+byteOf Sum = 0x20
+byteOf Difference = 0x21
+byteOf Product = 0x22
+byteOf LessThan = 0x23
+byteOf Equal = 0x24
+byteOf And = 0x25
+byteOf Or = 0x26
+byteOf Not = 0x27
+
+-- it is the byte that reading takes for the operation
+pub byte-operation : (op : Operation) → operationOf (byteOf op) ≡ op
+unfolding operationOf
+byte-operation Sum = refl
+byte-operation Difference = refl
+byte-operation Product = refl
+byte-operation LessThan = refl
+byte-operation Equal = refl
+byte-operation And = refl
+byte-operation Or = refl
+byte-operation Not = refl
+
+-- the four numbers of a gate; s is the rule, for the kind of a starting value
+abbrev pub fourOf : List ℕ → Gate → List ℕ
+fourOf s (start x) = startCode (kindAt s x) ∷ x ∷ 0 ∷ 0 ∷ []
+fourOf s (gate.word n) = 0x11 ∷ n ∷ 0 ∷ 0 ∷ []
+fourOf s (gate.bit b) = 0x12 ∷ b ∷ 0 ∷ 0 ∷ []
+fourOf s (operation op l) = byteOf op ∷ getD l 0 0 ∷ getD l 1 0 ∷ 0 ∷ []
+fourOf s (choice c a b) = 0x30 ∷ c ∷ a ∷ b ∷ []
+
+-- those of all gates, in order of making
+unfoldable pub rowsOf : List ℕ → Gates → List ℕ
+rowsOf s [] = []
+rowsOf s (k ∷ C) = fourOf s k ++ rowsOf s C

@@ -1,0 +1,76 @@
+-- Laws of the starting gates and of the plain circuit of a rule that was read.
+use Prim.Native.Nat.{ℕ, zero, suc, _+_, _<_}
+use mathlib.Core.Path.{_≡_, refl, sym, ap, _∙_}
+use mathlib.Core.List.{List, map}
+use native.Mathlib.Nat.{add-zero, zero-add}
+use native.Mathlib.Omega.{arith}
+use lib.ListN.{length, getD, length-map}
+use Rattle.words.specs.Lists.{_∈_, from, upto, from-below}
+use Rattle.answers.specs.Parsing.{Parsed, parsed}
+use Rattle.reading.specs.Header.{variables, kindAt}
+use Rattle.reading.specs.Tree.{Block}
+use Rattle.reading.specs.Rule.{readRule}
+use Rattle.gates.specs.Running.{runBlock, runRead, runRule}
+use Rattle.gates.specs.Gates.{Gate, start, gateAt, arguments}
+use Rattle.gates.specs.PlainCircuit.{starts, plainOf, plainRead, plainCircuit}
+use Rattle.gates.specs.FigureLaws.{OnArguments, gates-right}
+use Rattle.gates.specs.SoundLaws.{Sound, block-sound}
+use Rattle.gates.specs.HoldLaws.{Holds}
+use Rattle.gates.specs.ReadLaws.{read-typed}
+
+-- Gates 0 to V−1 are the variables' starting values.
+starts-earlier : (i n j a : ℕ) → a ∈ arguments (gateAt (map start (from i n)) j) → a < j
+starts-earlier i zero j a m = absurd m
+starts-earlier i (suc n) zero a m = absurd m
+starts-earlier i (suc n) (suc j) a m = absurd (nothing (suc i) n j m)
+  where
+    nothing : (i n j : ℕ) → a ∈ arguments (gateAt (map start (from i n)) j) → ⊥
+    nothing i zero j m = m
+    nothing i (suc n) zero m = m
+    nothing i (suc n) (suc j) m = nothing (suc i) n j m
+
+pub length-from : (i n : ℕ) → length (from i n) ≡ n
+length-from i zero = refl
+length-from i (suc n) = ap suc (length-from (suc i) n)
+
+pub starts-sound : (v : ℕ) → Sound v (starts v)
+starts-sound v =
+    record {
+      count = length-from 0 v;
+      inside = λ a m. rw (length-map (upto v) start, length-from 0 v) (omega (arith, from-below 0 v a m));
+      earlier = starts-earlier 0 v;
+    }
+
+pub from-at : (i n x : ℕ) → x < n → getD (from i n) x 0 ≡ i + x
+from-at i zero x h = absurd (omega arith)
+from-at i (suc n) zero h = sym (add-zero i)
+from-at i (suc n) (suc x) h = from-at (suc i) n x (omega arith) ∙ omega arith
+
+pub start-at : (i n x : ℕ) → x < n → gateAt (map start (from i n)) x ≡ start (i + x)
+start-at i zero x h = absurd (omega arith)
+start-at i (suc n) zero h = ap start (sym (add-zero i))
+start-at i (suc n) (suc x) h = start-at (suc i) n x (omega arith) ∙ ap start (omega arith)
+
+-- at the start each variable's gate gives what its starting value gives
+pub starts-hold : {A : Type 0} (d : A) (value : (ℕ → A) → Gate → A) → OnArguments value → (v : ℕ) (h : ℕ → A)
+    → ((g : ℕ → A) (x : ℕ) → value g (start x) ≡ h x) → Holds d value (starts v) h
+starts-hold d value o v h k x l =
+    let l′ : x < v = rw (length-from 0 v) at l in
+    let e : getD (upto v) x 0 ≡ x = from-at 0 v x l′ ∙ zero-add x in
+    rw e (gates-right d value o (map start (upto v)) (starts-sound v .earlier) x (rw (length-map (upto v) start) l)
+    ∙ rw (start-at 0 v x l′, zero-add) (k _ x))
+
+-- the plain circuit of a rule that was read
+pub read-plain : (s : List ℕ) (b : Block) (n : ℕ) → readRule s ≡ parsed b n → plainCircuit s ≡ plainOf (variables s) b
+unfolding plainCircuit
+read-plain s b n h = ap (plainRead (variables s)) h
+
+-- and its direct run
+pub read-run : (s : List ℕ) (b : Block) (n : ℕ) → readRule s ≡ parsed b n → (inputs : List ℕ) → runRule s inputs ≡ runBlock b inputs
+unfolding runRule
+read-run s b n h inputs = ap (λ (r : Parsed Block). runRead r inputs) h
+
+-- its outputs are V gates of it, and its arguments are made before their gates
+pub plain-sound : (s : List ℕ) (b : Block) (n : ℕ) → readRule s ≡ parsed b n → Sound (variables s) (plainCircuit s)
+plain-sound s b n h =
+    rw (read-plain s b n h) (block-sound (variables s) (kindAt s) b (read-typed s b n h) (starts (variables s)) (starts-sound (variables s)))

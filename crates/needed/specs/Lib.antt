@@ -1,0 +1,10 @@
+pub mod Needed
+pub mod Pass
+pub mod NeededLaws
+pub mod HandLaws
+pub mod MarkLaws
+pub mod PassLaws
+pub mod PreconditionLaws
+pub mod StepLaws
+pub mod RulePreconditions
+pub mod Examples

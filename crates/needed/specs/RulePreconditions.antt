@@ -1,0 +1,38 @@
+-- Needed gates of a rule: for every rule that is read with at most six conditions, setting j is in a gate's precondition exactly when the gate is needed under it,
+-- and two gates exclude each other exactly when their preconditions have no bit in common.
+use Prim.Native.Nat.{ℕ, _^_, _≤_, _<_}
+use mathlib.Core.Path.{_≡_}
+use mathlib.Core.List.{List}
+use mathlib.Core.Bool.{true}
+use mathlib.Core.Logic.{_↔_}
+use lib.ListN.{length, getD}
+use Rattle.words.specs.Lists.{_∈_}
+use Rattle.answers.specs.Parsing.{parsed}
+use Rattle.reading.specs.Tree.{Block}
+use Rattle.reading.specs.Rule.{readRule}
+use Rattle.gates.specs.Limits.{mostConditions}
+use Rattle.gates.specs.Gates.{Earlier, conditions}
+use Rattle.gates.specs.PlainCircuit.{gatesOf}
+use Rattle.gates.specs.StartLaws.{plain-sound}
+use Rattle.settings.specs.Settings.{settingOf}
+use Rattle.settings.specs.Sets.{has, excludes}
+use Rattle.needed.specs.Needed.{Needed, wantedOf, Exclude}
+use Rattle.needed.specs.Pass.{rulePreconditions}
+use Rattle.needed.specs.PreconditionLaws.{precondition-right, exclude-right}
+
+module _ (s : List ℕ) (b : Block) (n : ℕ) (read : readRule s ≡ parsed b n) where
+  pub rule-earlier : Earlier (gatesOf s)
+  rule-earlier = plain-sound s b n read .earlier
+
+  -- what is wanted from the start is a gate
+  pub wanted-inside : (g : ℕ) → g ∈ wantedOf s → g < length (gatesOf s)
+  wanted-inside = plain-sound s b n read .inside
+
+  module _ (few : length (conditions (gatesOf s)) ≤ mostConditions) where
+    pub rule-precondition : (g j : ℕ) → j < 2 ^ mostConditions
+        → (has (getD (rulePreconditions s) g 0) j ≡ true) ↔ Needed (gatesOf s) (wantedOf s) (settingOf (conditions (gatesOf s)) j) g
+    rule-precondition = precondition-right (gatesOf s) (wantedOf s) rule-earlier wanted-inside mostConditions few
+
+    pub rule-exclude : (g h : ℕ)
+        → (excludes (getD (rulePreconditions s) g 0) (getD (rulePreconditions s) h 0) ≡ true) ↔ Exclude (gatesOf s) (wantedOf s) g h
+    rule-exclude = exclude-right (gatesOf s) (wantedOf s) rule-earlier wanted-inside mostConditions few

@@ -1,0 +1,1 @@
+// Definitions and theorems of needed gates (specs/).
