@@ -126,11 +126,7 @@ pub fn read_expr(s: &[u8], at: usize, want: Kind, deep: u8) -> Step
                 Step::Refused(number, place) => Step::Refused(number, place),
             }
         }
-        Form::End => Step::Refused(5, at),
-        Form::Assign => Step::Refused(5, at),
-        Form::Skip => Step::Refused(5, at),
-        Form::Branch => Step::Refused(5, at),
-        Form::Unknown => Step::Refused(5, at),
+        _ => Step::Refused(5, at),
     }
 }
 
@@ -171,12 +167,7 @@ fn read_statement(s: &[u8], at: usize, nest: u8) -> Step
                 Step::Refused(number, place) => Step::Refused(number, place),
             }
         }
-        Form::End => Step::Refused(5, at),
-        Form::Variable => Step::Refused(5, at),
-        Form::Word => Step::Refused(5, at),
-        Form::Bit => Step::Refused(5, at),
-        Form::Apply(_) => Step::Refused(5, at),
-        Form::Unknown => Step::Refused(5, at),
+        _ => Step::Refused(5, at),
     }
 }
 

@@ -11,6 +11,7 @@ use Rattle.reading.specs.Expressions.{readExpr}
 use Rattle.reading.specs.ExpressionLaws.{expr-forward}
 use Rattle.reading.specs.Blocks.{readBlock, readStatement}
 use Rattle.reading.specs.FuelLaws.{block-forward, statement-forward}
+use Rattle.reading.proofs.Arms.{no-statement}
 use Rattle.reading.specs.BlockLaws.{statement-as, branch-deep, branch-refused, branch-first, branch-second, block-short, block-end, block-refused, block-more}
 use borrow.Author.Needs.{needs}
 use Prim.Native.Nat.{ℕ, _+_, _-_, _*_, _<_, _≤_}
@@ -140,22 +141,11 @@ read-statement-returns-6 t c =
     branch-refused (now (a .s)) (a .nest) (a .at) (c .before .before .before .before .before .before .before .code-of .result) (c .before .before .before .before .before .before .before .code-of .ensures) (c .before .before .before .before .before .enum-told3 .given .1) (c .before .before .before .before .if1 .left) (sym (c .before .number2 .given .1) ∙ c .before .before .before .read-expr .ensures)
 
 read-statement-returns-7 : (t : ℕ) → read-statement-lts.Need-returns-7 (read-statement-claims t) (read-statement-at t) read-statement.Post
-read-statement-returns-7 t c = let a = c .before .before .before .before .before .args in ap stepOf (sym (statement-as (now (a .s)) (a .nest) (a .at) (c .before .before .code-of .result) form.End (c .before .before .code-of .ensures) (c .enum-told4 .given .1)))
-
-read-statement-returns-8 : (t : ℕ) → read-statement-lts.Need-returns-8 (read-statement-claims t) (read-statement-at t) read-statement.Post
-read-statement-returns-8 t c = let a = c .before .before .before .before .before .args in ap stepOf (sym (statement-as (now (a .s)) (a .nest) (a .at) (c .before .before .code-of .result) form.Variable (c .before .before .code-of .ensures) (c .enum-told5 .given .1)))
-
-read-statement-returns-9 : (t : ℕ) → read-statement-lts.Need-returns-9 (read-statement-claims t) (read-statement-at t) read-statement.Post
-read-statement-returns-9 t c = let a = c .before .before .before .before .before .args in ap stepOf (sym (statement-as (now (a .s)) (a .nest) (a .at) (c .before .before .code-of .result) form.Word (c .before .before .code-of .ensures) (c .enum-told6 .given .1)))
-
-read-statement-returns-10 : (t : ℕ) → read-statement-lts.Need-returns-10 (read-statement-claims t) (read-statement-at t) read-statement.Post
-read-statement-returns-10 t c = let a = c .before .before .before .before .before .args in ap stepOf (sym (statement-as (now (a .s)) (a .nest) (a .at) (c .before .before .code-of .result) form.Bit (c .before .before .code-of .ensures) (c .enum-told7 .given .1)))
-
-read-statement-returns-11 : (t : ℕ) → read-statement-lts.Need-returns-11 (read-statement-claims t) (read-statement-at t) read-statement.Post
-read-statement-returns-11 t c = let a = c .before .before .before .before .before .args in ap stepOf (sym (statement-as (now (a .s)) (a .nest) (a .at) (c .before .before .code-of .result) (form.Apply (c .enum-told8 .given .0 .0)) (c .before .before .code-of .ensures) (c .enum-told8 .given .1)))
-
-read-statement-returns-12 : (t : ℕ) → read-statement-lts.Need-returns-12 (read-statement-claims t) (read-statement-at t) read-statement.Post
-read-statement-returns-12 t c = let a = c .before .before .before .before .before .args in ap stepOf (sym (statement-as (now (a .s)) (a .nest) (a .at) (c .before .before .code-of .result) form.Unknown (c .before .before .code-of .ensures) (c .enum-told9 .given .1)))
+read-statement-returns-7 t c =
+    let a = c .before .before .before .before .args in
+    let code = c .before .code-of .result in
+    ap stepOf (sym (statement-as (now (a .s)) (a .nest) (a .at) code (code .form) (c .before .code-of .ensures) refl
+    ∙ no-statement (code .form) (readBlock (now (a .s))) (now (a .s)) (a .nest) (a .at) (c .match .keys4)))
 
 pub +read-block+read-statement-spec : {M : Type 1} → statement M
 +read-block+read-statement-spec = close μ-read-block μ-read-statement (λ t. read-block-lts.spec (read-block-claims t) (read-block-at t)
@@ -193,20 +183,9 @@ pub +read-block+read-statement-spec : {M : Type 1} → statement M
     (read-statement-read-block-requires-2 t)
     (λ c. search needs)
     (λ c. search needs)
-    (λ c. search needs)
-    (λ c. search needs)
-    (λ c. search needs)
-    (λ c. search needs)
-    (λ c. search needs)
-    (λ c. search needs)
     (read-statement-returns-2 t)
     (read-statement-returns-3 t)
     (read-statement-returns-4 t)
     (read-statement-returns-5 t)
     (read-statement-returns-6 t)
     (read-statement-returns-7 t)
-    (read-statement-returns-8 t)
-    (read-statement-returns-9 t)
-    (read-statement-returns-10 t)
-    (read-statement-returns-11 t)
-    (read-statement-returns-12 t)

@@ -1,9 +1,10 @@
-use mathlib.Core.Path.{sym, ap, _∙_}
+use mathlib.Core.Path.{refl, sym, ap, _∙_}
 use borrow.Author.Tests.{not-true, not-false}
 use denote.Ref.{now}
-use Rattle.codes.specs.declared.Form.the-variants.{End, Assign, Skip, Branch, Variable, Word, Bit, Unknown}
+use Rattle.codes.specs.declared.Form.the-variants.{Variable, Word, Bit}
 use Rattle.answers.specs.Parsing.{stepOf}
-use Rattle.reading.specs.ExpressionLaws.{expr-short, expr-as, expr-kind, expr-deep, expr-refused, expr-one, expr-two}
+use Rattle.reading.proofs.Arms.{no-expression}
+use Rattle.reading.specs.ExpressionLaws.{below, expr-short, expr-as, expr-kind, expr-deep, expr-refused, expr-one, expr-two}
 use borrow.Author.Needs.{needs}
 use Prim.Native.Nat.{ℕ, _<_}
 use borrow.Fn.Kinds.{In}
@@ -83,28 +84,10 @@ read-expr-returns-9 t c =
 
 read-expr-returns-10 : (t : ℕ) → read-expr-lts.Need-returns-10 (read-expr-claims t) (read-expr-at t) read-expr.Post
 read-expr-returns-10 t c =
-    let a = c .before .before .before .before .before .before .args in
-    ap stepOf (sym (expr-as (a .deep) (now (a .s)) (a .want) (a .at) (c .before .before .code-of .result) (c .before .before .before .before .if1 .left) (c .before .before .code-of .ensures) End (c .enum-told5 .given .1)))
-
-read-expr-returns-11 : (t : ℕ) → read-expr-lts.Need-returns-11 (read-expr-claims t) (read-expr-at t) read-expr.Post
-read-expr-returns-11 t c =
-    let a = c .before .before .before .before .before .before .args in
-    ap stepOf (sym (expr-as (a .deep) (now (a .s)) (a .want) (a .at) (c .before .before .code-of .result) (c .before .before .before .before .if1 .left) (c .before .before .code-of .ensures) Assign (c .enum-told6 .given .1)))
-
-read-expr-returns-12 : (t : ℕ) → read-expr-lts.Need-returns-12 (read-expr-claims t) (read-expr-at t) read-expr.Post
-read-expr-returns-12 t c =
-    let a = c .before .before .before .before .before .before .args in
-    ap stepOf (sym (expr-as (a .deep) (now (a .s)) (a .want) (a .at) (c .before .before .code-of .result) (c .before .before .before .before .if1 .left) (c .before .before .code-of .ensures) Skip (c .enum-told7 .given .1)))
-
-read-expr-returns-13 : (t : ℕ) → read-expr-lts.Need-returns-13 (read-expr-claims t) (read-expr-at t) read-expr.Post
-read-expr-returns-13 t c =
-    let a = c .before .before .before .before .before .before .args in
-    ap stepOf (sym (expr-as (a .deep) (now (a .s)) (a .want) (a .at) (c .before .before .code-of .result) (c .before .before .before .before .if1 .left) (c .before .before .code-of .ensures) Branch (c .enum-told8 .given .1)))
-
-read-expr-returns-14 : (t : ℕ) → read-expr-lts.Need-returns-14 (read-expr-claims t) (read-expr-at t) read-expr.Post
-read-expr-returns-14 t c =
-    let a = c .before .before .before .before .before .before .args in
-    ap stepOf (sym (expr-as (a .deep) (now (a .s)) (a .want) (a .at) (c .before .before .code-of .result) (c .before .before .before .before .if1 .left) (c .before .before .code-of .ensures) Unknown (c .enum-told9 .given .1)))
+    let a = c .before .before .before .before .before .args in
+    let code = c .before .code-of .result in
+    ap stepOf (sym (expr-as (a .deep) (now (a .s)) (a .want) (a .at) code (c .before .before .before .if1 .left) (c .before .code-of .ensures) (code .form) refl
+    ∙ no-expression (code .form) (now (a .s)) (below (a .deep) (now (a .s))) (a .want) (a .deep) (a .at) (c .match .keys5)))
 
 pub +read-expr-spec : {M : Type 1} → statement M
 +read-expr-spec = close μ-read-expr λ t. read-expr-lts.spec (read-expr-claims t) (read-expr-at t)
@@ -129,11 +112,6 @@ pub +read-expr-spec : {M : Type 1} → statement M
     (λ c. search needs)
     (λ c κs. search needs)
     (λ c. search needs)
-    (λ c. search needs)
-    (λ c. search needs)
-    (λ c. search needs)
-    (λ c. search needs)
-    (λ c. search needs)
     (read-expr-returns-4 t)
     (read-expr-returns-5 t)
     (read-expr-returns-6 t)
@@ -141,7 +119,3 @@ pub +read-expr-spec : {M : Type 1} → statement M
     (read-expr-returns-8 t)
     (read-expr-returns-9 t)
     (read-expr-returns-10 t)
-    (read-expr-returns-11 t)
-    (read-expr-returns-12 t)
-    (read-expr-returns-13 t)
-    (read-expr-returns-14 t)

@@ -1,0 +1,236 @@
+// Reads a conformance stream on standard input and prints one line a case (shared/CONFORMANCE.md).
+// So far operations 01, 02 and 06; any other ends the stream with `refused`.
+use answers::Answer;
+use libc::STDIN_FILENO;
+use libc::STDOUT_FILENO;
+ghost use Prim.Native.Nat.{_≤_, _<_};
+ghost use lib.ListN.{length};
+
+// What every result place holds before the call, so that an untouched one shows.
+const UNTOUCHED: u32 = 3735928559;
+
+fn print(text: &[u8]) {
+    io::write_all(STDOUT_FILENO, text);
+}
+
+fn number(n: u64) {
+    io::print_decimal(STDOUT_FILENO, n);
+}
+
+fn spaced(n: usize) {
+    print(b" ");
+    number(n as u64);
+}
+
+// The seven numbers of an answer.
+fn print_answer(a: Answer) {
+    number(a.number as u64);
+    spaced(a.place);
+    spaced(a.gates);
+    spaced(a.wires);
+    spaced(a.bytes);
+    spaced(a.before);
+    spaced(a.after);
+}
+
+// All of the buffer is read, or the stream ended before.
+fn fill(buf: &mut [u8]) -> bool {
+    let n = buf.len();
+    io::read_full(STDIN_FILENO, buf) == n
+}
+
+// A length and so many bytes; one more than the buffer has, where the stream ended before.
+fn read_field(buf: &mut [u8; 65535]) -> usize {
+    let mut size = [0u8; 2];
+    if !fill(&mut size) {
+        return 65536;
+    }
+    let n = words::read16(&size, 0) as usize;
+    if fill(&mut buf[0..n]) {
+        return n;
+    }
+    65536
+}
+
+// Word i of the bytes.
+fn word_at(bytes: &[u8; 1020], i: usize) -> u32
+    requires { ⌜ i < 255 ⌝ }
+{
+    words::read32(bytes, 4 * i)
+}
+
+fn take_words(bytes: &[u8; 1020], inputs: &mut [u32; 255]) {
+    let mut i: usize = 0;
+    while i < 255 {
+        inputs[i] = word_at(bytes, i);
+        i += 1;
+    }
+}
+
+// A count and so many words; 256 where the stream ended before.
+fn read_inputs(inputs: &mut [u32; 255]) -> usize {
+    let mut count = [0u8; 1];
+    if !fill(&mut count) {
+        return 256;
+    }
+    let n = count[0] as usize;
+    let mut bytes = [0u8; 1020];
+    if !fill(&mut bytes[0..4 * n]) {
+        return 256;
+    }
+    take_words(&bytes, inputs);
+    n
+}
+
+fn print_words(results: &[u32]) {
+    print(b" |");
+    let mut i: usize = 0;
+    while i < results.len() {
+        print(b" ");
+        number(results[i] as u64);
+        i += 1;
+    }
+}
+
+fn digit(d: u8) -> u8
+    requires { ⌜ d < 16 ⌝ }
+{
+    if d < 10 { 48 + d } else { 55 + d }
+}
+
+// A number as capital hexadecimal digits, so many of them.
+fn print_hex(n: u64, width: usize)
+    requires { ⌜ width ≤ 16 ⌝ }
+{
+    let mut text = [48u8; 16];
+    let mut rest = n;
+    let mut at = width;
+    while 0 < at {
+        at -= 1;
+        text[at] = digit((rest % 16) as u8);
+        rest = rest / 16;
+    }
+    print(&text[0..width]);
+}
+
+// A gate: CODE.A.B.C.NEEDS.
+fn print_gate(rows: &[u32; 1024], needs: &[u64; 256], g: usize)
+    requires { ⌜ g < 256 ⌝ }
+{
+    print(b" ");
+    print_hex(rows[4 * g] as u64, 2);
+    print(b".");
+    number(rows[4 * g + 1] as u64);
+    print(b".");
+    number(rows[4 * g + 2] as u64);
+    print(b".");
+    number(rows[4 * g + 3] as u64);
+    print(b".");
+    print_hex(needs[g], 16);
+}
+
+fn print_gates(rows: &[u32; 1024], needs: &[u64; 256], count: usize) {
+    print(b" |");
+    let mut g: usize = 0;
+    while g < 256 {
+        if g < count {
+            print_gate(rows, needs, g);
+        }
+        g += 1;
+    }
+}
+
+fn direct_line(rule: &[u8], inputs: &[u32], room: usize)
+    requires { ⌜ room ≤ 65535 ⌝ }
+{
+    let mut results = [UNTOUCHED; 65535];
+    let a = direct::run(rule, inputs, &mut results[0..room]);
+    print_answer(a);
+    print_words(&results[0..room]);
+}
+
+fn circuit_line(rule: &[u8]) {
+    let mut rows = [0u32; 1024];
+    let mut needs = [0u64; 256];
+    let a = circuit::show(rule, &mut rows, &mut needs);
+    print_answer(a);
+    print_gates(&rows, &needs, a.gates);
+}
+
+// The line of a case, but for an operation that is not built.
+fn work(operation: u8, room: usize, rule: &[u8], inputs: &[u32]) -> bool
+    requires { ⌜ room ≤ 65535 ⌝ }
+{
+    match operation {
+        1 => print_answer(circuit::read_rule(rule)),
+        2 => direct_line(rule, inputs, room),
+        6 => circuit_line(rule),
+        _ => {
+            return false;
+        }
+    }
+    print(b"\n");
+    true
+}
+
+// What follows the first six bytes of a case.
+fn fields(head: [u8; 6]) -> bool {
+    let mut first = [0u8; 65535];
+    let mut second = [0u8; 65535];
+    let mut inputs = [0u32; 255];
+    let n = read_field(&mut first);
+    let m = read_field(&mut second);
+    let k = read_inputs(&mut inputs);
+    if 65535 < n {
+        return false;
+    }
+    if 65535 < m {
+        return false;
+    }
+    if 255 < k {
+        return false;
+    }
+    work(
+        head[0],
+        words::read16(&head, 4) as usize,
+        &first[0..n],
+        &inputs[0..k],
+    )
+}
+
+// One case, where the stream has one: its line, or `refused` where it is cut.
+fn next_case() -> bool {
+    let mut head = [0u8; 6];
+    let n = io::read_full(STDIN_FILENO, &mut head);
+    if n == 0 {
+        return false;
+    }
+    if n == 6 {
+        if fields(head) {
+            return true;
+        }
+    }
+    print(b"refused\n");
+    false
+}
+
+// Case after case. The bound is more than any stream has, and lets the loop be seen to end.
+fn cases() {
+    let mut left: u64 = 0xFFFFFFFFFFFFFFFF;
+    while 0 < left && next_case() {
+        left -= 1;
+    }
+}
+
+fn marked(mark: [u8; 5]) -> bool {
+    mark[0] == 0x43 && mark[1] == 0x41 && mark[2] == 0x53 && mark[3] == 0 && mark[4] == 1
+}
+
+fn main() {
+    let mut mark = [0u8; 5];
+    if fill(&mut mark) && marked(mark) {
+        cases();
+    } else {
+        print(b"refused\n");
+    }
+}
