@@ -1,5 +1,6 @@
-//! `make_stream SEED COUNT`: writes a conformance stream of COUNT random cases over operations 01
-//! to 06 to stdout, and how many came to each number, by operation, to stderr.
+//! `make_stream SEED COUNT [OPERATIONS]`: writes a conformance stream of COUNT random cases to
+//! stdout, over operations 01 to 06 or those named (as `1,2,6`), and how many came to each number, by
+//! operation, to stderr.
 
 use compare::generate::cases::case;
 use compare::generate::Random;
@@ -11,15 +12,23 @@ fn main() -> io::Result<()> {
     let mut arguments = std::env::args().skip(1);
     let mut number = || arguments.next().and_then(|text| text.parse::<u64>().ok());
     let (Some(seed), Some(count)) = (number(), number()) else {
-        eprintln!("make_stream SEED COUNT");
+        eprintln!("make_stream SEED COUNT [OPERATIONS]");
         std::process::exit(2);
     };
+    let named = arguments.next().unwrap_or_default();
+    let operations: Vec<u8> = named
+        .split(',')
+        .filter_map(|text| text.parse().ok())
+        .collect();
+    let wanted = |operation| operations.is_empty() || operations.contains(&operation);
     let mut random = Random::new(seed);
     let mut out = BufWriter::new(io::stdout().lock());
     out.write_all(&STREAM_MARK)?;
     let mut counts: BTreeMap<u8, [u64; 7]> = BTreeMap::new();
     for _ in 0..count {
-        let case = case(&mut random);
+        let case = std::iter::repeat_with(|| case(&mut random))
+            .find(|case| wanted(case.operation))
+            .expect("an endless supply");
         let mut bytes = Vec::new();
         case.put(&mut bytes);
         out.write_all(&bytes)?;
