@@ -1,0 +1,48 @@
+use borrow.Author.Needs.{needs}
+use native.Mathlib.Omega.{arith}
+use denote.Ref.{now}
+use Rattle.reading.specs.FirstStatement.{assign-read}
+use Rattle.direct.specs.BlockLaws.{assign-taken, assign-ran}
+use Rattle.direct.proofs.run_assign.Statement.{statement}
+use Rattle.direct.proofs.run_assign.Tie as tie
+
+add-x : tie.Need-add-x
+add-x c = let d = c .before in let a = d .args in omega (arith, assign-read (now (a .s)) (a .at) (d .pre .1) .inside)
+
+shared-slice-read-x : tie.Need-shared-slice-read-x
+shared-slice-read-x c = let d = c .before .before in let a = d .args in assign-read (now (a .s)) (a .at) (d .pre .1) .inside
+
+kind-at-requires : tie.Need-kind-at-requires
+kind-at-requires c κs = let d = c .before .before in let a = d .args in omega (arith, assign-read (now (a .s)) (a .at) (d .pre .1) .range, d .pre .0 .0)
+
+add-run-expr : tie.Need-add-run-expr
+add-run-expr c = let d = c .before .before .before in let a = d .args in omega (arith, assign-read (now (a .s)) (a .at) (d .pre .1) .inside)
+
+run-expr-requires : tie.Need-run-expr-requires
+run-expr-requires c κs = let d = c .before .before .before .before in let a = d .args in (d .pre .0, assign-taken (now (a .s)) (a .at) (d .pre .1) (c .before .kind-at .result) (c .before .kind-at .ensures))
+
+cast-figures : tie.Need-cast-figures
+cast-figures c = let d = c .before .before .before .before .before in let a = d .args in omega (arith, assign-read (now (a .s)) (a .at) (d .pre .1) .range, d .pre .0 .1)
+
+mul-figures : tie.Need-mul-figures
+mul-figures c = let d = c .before .before .before .before .before in let a = d .args in omega (arith, assign-read (now (a .s)) (a .at) (d .pre .1) .range, d .pre .0 .1)
+
+element-write-figures : tie.Need-element-write-figures
+element-write-figures c = let d = c .before .before .before .before .before in let a = d .args in omega (arith, assign-read (now (a .s)) (a .at) (d .pre .1) .range, d .pre .0 .1)
+
+returns : tie.Need-returns
+returns c = let d = c .before .before .before .before .before in let a = d .args in assign-ran (now (a .s)) (a .at) (d .pre .1) (c .before .before .kind-at .result) (c .before .before .kind-at .ensures) (now (a .figures)) (c .run-expr .result) (c .run-expr .ensures)
+
+pub run-assign-spec : {M : Type 1} → statement M
+run-assign-spec =
+    tie.close
+    (tie.spec
+    add-x
+    shared-slice-read-x
+    kind-at-requires
+    add-run-expr
+    run-expr-requires
+    cast-figures
+    mul-figures
+    element-write-figures
+    returns)

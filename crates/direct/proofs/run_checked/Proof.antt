@@ -1,0 +1,53 @@
+use native.Mathlib.Omega.{arith}
+use mathlib.Core.Path.{_≡_, ap, subst, _∙_}
+use mathlib.Core.List.{List}
+use Prim.Native.Nat.{ℕ}
+use lib.ListN.{length}
+use denote.Ref.{now}
+use Rattle.words.specs.Buffers.{over}
+use Rattle.answers.specs.ParsingLaws.{IsRead}
+use Rattle.reading.specs.Header.{variables}
+use Rattle.reading.specs.FirstStatement.{rule-read}
+use Rattle.direct.specs.ResultLaws.{front, rule-ran, rule-long}
+use borrow.Author.Needs.{needs}
+use Rattle.direct.proofs.run_checked.Statement.{statement}
+use Rattle.direct.proofs.run_checked.Tie as tie
+
+shared-slice-read-v : tie.Need-shared-slice-read-v
+shared-slice-read-v c = let d = c .before .before .before .before in omega (arith, rule-read (now (d .args .rule)) (d .pre .0) .header .kinds)
+
+copy-requires : tie.Need-copy-requires
+copy-requires c κs = let d = c .before .before .before .before .before in omega (arith, rule-read (now (d .args .rule)) (d .pre .0) .header .few, d .pre .1)
+
+run-block-requires : tie.Need-run-block-requires
+run-block-requires c κs =
+    let d = c .before .before .before .before .before .before .before .before in let r = rule-read (now (d .args .rule)) (d .pre .0) in
+    ((r .header .kinds, r .header .few), subst IsRead (r .block) (d .pre .0))
+
+part-copy-end : tie.Need-part-copy-end
+part-copy-end c =
+    let d = c .before .before .before .before .before .before .before .before .before .before in let few = rule-read (now (d .args .rule)) (d .pre .0) .header .few in
+    let long : length (c .before .run-block .last .1 .1 .1 .0) ≡ 32 = rule-long (now (d .args .inputs)) _ _ _ _ _ (omega (arith, few, d .pre .1)) (c .before .before .before .before .copy .ensures) (c .before .run-block .ensures) in
+    omega (arith, few, long)
+
+returns : tie.Need-returns
+returns c =
+    let d = c .before .before .before .before .before .before .before .before .before .before .before .before .before .before .before in let a = d .args in
+    c .before .before .copy2 .ensures ∙ ap (λ (t : List ℕ). over t (now (a .results))) (front (variables (now (a .rule))) _ ∙ rule-ran (now (a .rule)) (now (a .inputs)) _ _ _ _ (d .pre .0) (d .pre .1) (c .before .before .before .before .before .before .before .before .before .copy .ensures) (c .before .before .before .before .before .before .run-block .ensures))
+
+pub run-checked-spec : {M : Type 1} → statement M
+run-checked-spec =
+    tie.close
+    (tie.spec
+    shared-slice-read-v
+    (λ c. search needs)
+    (λ c. search needs)
+    copy-requires
+    (λ c. search needs)
+    run-block-requires
+    (λ c. search needs)
+    (λ c. search needs)
+    part-copy-end
+    (λ c κs. search needs)
+    (λ c. search needs)
+    returns)

@@ -1,0 +1,94 @@
+-- Document 01, "The rule file", a direct run: laws of working out an expression, one for each step of the code. Assumes nothing.
+use Prim.Native.Nat.{ℕ, _+_, _-_, _<_}
+use mathlib.Core.Path.{_≡_, refl, sym, ap, subst, subst⁻¹, _∙_}
+use mathlib.Core.List.{List}
+use lib.ListN.{getD}
+use Rattle.words.specs.Numbers.{numberAt}
+use Rattle.codes.specs.Codes.{codeOf, rowOf}
+use Rattle.codes.specs.CodeLaws.{form-row}
+use Rattle.codes.specs.Results.{resultOf}
+use Rattle.codes.specs.declared.Kind.{Kind}
+use Rattle.codes.specs.declared.Operation.{Operation}
+use Rattle.codes.specs.declared.Code.{Code}
+use Rattle.codes.specs.declared.Form.{Form}
+use Rattle.codes.specs.declared.Form.the-variants.{Variable, Word, Bit, Apply}
+use Rattle.answers.specs.Parsing.{Parsed, parsed}
+use Rattle.answers.specs.ParsingLaws.{IsRead}
+use Rattle.reading.specs.Tree.{Expr, variable, word, bit, one, two}
+use Rattle.reading.specs.Expressions.{argumentsWith, exprForm, readExpr}
+use Rattle.reading.specs.ExpressionLaws.{below, expr-as}
+use Rattle.reading.specs.FirstByte.{expr-inside, as-variable, as-word, as-bit, as-operation, first-argument, second-argument, arguments-one, arguments-two}
+use Rattle.gates.specs.Running.{figureOf}
+use Rattle.direct.specs.Walking.{WorkedOut}
+use Rattle.direct.specs.declared.Value.{Value}
+
+-- c is the code of the expression that was read at `at`
+module _ (f : List ℕ) (deep : ℕ) (s : List ℕ) (want : Kind) (at : ℕ) (h : IsRead (readExpr deep s want at)) (c : Code) (e : c ≡ codeOf (getD s at 0)) where
+  -- by its form; of no expression's form it was not read
+  pub form-taken : (g : Form) → c .form ≡ g → IsRead (exprForm g s (below deep s) want deep at)
+  form-taken g q = subst IsRead (expr-as deep s want at c (expr-inside deep s want at h) e g q) h
+
+  pub variable-out : c .form ≡ Variable → WorkedOut f (readExpr deep s want at) (record { figure = getD f (getD s (at + 1) 0) 0; next = at + 2 })
+  unfolding figureOf
+  variable-out q = record { what = variable (getD s (at + 1) 0); read = as-variable deep s want at h c e q .is; is = refl }
+
+  pub word-out : c .form ≡ Word → {n : ℕ} → n ≡ numberAt 4 s (at + 1) → WorkedOut f (readExpr deep s want at) (record { figure = n; next = at + 5 })
+  unfolding figureOf
+  word-out q r = record { what = word (numberAt 4 s (at + 1)); read = as-word deep s want at h c e q .is; is = r }
+
+  pub bit-out : c .form ≡ Bit → WorkedOut f (readExpr deep s want at) (record { figure = getD s (at + 1) 0; next = at + 2 })
+  unfolding figureOf
+  bit-out q = record { what = bit (getD s (at + 1) 0); read = as-bit deep s want at h c e q .is; is = refl }
+
+  -- an operation: its arguments one level below, each of the kind that it takes
+  module _ (op : Operation) (q : c .form ≡ Apply op) where
+    abbrev argument : Kind → ℕ → Parsed Expr
+    argument = readExpr (deep - 1) s
+
+    row : c ≡ rowOf op
+    row = e ∙ form-row (getD s at 0) op (ap (λ (x : Code). x .form) (sym e) ∙ q)
+
+    whole : readExpr deep s want at ≡ argumentsWith argument op (at + 1)
+    whole = as-operation deep s want at h c e op q .is
+
+    taken : IsRead (argumentsWith argument op (at + 1))
+    taken = subst IsRead whole h
+
+    pub level : 0 < deep
+    level = as-operation deep s want at h c e op q .level
+
+    pub first-taken : IsRead (argument (c .takes) (at + 1))
+    first-taken = subst⁻¹ (λ (x : Code). IsRead (argument (x .takes) (at + 1))) row (first-argument argument op (at + 1) taken)
+
+    module _ (v : Value) (w : WorkedOut f (argument (c .takes) (at + 1)) v) where
+      first : argument (rowOf op .takes) (at + 1) ≡ parsed (w .what) (v .next)
+      first = ap (λ (x : Code). argument (x .takes) (at + 1)) (sym row) ∙ w .read
+
+      pub one-out : c .arity ≡ 1 → {n : ℕ} → n ≡ resultOf op (v .figure) 0 → WorkedOut f (readExpr deep s want at) (record { figure = n; next = v .next })
+      unfolding figureOf
+      one-out a r = record {
+        what = one op (w .what);
+        read = whole ∙ arguments-one argument op (at + 1) (w .what) (v .next) first (ap (λ (x : Code). x .arity) (sym row) ∙ a);
+        is = r ∙ ap (λ (k : ℕ). resultOf op k 0) (w .is);
+      }
+
+      module _ (a : c .arity ≡ 1 → ⊥) where
+        more : rowOf op .arity ≡ 1 → ⊥
+        more z = a (ap (λ (x : Code). x .arity) row ∙ z)
+
+        pub second-taken : IsRead (argument (c .takes) (v .next))
+        second-taken =
+            subst⁻¹ (λ (x : Code). IsRead (argument (x .takes) (v .next))) row
+            (second-argument argument op (at + 1) (w .what) (v .next) first more taken)
+
+        pub two-out : (u : Value) (z : WorkedOut f (argument (c .takes) (v .next)) u) {n : ℕ} → n ≡ resultOf op (v .figure) (u .figure)
+            → WorkedOut f (readExpr deep s want at) (record { figure = n; next = u .next })
+        unfolding figureOf
+        two-out u z r = record {
+          what = two op (w .what) (z .what);
+          read =
+              whole
+              ∙ arguments-two argument op (at + 1) (w .what) (v .next) first more (z .what) (u .next)
+              (ap (λ (x : Code). argument (x .takes) (v .next)) (sym row) ∙ z .read);
+          is = r ∙ (ap (λ (k : ℕ). resultOf op k (u .figure)) (w .is) ∙ ap (resultOf op (figureOf f (w .what))) (z .is));
+        }
