@@ -25,17 +25,6 @@ use Rattle.gates.specs.Kinds.{Typed, TypedStatement, TypedBlock}
 use Rattle.gates.specs.ReadLaws.{read-typed}
 use Rattle.direct.specs.Walking.{Ran}
 
--- one more of what is copied
-pub copy-more : (from d : List ℕ) (i : ℕ) → i < length from → length from ≤ length d
-    → set (over (take i from) d) i (getD from i 0) ≡ over (take (i + 1) from) d
-copy-more from d i h l =
-    over-snoc (take i from) d i (getD from i 0) (length-take-le i from (omega arith)) (omega arith)
-    ∙ ap (λ (t : List ℕ). over t d) (sym (ap (λ (k : ℕ). take k from) (add-one i) ∙ take-suc from i 0 h))
-
--- all of it
-pub copy-all : (from d : List ℕ) (i : ℕ) → length from ≤ i → over (take i from) d ≡ over from d
-copy-all from d i h = ap (λ (t : List ℕ). over t d) (take-all i from h)
-
 -- the part of a list up to v
 pub front : (v : ℕ) (g : List ℕ) → take (v - 0) (drop 0 g) ≡ take v g
 front v g = let n : v - 0 ≡ v = omega arith in ap (λ (k : ℕ). take k g) n

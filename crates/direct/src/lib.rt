@@ -147,18 +147,6 @@ pub fn run_block(s: &[u8], at: usize, nest: u8, figures: &mut [u32; 32]) -> usiz
     here + 1
 }
 
-// `from` at the start of `to`, and nothing after it touched.
-fn copy(from: &[u32], to: &mut [u32])
-    requires { ⌜ length (now from) ≤ length (now to) ⌝ }
-    ensures { λ _. ⌜ now (to .exit) ≡ over (now (from .entry)) (now (to .entry)) ⌝ }
-{
-    let mut i = 0;
-    while i < from.len() {
-        to[i] = from[i];
-        i += 1;
-    }
-}
-
 // The run of an accepted rule on V inputs: every variable's figure at its end into the first V results.
 pub fn run_checked(rule: &[u8], inputs: &[u32], results: &mut [u32])
     requires { ⌜
@@ -170,9 +158,9 @@ pub fn run_checked(rule: &[u8], inputs: &[u32], results: &mut [u32])
 {
     let v = rule[5] as usize;
     let mut figures = [0u32; 32];
-    copy(inputs, &mut figures);
+    words::copy32(inputs, &mut figures);
     run_block(rule, 6 + v, reading::NESTED, &mut figures);
-    copy(&figures[0..v], results);
+    words::copy32(&figures[0..v], results);
 }
 
 // Rows 40 to 42 of the inputs, the lowest first; 0 when none of them applies. `room` is how many results there is place for.

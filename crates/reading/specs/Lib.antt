@@ -10,4 +10,5 @@ pub mod BlockLaws
 pub mod RuleLaws
 pub mod FirstByte
 pub mod FirstStatement
+pub mod RowLaws
 pub mod Examples

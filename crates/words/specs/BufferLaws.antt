@@ -5,8 +5,8 @@ use Prim.Native.Nat.{ℕ, _+_, _-_, _≤_, _<_}
 use native.Mathlib.Nat.{zero-add}
 use native.Mathlib.Numerals.{add-one}
 use native.Mathlib.Omega.{arith}
-use lib.ListN.{length, take, drop, set, length-append, length-take, length-drop}
-use lib.Seq.{sets, sets-eq, set-at, take-at, drop-at, drop-drop, take-append-seam, drop-append-seam, drop-append-add, drop-cons, take-length, drop-length, take-all}
+use lib.ListN.{length, take, drop, getD, set, length-append, length-take, length-drop}
+use lib.Seq.{sets, sets-eq, take-suc, length-take-le, set-at, take-at, drop-at, drop-drop, take-append-seam, drop-append-seam, drop-append-add, drop-cons, take-length, drop-length, take-all}
 use borrow.Rule.Slice.PartMut.{putMid}
 use Rattle.words.specs.Buffers.{over}
 
@@ -70,3 +70,14 @@ over-rest a b d e ys n q h p r =
     let u : drop n (a ++ drop (length a) d) ≡ drop (length a) d = drop-at a (drop (length a) d) n (sym q) in
     let l : length (a ++ drop (length a) d) - n ≡ length (drop (length a) d) = simp (length-append, length-drop) (omega arith) in
     rw (r, p, l, t, u, take-length, drop-length, append-nil) (simp (append-assoc, drop-drop, length-append))
+
+-- one more of what is copied
+pub copy-more : (from d : List ℕ) (i : ℕ) → i < length from → length from ≤ length d
+    → set (over (take i from) d) i (getD from i 0) ≡ over (take (i + 1) from) d
+copy-more from d i h l =
+    over-snoc (take i from) d i (getD from i 0) (length-take-le i from (omega arith)) (omega arith)
+    ∙ ap (λ (t : List ℕ). over t d) (sym (ap (λ (k : ℕ). take k from) (add-one i) ∙ take-suc from i 0 h))
+
+-- all of it
+pub copy-all : (from d : List ℕ) (i : ℕ) → length from ≤ i → over (take i from) d ≡ over from d
+copy-all from d i h = ap (λ (t : List ℕ). over t d) (take-all i from h)

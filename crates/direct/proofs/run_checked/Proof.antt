@@ -16,7 +16,7 @@ use Rattle.direct.proofs.run_checked.Tie as tie
 shared-slice-read-v : tie.Need-shared-slice-read-v
 shared-slice-read-v c = let d = c .before .before .before .before in omega (arith, rule-read (now (d .args .rule)) (d .pre .0) .header .kinds)
 
-copy-requires : tie.Need-copy-requires
+copy-requires : tie.Need-copy32-requires
 copy-requires c κs = let d = c .before .before .before .before .before in omega (arith, rule-read (now (d .args .rule)) (d .pre .0) .header .few, d .pre .1)
 
 run-block-requires : tie.Need-run-block-requires
@@ -24,16 +24,16 @@ run-block-requires c κs =
     let d = c .before .before .before .before .before .before .before .before in let r = rule-read (now (d .args .rule)) (d .pre .0) in
     ((r .header .kinds, r .header .few), subst IsRead (r .block) (d .pre .0))
 
-part-copy-end : tie.Need-part-copy-end
-part-copy-end c =
+part-copy32-end : tie.Need-part-copy32-end
+part-copy32-end c =
     let d = c .before .before .before .before .before .before .before .before .before .before in let few = rule-read (now (d .args .rule)) (d .pre .0) .header .few in
-    let long : length (c .before .run-block .last .1 .1 .1 .0) ≡ 32 = rule-long (now (d .args .inputs)) _ _ _ _ _ (omega (arith, few, d .pre .1)) (c .before .before .before .before .copy .ensures) (c .before .run-block .ensures) in
+    let long : length (c .before .run-block .last .1 .1 .1 .0) ≡ 32 = rule-long (now (d .args .inputs)) _ _ _ _ _ (omega (arith, few, d .pre .1)) (c .before .before .before .before .copy32 .ensures) (c .before .run-block .ensures) in
     omega (arith, few, long)
 
 returns : tie.Need-returns
 returns c =
     let d = c .before .before .before .before .before .before .before .before .before .before .before .before .before .before .before in let a = d .args in
-    c .before .before .copy2 .ensures ∙ ap (λ (t : List ℕ). over t (now (a .results))) (front (variables (now (a .rule))) _ ∙ rule-ran (now (a .rule)) (now (a .inputs)) _ _ _ _ (d .pre .0) (d .pre .1) (c .before .before .before .before .before .before .before .before .before .copy .ensures) (c .before .before .before .before .before .before .run-block .ensures))
+    c .before .before .copy322 .ensures ∙ ap (λ (t : List ℕ). over t (now (a .results))) (front (variables (now (a .rule))) _ ∙ rule-ran (now (a .rule)) (now (a .inputs)) _ _ _ _ (d .pre .0) (d .pre .1) (c .before .before .before .before .before .before .before .before .before .copy32 .ensures) (c .before .before .before .before .before .before .run-block .ensures))
 
 pub run-checked-spec : {M : Type 1} → statement M
 run-checked-spec =
@@ -47,7 +47,7 @@ run-checked-spec =
     run-block-requires
     (λ c. search needs)
     (λ c. search needs)
-    part-copy-end
+    part-copy32-end
     (λ c κs. search needs)
     (λ c. search needs)
     returns)

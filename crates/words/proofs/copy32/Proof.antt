@@ -4,11 +4,10 @@ use mathlib.Core.Path.{_≡_, refl, sym, ap, _∙_}
 use lib.ListN.{length, take, set, getD, length-set}
 use mathlib.Core.List.{List}
 use denote.Ref.{now}
 use Rattle.words.specs.Buffers.{over}
-use Rattle.words.specs.BufferLaws.{over-nil}
-use Rattle.direct.specs.ResultLaws.{copy-more, copy-all}
-use Rattle.direct.proofs.copy.Statement.{statement}
-use Rattle.direct.proofs.copy.Tie as tie
+use Rattle.words.specs.BufferLaws.{over-nil, copy-more, copy-all}
+use Rattle.words.proofs.copy32.Statement.{statement}
+use Rattle.words.proofs.copy32.Tie as tie
 
 abbrev Inv-loop : tie.InvT-loop
 Inv-loop from to₀ i₀ to i = (i ≤ length from) × (length to ≡ length to₀) × (to ≡ over (take i from) to₀)
@@ -27,8 +26,8 @@ loop-again c =
 returns : tie.Need-returns Inv-loop μ-loop
 returns c = let a = c .before .before .args in let l = c .before .loop in l .inv .2 ∙ copy-all (now (a .from)) (now (a .to)) (l .i) (c .loop-test .left)
 
-pub copy-spec : {M : Type 1} → statement M
-copy-spec =
+pub copy32-spec : {M : Type 1} → statement M
+copy32-spec =
     tie.close
     (tie.spec
     Inv-loop
