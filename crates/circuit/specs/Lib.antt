@@ -1,2 +1,5 @@
 pub mod Whole
+pub mod Making
 pub mod Shown
+pub mod WholeLaws
+pub mod MakingLaws

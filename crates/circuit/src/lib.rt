@@ -1,1 +1,81 @@
-// stub
+// Reading a rule as its caller sees it, rows 1 to 11, and showing its plain circuit.
+use answers::Answer;
+ghost use mathlib.Core.Path.{_≡_};
+ghost use Prim.Native.Nat.{_≤_};
+ghost use lib.ListN.{length};
+ghost use Rattle.gates.specs.Gates.{Earlier};
+ghost use Rattle.needed.specs.Held.{gatesIn};
+ghost use Rattle.needed.specs.Places.{placesOf};
+ghost use Rattle.circuit.specs.Whole.{ruleAnswer};
+ghost use Rattle.circuit.specs.Shown.{shownRows, shownNeeds};
+ghost use Rattle.circuit.specs.Making.{wholeIn};
+
+// The limits of a plain circuit.
+const MOST_GATES: u16 = 256;
+const MOST_CONDITIONS: usize = 6;
+
+// Rows 10 and 11, and the counts, of the gates that lie in `rows`; the conditions are numbered in `places`.
+fn whole(size: usize, rows: &[u32; 1024], count: u16, places: &mut [u16; 256]) -> Answer
+    requires { ⌜ (count ≤ 256 → Earlier (gatesIn (now rows) count)) ⌝ }
+    ensures { λ r. ⌜ (r ≡ wholeIn (now (rows .entry)) count size) × (count ≤ 256 → now (places .exit) ≡ placesOf (gatesIn (now (rows .entry)) count) 256) ⌝ }
+{
+    if MOST_GATES < count {
+        return answers::refused(10, size);
+    }
+    let n = count as usize;
+    let conditions = needed::number_conditions(rows, n, places);
+    if MOST_CONDITIONS < conditions {
+        return answers::refused(11, size);
+    }
+    Answer {
+        number: 0,
+        place: 0,
+        gates: n,
+        wires: 0,
+        bytes: 0,
+        before: needed::cost(rows, n),
+        after: 0,
+    }
+}
+
+// Reads a rule: its refusal by rows 1 to 11, or its gates and their cost.
+pub fn read_rule(rule: &[u8]) -> Answer
+    ensures { λ r. ⌜ r ≡ ruleAnswer (now (rule .entry)) ⌝ }
+{
+    let a = reading::read_rule(rule);
+    if a.number != 0 {
+        return a;
+    }
+    let mut rows = [0u32; 1024];
+    let mut present = [0u16; 32];
+    let mut places = [0u16; 256];
+    let count = making::make_rule(rule, &mut rows, &mut present);
+    whole(rule.len(), &rows, count, &mut places)
+}
+
+// Shows the plain circuit of an accepted rule: four numbers a gate into `rows`, its precondition into `needs`. A refusal writes nothing.
+pub fn show(rule: &[u8], rows: &mut [u32; 1024], needs: &mut [u64; 256]) -> Answer
+    ensures answer { λ r. ⌜ r ≡ ruleAnswer (now (rule .entry)) ⌝ }
+    ensures rows { λ _. ⌜ now (rows .exit) ≡ shownRows (now (rule .entry)) (now (rows .entry)) ⌝ }
+    ensures needs { λ _. ⌜ now (needs .exit) ≡ shownNeeds (now (rule .entry)) (now (needs .entry)) ⌝ }
+{
+    let a = reading::read_rule(rule);
+    if a.number != 0 {
+        return a;
+    }
+    let mut made = [0u32; 1024];
+    let mut present = [0u16; 32];
+    let mut places = [0u16; 256];
+    let count = making::make_rule(rule, &mut made, &mut present);
+    let answer = whole(rule.len(), &made, count, &mut places);
+    if answer.number != 0 {
+        return answer;
+    }
+    let n = count as usize;
+    let v = rule[5] as usize;
+    let mut sets = [0u64; 256];
+    needed::find_needed(&made, n, &places, &present, v, &mut sets);
+    words::copy32(&made[0..4 * n], rows);
+    words::copy64(&sets[0..n], needs);
+    answer
+}

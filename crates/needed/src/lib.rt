@@ -1,1 +1,233 @@
-// Definitions and theorems of needed gates (specs/).
+ghost use mathlib.Core.Path.{_≡_};
+ghost use mathlib.Core.List.{_∷_, [], _++_};
+ghost use Prim.Native.Nat.{_+_, _-_, _*_, _<_, _≤_};
+ghost use lib.ListN.{length, getD, take, replicate};
+ghost use Rattle.codes.specs.Codes.{codeOf};
+ghost use Rattle.settings.specs.Sets.{whole, given, without};
+ghost use Rattle.gates.specs.Gates.{Earlier, costs, conditions};
+ghost use Rattle.gates.specs.Limits.{mostGates, mostConditions};
+ghost use Rattle.gates.specs.EarlierLaws.{Inside};
+ghost use Rattle.needed.specs.Held.{gatesIn, codeCost};
+ghost use Rattle.needed.specs.Places.{placesOf, Marked, markedIn, Numbered};
+ghost use Rattle.needed.specs.Pass.{preconditionSets};
+ghost use Rattle.needed.specs.StepLaws.{addNumber};
+ghost use Rattle.needed.specs.Passing.{addNumbers, handGate, passGates, Passable};
+
+// Document 01, "The plain circuit" and "Needed gates", over lent arrays: a gate is four numbers of `rows`, `count` gates at most 256.
+// Gate numbers are plain numbers here; a caller wraps them.
+
+// A choice's code.
+const CHOICE: u32 = 0x30;
+// A choice's cost.
+const CHOICE_COST: usize = 3;
+
+fn wide(x: u32) -> usize
+    ensures { λ r. ⌜ r ≡ x ⌝ }
+{
+    x as usize
+}
+
+fn wide16(x: u16) -> usize
+    ensures { λ r. ⌜ r ≡ x ⌝ }
+{
+    x as usize
+}
+
+// The number at a place of the rows.
+fn number(rows: &[u32; 1024], at: usize) -> usize
+    requires { ⌜ at < 1024 ⌝ }
+    ensures { λ r. ⌜ r ≡ getD (now (rows .entry)) at 0 ⌝ }
+{
+    wide(rows[at])
+}
+
+// The code's row of the table of codes; a number that is no byte is no code, as FF is none.
+fn row(code: u32) -> codes::Code
+    ensures { λ r. ⌜ r ≡ codeOf code ⌝ }
+{
+    if code < 256 {
+        codes::code_of(code as u8)
+    } else {
+        codes::code_of(0xFF)
+    }
+}
+
+// The cost of a gate, by its code.
+fn cost_of(code: u32) -> usize
+    ensures { λ r. ⌜ r ≡ codeCost code ⌝ }
+{
+    if code == CHOICE {
+        CHOICE_COST
+    } else {
+        row(code).cost as usize
+    }
+}
+
+// The cost of the circuit.
+pub fn cost(rows: &[u32; 1024], count: usize) -> usize
+    requires { ⌜ count ≤ mostGates ⌝ }
+    ensures { λ r. ⌜ r ≡ costs (gatesIn (now (rows .entry)) count) ⌝ }
+{
+    let mut sum: usize = 0;
+    let mut i: usize = 0;
+    while i < count {
+        sum = sum + cost_of(rows[4 * i]);
+        i = i + 1;
+    }
+    sum
+}
+
+fn clear_places(places: &mut [u16; 256])
+    ensures { λ r. ⌜ now (places .exit) ≡ replicate 256 0 ⌝ }
+{
+    *places = [0u16; 256];
+}
+
+// Marks the gates that stand first in a choice gate, the others are 0.
+fn mark(rows: &[u32; 1024], count: usize, places: &mut [u16; 256])
+    requires { ⌜ (count ≤ mostGates) × Earlier (gatesIn (now rows) count) ⌝ }
+    ensures { λ r. ⌜ Marked (gatesIn (now (rows .entry)) count) (now (places .exit)) ⌝ }
+{
+    clear_places(places);
+    let mut i: usize = 0;
+    while i < count {
+        if rows[4 * i] == CHOICE {
+            let c = number(rows, 4 * i + 1);
+            places[c] = 1;
+        }
+        i = i + 1;
+    }
+}
+
+// Numbers the marked gates from 1, rising; gives how many they are.
+fn number_marked(count: usize, places: &mut [u16; 256]) -> usize
+    requires { ⌜ (count ≤ mostGates) × (length (now places) ≡ 256) ⌝ }
+    ensures { λ r. ⌜ (r ≡ length (markedIn (now (places .entry)) count)) × Numbered (now (places .entry)) (now (places .exit)) count ⌝ }
+{
+    let mut t: u16 = 0;
+    let mut g: usize = 0;
+    while g < count {
+        if places[g] != 0 {
+            t = t + 1;
+            places[g] = t;
+        }
+        g = g + 1;
+    }
+    wide16(t)
+}
+
+// Numbers the conditions: t + 1 for the gate that is condition t, 0 for every other; gives how many they are.
+pub fn number_conditions(rows: &[u32; 1024], count: usize, places: &mut [u16; 256]) -> usize
+    requires { ⌜ (count ≤ mostGates) × Earlier (gatesIn (now rows) count) ⌝ }
+    ensures counted { λ r. ⌜ r ≡ length (conditions (gatesIn (now (rows .entry)) count)) ⌝ }
+    ensures placed { λ r. ⌜ now (places .exit) ≡ placesOf (gatesIn (now (rows .entry)) count) mostGates ⌝ }
+{
+    mark(rows, count, places);
+    number_marked(count, places)
+}
+
+// The set s is put to that of gate g.
+fn add(sets: &mut [u64; 256], g: usize, s: u64)
+    requires { ⌜ g < 256 ⌝ }
+    ensures { λ r. ⌜ now (sets .exit) ≡ addNumber g s (now (sets .entry)) ⌝ }
+{
+    sets[g] = settings::union(sets[g], s);
+}
+
+// Every wanted gate is needed under every setting.
+fn want_all(wanted: &[u16], sets: &mut [u64; 256])
+    requires { ⌜ Inside 256 (now wanted) ⌝ }
+    ensures { λ r. ⌜ now (sets .exit) ≡ addNumbers (now (wanted .entry)) (whole 64) (now (sets .entry)) ⌝ }
+{
+    let mut x: usize = 0;
+    while x < wanted.len() {
+        let g = wide16(wanted[x]);
+        add(sets, g, settings::whole());
+        x = x + 1;
+    }
+}
+
+// An operation's set goes to its arguments, one or two of them; a start or a constant has none.
+fn hand_arguments(sets: &mut [u64; 256], arity: u8, a: usize, b: usize, s: u64)
+    requires { ⌜ Inside 256 (take arity (a ∷ b ∷ [])) ⌝ }
+    ensures { λ r. ⌜ now (sets .exit) ≡ addNumbers (take arity (a ∷ b ∷ [])) s (now (sets .entry)) ⌝ }
+{
+    if 0 < arity {
+        add(sets, a, s);
+    }
+    if 1 < arity {
+        add(sets, b, s);
+    }
+}
+
+// A choice on condition t: its set goes to the condition's gate, the settings that give t the bit 1 to the first value, the others to the second.
+fn hand_choice(sets: &mut [u64; 256], t: u8, c: usize, a: usize, b: usize, s: u64)
+    requires { ⌜ (t < 6) × ((c < 256) × ((a < 256) × (b < 256))) ⌝ }
+    ensures { λ r. ⌜ now (sets .exit) ≡ addNumber b (without 64 t s) (addNumber a (given 64 t s) (addNumber c s (now (sets .entry)))) ⌝ }
+{
+    add(sets, c, s);
+    add(sets, a, settings::given(t, s));
+    add(sets, b, settings::without(t, s));
+}
+
+// The number of the condition that gate c is.
+fn place_of(places: &[u16; 256], c: usize) -> u8
+    requires { ⌜ (c < 256) × ((0 < getD (now places) c 0) × (getD (now places) c 0 ≤ 6)) ⌝ }
+    ensures { λ r. ⌜ r ≡ getD (now (places .entry)) c 0 - 1 ⌝ }
+{
+    (places[c] - 1) as u8
+}
+
+// Gate i hands its set on to what it asks for.
+fn hand(rows: &[u32; 1024], count: usize, places: &[u16; 256], i: usize, sets: &mut [u64; 256])
+    requires { ⌜ Passable (now rows) (now places) count × (i < count) ⌝ }
+    ensures { λ r. ⌜ now (sets .exit) ≡ handGate (gatesIn (now (rows .entry)) count) i (now (sets .entry)) ⌝ }
+{
+    let code = rows[4 * i];
+    let s = sets[i];
+    let a = number(rows, 4 * i + 1);
+    let b = number(rows, 4 * i + 2);
+    if code == CHOICE {
+        let c = number(rows, 4 * i + 3);
+        let t = place_of(places, a);
+        hand_choice(sets, t, a, b, c, s);
+    } else {
+        hand_arguments(sets, row(code).arity, a, b, s);
+    }
+}
+
+// The backward pass: each gate once, from the last to the first.
+fn pass(rows: &[u32; 1024], count: usize, places: &[u16; 256], sets: &mut [u64; 256])
+    requires { ⌜ Passable (now rows) (now places) count ⌝ }
+    ensures { λ r. ⌜ now (sets .exit) ≡ passGates (gatesIn (now (rows .entry)) count) count (now (sets .entry)) ⌝ }
+{
+    let mut i = count;
+    while 0 < i {
+        i = i - 1;
+        hand(rows, count, places, i, sets);
+    }
+}
+
+fn clear_sets(sets: &mut [u64; 256])
+    ensures { λ r. ⌜ now (sets .exit) ≡ replicate 256 0 ⌝ }
+{
+    *sets = [0u64; 256];
+}
+
+// Every gate's precondition, whatever the sets held before.
+pub fn find_needed(
+    rows: &[u32; 1024],
+    count: usize,
+    places: &[u16; 256],
+    outputs: &[u16; 32],
+    v: usize,
+    sets: &mut [u64; 256],
+)
+    requires { ⌜ Passable (now rows) (now places) count × ((v ≤ 32) × Inside count (take v (now outputs))) ⌝ }
+    ensures { λ r. ⌜ now (sets .exit) ≡ preconditionSets mostConditions (gatesIn (now (rows .entry)) count) (take v (now (outputs .entry))) ++ replicate (mostGates - count) 0 ⌝ }
+{
+    clear_sets(sets);
+    let all = &outputs[..];
+    want_all(&all[0..v], sets);
+    pass(rows, count, places, sets);
+}

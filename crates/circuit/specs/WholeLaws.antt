@@ -1,0 +1,96 @@
+-- Laws of reading a rule as its caller sees it. Assumes nothing.
+use Prim.Native.Nat.{ℕ, _<_, _≤_}
+use native.Mathlib.Omega.{arith}
+use mathlib.Core.Path.{_≡_, refl, sym, ap, _∙_}
+use mathlib.Core.List.{List}
+use mathlib.Core.Bool.{Bool, true, false}
+use lib.ListN.{length}
+use lib.Dec.{leb}
+use borrow.Author.Tests.{le-leb, lt-leb, leb-true}
+use Rattle.words.specs.Lists.{split}
+use Rattle.answers.specs.Answers.{success, refusal, answerOf}
+use Rattle.answers.specs.Parsing.{Parsed, parsed, refused, stepOf}
+use Rattle.answers.specs.ParsingLaws.{IsRead}
+use Rattle.answers.specs.declared.Answer.{Answer}
+use Rattle.reading.specs.Tree.{Block}
+use Rattle.reading.specs.Rule.{readRule}
+use Rattle.reading.specs.RowLaws.{Rows, rule-rows}
+use Rattle.gates.specs.Limits.{mostGates, mostConditions}
+use Rattle.gates.specs.Gates.{Gates, costs, conditions}
+use Rattle.gates.specs.PlainCircuit.{gatesOf}
+use Rattle.circuit.specs.Whole.{wholeWithin, afterBytes, ruleAnswer}
+
+-- rows 10 and 11, and success
+module _ (gates conds : ℕ) (C : Gates) (size : ℕ) where
+  pub whole-gates : gates < length C → wholeWithin gates conds C size ≡ refusal 10 size
+  unfolding wholeWithin
+  whole-gates h = rw (lt-leb _ _ h)
+
+  module _ (few : length C ≤ gates) where
+    pub whole-conditions : conds < length (conditions C) → wholeWithin gates conds C size ≡ refusal 11 size
+    unfolding wholeWithin
+    whole-conditions h = rw (le-leb _ _ few, lt-leb _ _ h)
+
+    pub whole-success : length (conditions C) ≤ conds → wholeWithin gates conds C size ≡ success (length C) 0 0 (costs C) 0
+    unfolding wholeWithin
+    whole-success h = rw (le-leb _ _ few, le-leb _ _ h)
+
+  -- number 0 means within both limits
+  pub whole-within : wholeWithin gates conds C size .number ≡ 0 → (length C ≤ gates) × (length (conditions C) ≤ conds)
+  unfolding wholeWithin
+  whole-within h =
+      split (leb (length C) gates)
+      (λ t. split (leb (length (conditions C)) conds)
+      (λ u. (leb-true _ _ t, leb-true _ _ u))
+      (λ u. let z : 11 ≡ 0 = rw (t, u) at h in absurd (omega arith)))
+      (λ t. let z : 10 ≡ 0 = rw t at h in absurd (omega arith))
+
+-- what the rows byte by byte leave
+bytes-refused : (m : Parsed Block) (whole : Answer) → (answerOf (stepOf m) .number ≡ 0 → ⊥) → answerOf (stepOf m) ≡ afterBytes (stepOf m) whole
+bytes-refused (parsed b n) whole h = absurd (h refl)
+bytes-refused (refused k p) whole h = refl
+
+bytes-read : (m : Parsed Block) → Rows m → answerOf (stepOf m) .number ≡ 0 → IsRead m
+bytes-read (parsed b n) r h = tt
+bytes-read (refused k p) r h = absurd (omega arith)
+
+bytes-whole : (m : Parsed Block) (whole : Answer) → IsRead m → afterBytes (stepOf m) whole ≡ whole
+bytes-whole (parsed b n) whole h = refl
+bytes-whole (refused k p) whole h = absurd h
+
+bytes-zero : (m : Parsed Block) (whole : Answer) → Rows m → afterBytes (stepOf m) whole .number ≡ 0 → IsRead m
+bytes-zero (parsed b n) whole r h = tt
+bytes-zero (refused k p) whole r h = absurd (omega arith)
+
+module _ (s : List ℕ) (a : Answer) (e : a ≡ answerOf (stepOf (readRule s))) where
+  -- a refusal byte by byte is the rule's answer
+  pub answer-refused : (a .number ≡ 0 → ⊥) → a ≡ ruleAnswer s
+  unfolding ruleAnswer
+  answer-refused h = e ∙ bytes-refused (readRule s) _ (λ z. h (ap (λ (b : Answer). b .number) e ∙ z))
+
+  pub answer-read : a .number ≡ 0 → IsRead (readRule s)
+  answer-read h = bytes-read (readRule s) (rule-rows s) (ap (λ (b : Answer). b .number) (sym e) ∙ h)
+
+-- a rule that was read is answered by what it is, read whole
+pub answer-whole : (s : List ℕ) → IsRead (readRule s) → ruleAnswer s ≡ wholeWithin mostGates mostConditions (gatesOf s) (length s)
+unfolding ruleAnswer
+answer-whole s h = bytes-whole (readRule s) _ h
+
+-- "A rule is accepted when reading it returns number 0": then it was read, and is within both limits
+pub record Accepted (s : List ℕ) : Type 0 where
+  pub read : IsRead (readRule s)
+  pub gates : length (gatesOf s) ≤ mostGates
+  pub conds : length (conditions (gatesOf s)) ≤ mostConditions
+  pub answer : ruleAnswer s ≡ success (length (gatesOf s)) 0 0 (costs (gatesOf s)) 0
+
+pub accepted : (s : List ℕ) → ruleAnswer s .number ≡ 0 → Accepted s
+unfolding ruleAnswer
+accepted s h =
+    let r = bytes-zero (readRule s) _ (rule-rows s) h in
+    let w = whole-within mostGates mostConditions (gatesOf s) (length s) (ap (λ (b : Answer). b .number) (sym (answer-whole s r)) ∙ h) in
+    record {
+      read = r;
+      gates = w .0;
+      conds = w .1;
+      answer = answer-whole s r ∙ whole-success mostGates mostConditions (gatesOf s) (length s) (w .0) (w .1);
+    }

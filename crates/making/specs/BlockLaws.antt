@@ -1,0 +1,146 @@
+-- Laws of making a block, statement after statement, and a whole rule. Assumes nothing.
+use Prim.Native.Nat.{ℕ, _+_, _-_, _*_, _≤_, _<_}
+use native.Mathlib.Omega.{arith}
+use mathlib.Core.Path.{_≡_, refl, sym, ap, subst, subst⁻¹, _∙_}
+use mathlib.Core.Bool.{Bool, true, false, _||_}
+use mathlib.Core.List.{List}
+use lib.ListN.{length, getD, take, length-take}
+use lib.Bits.{bitOr}
+use lib.Seq.{ext-getD, getD-take}
+use Rattle.settings.specs.Sets.{has}
+use Rattle.settings.specs.BitLaws.{bit-or, bit-none}
+use Rattle.settings.specs.ListLaws.{length-from}
+use Rattle.answers.specs.Parsing.{parsed}
+use Rattle.answers.specs.ParsingLaws.{IsRead, read-is, is-read}
+use Rattle.reading.specs.Limits.{nested}
+use Rattle.reading.specs.Header.{variables}
+use Rattle.reading.specs.Tree.{Statement, Block, end, then}
+use Rattle.reading.specs.Blocks.{readBlock, readStatement}
+use Rattle.reading.specs.Rule.{readRule}
+use Rattle.reading.specs.FirstStatement as read
+use Rattle.gates.specs.PlainCircuit.{Making, assignsIn, assigns, makeStatement, makeBlock, starts, plainCircuit, gatesOf, outputsOf}
+use Rattle.gates.specs.StartLaws.{read-plain, plain-sound}
+use Rattle.gates.specs.Rows.{rowsOf}
+use Rattle.making.specs.Holding.{Held, Done, Walked}
+use Rattle.making.specs.StatementLaws.{statement-length, same-what, same-next}
+
+-- a block, statement after statement
+module _ (s : List ℕ) (nest at : ℕ) (rows present : List ℕ) (count : ℕ) where
+  pub walked-none : IsRead (readBlock s nest at) → Walked s nest at rows present count at count 0 rows present
+  walked-none h =
+      let r = is-read (readBlock s nest at) h in
+      record {
+        b = r .0;
+        last = r .1;
+        whole = r .2;
+        rest = r .0;
+        left = r .2;
+        onward = omega arith;
+        marks = λ x i. ap (λ (t : Bool). t || assigns (r .0) x) (bit-none x);
+        walked = λ m l held. record { now = m; count = l; held = held; same = refl };
+      }
+
+  module _ (here n mask : ℕ) (rows′ present′ : List ℕ) (w : Walked s nest at rows present count here n mask rows′ present′) where
+    pub rest-taken : IsRead (readBlock s nest here)
+    rest-taken = read-is (readBlock s nest here) (w .left)
+
+    pub statement-taken : (getD s here 0 ≡ 0 → ⊥) → IsRead (readStatement s nest here)
+    statement-taken z = read-is (readStatement s nest here) (read.block-read s nest here (w .rest) (w .last) (w .left) z .statement)
+
+    pub walked-all : getD s here 0 ≡ 0 → Done makeBlock assigns s (readBlock s nest at) rows present count (here + 1) n mask rows′ present′
+    unfolding makeBlock assigns
+    walked-all z =
+        let e : parsed (w .rest) (w .last) ≡ parsed end (here + 1) = sym (w .left) ∙ read.block-closed s nest here (read.block-inside s nest here rest-taken) z in
+        let r = same-what (w .rest) end (w .last) (here + 1) e in
+        record {
+          what = w .b;
+          read = w .whole ∙ ap (parsed (w .b)) (same-next (w .rest) end (w .last) (here + 1) e);
+          marks = λ x i. sym (or-false (has mask x)) ∙ ap (λ (b : Block). has mask x || assigns b x) (sym r) ∙ w .marks x i;
+          done = λ m l held.
+              let q = w .walked m l held in
+              subst (λ (k : Making). Held s k rows′ present′ n) (ap (λ (b : Block). makeBlock b (q .now)) (sym r) ∙ q .same) (q .held);
+        }
+      where
+        or-false : (b : Bool) → (b || false) ≡ b
+        or-false true = refl
+        or-false false = refl
+
+    pub walked-more : (getD s here 0 ≡ 0 → ⊥) → (next more mask′ : ℕ) (rows″ present″ : List ℕ) → here < next
+        → Done makeStatement assignsIn s (readStatement s nest here) rows′ present′ n next more mask′ rows″ present″
+        → Walked s nest at rows present count next more (bitOr mask mask′) rows″ present″
+    unfolding makeBlock assigns
+    walked-more z next more mask′ rows″ present″ on d =
+        let r = read.block-read s nest here (w .rest) (w .last) (w .left) z in
+        let e : parsed (d .what) next ≡ parsed (r .x) (r .next) = sym (d .read) ∙ r .statement in
+        let k : next ≡ r .next = same-next (d .what) (r .x) next (r .next) e in
+        let is : w .rest ≡ then (d .what) (r .rest) = r .is ∙ ap (λ (t : Statement). then t (r .rest)) (sym (same-what (d .what) (r .x) next (r .next) e)) in
+        record {
+          b = w .b;
+          last = w .last;
+          whole = w .whole;
+          rest = r .rest;
+          left = ap (readBlock s nest) k ∙ r .block;
+          onward = omega (arith, w .onward);
+          marks = λ x i.
+              ap (λ (b : Bool). b || assigns (r .rest) x) (bit-or mask mask′ x ∙ ap (λ (b : Bool). has mask x || b) (d .marks x i))
+              ∙ or-assoc (has mask x) (assignsIn (d .what) x) (assigns (r .rest) x)
+              ∙ ap (λ (b : Block). has mask x || assigns b x) (sym is)
+              ∙ w .marks x i;
+          walked = λ m l held.
+              let q = w .walked m l held in
+              record {
+                now = makeStatement (d .what) (q .now);
+                count = statement-length (d .what) (q .now) ∙ q .count;
+                held = d .done (q .now) (q .count) (q .held);
+                same = ap (λ (b : Block). makeBlock b (q .now)) (sym is) ∙ q .same;
+              };
+        }
+      where
+        or-assoc : (a b c : Bool) → ((a || b) || c) ≡ (a || (b || c))
+        or-assoc true b c = refl
+        or-assoc false b c = refl
+
+-- a whole rule
+module _ (s : List ℕ) (h : IsRead (readRule s)) (rows present : List ℕ) (count : ℕ) (held : Held s (starts (variables s)) rows present count)
+    (next more mask : ℕ) (rows′ present′ : List ℕ)
+    (d : Done makeBlock assigns s (readBlock s nested (6 + variables s)) rows present count next more mask rows′ present′) where
+  plain : plainCircuit s ≡ makeBlock (d .what) (starts (variables s))
+  plain = read-plain s (d .what) next (read.rule-read s h .block ∙ d .read)
+
+  pub rule-held : length (starts (variables s) .present) ≡ variables s → Held s (plainCircuit s) rows′ present′ more
+  rule-held l = subst⁻¹ (λ (m : Making). Held s m rows′ present′ more) plain (d .done (starts (variables s)) l held)
+
+-- what is held, as equations
+module _ (s : List ℕ) (m : Making) (rows present : List ℕ) (count : ℕ) (held : Held s m rows present count) where
+  pub held-count : length (m .gates) ≤ 256 → count ≡ length (m .gates)
+  held-count few = omega (arith, held .stored .counted)
+
+  pub held-many : 256 < length (m .gates) → count ≡ 257
+  held-many many = omega (arith, held .stored .counted)
+
+  pub held-rows : length (m .gates) ≤ 256 → take (4 * count) rows ≡ rowsOf s (m .gates)
+  held-rows few = ap (λ (k : ℕ). take (4 * k) rows) (held-count few) ∙ held .stored .lie few
+
+  pub held-present : length (m .gates) ≤ 256 → (v : ℕ) → length (m .present) ≡ v → v ≤ 32 → take v present ≡ m .present
+  held-present few v l small =
+      let e : length (take v present) ≡ v = length-take v present ∙ omega (arith, held .wide) in
+      ext-getD 0 (take v present) (m .present) (e ∙ sym l)
+      (λ x i. getD-take v present x 0 (omega arith) ∙ held .stand few x (omega arith))
+
+-- the promise of a whole rule: the gates and outputs of its plain circuit
+pub rule-made : (s : List ℕ) → IsRead (readRule s) → (rows present : List ℕ) (count : ℕ) → Held s (starts (variables s)) rows present count
+    → (next more mask : ℕ) (rows′ present′ : List ℕ)
+    → Done makeBlock assigns s (readBlock s nested (6 + variables s)) rows present count next more mask rows′ present′
+    → (length (gatesOf s) ≤ 256 → (more ≡ length (gatesOf s)) × ((take (4 * more) rows′ ≡ rowsOf s (gatesOf s)) × (take (variables s) present′ ≡ outputsOf s)))
+    × ((256 < length (gatesOf s) → more ≡ 257) × ((length rows′ ≡ 1024) × (length present′ ≡ 32)))
+rule-made s h rows present count held next more mask rows′ present′ d =
+    let l : length (starts (variables s) .present) ≡ variables s = length-from 0 (variables s) in
+    let r = rule-held s h rows present count held next more mask rows′ present′ d l in
+    let b = read.rule-read s h in
+    let o : length (plainCircuit s .present) ≡ variables s = plain-sound s (d .what) next (b .block ∙ d .read) .count in (
+      λ few. (
+        held-count s (plainCircuit s) rows′ present′ more r few,
+        (held-rows s (plainCircuit s) rows′ present′ more r few, held-present s (plainCircuit s) rows′ present′ more r few (variables s) o (b .header .few)),
+      ),
+      (held-many s (plainCircuit s) rows′ present′ more r, (r .stored .room, r .wide)),
+    )

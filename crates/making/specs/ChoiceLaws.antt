@@ -1,0 +1,175 @@
+-- Laws of the variables' present gates, of starting values and of choices. Assumes nothing.
+use Prim.Native.Nat.{ℕ, zero, suc, _+_, _-_, _^_, _/_, _%_, _≤_, _<_}
+use native.Mathlib.Omega.{arith}
+use mathlib.Core.Path.{_≡_, refl, sym, ap, subst, subst⁻¹, _∙_}
+use mathlib.Core.Logic.{_⊎_, inl, inr}
+use mathlib.Core.Bool.{Bool, true, false, cond}
+use mathlib.Core.List.{List, [], _∷_, _++_, map}
+use lib.ListN.{length, getD, set, length-set, length-append}
+use lib.Dec.{eqb}
+use borrow.Author.Tests.{eqb-true, eqb-false, eq-eqb, ne-eqb}
+use lib.Seq.{getD-set-same, getD-set-other}
+use Rattle.words.specs.Lists.{keep, from, upto, split, same?}
+use Rattle.settings.specs.Settings.{bit}
+use Rattle.settings.specs.Sets.{has}
+use Rattle.settings.specs.BitLaws.{bit-zero, bit-suc, bit-none}
+use Rattle.settings.specs.ListLaws.{length-from}
+use Rattle.reading.specs.Header.{variables, kindAt}
+use Rattle.gates.specs.Gates.{Gate, start, choice, Gates}
+use Rattle.gates.specs.PlainCircuit.{Making, choose, choices, starts}
+use Rattle.gates.specs.StartLaws.{from-at}
+use Rattle.gates.specs.Rows.{startCode, fourOf, rowsOf}
+use Rattle.making.specs.Holding.{Stored, Stands, Held, Pushed, Chose, Chosen, ChosenTo, Started}
+
+-- the bit of one variable alone
+eqb-suc : (j t : ℕ) → eqb j t ≡ eqb (suc j) (suc t)
+eqb-suc j t =
+    split (eqb j t) (λ e. e ∙ sym (eq-eqb (suc j) (suc t) (ap suc (eqb-true j t e)))) (λ e. e ∙ sym (ne-eqb (suc j) (suc t) (λ q. eqb-false j t e (omega arith))))
+
+pub only-bit : (t j : ℕ) → has (2 ^ t) j ≡ eqb j t
+only-bit zero zero = refl
+only-bit zero (suc j) = bit-suc 1 j ∙ bit-none j ∙ sym (ne-eqb (suc j) 0 (λ e. omega arith))
+only-bit (suc t) zero = let e : 2 ^ suc t % 2 ≡ 0 = omega arith in bit-zero (2 ^ suc t) ∙ ap (λ (k : ℕ). eqb k 1) e ∙ sym (ne-eqb 0 (suc t) (λ q. omega arith))
+only-bit (suc t) (suc j) = let e : 2 ^ suc t / 2 ≡ 2 ^ t = omega arith in bit-suc (2 ^ suc t) j ∙ ap (λ (k : ℕ). bit k j) e ∙ only-bit t j ∙ eqb-suc j t
+
+-- a variable's gate stored in both
+pub stands-set : (p l : List ℕ) (x a b : ℕ) → a ≡ b → x < length l → x < length p → Stands p l → Stands (set p x b) (set l x a)
+stands-set p l x a b e h k st y i = go (same? y x)
+  where
+    go : (y ≡ x) ⊎ (y ≡ x → ⊥) → getD (set l x a) y 0 ≡ getD (set p x b) y 0
+    go (inl q) = rw q (getD-set-same l x a 0 h ∙ e ∙ sym (getD-set-same p x b 0 k))
+    go (inr n) = getD-set-other l x y a 0 n ∙ st y (subst (λ (j : ℕ). y < j) (length-set p x b) i) ∙ sym (getD-set-other p x y b 0 n)
+
+-- a gate that variable x stands for
+pub pushed-chose : (k : Gate) (code a b c x : ℕ) (rows present : List ℕ) (count : ℕ) (after : List ℕ) (more : ℕ) → x < 32
+    → ((s : List ℕ) → fourOf s k ≡ code ∷ a ∷ b ∷ c ∷ []) → Pushed (code ∷ a ∷ b ∷ c ∷ []) rows count after more
+    → Chose k x rows present count after (set present x count) more
+pushed-chose k code a b c x rows present count after more small four q =
+    record {
+      chose = λ s m wanted right inside held.
+          let longer : length (m .gates ++ (wanted ∷ [])) ≡ length (m .gates) + 1 = length-append (m .gates) (wanted ∷ []) in
+          record {
+            stored = q .pushed s (m .gates) wanted (λ h. ap (fourOf s) (right h) ∙ four s) (held .stored);
+            wide = length-set present x count ∙ held .wide;
+            stand = λ few.
+                stands-set (m .present) present x count (length (m .gates)) (omega (arith, held .stored .counted)) (omega (arith, held .wide)) inside (held .stand (omega arith));
+          };
+    }
+
+-- choices keep the count of variables
+pub choices-length : (c : ℕ) (p q l : List ℕ) (m : Making) → length (choices c p q l m .present) ≡ length (m .present)
+unfolding choices
+choices-length c p q [] m = refl
+choices-length c p q (x ∷ l) m = choices-length c p q l (choose c p q x m) ∙ length-set (m .present) x (length (m .gates))
+
+-- the choices, one variable after another
+module _ (condition : ℕ) (first second : List ℕ) (mask v : ℕ) (rows present : List ℕ) (count : ℕ) where
+  pub chosen-none : ChosenTo condition first second mask v rows present count 0 count rows present
+  chosen-none =
+      record {
+        inside = omega arith;
+        to = λ s m c p q l lp lq ready held.
+            let e : v - 0 ≡ v = omega arith in
+            record { now = m; count = l; grown = omega arith; held = held; same = ap (λ (k : ℕ). choices c p q (keep (has mask) (from 0 k)) m) e };
+      }
+
+  step : (x : ℕ) → x < v → keep (has mask) (from x (v - x)) ≡ cond (has mask x) (x ∷ keep (has mask) (from (x + 1) (v - (x + 1)))) (keep (has mask) (from (x + 1) (v - (x + 1))))
+  step x h =
+      let e : v - x ≡ suc (v - (x + 1)) = omega arith in
+      let f : suc x ≡ x + 1 = omega arith in
+      ap (λ (k : ℕ). keep (has mask) (from x k)) e
+      ∙ ap (λ (j : ℕ). cond (has mask x) (x ∷ keep (has mask) (from j (v - (x + 1)))) (keep (has mask) (from j (v - (x + 1))))) f
+
+  module _ (x n : ℕ) (rows′ present′ : List ℕ) (r : ChosenTo condition first second mask v rows present count x n rows′ present′) (inside : x < v) where
+    pub chosen-not : has mask x ≡ false → ChosenTo condition first second mask v rows present count (x + 1) n rows′ present′
+    chosen-not b =
+        record {
+          inside = omega arith;
+          to = λ s m c p q l lp lq ready held.
+              let z = r .to s m c p q l lp lq ready held in
+              let e = step x inside ∙ ap (λ (t : Bool). cond t (x ∷ keep (has mask) (from (x + 1) (v - (x + 1)))) (keep (has mask) (from (x + 1) (v - (x + 1))))) b in
+              record { now = z .now; count = z .count; grown = z .grown; held = z .held; same = ap (λ (k : List ℕ). choices c p q k (z .now)) (sym e) ∙ z .same };
+        }
+
+    pub chosen-one : has mask x ≡ true → (more : ℕ) (rows″ present″ : List ℕ) → Chose (choice condition (getD first x 0) (getD second x 0)) x rows′ present′ n rows″ present″ more
+        → ChosenTo condition first second mask v rows present count (x + 1) more rows″ present″
+    unfolding choices
+    chosen-one b more rows″ present″ y =
+        record {
+          inside = omega arith;
+          to = λ s m c p q l lp lq ready held.
+              let z = r .to s m c p q l lp lq ready held in
+              let k = choice c (getD p x 0) (getD q x 0) in
+              let rest = keep (has mask) (from (x + 1) (v - (x + 1))) in
+              let e = step x inside ∙ ap (λ (t : Bool). cond t (x ∷ rest) rest) b in
+              let longer : length (z .now .gates ++ (k ∷ [])) ≡ length (z .now .gates) + 1 = length-append (z .now .gates) (k ∷ []) in
+              let right : length (z .now .gates) < 256 → k ≡ choice condition (getD first x 0) (getD second x 0)
+              = λ h.
+              let u = ready (omega (arith, z .grown)) in
+              ap (λ (j : ℕ). choice j (getD p x 0) (getD q x 0)) (sym (u .test))
+              ∙ ap (λ (j : ℕ). choice condition j (getD q x 0)) (sym (u .yes x (omega arith)))
+              ∙ ap (λ (j : ℕ). choice condition (getD first x 0) j) (sym (u .no x (omega arith))) in
+              record {
+                now = choose c p q x (z .now);
+                count = length-set (z .now .present) x (length (z .now .gates)) ∙ z .count;
+                grown = omega (arith, z .grown);
+                held = y .chose s (z .now) k right (omega (arith, z .count)) (z .held);
+                same = ap (λ (j : List ℕ). choices c p q j (z .now)) (sym e) ∙ z .same;
+              };
+        }
+
+  pub chosen-all : (x n : ℕ) (rows′ present′ : List ℕ) → ChosenTo condition first second mask v rows present count x n rows′ present′ → v ≤ x → Chosen condition first second mask v rows present count n rows′ present′
+  unfolding choices
+  chosen-all x n rows′ present′ r h =
+      record {
+        chosen = λ s m c p q l lp lq ready held.
+            let z = r .to s m c p q l lp lq ready held in
+            let e : v - x ≡ 0 = omega arith in
+            subst (λ (w : Making). Held s w rows′ present′ n) (ap (λ (k : ℕ). choices c p q (keep (has mask) (from x k)) (z .now)) (sym e) ∙ z .same) (z .held);
+      }
+
+-- one number more of a run
+pub from-snoc : (i n : ℕ) → from i (suc n) ≡ from i n ++ ((i + n) ∷ [])
+from-snoc i zero = ap (λ (k : ℕ). k ∷ []) (omega arith)
+from-snoc i (suc n) = ap (λ (l : List ℕ). i ∷ l) (from-snoc (suc i) n ∙ ap (λ (k : ℕ). from (suc i) n ++ (k ∷ [])) (omega arith))
+
+map-snoc : (l : List ℕ) (x : ℕ) → map start (l ++ (x ∷ [])) ≡ map start l ++ (start x ∷ [])
+map-snoc [] x = refl
+map-snoc (y ∷ l) x = ap (λ (k : Gates). start y ∷ k) (map-snoc l x)
+
+starts-more : (x : ℕ) → map start (upto (x + 1)) ≡ map start (upto x) ++ (start x ∷ [])
+starts-more x = let e : x + 1 ≡ suc x = omega arith in ap (λ (k : ℕ). map start (upto k)) e ∙ ap (map start) (from-snoc 0 x) ∙ map-snoc (upto x) (0 + x) ∙ ap (λ (k : ℕ). map start (upto x) ++ (start k ∷ [])) (omega arith)
+
+-- the starting values, one variable after another
+module _ (s rows present : List ℕ) where
+  pub started-none : length rows ≡ 1024 → length present ≡ 32 → Started s 0 rows present 0
+  unfolding rowsOf
+  started-none r w =
+      record { inside = omega arith; wide = w; stored = record { room = r; counted = omega arith; lie = λ few. refl }; stand = λ y h. absurd (omega arith) }
+
+  pub started-more : (x n code more : ℕ) (after : List ℕ) → Started s x rows present n → x < variables s → variables s ≤ 32 → code ≡ startCode (kindAt s x)
+      → Pushed (code ∷ x ∷ 0 ∷ 0 ∷ []) rows n after more → Started s (x + 1) after (set present x x) more
+  started-more x n code more after r h few e q =
+      record {
+        inside = omega arith;
+        wide = length-set present x x ∙ r .wide;
+        stored =
+            subst⁻¹ (λ (C : Gates). Stored s C after more) (starts-more x)
+            (q .pushed s (map start (upto x)) (start x) (λ i. ap (λ (k : ℕ). k ∷ x ∷ 0 ∷ 0 ∷ []) (sym e)) (r .stored));
+        stand = λ y i. later y i (same? y x);
+      }
+    where
+      later : (y : ℕ) → y < x + 1 → (y ≡ x) ⊎ (y ≡ x → ⊥) → getD (set present x x) y 0 ≡ y
+      later y i (inl z) = rw z (getD-set-same present x x 0 (omega (arith, r .wide)))
+      later y i (inr z) = getD-set-other present x y x 0 z ∙ r .stand y (omega arith)
+
+  pub started-all : (x n : ℕ) → Started s x rows present n → variables s ≤ x → Held s (starts (variables s)) rows present n
+  started-all x n r h =
+      let e : x ≡ variables s = omega (arith, r .inside) in
+      record {
+        stored = subst (λ (k : ℕ). Stored s (map start (upto k)) rows n) e (r .stored);
+        wide = r .wide;
+        stand = λ few y i.
+            let j : y < variables s = subst (λ (k : ℕ). y < k) (length-from 0 (variables s)) i in
+            r .stand y (omega arith) ∙ sym (from-at 0 (variables s) y j ∙ omega arith);
+      }

@@ -1,0 +1,106 @@
+-- Laws of the rows of gates, and of pushing one. Assumes nothing.
+use Prim.Native.Nat.{ℕ, zero, suc, _+_, _*_, _≤_, _<_}
+use native.Mathlib.Omega.{arith}
+use mathlib.Core.Path.{_≡_, refl, sym, ap, _∙_}
+use mathlib.Core.List.{List, [], _∷_, _++_, append-assoc, append-nil}
+use lib.ListN.{length, getD, set, take, length-set, length-append, List·getD-append}
+use lib.Seq.{take-suc-set, getD-append-add, getD-take}
+use Rattle.gates.specs.Gates.{Gate, start, word, bit, operation, choice, Gates, gateAt}
+use Rattle.codes.specs.declared.Operation.{Operation}
+use Rattle.gates.specs.PlainCircuit.{applyGate}
+use Rattle.gates.specs.Rows.{byteOf, fourOf, rowsOf, Lie}
+use Rattle.making.specs.Holding.{Pushed, Applied}
+
+-- one gate more
+pub rows-append : (s : List ℕ) (C D : Gates) → rowsOf s (C ++ D) ≡ rowsOf s C ++ rowsOf s D
+unfolding rowsOf
+rows-append s [] D = refl
+rows-append s (k ∷ C) D = ap (λ (l : List ℕ). fourOf s k ++ l) (rows-append s C D) ∙ sym (append-assoc (fourOf s k) (rowsOf s C) (rowsOf s D))
+
+rows-one : (s : List ℕ) (k : Gate) → rowsOf s (k ∷ []) ≡ fourOf s k
+unfolding rowsOf
+rows-one s k = append-nil (fourOf s k)
+
+-- four stores in a row
+next : (l : List ℕ) (i k v : ℕ) → k ≡ suc i → i < length l → take k (set l i v) ≡ take i l ++ (v ∷ [])
+next l i k v e h = ap (λ (n : ℕ). take n (set l i v)) e ∙ take-suc-set l i v h
+
+pub four : (l : List ℕ) (i v w x y : ℕ) → i + 4 ≤ length l → take (i + 4) (set (set (set (set l i v) (i + 1) w) (i + 2) x) (i + 3) y) ≡ take i l ++ (v ∷ w ∷ x ∷ y ∷ [])
+four l i v w x y h =
+    let l1 = set l i v in
+    let l2 = set l1 (i + 1) w in
+    let l3 = set l2 (i + 2) x in
+    let e1 = length-set l i v in
+    let e2 = length-set l1 (i + 1) w in
+    let e3 = length-set l2 (i + 2) x in
+    next l3 (i + 3) (i + 4) y (omega arith) (omega arith)
+    ∙ (ap (λ (t : List ℕ). t ++ (y ∷ [])) (next l2 (i + 2) (i + 3) x (omega arith) (omega arith)
+    ∙ ap (λ (t : List ℕ). t ++ (x ∷ [])) (next l1 (i + 1) (i + 2) w (omega arith) (omega arith)
+    ∙ ap (λ (t : List ℕ). t ++ (w ∷ [])) (next l i (i + 1) v (omega arith) (omega arith))))
+    ∙ simp append-assoc)
+
+-- pushed where there is room
+abbrev stores : List ℕ → ℕ → ℕ → ℕ → ℕ → ℕ → List ℕ
+stores l i v w x y = set (set (set (set l i v) (i + 1) w) (i + 2) x) (i + 3) y
+
+pub push-stores : (rows : List ℕ) (count v w x y : ℕ) → count < 256
+    → Pushed (v ∷ w ∷ x ∷ y ∷ []) rows count (stores rows (4 * count) v w x y) (count + 1)
+push-stores rows count v w x y h =
+    record {
+      pushed = λ s C k right held.
+          let n : count ≡ length C = omega (arith, held .counted) in
+          let more : length (C ++ (k ∷ [])) ≡ length C + 1 = length-append C (k ∷ []) in
+          record {
+            room = simp length-set (held .room);
+            counted = omega arith;
+            lie = λ few.
+                let j : 4 * length (C ++ (k ∷ [])) ≡ 4 * count + 4 = omega arith in
+                let i : 4 * count ≡ 4 * length C = omega arith in
+                ap (λ (z : ℕ). take z (stores rows (4 * count) v w x y)) j
+                ∙ four rows (4 * count) v w x y (omega (arith, held .room))
+                ∙ ap (λ (z : ℕ). take z rows ++ (v ∷ w ∷ x ∷ y ∷ [])) i
+                ∙ ap (λ (t : List ℕ). t ++ (v ∷ w ∷ x ∷ y ∷ [])) (held .lie (omega arith))
+                ∙ ap (λ (t : List ℕ). rowsOf s C ++ t) (sym (right (omega arith)) ∙ sym (rows-one s k))
+                ∙ sym (rows-append s C (k ∷ []));
+          };
+    }
+
+-- pushed where there is none
+pub push-full : (four rows : List ℕ) (count : ℕ) → 256 ≤ count → Pushed four rows count rows 257
+push-full four rows count h =
+    record {
+      pushed = λ s C k right held.
+          let more : length (C ++ (k ∷ [])) ≡ length C + 1 = length-append C (k ∷ []) in
+          record { room = held .room; counted = omega (arith, held .counted); lie = λ few. absurd (omega (arith, held .counted)) };
+    }
+
+-- an operation of two arguments
+pub two-applied : (op : Operation) (a b byte : ℕ) {rows after : List ℕ} {count more : ℕ} → byte ≡ byteOf op
+    → Pushed (byte ∷ a ∷ b ∷ 0 ∷ []) rows count after more → Applied (applyGate op a b) rows count after more
+unfolding applyGate
+two-applied op a b byte e p =
+    record { applied = λ s C wanted right held. p .pushed s C wanted (λ h. ap (fourOf s) (right h) ∙ ap (λ (j : ℕ). j ∷ a ∷ b ∷ 0 ∷ []) (sym e)) held }
+
+-- reading a row: number j of gate g
+four-long : (s : List ℕ) (k : Gate) → length (fourOf s k) ≡ 4
+four-long s (start x) = refl
+four-long s (word n) = refl
+four-long s (bit b) = refl
+four-long s (operation op l) = refl
+four-long s (choice c a b) = refl
+
+rows-at : (s : List ℕ) (C : Gates) (g j : ℕ) → j < 4 → g < length C → getD (rowsOf s C) (4 * g + j) 0 ≡ getD (fourOf s (gateAt C g)) j 0
+unfolding rowsOf
+rows-at s [] g j h i = absurd (omega arith)
+rows-at s (k ∷ C) zero j h i =
+    let e : 4 * 0 + j ≡ j = omega arith in
+    ap (λ (n : ℕ). getD (fourOf s k ++ rowsOf s C) n 0) e ∙ List·getD-append (fourOf s k) (rowsOf s C) 0 j (omega (arith, four-long s k))
+rows-at s (k ∷ C) (suc g) j h i =
+    let e : 4 * suc g + j ≡ length (fourOf s k) + (4 * g + j) = omega (arith, four-long s k) in
+    ap (λ (n : ℕ). getD (fourOf s k ++ rowsOf s C) n 0) e ∙ getD-append-add (fourOf s k) (rowsOf s C) (4 * g + j) 0 ∙ rows-at s C g j h (omega arith)
+
+pub row-at : (s : List ℕ) (C : Gates) (rows : List ℕ) (count g j : ℕ) → Lie s C rows count → j < 4 → g < count → getD rows (4 * g + j) 0 ≡ getD (fourOf s (gateAt C g)) j 0
+row-at s C rows count g j r h i =
+    sym (getD-take (4 * count) rows (4 * g + j) 0 (omega arith))
+    ∙ ap (λ (l : List ℕ). getD l (4 * g + j) 0) (r .lie)
+    ∙ rows-at s C g j h (omega (arith, r .counted))

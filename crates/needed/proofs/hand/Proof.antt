@@ -1,0 +1,48 @@
+use mathlib.Core.Path.{refl}
+use Rattle.needed.specs.HandSteps.{condition-known, choice-known, choice-hands, other-inside, other-hands}
+use borrow.Author.Needs.{needs}
+use Rattle.needed.proofs.hand.Statement.{statement}
+use Rattle.needed.proofs.hand.Tie as tie
+
+place-of-requires : tie.Need-place-of-requires
+place-of-requires c κs = condition-known _ _ _ _ _ _ _ (c .before .before .before .before .before .before .pre .0) (c .before .before .before .before .before .before .pre .1) (c .before .if1 .taken) (c .before .before .before .number .ensures) (c .before .before .number2 .ensures) (c .number3 .ensures)
+
+hand-choice-requires : tie.Need-hand-choice-requires
+hand-choice-requires c κs =
+    choice-known _ _ _ _ _ _ _ (c .before .before .before .before .before .before .before .before .pre .0) (c .before .before .before .before .before .before .before .before .pre .1) (c .before .before .before .if1 .taken) (c .before .before .before .before .before .number .ensures) (c .before .before .before .before .number2 .ensures) (c .before .before .number3 .ensures) _ (c .before .place-of .ensures)
+
+hand-arguments-requires : tie.Need-hand-arguments-requires
+hand-arguments-requires c κs = other-inside _ _ _ _ (c .before .before .before .before .before .before .before .pre .0) (c .before .before .before .before .before .before .before .pre .1) (c .before .before .if1 .left) _ _ _ (c .row .ensures) (c .before .before .before .before .number .ensures) (c .before .before .before .number2 .ensures)
+
+returns : tie.Need-returns
+returns c =
+    choice-hands _ _ _ _ _ _ _ (c .before .before .before .before .before .before .before .before .before .pre .0) (c .before .before .before .before .before .before .before .before .before .pre .1) (c .before .before .before .before .if1 .taken) (c .before .before .before .before .before .before .number .ensures) (c .before .before .before .before .before .number2 .ensures) (c .before .before .before .number3 .ensures) _ _ _ _ (c .before .before .place-of .ensures) refl (c .hand-choice .ensures)
+
+returns-2 : tie.Need-returns-2
+returns-2 c =
+    other-hands _ _ _ _ (c .before .before .before .before .before .before .before .before .pre .0) (c .before .before .before .before .before .before .before .before .pre .1) (c .before .before .before .if1 .left) _ _ _ _ _ _ (c .before .row .ensures) (c .before .before .before .before .before .number .ensures) (c .before .before .before .before .number2 .ensures) refl (c .hand-arguments .ensures)
+
+pub hand-spec : {M : Type 1} → statement M
+hand-spec =
+    tie.close
+    (tie.spec
+    (λ c. search needs)
+    (λ c. search needs)
+    (λ c. search needs)
+    (λ c. search needs)
+    (λ c. search needs)
+    (λ c. search needs)
+    (λ c. search needs)
+    (λ c κs. search needs)
+    (λ c. search needs)
+    (λ c. search needs)
+    (λ c κs. search needs)
+    (λ c. search needs)
+    (λ c. search needs)
+    (λ c κs. search needs)
+    place-of-requires
+    hand-choice-requires
+    (λ c κs. search needs)
+    hand-arguments-requires
+    returns
+    returns-2)

@@ -1,0 +1,59 @@
+use borrow.Author.Needs.{needs}
+use native.Mathlib.Omega.{arith}
+use mathlib.Core.Logic.{⊎-elim}
+use Prim.Native.Nat.{_-_}
+use Rattle.needed.specs.MarkSteps.{Marking, marking-start, marking-inside, marking-choice, marking-other, marking-end}
+use Rattle.needed.proofs.mark.Statement.{statement}
+use Rattle.needed.proofs.mark.Tie as tie
+
+abbrev Inv-loop : tie.InvT-loop
+Inv-loop rows count places₀ i₀ places i = Marking rows places count i
+
+abbrev μ-loop : tie.MeasureT-loop
+μ-loop rows count places₀ i₀ places i = count - i
+
+loop-holds : tie.Need-loop-holds Inv-loop μ-loop
+loop-holds c = marking-start _ _ _ (c .before .before .pre) (c .clear-places .ensures)
+
+mul-places : tie.Need-mul-places Inv-loop μ-loop
+mul-places c =
+    let l = c .before .before .before .before .loop in
+    record { fits = omega (arith, marking-inside _ _ _ _ _ (l .inv) (c .before .before .before .loop-test .taken) (c .before .if1 .taken) (c .number .ensures)) }
+
+element-write-places : tie.Need-element-write-places Inv-loop μ-loop
+element-write-places c =
+    let l = c .before .before .before .before .loop in
+    marking-inside _ _ _ _ _ (l .inv) (c .before .before .before .loop-test .taken) (c .before .if1 .taken) (c .number .ensures)
+
+loop-again : tie.Need-loop-again Inv-loop μ-loop
+loop-again c =
+    let l = c .before .before .before .loop in
+    let t = c .before .before .loop-test .taken in
+    ⊎-elim
+    (λ w. marking-choice _ _ _ _ _ _ (l .inv) t (w .0 .taken) (w .1 .ensures) (w .2))
+    (λ w. marking-other _ _ _ _ _ (l .inv) t (w .0 .left) (w .1))
+    (c .if1 .came)
+
+returns : tie.Need-returns Inv-loop μ-loop
+returns c = marking-end _ _ _ _ (c .before .loop .inv) (c .loop-test .left)
+
+pub mark-spec : {M : Type 1} → statement M
+mark-spec =
+    tie.close
+    (tie.spec
+    Inv-loop
+    μ-loop
+    (λ c κs. search needs)
+    loop-holds
+    (λ c. search needs)
+    (λ c. search needs)
+    (λ c. search needs)
+    (λ c. search needs)
+    (λ c. search needs)
+    (λ c κs. search needs)
+    mul-places
+    element-write-places
+    (λ c. search needs)
+    (λ c. search needs)
+    loop-again
+    returns)

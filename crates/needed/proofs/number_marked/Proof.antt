@@ -1,0 +1,49 @@
+use borrow.Author.Needs.{needs}
+use native.Mathlib.Omega.{arith}
+use mathlib.Core.Logic.{⊎-elim}
+use Prim.Native.Nat.{_-_}
+use Rattle.needed.specs.PlaceLaws.{Numbering, numbering-start, numbering-fits, numbering-one, numbering-none, numbering-end}
+use Rattle.needed.proofs.number_marked.Statement.{statement}
+use Rattle.needed.proofs.number_marked.Tie as tie
+
+abbrev Inv-loop : tie.InvT-loop
+Inv-loop count places₀ t₀ g₀ places t g = Numbering places₀ places count g t
+
+abbrev μ-loop : tie.MeasureT-loop
+μ-loop count places₀ t₀ g₀ places t g = count - g
+
+loop-holds : tie.Need-loop-holds Inv-loop μ-loop
+loop-holds c = numbering-start _ _ (c .pre)
+
+add-t : tie.Need-add-t Inv-loop μ-loop
+add-t c = record { fits = omega (arith, numbering-fits _ _ _ _ _ (c .before .before .before .loop .inv)) }
+
+loop-again : tie.Need-loop-again Inv-loop μ-loop
+loop-again c =
+    let l = c .before .before .before .loop in
+    let t = c .before .before .loop-test .taken in
+    ⊎-elim
+    (λ w. numbering-one _ _ _ _ _ _ _ (l .inv) t (w .0 .taken) (w .1) (w .2))
+    (λ w. numbering-none _ _ _ _ _ _ _ (l .inv) t (w .0 .left) (w .1) (w .2))
+    (c .if1 .came)
+
+returns : tie.Need-returns Inv-loop μ-loop
+returns c = numbering-end _ _ _ _ _ _ (c .before .before .loop .inv) (c .before .loop-test .left) (c .wide16 .ensures)
+
+pub number-marked-spec : {M : Type 1} → statement M
+number-marked-spec =
+    tie.close
+    (tie.spec
+    Inv-loop
+    μ-loop
+    loop-holds
+    (λ c. search needs)
+    (λ c. search needs)
+    add-t
+    (λ c. search needs)
+    (λ c. search needs)
+    (λ c. search needs)
+    (λ c. search needs)
+    loop-again
+    (λ c κs. search needs)
+    returns)

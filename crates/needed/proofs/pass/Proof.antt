@@ -1,0 +1,28 @@
+use borrow.Author.Needs.{needs}
+use native.Mathlib.Omega.{arith}
+use Rattle.needed.specs.PassingLaws.{Walking, walking-start, walking-step, walking-end}
+use Rattle.needed.proofs.pass.Statement.{statement}
+use Rattle.needed.proofs.pass.Tie as tie
+
+abbrev Inv-loop : tie.InvT-loop
+Inv-loop rows count places sets₀ i₀ sets i = Walking rows places sets₀ sets count i
+
+abbrev μ-loop : tie.MeasureT-loop
+μ-loop rows count places sets₀ i₀ sets i = i
+
+loop-holds : tie.Need-loop-holds Inv-loop μ-loop
+loop-holds c = walking-start _ _ _ _ (c .pre)
+
+hand-requires : tie.Need-hand-requires Inv-loop μ-loop
+hand-requires c κs = (c .before .before .loop .inv .passable, omega (arith, c .before .before .loop .inv .low, c .before .loop-test .taken))
+
+loop-again : tie.Need-loop-again Inv-loop μ-loop
+loop-again c = walking-step _ _ _ _ _ _ _ (c .before .before .before .loop .inv) (c .before .before .loop-test .taken) (c .hand .ensures)
+
+returns : tie.Need-returns Inv-loop μ-loop
+returns c = walking-end _ _ _ _ _ _ (c .before .loop .inv) (c .loop-test .left)
+
+pub pass-spec : {M : Type 1} → statement M
+pass-spec =
+    tie.close
+    (tie.spec Inv-loop μ-loop loop-holds (λ c. search needs) hand-requires (λ c. search needs) loop-again returns)

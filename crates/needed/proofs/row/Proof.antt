@@ -1,0 +1,18 @@
+use borrow.Author.Needs.{needs}
+use mathlib.Core.Path.{_∙_}
+use Rattle.needed.specs.HeldLaws.{code-above}
+use Rattle.needed.proofs.row.Statement.{statement}
+use Rattle.needed.proofs.row.Tie as tie
+
+returns-2 : tie.Need-returns-2
+returns-2 c = c .code-of2 .ensures ∙ code-above _ (c .before .if1 .left)
+
+pub row-spec : {M : Type 1} → statement M
+row-spec =
+    tie.close
+    (tie.spec
+    (λ c. search needs)
+    (λ c κs. search needs)
+    (λ c κs. search needs)
+    (λ c. search needs)
+    returns-2)

@@ -1,0 +1,60 @@
+-- Document 01, "The plain circuit (000 Def. 1 and App. C)": the gates that lie in a lent array, four numbers a gate, read back; and the costs of their codes.
+use Prim.Native.Nat.{ℕ, zero, suc, _+_, _*_}
+use mathlib.Core.Path.{_≡_}
+use mathlib.Core.List.{List, [], _∷_, _++_}
+use mathlib.Core.Bool.{cond}
+use lib.ListN.{length, getD, take}
+use lib.Dec.{eqb}
+use Rattle.codes.specs.Codes.{rowOf, codeOf}
+use Rattle.codes.specs.declared.Code.{Code}
+use Rattle.codes.specs.declared.Form.{Form}
+use Rattle.codes.specs.declared.Form.the-variants.{End, Assign, Skip, Branch, Variable, Word, Bit, Apply, Unknown}
+use Rattle.gates.specs.Gates.{Gate, start, word, bit, operation, choice, Gates, gateAt, choiceCost}
+
+-- a choice's code
+abbrev pub choiceCode : ℕ
+choiceCode = 0x30
+
+-- 11, 12 and 20 to 27 mean what they mean in a rule, any other code a starting value; a: the first number, l: the arguments
+abbrev pub ofForm : Form → ℕ → List ℕ → Gate
+ofForm End a l = start a
+ofForm Assign a l = start a
+ofForm Skip a l = start a
+ofForm Branch a l = start a
+ofForm Variable a l = start a
+ofForm Word a l = word a
+ofForm Bit a l = bit a
+ofForm (Apply op) a l = operation op l
+ofForm Unknown a l = start a
+
+-- the arguments of an operation: as many of the numbers as its row of the table says
+abbrev pub argumentsOf : Code → ℕ → ℕ → List ℕ
+argumentsOf row a b = take (row .arity) (a ∷ b ∷ [])
+
+-- the gate of four numbers
+unfoldable pub gateOf : ℕ → ℕ → ℕ → ℕ → Gate
+gateOf code a b c = cond (eqb code choiceCode) (choice a b c) (ofForm (codeOf code .form) a (argumentsOf (codeOf code) a b))
+
+-- gate i of the rows
+unfoldable pub gateIn : List ℕ → ℕ → Gate
+gateIn rows i = gateOf (getD rows (4 * i) 0) (getD rows (4 * i + 1) 0) (getD rows (4 * i + 2) 0) (getD rows (4 * i + 3) 0)
+
+-- the first n gates of the rows
+unfoldable pub gatesIn : List ℕ → ℕ → Gates
+gatesIn rows zero = []
+gatesIn rows (suc n) = gatesIn rows n ++ (gateIn rows n ∷ [])
+
+-- "Cost of a circuit", by a gate's code: operations by the table, choice 3, others 0
+unfoldable pub codeCost : ℕ → ℕ
+codeCost code = cond (eqb code choiceCode) choiceCost (codeOf code .cost)
+
+-- an operation has as many arguments as the table says
+abbrev pub ShapedGate : Gate → Type 0
+ShapedGate (start x) = Unit {0}
+ShapedGate (word n) = Unit {0}
+ShapedGate (bit b) = Unit {0}
+ShapedGate (operation op l) = length l ≡ rowOf op .arity
+ShapedGate (choice c a b) = Unit {0}
+
+abbrev pub Shaped : Gates → Type 0
+Shaped C = (i : ℕ) → ShapedGate (gateAt C i)

@@ -1,0 +1,32 @@
+-- The backward pass over sets of 64 settings held as numbers, in the form that the code goes: every step a union, a given or a without.
+use Prim.Native.Nat.{ℕ, _≤_}
+use mathlib.Core.Path.{_≡_}
+use mathlib.Core.List.{List, [], _∷_}
+use lib.ListN.{length, getD}
+use Rattle.gates.specs.Gates.{Gates, gateAt, Earlier, conditions}
+use Rattle.gates.specs.Limits.{mostGates, mostConditions}
+use Rattle.settings.specs.Numbers.{numbers}
+use Rattle.needed.specs.Held.{gatesIn}
+use Rattle.needed.specs.Places.{placesOf}
+use Rattle.needed.specs.Pass.{hand, passSets}
+use Rattle.needed.specs.StepLaws.{addNumber}
+
+-- put the set s to those of the listed gates
+unfoldable pub addNumbers : List ℕ → ℕ → List ℕ → List ℕ
+addNumbers [] s M = M
+addNumbers (a ∷ l) s M = addNumbers l s (addNumber a s M)
+
+-- gate i hands its set on
+unfoldable pub handGate : Gates → ℕ → List ℕ → List ℕ
+handGate C i M = hand (numbers 64 (conditions C)) (gateAt C i) (getD M i 0) M
+
+-- the pass over the gates below k, downwards
+unfoldable pub passGates : Gates → ℕ → List ℕ → List ℕ
+passGates C k M = passSets (numbers 64 (conditions C)) C k M
+
+-- what the pass is given: gates in rows, at most 256, arguments before their gates, at most six conditions, and their numbers
+pub record Passable (rows places : List ℕ) (count : ℕ) : Type 0 where
+  pub room : count ≤ mostGates
+  pub earlier : Earlier (gatesIn rows count)
+  pub few : length (conditions (gatesIn rows count)) ≤ mostConditions
+  pub placed : places ≡ placesOf (gatesIn rows count) mostGates

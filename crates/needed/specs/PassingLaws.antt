@@ -1,0 +1,169 @@
+-- Laws of the pass as the code goes: what is handed to one or two arguments and to a choice's, and the turns of the two loops, over the wanted gates and downwards over all.
+use Prim.Native.Nat.{ℕ, zero, suc, _+_, _-_, _^_, _≤_, _<_}
+use mathlib.Core.Path.{_≡_, refl, sym, ap, _∙_}
+use mathlib.Core.List.{List, [], _∷_, _++_}
+use mathlib.Core.Logic.{inl, inr}
+use native.Mathlib.Nat.{sub-zero}
+use native.Mathlib.Omega.{arith}
+use lib.ListN.{length, getD, take, replicate, length-replicate, List·getD-append}
+use lib.Seq.{take-suc, take-length, take-at}
+use Rattle.words.specs.Lists.{getD-in}
+use Rattle.settings.specs.Sets.{whole, given, without}
+use Rattle.settings.specs.Numbers.{numbers}
+use Rattle.gates.specs.Gates.{Gates, conditions}
+use Rattle.gates.specs.EarlierLaws.{Inside}
+use Rattle.needed.specs.Pass.{addAll, passSets, preconditions, preconditionSets, preconditionOf}
+use Rattle.needed.specs.HandLaws.{addAll-length}
+use Rattle.needed.specs.PassLaws.{pass-length}
+use Rattle.needed.specs.StepLaws.{addNumber, preconditions-room}
+use Rattle.needed.specs.Held.{gatesIn}
+use Rattle.needed.specs.HeldLaws.{gates-length}
+use Rattle.needed.specs.Passing.{addNumbers, handGate, passGates, Passable}
+
+-- Unions, one after the other.
+
+pub add-all : (N : ℕ) (cs l : List ℕ) (s : ℕ) (M : List ℕ) → addAll (numbers N cs) l s M ≡ addNumbers l s M
+unfolding numbers addNumbers
+add-all N cs [] s M = refl
+add-all N cs (a ∷ l) s M = add-all N cs l s (addNumber a s M)
+
+add-more : (l : List ℕ) (a s : ℕ) (M : List ℕ) → addNumbers (l ++ (a ∷ [])) s M ≡ addNumber a s (addNumbers l s M)
+unfolding addNumbers
+add-more [] a s M = refl
+add-more (b ∷ l) a s M = add-more l a s (addNumber b s M)
+
+-- to no argument, one or two
+pub args-none : (n a b s : ℕ) (M : List ℕ) → n ≤ 0 → addNumbers (take n (a ∷ b ∷ [])) s M ≡ M
+unfolding addNumbers
+args-none zero a b s M h = refl
+args-none (suc n) a b s M h = absurd (omega arith)
+
+pub args-one : (n a b s : ℕ) (M : List ℕ) → 0 < n → n ≤ 1 → addNumbers (take n (a ∷ b ∷ [])) s M ≡ addNumber a s M
+unfolding addNumbers
+args-one n a b s M h l = let e : n ≡ 1 = omega arith in rw e
+
+take-two : (n a b : ℕ) → 1 < n → take n (a ∷ b ∷ []) ≡ a ∷ b ∷ []
+take-two zero a b h = absurd (omega arith)
+take-two (suc zero) a b h = absurd (omega arith)
+take-two (suc (suc zero)) a b h = refl
+take-two (suc (suc (suc n))) a b h = refl
+
+pub args-two : (n a b s : ℕ) (M : List ℕ) → 1 < n → addNumbers (take n (a ∷ b ∷ [])) s M ≡ addNumber b s (addNumber a s M)
+unfolding addNumbers
+args-two n a b s M h = rw (take-two n a b h)
+
+pub first-inside : (n a b : ℕ) → 0 < n → Inside 256 (take n (a ∷ b ∷ [])) → a < 256
+first-inside zero a b h i = absurd (omega arith)
+first-inside (suc n) a b h i = i a (inl refl)
+
+pub second-inside : (n a b : ℕ) → 1 < n → Inside 256 (take n (a ∷ b ∷ [])) → b < 256
+second-inside n a b h i = i b (rw (take-two n a b h) (inr (inl refl)))
+
+-- the same of sets changed one after the other
+pub args-both : (n a b s : ℕ) (M M₁ M₂ : List ℕ) → 1 < n → M₁ ≡ addNumber a s M → M₂ ≡ addNumber b s M₁ → M₂ ≡ addNumbers (take n (a ∷ b ∷ [])) s M
+args-both n a b s M M₁ M₂ h e f = f ∙ ap (addNumber b s) e ∙ sym (args-two n a b s M h)
+
+pub choice-sets : (t c a b s g w : ℕ) (M M₁ M₂ M₃ : List ℕ) → M₁ ≡ addNumber c s M → g ≡ given 64 t s → M₂ ≡ addNumber a g M₁ → w ≡ without 64 t s
+    → M₃ ≡ addNumber b w M₂ → M₃ ≡ addNumber b (without 64 t s) (addNumber a (given 64 t s) (addNumber c s M))
+choice-sets t c a b s g w M M₁ M₂ M₃ e₁ eg e₂ ew e₃ =
+    e₃ ∙ ap (addNumber b w) (e₂ ∙ ap (addNumber a g) e₁) ∙ ap (λ (k : ℕ). addNumber b w (addNumber a k (addNumber c s M))) eg
+    ∙ ap (λ (k : ℕ). addNumber b k (addNumber a (given 64 t s) (addNumber c s M))) ew
+
+-- The loop over the wanted gates.
+
+pub record Wanting (wanted M₀ M : List ℕ) (x : ℕ) : Type 0 where
+  pub low : x ≤ length wanted
+  pub inside : Inside 256 wanted
+  pub done : M ≡ addNumbers (take x wanted) (whole 64) M₀
+
+pub wanting-start : (wanted M : List ℕ) → Inside 256 wanted → Wanting wanted M M 0
+unfolding addNumbers
+wanting-start wanted M i = record { low = omega arith; inside = i; done = refl }
+
+pub wanting-inside : (wanted M₀ M : List ℕ) (x g : ℕ) → Wanting wanted M₀ M x → x < length wanted → g ≡ getD wanted x 0 → g < 256
+wanting-inside wanted M₀ M x g w l e = rw e (w .inside (getD wanted x 0) (getD-in wanted x l))
+
+pub wanting-step : (wanted M₀ M N : List ℕ) (x g s : ℕ) → Wanting wanted M₀ M x → x < length wanted → g ≡ getD wanted x 0 → s ≡ whole 64
+    → N ≡ addNumber g s M → Wanting wanted M₀ N (x + 1)
+wanting-step wanted M₀ M N x g s w l e f q =
+    record {
+      low = omega arith;
+      inside = w .inside;
+      done = let m : x + 1 ≡ suc x = omega arith in
+          q ∙ rw (e, f, m, take-suc wanted x 0 l, add-more (take x wanted) (getD wanted x 0) (whole 64) M₀) (ap (addNumber (getD wanted x 0) (whole 64)) (w .done));
+    }
+
+pub wanting-end : (wanted M₀ M : List ℕ) (x : ℕ) → Wanting wanted M₀ M x → length wanted ≤ x → M ≡ addNumbers wanted (whole 64) M₀
+wanting-end wanted M₀ M x w l = let e : x ≡ length wanted = omega (arith, w .low) in w .done ∙ ap (λ (k : List ℕ). addNumbers k (whole 64) M₀) (rw e (take-length wanted))
+
+-- The loop downwards over the gates.
+
+pub record Walking (rows places M₀ M : List ℕ) (count i : ℕ) : Type 0 where
+  pub low : i ≤ count
+  pub passable : Passable rows places count
+  pub rest : passGates (gatesIn rows count) i M ≡ passGates (gatesIn rows count) count M₀
+
+pub walking-start : (rows places M : List ℕ) (count : ℕ) → Passable rows places count → Walking rows places M M count count
+walking-start rows places M count p = record { low = omega arith; passable = p; rest = refl }
+
+pass-step : (C : Gates) (i : ℕ) (M : List ℕ) → passGates C (suc i) M ≡ passGates C i (handGate C i M)
+unfolding passGates handGate numbers
+pass-step C i M = refl
+
+pub walking-step : (rows places M₀ M N : List ℕ) (count i : ℕ) → Walking rows places M₀ M count i → 0 < i → N ≡ handGate (gatesIn rows count) (i - 1) M
+    → Walking rows places M₀ N count (i - 1)
+walking-step rows places M₀ M N count zero w l q = absurd (omega arith)
+walking-step rows places M₀ M N count (suc i) w l q =
+    let e : suc i - 1 ≡ i = omega arith in
+    record {
+      low = omega (arith, w .low);
+      passable = w .passable;
+      rest = rw e (ap (passGates (gatesIn rows count) i) (rw e at q) ∙ sym (pass-step (gatesIn rows count) i M) ∙ w .rest);
+    }
+
+pub walking-end : (rows places M₀ M : List ℕ) (count i : ℕ) → Walking rows places M₀ M count i → i ≤ 0 → M ≡ passGates (gatesIn rows count) count M₀
+unfolding passGates
+walking-end rows places M₀ M count zero w l = w .rest
+walking-end rows places M₀ M count (suc i) w l = absurd (omega arith)
+
+-- Both: the sets that are wanted, then the pass, give the preconditions, and empty sets past the gates.
+
+found-needed : (rows places wanted M₁ M₂ M₃ : List ℕ) (count : ℕ) → Passable rows places count → Inside count wanted
+    → M₁ ≡ replicate 256 0 → M₂ ≡ addNumbers wanted (whole 64) M₁ → M₃ ≡ passGates (gatesIn rows count) count M₂
+    → M₃ ≡ preconditionSets 6 (gatesIn rows count) wanted ++ replicate (256 - count) 0
+unfolding passGates preconditionSets numbers
+found-needed rows places wanted M₁ M₂ M₃ count p i e₁ e₂ e₃ =
+    let C = gatesIn rows count in
+    let S = numbers 64 (conditions C) in
+    let n : length C ≡ count = gates-length rows count in
+    let r : length C + (256 - count) ≡ 256 = omega (arith, p .room) in
+    e₃ ∙ ap (passSets S C count) (e₂ ∙ sym (add-all 64 (conditions C) wanted (whole 64) M₁) ∙ ap (addAll S wanted (whole 64)) (e₁ ∙ ap (λ (k : ℕ). replicate k 0) (sym r)))
+    ∙ ap (λ (k : ℕ). passSets S C k (addAll S wanted (whole 64) (replicate (length C + (256 - count)) 0))) (sym n)
+    ∙ preconditions-room S C wanted (p .earlier) (λ g m. rw n (i g m)) (256 - count)
+
+-- the part lent from 0 to v is the first v
+part-zero : (v : ℕ) (l : List ℕ) → take (v - 0) l ≡ take v l
+part-zero v l = rw sub-zero
+
+pub wanted-room : (rows places outputs : List ℕ) (count v : ℕ) → Passable rows places count → Inside count (take v outputs) → Inside 256 (take (v - 0) outputs)
+wanted-room rows places outputs count v p i a m = omega (arith, i a (rw (part-zero v outputs) at m), p .room)
+
+pub found-part : (rows places outputs M₁ M₂ M₃ : List ℕ) (count v : ℕ) → Passable rows places count → Inside count (take v outputs)
+    → M₁ ≡ replicate 256 0 → M₂ ≡ addNumbers (take (v - 0) outputs) (whole 64) M₁ → M₃ ≡ passGates (gatesIn rows count) count M₂
+    → M₃ ≡ preconditionSets 6 (gatesIn rows count) (take v outputs) ++ replicate (256 - count) 0
+found-part rows places outputs M₁ M₂ M₃ count v p i e₁ e₂ e₃ = found-needed rows places (take v outputs) M₁ M₂ M₃ count p i e₁ (rw (part-zero v outputs) at e₂) e₃
+
+-- Reading the sets: the first are the preconditions, and so is the set of each gate.
+
+sets-length : (n : ℕ) (C : Gates) (wanted : List ℕ) → length (preconditionSets n C wanted) ≡ length C
+unfolding preconditionSets preconditions
+sets-length n C wanted =
+    let S = numbers (2 ^ n) (conditions C) in
+    let M = replicate (length C) (S .empty) in
+    pass-length S C (length C) (addAll S wanted (S .whole) M) ∙ addAll-length S wanted (S .whole) M ∙ length-replicate (length C) (S .empty)
+
+pub sets-first : (n : ℕ) (C : Gates) (wanted Z : List ℕ) → take (length C) (preconditionSets n C wanted ++ Z) ≡ preconditionSets n C wanted
+sets-first n C wanted Z = take-at (preconditionSets n C wanted) Z (length C) (sets-length n C wanted)
+
+pub sets-at : (n : ℕ) (C : Gates) (wanted Z : List ℕ) (g : ℕ) → g < length C → getD (preconditionSets n C wanted ++ Z) g 0 ≡ preconditionOf n C wanted g
+sets-at n C wanted Z g h = List·getD-append (preconditionSets n C wanted) Z 0 g (rw (sets-length n C wanted) h)
