@@ -3,3 +3,4 @@ pub mod Making
 pub mod Shown
 pub mod WholeLaws
 pub mod MakingLaws
+pub mod ShownLaws

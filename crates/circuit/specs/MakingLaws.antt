@@ -8,19 +8,21 @@ use lib.ListN.{length, take}
 use lib.Dec.{leb}
 use borrow.Author.Tests.{le-leb, lt-leb, leb-true, leb-false}
 use Rattle.words.specs.Lists.{split}
-use Rattle.answers.specs.Answers.{refusal}
+use Rattle.answers.specs.Answers.{success, refusal}
 use Rattle.answers.specs.ParsingLaws.{IsRead, is-read}
 use Rattle.reading.specs.Rule.{readRule}
 use Rattle.gates.specs.Limits.{mostGates, mostConditions}
-use Rattle.gates.specs.Gates.{Gates, Earlier}
-use Rattle.gates.specs.PlainCircuit.{gatesOf}
+use Rattle.gates.specs.Gates.{Gates, Earlier, costs, conditions}
+use Rattle.gates.specs.PlainCircuit.{gatesOf, outputsOf}
 use Rattle.gates.specs.Rows.{rowsOf}
 use Rattle.gates.specs.StartLaws.{plain-sound}
+use Rattle.making.specs.RuleMade.{RuleMade}
 use Rattle.needed.specs.Held.{gatesIn}
+use Rattle.needed.specs.HeldLaws.{gates-length}
 use Rattle.needed.specs.HeldRows.{rule-held}
 use Rattle.circuit.specs.Whole.{wholeWithin}
-use Rattle.circuit.specs.WholeLaws.{whole-gates}
-use Rattle.circuit.specs.Making.{wholeIn, Made}
+use Rattle.circuit.specs.WholeLaws.{whole-gates, whole-conditions, whole-success}
+use Rattle.circuit.specs.Making.{wholeIn}
 
 -- rows 10 by the count alone
 pub whole-over : (rows : List ℕ) (count size : ℕ) → mostGates < count → wholeIn rows count size ≡ refusal 10 size
@@ -31,20 +33,34 @@ pub whole-in : (rows : List ℕ) (count size : ℕ) → count ≤ mostGates → 
 unfolding wholeIn
 whole-in rows count size h = rw (le-leb _ _ h)
 
-module _ (s rows : List ℕ) (count : ℕ) (read : IsRead (readRule s)) (made : Made s rows count) where
+-- rows 11 and success, by the conditions' count and the cost
+pub whole-eleven : (rows : List ℕ) (count size conds : ℕ) → count ≤ mostGates → conds ≡ length (conditions (gatesIn rows count)) → mostConditions < conds → wholeIn rows count size ≡ refusal 11 size
+whole-eleven rows count size conds h e l =
+    whole-in rows count size h
+    ∙ whole-conditions mostGates mostConditions (gatesIn rows count) size (rw (gates-length rows count) h) (rw e at l)
+
+pub whole-taken : (rows : List ℕ) (count size conds cost : ℕ) → count ≤ mostGates → conds ≡ length (conditions (gatesIn rows count)) → conds ≤ mostConditions
+    → cost ≡ costs (gatesIn rows count) → wholeIn rows count size ≡ success count 0 0 cost 0
+whole-taken rows count size conds cost h e l q =
+    whole-in rows count size h
+    ∙ whole-success mostGates mostConditions (gatesIn rows count) size (rw (gates-length rows count) h) (rw e at l)
+    ∙ rw (gates-length rows count, q)
+
+-- a rule that was read, its gates made
+module _ (s rows present : List ℕ) (count : ℕ) (read : IsRead (readRule s)) (made : RuleMade s rows present count) where
   -- a count within the limit is the rule's
   within : count ≤ mostGates → length (gatesOf s) ≤ mostGates
   within h = split (leb (length (gatesOf s)) mostGates) (λ t. leb-true _ _ t) (λ t. absurd (omega (arith, made .many (leb-false _ _ t))))
 
   pub made-count : count ≤ mostGates → count ≡ length (gatesOf s)
-  made-count h = made .few (within h) .0
+  made-count h = made .counted (within h)
 
   pub made-gates : count ≤ mostGates → gatesIn rows count ≡ gatesOf s
   made-gates h =
-      let f = made .few (within h) in
+      let e = made .counted (within h) in
       let r = is-read (readRule s) read in
-      ap (gatesIn rows) (f .0)
-      ∙ rule-held s (r .0) (r .1) (r .2) rows (ap (λ (n : ℕ). take (4 * n) rows) (sym (f .0)) ∙ f .1)
+      ap (gatesIn rows) e
+      ∙ rule-held s (r .0) (r .1) (r .2) rows (ap (λ (n : ℕ). take (4 * n) rows) (sym e) ∙ made .lie (within h))
 
   pub made-earlier : count ≤ mostGates → Earlier (gatesIn rows count)
   made-earlier h = let r = is-read (readRule s) read in subst⁻¹ Earlier (made-gates h) (plain-sound s (r .0) (r .1) (r .2) .earlier)
@@ -56,5 +72,5 @@ module _ (s rows : List ℕ) (count : ℕ) (read : IsRead (readRule s)) (made : 
       (λ t. whole-in rows count size (leb-true _ _ t) ∙ ap (λ (C : Gates). wholeWithin mostGates mostConditions C size) (made-gates (leb-true _ _ t)))
       (λ t.
       let over : mostGates < count = leb-false _ _ t in
-      let many : mostGates < length (gatesOf s) = split (leb (length (gatesOf s)) mostGates) (λ u. let l : length (gatesOf s) ≤ mostGates = leb-true _ _ u in absurd (omega (arith, made .few l .0))) (λ u. leb-false _ _ u) in
+      let many : mostGates < length (gatesOf s) = split (leb (length (gatesOf s)) mostGates) (λ u. let l : length (gatesOf s) ≤ mostGates = leb-true _ _ u in absurd (omega (arith, made .counted l))) (λ u. leb-false _ _ u) in
       whole-over rows count size over ∙ sym (whole-gates mostGates mostConditions (gatesOf s) size many))

@@ -2,7 +2,7 @@
 use answers::Answer;
 ghost use mathlib.Core.Path.{_≡_};
 ghost use Prim.Native.Nat.{_≤_};
-ghost use lib.ListN.{length};
+ghost use lib.ListN.{replicate};
 ghost use Rattle.gates.specs.Gates.{Earlier};
 ghost use Rattle.needed.specs.Held.{gatesIn};
 ghost use Rattle.needed.specs.Places.{placesOf};
@@ -53,15 +53,33 @@ pub fn read_rule(rule: &[u8]) -> Answer
     whole(rule.len(), &rows, count, &mut places)
 }
 
-// Shows the plain circuit of an accepted rule: four numbers a gate into `rows`, its precondition into `needs`. A refusal writes nothing.
-pub fn show(rule: &[u8], rows: &mut [u32; 1024], needs: &mut [u64; 256]) -> Answer
-    ensures answer { λ r. ⌜ r ≡ ruleAnswer (now (rule .entry)) ⌝ }
-    ensures rows { λ _. ⌜ now (rows .exit) ≡ shownRows (now (rule .entry)) (now (rows .entry)) ⌝ }
-    ensures needs { λ _. ⌜ now (needs .exit) ≡ shownNeeds (now (rule .entry)) (now (needs .entry)) ⌝ }
+// A plain circuit shown: the answer of reading its rule, four numbers a gate, and each gate's precondition; zeros after the gates.
+pub struct Shown {
+    pub answer: Answer,
+    pub rows: [u32; 1024],
+    pub needs: [u64; 256],
+}
+
+// A refused rule has no circuit.
+fn nothing(answer: Answer) -> Shown
+    ensures { λ r. ⌜ (r .answer ≡ answer) × ((r .rows ≡ replicate 1024 0) × (r .needs ≡ replicate 256 0)) ⌝ }
+{
+    Shown {
+        answer,
+        rows: [0u32; 1024],
+        needs: [0u64; 256],
+    }
+}
+
+// Shows the plain circuit of a rule.
+pub fn show(rule: &[u8]) -> Shown
+    ensures answer { λ r. ⌜ r .answer ≡ ruleAnswer (now (rule .entry)) ⌝ }
+    ensures rows { λ r. ⌜ r .rows ≡ shownRows (now (rule .entry)) ⌝ }
+    ensures needs { λ r. ⌜ r .needs ≡ shownNeeds (now (rule .entry)) ⌝ }
 {
     let a = reading::read_rule(rule);
     if a.number != 0 {
-        return a;
+        return nothing(a);
     }
     let mut made = [0u32; 1024];
     let mut present = [0u16; 32];
@@ -69,13 +87,17 @@ pub fn show(rule: &[u8], rows: &mut [u32; 1024], needs: &mut [u64; 256]) -> Answ
     let count = making::make_rule(rule, &mut made, &mut present);
     let answer = whole(rule.len(), &made, count, &mut places);
     if answer.number != 0 {
-        return answer;
+        return nothing(answer);
     }
     let n = count as usize;
     let v = rule[5] as usize;
-    let mut sets = [0u64; 256];
-    needed::find_needed(&made, n, &places, &present, v, &mut sets);
-    words::copy32(&made[0..4 * n], rows);
-    words::copy64(&sets[0..n], needs);
-    answer
+    let mut rows = [0u32; 1024];
+    let mut needs = [0u64; 256];
+    needed::find_needed(&made, n, &places, &present, v, &mut needs);
+    words::copy32(&made[0..4 * n], &mut rows);
+    Shown {
+        answer,
+        rows,
+        needs,
+    }
 }

@@ -21,6 +21,7 @@ use Rattle.reading.specs.FirstStatement as read
 use Rattle.gates.specs.PlainCircuit.{Making, assignsIn, assigns, makeStatement, makeBlock, starts, plainCircuit, gatesOf, outputsOf}
 use Rattle.gates.specs.StartLaws.{read-plain, plain-sound}
 use Rattle.gates.specs.Rows.{rowsOf}
+use Rattle.making.specs.RuleMade.{RuleMade}
 use Rattle.making.specs.Holding.{Held, Done, Walked}
 use Rattle.making.specs.StatementLaws.{statement-length, same-what, same-next}
 
@@ -130,17 +131,16 @@ module _ (s : List ℕ) (m : Making) (rows present : List ℕ) (count : ℕ) (he
 -- the promise of a whole rule: the gates and outputs of its plain circuit
 pub rule-made : (s : List ℕ) → IsRead (readRule s) → (rows present : List ℕ) (count : ℕ) → Held s (starts (variables s)) rows present count
     → (next more mask : ℕ) (rows′ present′ : List ℕ)
-    → Done makeBlock assigns s (readBlock s nested (6 + variables s)) rows present count next more mask rows′ present′
-    → (length (gatesOf s) ≤ 256 → (more ≡ length (gatesOf s)) × ((take (4 * more) rows′ ≡ rowsOf s (gatesOf s)) × (take (variables s) present′ ≡ outputsOf s)))
-    × ((256 < length (gatesOf s) → more ≡ 257) × ((length rows′ ≡ 1024) × (length present′ ≡ 32)))
+    → Done makeBlock assigns s (readBlock s nested (6 + variables s)) rows present count next more mask rows′ present′ → RuleMade s rows′ present′ more
 rule-made s h rows present count held next more mask rows′ present′ d =
     let l : length (starts (variables s) .present) ≡ variables s = length-from 0 (variables s) in
     let r = rule-held s h rows present count held next more mask rows′ present′ d l in
     let b = read.rule-read s h in
-    let o : length (plainCircuit s .present) ≡ variables s = plain-sound s (d .what) next (b .block ∙ d .read) .count in (
-      λ few. (
-        held-count s (plainCircuit s) rows′ present′ more r few,
-        (held-rows s (plainCircuit s) rows′ present′ more r few, held-present s (plainCircuit s) rows′ present′ more r few (variables s) o (b .header .few)),
-      ),
-      (held-many s (plainCircuit s) rows′ present′ more r, (r .stored .room, r .wide)),
-    )
+    let o : length (plainCircuit s .present) ≡ variables s = plain-sound s (d .what) next (b .block ∙ d .read) .count in
+    record {
+      counted = λ few. held-count s (plainCircuit s) rows′ present′ more r few;
+      lie = λ few. held-rows s (plainCircuit s) rows′ present′ more r few;
+      outputs = λ few. held-present s (plainCircuit s) rows′ present′ more r few (variables s) o (b .header .few);
+      many = held-many s (plainCircuit s) rows′ present′ more r;
+      wide = r .stored .room;
+    }

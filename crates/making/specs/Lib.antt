@@ -1,3 +1,4 @@
+pub mod RuleMade
 pub mod Holding
 pub mod RowLaws
 pub mod ExprLaws

@@ -16,6 +16,7 @@ ghost use Rattle.settings.specs.Sets.{has};
 ghost use Rattle.gates.specs.Gates.{choice};
 ghost use Rattle.gates.specs.PlainCircuit.{applyGate, assignsIn, assigns, makeStatement, makeBlock, starts, gatesOf, outputsOf};
 ghost use Rattle.gates.specs.Rows.{startCode, byteOf, rowsOf};
+ghost use Rattle.making.specs.RuleMade.{RuleMade};
 ghost use Rattle.making.specs.Holding.{Held, Pushed, Applied, ExprMade, Chose, Chosen, Done};
 
 // A gate's number in the plain circuit.
@@ -392,9 +393,7 @@ fn make_block(
 // The plain circuit of an accepted rule: its gates' rows, the variables' last gates, and the count of its gates, 257 for any above 256.
 pub fn make_rule(s: &[u8], rows: &mut [u32; 1024], present: &mut [u16; 32]) -> u16
     requires { ⌜ IsRead (readRule (now s)) ⌝ }
-    ensures few { λ r. ⌜ (length (gatesOf (now (s .entry))) ≤ 256 → (r ≡ length (gatesOf (now (s .entry)))) × ((take (4 * r) (now (rows .exit)) ≡ rowsOf (now (s .entry)) (gatesOf (now (s .entry)))) × (take (variables (now (s .entry))) (now (present .exit)) ≡ outputsOf (now (s .entry))))) ⌝ }
-    ensures many { λ r. ⌜ (256 < length (gatesOf (now (s .entry))) → r ≡ 257) ⌝ }
-    ensures kept { λ r. ⌜ (length (now (rows .exit)) ≡ 1024) × (length (now (present .exit)) ≡ 32) ⌝ }
+    ensures { λ r. ⌜ RuleMade (now (s .entry)) (now (rows .exit)) (now (present .exit)) r ⌝ }
 {
     *rows = [0; 1024];
     *present = [0; 32];

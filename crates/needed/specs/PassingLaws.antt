@@ -155,7 +155,7 @@ found-part rows places outputs M₁ M₂ M₃ count v p i e₁ e₂ e₃ = found
 
 -- Reading the sets: the first are the preconditions, and so is the set of each gate.
 
-sets-length : (n : ℕ) (C : Gates) (wanted : List ℕ) → length (preconditionSets n C wanted) ≡ length C
+pub sets-length : (n : ℕ) (C : Gates) (wanted : List ℕ) → length (preconditionSets n C wanted) ≡ length C
 unfolding preconditionSets preconditions
 sets-length n C wanted =
     let S = numbers (2 ^ n) (conditions C) in

@@ -1,0 +1,17 @@
+-- Document 01, "The plain circuit (000 Def. 1 and App. C)": a rule's plain circuit as it lies in lent arrays, the promise of making it.
+use Prim.Native.Nat.{ℕ, _+_, _*_, _<_, _≤_}
+use mathlib.Core.Path.{_≡_}
+use mathlib.Core.List.{List}
+use lib.ListN.{length, take}
+use Rattle.reading.specs.Header.{variables}
+use Rattle.gates.specs.Limits.{mostGates}
+use Rattle.gates.specs.PlainCircuit.{gatesOf, outputsOf}
+use Rattle.gates.specs.Rows.{rowsOf}
+
+-- within the limit: the count, the rows and each variable's last gate; above it: a count one above the limit, whatever the arrays hold
+pub record RuleMade (s rows present : List ℕ) (count : ℕ) : Type 0 where
+  pub counted : length (gatesOf s) ≤ mostGates → count ≡ length (gatesOf s)
+  pub lie : length (gatesOf s) ≤ mostGates → take (4 * count) rows ≡ rowsOf s (gatesOf s)
+  pub outputs : length (gatesOf s) ≤ mostGates → take (variables s) present ≡ outputsOf s
+  pub many : mostGates < length (gatesOf s) → count ≡ mostGates + 1
+  pub wide : length rows ≡ 4 * mostGates
