@@ -35,15 +35,15 @@ shown-nothing s a answer rows needs e h r =
     let n = ne-eqb (ruleAnswer s .number) 0 (λ z. h (ap (λ (b : Answer). b .number) e ∙ z)) in
     (r .0 ∙ e, (r .1 .0 ∙ rw n, r .1 .1 ∙ rw n))
 
-drop-zeros : (k n : ℕ) → drop k (replicate n 0) ≡ replicate (n - k) 0
-drop-zeros zero n = ap (λ (m : ℕ). replicate m 0) (omega arith)
-drop-zeros (suc k) zero = ap (λ (m : ℕ). replicate m 0) (omega arith)
-drop-zeros (suc k) (suc n) = drop-zeros k n ∙ ap (λ (m : ℕ). replicate m 0) (omega arith)
+drop-same : (z k n : ℕ) → drop k (replicate n z) ≡ replicate (n - k) z
+drop-same z zero n = let e : n ≡ n - 0 = omega arith in ap (λ (m : ℕ). replicate m z) e
+drop-same z (suc k) zero = let e : 0 ≡ 0 - suc k = omega arith in ap (λ (m : ℕ). replicate m z) e
+drop-same z (suc k) (suc n) = let e : n - k ≡ suc n - suc k = omega arith in drop-same z k n ∙ ap (λ (m : ℕ). replicate m z) e
 
 -- bytes at the start of zeros are bytes, then zeros
 over-zeros : (l : List ℕ) (n : ℕ) → over l (replicate n 0) ≡ padded n l
 unfolding over
-over-zeros l n = ap (λ (z : List ℕ). l ++ z) (drop-zeros (length l) n)
+over-zeros l n = ap (λ (z : List ℕ). l ++ z) (drop-same 0 (length l) n)
 
 -- an accepted rule whose gates were made into rows, its outputs into present, and its conditions numbered in places
 module _ (s rows present places : List ℕ) (count : ℕ) (acc : Accepted s)
@@ -82,8 +82,8 @@ module _ (s rows present places : List ℕ) (count : ℕ) (acc : Accepted s)
   ready-needs needs e =
       let r = is-read (readRule s) (acc .read) in
       let sets : preconditionSets mostConditions (gatesIn rows count) (take (variables s) present) ≡ rulePreconditions s
-            = ap (λ (n : ℕ). preconditionSets mostConditions (gatesIn rows n) (take (variables s) present)) counted
-            ∙ rows-preconditions s (r .0) (r .1) (r .2) rows held (take (variables s) present) (made .outputs (acc .gates)) in
+      = ap (λ (n : ℕ). preconditionSets mostConditions (gatesIn rows n) (take (variables s) present)) counted
+      ∙ rows-preconditions s (r .0) (r .1) (r .2) rows held (take (variables s) present) (made .outputs (acc .gates)) in
       e ∙ ap (λ (l : List ℕ). l ++ replicate (mostGates - count) 0) sets
       ∙ ap (λ (n : ℕ). rulePreconditions s ++ replicate (mostGates - n) 0) (counted ∙ sym (sets-length mostConditions (gatesOf s) (outputsOf s)))
       ∙ ap (padded mostGates) (sym (accepted-is (rulePreconditions s)))

@@ -12,6 +12,7 @@ ghost use Rattle.circuit.specs.Making.{wholeIn};
 
 // The limits of a plain circuit.
 const MOST_GATES: u16 = 256;
+
 const MOST_CONDITIONS: usize = 6;
 
 // Rows 10 and 11, and the counts, of the gates that lie in `rows`; the conditions are numbered in `places`.

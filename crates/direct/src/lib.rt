@@ -1,4 +1,5 @@
 // Runs an accepted rule directly over its bytes.
+use answers::Answer;
 use answers::Step;
 use codes::Form;
 use codes::Kind;
@@ -13,7 +14,9 @@ ghost use Rattle.reading.specs.Blocks.{readAssign, readStatement, readBlock};
 ghost use Rattle.reading.specs.Rule.{readRule};
 ghost use Rattle.gates.specs.Running.{runStatement, runBlock, runRule};
 ghost use Rattle.direct.specs.Walking.{Headed, WorkedOut, Ran, Passed};
+ghost use Rattle.circuit.specs.Whole.{ruleAnswer};
 ghost use Rattle.direct.specs.Inputs.{inputRow};
+ghost use Rattle.direct.specs.Direct.{runAnswer, runResults};
 
 // An expression's figure, and the place after the expression.
 pub struct Value {
@@ -185,4 +188,21 @@ pub fn inputs_refusal(rule: &[u8], inputs: &[u32], room: usize) -> u8
         return 42;
     }
     0
+}
+
+// A direct run of a rule on its inputs: the answer, and every variable's figure at its end in the first V results. A refusal writes nothing.
+pub fn run(rule: &[u8], inputs: &[u32], results: &mut [u32]) -> Answer
+    ensures answer { λ r. ⌜ r ≡ runAnswer (ruleAnswer (now (rule .entry))) (now (rule .entry)) (now (inputs .entry)) (length (now (results .entry))) ⌝ }
+    ensures results { λ _. ⌜ now (results .exit) ≡ runResults (ruleAnswer (now (rule .entry))) (now (rule .entry)) (now (inputs .entry)) (now (results .entry)) ⌝ }
+{
+    let a = circuit::read_rule(rule);
+    if a.number != 0 {
+        return a;
+    }
+    let row = inputs_refusal(rule, inputs, results.len());
+    if row != 0 {
+        return answers::refused(row, 0);
+    }
+    run_checked(rule, inputs, results);
+    a
 }

@@ -6,9 +6,6 @@ use borrow.Author.Needs.{needs}
 use Rattle.circuit.proofs.read_rule.Statement.{statement}
 use Rattle.circuit.proofs.read_rule.Tie as tie
 
-read-rule-requires : tie.Need-read-rule-requires
-read-rule-requires c κs = search needs
-
 returns : tie.Need-returns
 returns c = answer-refused (now (c .before .before .before .before .args .rule)) (c .before .before .read-rule .result) (c .before .before .read-rule .ensures) (c .if1 .taken)
 
@@ -16,17 +13,17 @@ make-rule-requires : tie.Need-make-rule-requires
 make-rule-requires c κs = answer-read (now (c .before .before .before .before .before .before .args .rule)) (c .before .before .before .before .read-rule .result) (c .before .before .before .before .read-rule .ensures) (c .before .before .if1 .left)
 
 whole-requires : tie.Need-whole-requires
-whole-requires c κs = 
+whole-requires c κs =
     let s = now (c .before .before .before .before .before .before .before .before .before .args .rule) in
     let read = answer-read s (c .before .before .before .before .before .before .before .read-rule .result) (c .before .before .before .before .before .before .before .read-rule .ensures) (c .before .before .before .before .before .if1 .left) in
     made-earlier s _ _ _ read (c .before .before .make-rule .ensures)
 
 returns-2 : tie.Need-returns-2
-returns-2 c = 
+returns-2 c =
     let s = now (c .before .before .before .before .before .before .before .before .before .before .args .rule) in
     let read = answer-read s (c .before .before .before .before .before .before .before .before .read-rule .result) (c .before .before .before .before .before .before .before .before .read-rule .ensures) (c .before .before .before .before .before .before .if1 .left) in
     c .whole .ensures .0 ∙ made-whole s _ _ _ read (c .before .before .before .make-rule .ensures) _ ∙ sym (answer-whole s read)
 
 pub read-rule-spec : {M : Type 1} → statement M
 read-rule-spec =
-    tie.close (tie.spec read-rule-requires returns make-rule-requires whole-requires returns-2)
+    tie.close (tie.spec (λ c κs. search needs) returns make-rule-requires whole-requires returns-2)

@@ -1,106 +1,94 @@
+use native.Mathlib.Omega.{arith}
+use mathlib.Core.Path.{ap, sym, _∙_}
+use lib.ListN.{length-take, length-drop, length-replicate}
+use denote.Ref.{now}
+use Rattle.answers.specs.declared.Answer.{Answer}
+use Rattle.reading.specs.FirstStatement.{rule-read}
+use Rattle.circuit.specs.WholeLaws.{answer-refused, answer-read, answer-whole, accepted}
+use Rattle.circuit.specs.MakingLaws.{made-earlier, made-whole}
+use Rattle.circuit.specs.ShownLaws.{shown-nothing, ready-room, ready-passable, ready-wanted, ready-rows, ready-needs}
 use borrow.Author.Needs.{needs}
 use Rattle.circuit.proofs.show.Statement.{statement}
 use Rattle.circuit.proofs.show.Tie as tie
-use Rattle.circuit.proofs.show.Reads as reads
-use Rattle.circuit.proofs.show.Lts as lts
-use Rattle.circuit.proofs.nothing.Reads as nothing-reads
-use Rattle.circuit.proofs.whole.Reads as whole-reads
-use Rattle.making.proofs.make_rule.Reads as make-rule-reads
-use Rattle.needed.proofs.find_needed.Reads as find-needed-reads
-use Rattle.reading.proofs.read_rule.Reads as read-rule-reads
-use Rattle.words.proofs.copy32.Reads as copy32-reads
 
--- src/lib.rt:80:9
-read-rule-requires : tie.Need-read-rule-requires
-read-rule-requires c κs = search needs
-
--- src/lib.rt:82:9
-nothing-requires : tie.Need-nothing-requires
-nothing-requires c κs = search needs
-
--- src/lib.rt:82:9
 returns : tie.Need-returns
-returns c = ?
+returns c = let s = now (c .before .before .before .before .before .args .rule) in shown-nothing s (c .before .before .before .read-rule .result) _ _ _ (answer-refused s (c .before .before .before .read-rule .result) (c .before .before .before .read-rule .ensures) (c .before .if1 .taken)) (c .before .if1 .taken) (c .nothing .ensures)
 
--- src/lib.rt:87:9
 make-rule-requires : tie.Need-make-rule-requires
-make-rule-requires c κs = ?
+make-rule-requires c κs = let s = now (c .before .before .before .before .before .before .args .rule) in answer-read s (c .before .before .before .before .read-rule .result) (c .before .before .before .before .read-rule .ensures) (c .before .before .if1 .left)
 
--- src/lib.rt:88:9
 whole-requires : tie.Need-whole-requires
-whole-requires c κs = ?
+whole-requires c κs =
+    let s = now (c .before .before .before .before .before .before .before .before .before .args .rule) in
+    let read = answer-read s (c .before .before .before .before .before .before .before .read-rule .result) (c .before .before .before .before .before .before .before .read-rule .ensures) (c .before .before .before .before .before .if1 .left) in
+    made-earlier s _ _ _ read (c .before .before .make-rule .ensures)
 
--- src/lib.rt:90:9
-nothing-requires-2 : tie.Need-nothing-requires-2
-nothing-requires-2 c κs = search needs
-
--- src/lib.rt:90:9
 returns-2 : tie.Need-returns-2
-returns-2 c = ?
+returns-2 c =
+    let s = now (c .before .before .before .before .before .before .before .before .before .before .before .before .before .args .rule) in
+    let read = answer-read s (c .before .before .before .before .before .before .before .before .before .before .before .read-rule .result) (c .before .before .before .before .before .before .before .before .before .before .before .read-rule .ensures) (c .before .before .before .before .before .before .before .before .before .if1 .left) in
+    shown-nothing s (c .before .before .before .whole .result) _ _ _ (c .before .before .before .whole .ensures .0 ∙ made-whole s _ _ _ read (c .before .before .before .before .before .before .make-rule .ensures) _ ∙ sym (answer-whole s read)) (c .before .if2 .taken) (c .nothing2 .ensures)
 
--- src/lib.rt:92:13
-cast-n : tie.Need-cast-n
-cast-n c = search needs
-
--- src/lib.rt:93:13
 shared-slice-read-v : tie.Need-shared-slice-read-v
-shared-slice-read-v c = ?
+shared-slice-read-v c =
+    let s = now (c .before .before .before .before .before .before .before .before .before .before .before .before .before .args .rule) in
+    let read = answer-read s (c .before .before .before .before .before .before .before .before .before .before .before .read-rule .result) (c .before .before .before .before .before .before .before .before .before .before .before .read-rule .ensures) (c .before .before .before .before .before .before .before .before .before .if1 .left) in
+    omega (arith, rule-read s read .header .kinds)
 
--- src/lib.rt:93:13
 cast-v : tie.Need-cast-v
-cast-v c = ?
+cast-v c = omega (arith, c .shared-slice-known2 .given 5)
 
--- src/lib.rt:96:5
 find-needed-requires : tie.Need-find-needed-requires
-find-needed-requires c κs = ?
+find-needed-requires c κs =
+    let s = now (c .before .before .before .before .before .before .before .before .before .before .before .before .before .before .before .before .before .args .rule) in
+    let read = answer-read s (c .before .before .before .before .before .before .before .before .before .before .before .before .before .before .before .read-rule .result) (c .before .before .before .before .before .before .before .before .before .before .before .before .before .before .before .read-rule .ensures) (c .before .before .before .before .before .before .before .before .before .before .before .before .before .if1 .left) in
+    let e = c .before .before .before .before .before .before .before .whole .ensures .0 ∙ made-whole s _ _ _ read (c .before .before .before .before .before .before .before .before .before .before .make-rule .ensures) _ ∙ sym (answer-whole s read) in
+    let acc = accepted s (ap (λ (b : Answer). b .number) (sym e) ∙ c .before .before .before .before .before .if2 .left) in
+    (ready-passable s _ _ _ _ acc (c .before .before .before .before .before .before .before .before .before .before .make-rule .ensures) (c .before .before .before .before .before .before .before .whole .ensures .1), (rule-read s read .header .few, ready-wanted s _ _ _ _ acc (c .before .before .before .before .before .before .before .before .before .before .make-rule .ensures) (c .before .before .before .before .before .before .before .whole .ensures .1)))
 
--- src/lib.rt:97:28
-mul-copy32 : tie.Need-mul-copy32
-mul-copy32 c = search needs
-
--- src/lib.rt:97:19
-sub-copy32 : tie.Need-sub-copy32
-sub-copy32 c = search needs
-
--- src/lib.rt:97:19
-part-copy32-start : tie.Need-part-copy32-start
-part-copy32-start c = search needs
-
--- src/lib.rt:97:19
 part-copy32-end : tie.Need-part-copy32-end
-part-copy32-end c = ?
+part-copy32-end c =
+    let s = now (c .before .before .before .before .before .before .before .before .before .before .before .before .before .before .before .before .before .before .before .args .rule) in
+    let read = answer-read s (c .before .before .before .before .before .before .before .before .before .before .before .before .before .before .before .before .before .read-rule .result) (c .before .before .before .before .before .before .before .before .before .before .before .before .before .before .before .before .before .read-rule .ensures) (c .before .before .before .before .before .before .before .before .before .before .before .before .before .before .before .if1 .left) in
+    let e = c .before .before .before .before .before .before .before .before .before .whole .ensures .0 ∙ made-whole s _ _ _ read (c .before .before .before .before .before .before .before .before .before .before .before .before .make-rule .ensures) _ ∙ sym (answer-whole s read) in
+    let acc = accepted s (ap (λ (b : Answer). b .number) (sym e) ∙ c .before .before .before .before .before .before .before .if2 .left) in
+    omega (arith, c .before .before .before .before .before .before .before .before .before .before .before .before .make-rule .ensures .wide, ready-room s _ _ _ _ acc (c .before .before .before .before .before .before .before .before .before .before .before .before .make-rule .ensures) (c .before .before .before .before .before .before .before .before .before .whole .ensures .1))
 
--- src/lib.rt:97:36
-slice-aggregate-copy32 : tie.Need-slice-aggregate-copy32
-slice-aggregate-copy32 c = search needs
-
--- src/lib.rt:97:5
 copy32-requires : tie.Need-copy32-requires
-copy32-requires c κs = ?
+copy32-requires c κs =
+    let s = now (c .before .before .before .before .before .before .before .before .before .before .before .before .before .before .before .before .before .before .before .before .before .args .rule) in
+    let read = answer-read s (c .before .before .before .before .before .before .before .before .before .before .before .before .before .before .before .before .before .before .before .read-rule .result) (c .before .before .before .before .before .before .before .before .before .before .before .before .before .before .before .before .before .before .before .read-rule .ensures) (c .before .before .before .before .before .before .before .before .before .before .before .before .before .before .before .before .before .if1 .left) in
+    let e = c .before .before .before .before .before .before .before .before .before .before .before .whole .ensures .0 ∙ made-whole s _ _ _ read (c .before .before .before .before .before .before .before .before .before .before .before .before .before .before .make-rule .ensures) _ ∙ sym (answer-whole s read) in
+    let acc = accepted s (ap (λ (b : Answer). b .number) (sym e) ∙ c .before .before .before .before .before .before .before .before .before .if2 .left) in
+    simp (length-take, length-drop, length-replicate) (omega (arith, ready-room s _ _ _ _ acc (c .before .before .before .before .before .before .before .before .before .before .before .before .before .before .make-rule .ensures) (c .before .before .before .before .before .before .before .before .before .before .before .whole .ensures .1)))
 
--- src/lib.rt:75:1
 returns-3 : tie.Need-returns-3
-returns-3 c = ?
+returns-3 c =
+    let s = now (c .before .before .before .before .before .before .before .before .before .before .before .before .before .before .before .before .before .before .before .before .before .before .before .args .rule) in
+    let read = answer-read s (c .before .before .before .before .before .before .before .before .before .before .before .before .before .before .before .before .before .before .before .before .before .read-rule .result) (c .before .before .before .before .before .before .before .before .before .before .before .before .before .before .before .before .before .before .before .before .before .read-rule .ensures) (c .before .before .before .before .before .before .before .before .before .before .before .before .before .before .before .before .before .before .before .if1 .left) in
+    let e = c .before .before .before .before .before .before .before .before .before .before .before .before .before .whole .ensures .0 ∙ made-whole s _ _ _ read (c .before .before .before .before .before .before .before .before .before .before .before .before .before .before .before .before .make-rule .ensures) _ ∙ sym (answer-whole s read) in
+    let acc = accepted s (ap (λ (b : Answer). b .number) (sym e) ∙ c .before .before .before .before .before .before .before .before .before .before .before .if2 .left) in
+    (e, (ready-rows s _ _ _ _ acc (c .before .before .before .before .before .before .before .before .before .before .before .before .before .before .before .before .make-rule .ensures) (c .before .before .before .before .before .before .before .before .before .before .before .before .before .whole .ensures .1) _ (c .before .copy32 .ensures), ready-needs s _ _ _ _ acc (c .before .before .before .before .before .before .before .before .before .before .before .before .before .before .before .before .make-rule .ensures) (c .before .before .before .before .before .before .before .before .before .before .before .before .before .whole .ensures .1) _ (c .before .before .before .before .before .find-needed .ensures)))
 
 pub show-spec : {M : Type 1} → statement M
 show-spec =
     tie.close
     (tie.spec
-    read-rule-requires
-    nothing-requires
+    (λ c κs. search needs)
+    (λ c κs. search needs)
     returns
     make-rule-requires
     whole-requires
-    nothing-requires-2
+    (λ c κs. search needs)
     returns-2
-    cast-n
+    (λ c. search needs)
     shared-slice-read-v
     cast-v
     find-needed-requires
-    mul-copy32
-    sub-copy32
-    part-copy32-start
+    (λ c. search needs)
+    (λ c. search needs)
+    (λ c. search needs)
     part-copy32-end
-    slice-aggregate-copy32
+    (λ c. search needs)
     copy32-requires
     returns-3)

@@ -5,23 +5,14 @@ use borrow.Author.Needs.{needs}
 use Rattle.circuit.proofs.whole.Statement.{statement}
 use Rattle.circuit.proofs.whole.Tie as tie
 
-refused-requires : tie.Need-refused-requires
-refused-requires c κs = search needs
-
 returns : tie.Need-returns
 returns c = (c .refused .ensures ∙ sym (whole-over _ _ _ (c .before .if1 .taken)), λ h. absurd (omega arith))
 
 number-conditions-requires : tie.Need-number-conditions-requires
 number-conditions-requires c κs = (c .before .if1 .left, c .before .before .pre (c .before .if1 .left))
 
-refused-requires-2 : tie.Need-refused-requires-2
-refused-requires-2 c κs = search needs
-
 returns-2 : tie.Need-returns-2
 returns-2 c = (c .refused2 .ensures ∙ sym (whole-eleven _ _ _ _ (c .before .before .before .before .if1 .left) (c .before .before .number-conditions .ensures .0) (c .before .if2 .taken)), λ h. c .before .before .number-conditions .ensures .1)
-
-cost-requires : tie.Need-cost-requires
-cost-requires c κs = search needs
 
 returns-3 : tie.Need-returns-3
 returns-3 c = (sym (whole-taken _ _ _ _ _ (c .before .before .before .before .if1 .left) (c .before .before .number-conditions .ensures .0) (c .before .if2 .left) (c .cost .ensures)), λ h. c .before .before .number-conditions .ensures .1)
@@ -30,10 +21,10 @@ pub whole-spec : {M : Type 1} → statement M
 whole-spec =
     tie.close
     (tie.spec
-    refused-requires
+    (λ c κs. search needs)
     returns
     number-conditions-requires
-    refused-requires-2
+    (λ c κs. search needs)
     returns-2
-    cost-requires
+    (λ c κs. search needs)
     returns-3)
