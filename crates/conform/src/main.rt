@@ -17,6 +17,10 @@ fn number(n: u64) {
     io::print_decimal(STDOUT_FILENO, n);
 }
 
+fn wide(x: u32) -> u64 {
+    x as u64
+}
+
 fn spaced(n: usize) {
     print(b" ");
     number(n as u64);
@@ -39,13 +43,16 @@ fn fill(buf: &mut [u8]) -> bool {
     io::read_full(STDIN_FILENO, buf) == n
 }
 
-// A length and so many bytes; one more than the buffer has, where the stream ended before.
-fn read_field(buf: &mut [u8; 65535]) -> usize {
+// A length and so many bytes; 65536, more than any buffer here has, where the stream ended before.
+fn read_field(buf: &mut [u8]) -> usize {
     let mut size = [0u8; 2];
     if !fill(&mut size) {
         return 65536;
     }
     let n = words::read16(&size, 0) as usize;
+    if buf.len() < n {
+        return 65536;
+    }
     if fill(&mut buf[0..n]) {
         return n;
     }
@@ -59,21 +66,27 @@ fn word_at(bytes: &[u8; 1020], i: usize) -> u32
     words::read32(bytes, 4 * i)
 }
 
-fn take_words(bytes: &[u8; 1020], inputs: &mut [u32; 255]) {
+fn take_words(bytes: &[u8; 1020], inputs: &mut [u32]) {
     let mut i: usize = 0;
-    while i < 255 {
+    while i < 255 && i < inputs.len() {
         inputs[i] = word_at(bytes, i);
         i += 1;
     }
 }
 
+fn small(x: u8) -> usize
+    ensures { λ r. ⌜ r < 256 ⌝ }
+{
+    x as usize
+}
+
 // A count and so many words; 256 where the stream ended before.
-fn read_inputs(inputs: &mut [u32; 255]) -> usize {
+fn read_inputs(inputs: &mut [u32]) -> usize {
     let mut count = [0u8; 1];
     if !fill(&mut count) {
         return 256;
     }
-    let n = count[0] as usize;
+    let n = small(count[0]);
     let mut bytes = [0u8; 1020];
     if !fill(&mut bytes[0..4 * n]) {
         return 256;
@@ -87,7 +100,7 @@ fn print_words(results: &[u32]) {
     let mut i: usize = 0;
     while i < results.len() {
         print(b" ");
-        number(results[i] as u64);
+        number(wide(results[i]));
         i += 1;
     }
 }
@@ -98,8 +111,8 @@ fn digit(d: u8) -> u8
     if d < 10 { 48 + d } else { 55 + d }
 }
 
-// A number as capital hexadecimal digits, so many of them.
-fn print_hex(n: u64, width: usize)
+// The capital hexadecimal digits of a number, so many of them.
+fn spell(n: u64, width: usize) -> [u8; 16]
     requires { ⌜ width ≤ 16 ⌝ }
 {
     let mut text = [48u8; 16];
@@ -110,6 +123,13 @@ fn print_hex(n: u64, width: usize)
         text[at] = digit((rest % 16) as u8);
         rest = rest / 16;
     }
+    text
+}
+
+fn print_hex(n: u64, width: usize)
+    requires { ⌜ width ≤ 16 ⌝ }
+{
+    let text = spell(n, width);
     print(&text[0..width]);
 }
 
@@ -118,13 +138,13 @@ fn print_gate(rows: &[u32; 1024], needs: &[u64; 256], g: usize)
     requires { ⌜ g < 256 ⌝ }
 {
     print(b" ");
-    print_hex(rows[4 * g] as u64, 2);
+    print_hex(wide(rows[4 * g]), 2);
     print(b".");
-    number(rows[4 * g + 1] as u64);
+    number(wide(rows[4 * g + 1]));
     print(b".");
-    number(rows[4 * g + 2] as u64);
+    number(wide(rows[4 * g + 2]));
     print(b".");
-    number(rows[4 * g + 3] as u64);
+    number(wide(rows[4 * g + 3]));
     print(b".");
     print_hex(needs[g], 16);
 }
@@ -140,19 +160,17 @@ fn print_gates(rows: &[u32; 1024], needs: &[u64; 256], count: usize) {
     }
 }
 
-fn direct_line(rule: &[u8], inputs: &[u32], room: usize)
-    requires { ⌜ room ≤ 65535 ⌝ }
-{
-    let mut results = [UNTOUCHED; 65535];
-    let a = direct::run(rule, inputs, &mut results[0..room]);
+fn direct_line(rule: &[u8], inputs: &[u32], results: &mut [u32]) {
+    let a = direct::run(rule, inputs, results);
     print_answer(a);
-    print_words(&results[0..room]);
+    print_words(results);
 }
 
 fn circuit_line(rule: &[u8]) {
-    let mut rows = [0u32; 1024];
-    let mut needs = [0u64; 256];
-    let a = circuit::show(rule, &mut rows, &mut needs);
+    let shown = circuit::show(rule);
+    let a = shown.answer;
+    let rows = shown.rows;
+    let needs = shown.needs;
     print_answer(a);
     print_gates(&rows, &needs, a.gates);
 }
@@ -163,7 +181,10 @@ fn work(operation: u8, room: usize, rule: &[u8], inputs: &[u32]) -> bool
 {
     match operation {
         1 => print_answer(circuit::read_rule(rule)),
-        2 => direct_line(rule, inputs, room),
+        2 => {
+            let mut results = [UNTOUCHED; 65535];
+            direct_line(rule, inputs, &mut results[0..room]);
+        }
         6 => circuit_line(rule),
         _ => {
             return false;
