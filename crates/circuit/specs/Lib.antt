@@ -4,3 +4,4 @@ pub mod Shown
 pub mod WholeLaws
 pub mod MakingLaws
 pub mod ShownLaws
+pub mod Examples

@@ -14,6 +14,9 @@ use Rattle.reading.specs.Blocks.{readAssign, branchWith, statementWith, blockWi
 use Rattle.reading.specs.Rule.{readRule}
 use Rattle.reading.specs.Examples.{r1}
 use Rattle.gates.specs.Running.{figureOf, runStatement, runBlock, runRule}
+use Rattle.gates.specs.Gates.{costs, conditions}
+use Rattle.gates.specs.PlainCircuit.{applyGate, makeExpr, assignsIn, assigns, choices, makeStatement, makeBlock, plainCircuit}
+use Rattle.circuit.specs.Whole.{wholeWithin, ruleAnswer}
 use Rattle.direct.specs.Inputs.{someAbove, inputRow}
 use Rattle.direct.specs.Direct.{runAnswer, runResults}
 
@@ -28,14 +31,14 @@ example-2-rows : inputRow r1 (1 ∷ 6 ∷ 7 ∷ []) 3 ∷ inputRow r1 (0 ∷ 6 �
 unfolding kindOf someAbove inputRow
 example-2-rows = refl
 
--- the places of the results, one more than are needed, with the answer of R1 as an accepted rule: 6 gates, 33 before
-example-2-run : runResults (success 6 0 0 33 0) r1 (1 ∷ 6 ∷ 7 ∷ []) (9 ∷ 9 ∷ 9 ∷ 9 ∷ []) ∷ runResults (success 6 0 0 33 0) r1 (2 ∷ 6 ∷ 7 ∷ []) (9 ∷ 9 ∷ 9 ∷ 9 ∷ []) ∷ []
+-- the places of the results, one more than are needed
+example-2-run : runResults (ruleAnswer r1) r1 (1 ∷ 6 ∷ 7 ∷ []) (9 ∷ 9 ∷ 9 ∷ 9 ∷ []) ∷ runResults (ruleAnswer r1) r1 (2 ∷ 6 ∷ 7 ∷ []) (9 ∷ 9 ∷ 9 ∷ 9 ∷ []) ∷ []
     ≡ (1 ∷ 42 ∷ 7 ∷ 9 ∷ []) ∷ (9 ∷ 9 ∷ 9 ∷ 9 ∷ []) ∷ []
-unfolding over number kindOf operationOf codeOf resultOf readMark readCount readKinds readHeader readVariable readWord readBit operationWith exprWith readExpr readAssign branchWith statementWith blockWith blockFuel readBlock readRule figureOf runStatement runBlock someAbove inputRow runRule runAnswer runResults
+unfolding over number kindOf operationOf codeOf resultOf readMark readCount readKinds readHeader readVariable readWord readBit operationWith exprWith readExpr readAssign branchWith statementWith blockWith blockFuel readBlock readRule figureOf runStatement runBlock someAbove inputRow runRule runAnswer runResults applyGate makeExpr assignsIn assigns choices makeStatement makeBlock plainCircuit costs conditions wholeWithin ruleAnswer
 example-2-run = refl
 
-example-2-answer : runAnswer (success 6 0 0 33 0) r1 (1 ∷ 6 ∷ 7 ∷ []) 4 ∷ runAnswer (success 6 0 0 33 0) r1 (2 ∷ 6 ∷ 7 ∷ []) 4 ∷ [] ≡ success 6 0 0 33 0 ∷ refusal 41 0 ∷ []
-unfolding kindOf someAbove inputRow runAnswer
+example-2-answer : runAnswer (ruleAnswer r1) r1 (1 ∷ 6 ∷ 7 ∷ []) 4 ∷ runAnswer (ruleAnswer r1) r1 (2 ∷ 6 ∷ 7 ∷ []) 4 ∷ [] ≡ success 6 0 0 33 0 ∷ refusal 41 0 ∷ []
+unfolding number kindOf operationOf codeOf readMark readCount readKinds readHeader readVariable readWord readBit operationWith exprWith readExpr readAssign branchWith statementWith blockWith blockFuel readBlock readRule applyGate makeExpr assignsIn assigns choices makeStatement makeBlock plainCircuit costs conditions wholeWithin ruleAnswer someAbove inputRow runAnswer
 example-2-answer = refl
 
 -- three words: v2 := v0, the operation's code, v1
