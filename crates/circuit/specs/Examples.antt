@@ -1,7 +1,6 @@
 -- Document 01, "Examples": what reading a rule answers, computed from the definitions.
-use Prim.Native.Nat.{ℕ}
 use mathlib.Core.Path.{_≡_, refl}
-use mathlib.Core.List.{List, [], _∷_, map}
+use mathlib.Core.List.{[], _∷_, map}
 use Rattle.words.specs.Numbers.{number}
 use Rattle.codes.specs.Codes.{kindOf, operationOf, codeOf}
 use Rattle.answers.specs.Answers.{success, refusal}

@@ -1,9 +1,8 @@
 -- Laws of a rule's gates in rows, once they are made. Assumes nothing.
-use Prim.Native.Nat.{ℕ, _+_, _*_, _<_, _≤_}
+use Prim.Native.Nat.{ℕ, _*_, _<_, _≤_}
 use native.Mathlib.Omega.{arith}
-use mathlib.Core.Path.{_≡_, refl, sym, ap, subst⁻¹, _∙_}
+use mathlib.Core.Path.{_≡_, sym, ap, subst⁻¹, _∙_}
 use mathlib.Core.List.{List}
-use mathlib.Core.Logic.{_⊎_, inl, inr}
 use lib.ListN.{length, take}
 use lib.Dec.{leb}
 use borrow.Author.Tests.{le-leb, lt-leb, leb-true, leb-false}
@@ -13,8 +12,7 @@ use Rattle.answers.specs.ParsingLaws.{IsRead, is-read}
 use Rattle.reading.specs.Rule.{readRule}
 use Rattle.gates.specs.Limits.{mostGates, mostConditions}
 use Rattle.gates.specs.Gates.{Gates, Earlier, costs, conditions}
-use Rattle.gates.specs.PlainCircuit.{gatesOf, outputsOf}
-use Rattle.gates.specs.Rows.{rowsOf}
+use Rattle.gates.specs.PlainCircuit.{gatesOf}
 use Rattle.gates.specs.StartLaws.{plain-sound}
 use Rattle.making.specs.RuleMade.{RuleMade}
 use Rattle.needed.specs.Held.{gatesIn}

@@ -78,7 +78,7 @@ unfolding IsRow
 table-row op o true e = let q : Apply o ≡ Apply op = sym (row-form o) ∙ e in let r : o ≡ op = cc in ap rowOf r
 table-row op o false e = let z : _≡_ {A = ℕ} 0 1 = cc in absurd (omega arith)
 
-pub form-row : (b : ℕ) (op : Operation) → codeOf b .form ≡ Apply op → codeOf b ≡ rowOf op
+form-row : (b : ℕ) (op : Operation) → codeOf b .form ≡ Apply op → codeOf b ≡ rowOf op
 unfolding codeOf IsRow
 form-row b op =
     plain-row op (eqb b 0x00) End kind.Word _ (λ e. let z : _≡_ {A = ℕ} 0 1 = cc in omega arith)
@@ -89,3 +89,7 @@ form-row b op =
     (plain-row op (eqb b 0x11) Word kind.Word _ (λ e. let z : _≡_ {A = ℕ} 0 1 = cc in omega arith)
     (plain-row op (eqb b 0x12) Bit kind.Bit _ (λ e. let z : _≡_ {A = ℕ} 0 1 = cc in omega arith)
     (table-row op (operationOf b) (leb 0x20 b && leb b 0x27))))))))
+
+-- so is a code that equals it
+pub code-row : (b : ℕ) (c : Code) (op : Operation) → c ≡ codeOf b → c .form ≡ Apply op → c ≡ rowOf op
+code-row b c op e q = e ∙ form-row b op (ap (λ (x : Code). x .form) (sym e) ∙ q)

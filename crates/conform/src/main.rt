@@ -4,7 +4,6 @@ use answers::Answer;
 use libc::STDIN_FILENO;
 use libc::STDOUT_FILENO;
 ghost use Prim.Native.Nat.{_≤_, _<_};
-ghost use lib.ListN.{length};
 
 // What every result place holds before the call, so that an untouched one shows.
 const UNTOUCHED: u32 = 3735928559;

@@ -5,7 +5,7 @@ use mathlib.Core.List.{List}
 use lib.ListN.{getD}
 use Rattle.words.specs.Numbers.{numberAt}
 use Rattle.codes.specs.Codes.{codeOf, rowOf}
-use Rattle.codes.specs.CodeLaws.{form-row}
+use Rattle.codes.specs.CodeLaws.{code-row}
 use Rattle.codes.specs.Results.{resultOf}
 use Rattle.codes.specs.declared.Kind.{Kind}
 use Rattle.codes.specs.declared.Operation.{Operation}
@@ -46,7 +46,7 @@ module _ (f : List ℕ) (deep : ℕ) (s : List ℕ) (want : Kind) (at : ℕ) (h 
     argument = readExpr (deep - 1) s
 
     row : c ≡ rowOf op
-    row = e ∙ form-row (getD s at 0) op (ap (λ (x : Code). x .form) (sym e) ∙ q)
+    row = code-row (getD s at 0) c op e q
 
     whole : readExpr deep s want at ≡ argumentsWith argument op (at + 1)
     whole = as-operation deep s want at h c e op q .is

@@ -1,14 +1,13 @@
 -- Document 01, "The rule file", a direct run: laws of what it writes. Figures past the V variables change nothing, and the first V of them are the results. Assumes nothing.
-use Prim.Native.Nat.{ℕ, _+_, _-_, _≤_, _<_}
-use native.Mathlib.Numerals.{add-one}
+use Prim.Native.Nat.{ℕ, _+_, _-_, _≤_}
 use native.Mathlib.Omega.{arith}
 use mathlib.Core.Path.{_≡_, refl, sym, ap, _∙_}
 use mathlib.Core.List.{List, _++_}
-use lib.ListN.{length, getD, set, take, drop, List·getD-append}
-use lib.Seq.{length-take-le, take-suc, take-all, take-at, set-append-left}
+use lib.ListN.{length, set, take, drop, List·getD-append}
+use lib.Seq.{take-at, set-append-left}
 use Rattle.words.specs.Lists.{split}
 use Rattle.words.specs.Buffers.{over}
-use Rattle.words.specs.BufferLaws.{over-snoc, length-over}
+use Rattle.words.specs.BufferLaws.{length-over}
 use Rattle.codes.specs.Results.{resultOf}
 use Rattle.codes.specs.declared.Kind.{Kind}
 use Rattle.answers.specs.Parsing.{Parsed, parsed}

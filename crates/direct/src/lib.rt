@@ -19,13 +19,13 @@ ghost use Rattle.direct.specs.Inputs.{inputRow};
 ghost use Rattle.direct.specs.Direct.{runAnswer, runResults};
 
 // An expression's figure, and the place after the expression.
-pub struct Value {
+struct Value {
     pub figure: u32,
     pub next: usize,
 }
 
 // The figure of the expression at `at`, of the kind wanted, worked out from the variables' figures.
-pub fn run_expr(s: &[u8], at: usize, want: Kind, deep: u8, figures: &[u32; 32]) -> Value
+fn run_expr(s: &[u8], at: usize, want: Kind, deep: u8, figures: &[u32; 32]) -> Value
     requires { ⌜ Headed (now s) × IsRead (readExpr deep (now s) want at) ⌝ }
     ensures { λ r. ⌜ WorkedOut (now (figures .entry)) (readExpr deep (now (s .entry)) want at) r ⌝ }
 {
@@ -139,7 +139,7 @@ fn run_statement(s: &[u8], at: usize, nest: u8, figures: &mut [u32; 32]) -> usiz
 }
 
 // The block at `at`: its statements in file order. A loop over them, so that only nesting takes stack.
-pub fn run_block(s: &[u8], at: usize, nest: u8, figures: &mut [u32; 32]) -> usize
+fn run_block(s: &[u8], at: usize, nest: u8, figures: &mut [u32; 32]) -> usize
     requires { ⌜ Headed (now s) × IsRead (readBlock (now s) nest at) ⌝ }
     ensures { λ r. ⌜ Ran runBlock (readBlock (now (s .entry)) nest at) (now (figures .entry)) r (now (figures .exit)) ⌝ }
 {
@@ -151,7 +151,7 @@ pub fn run_block(s: &[u8], at: usize, nest: u8, figures: &mut [u32; 32]) -> usiz
 }
 
 // The run of an accepted rule on V inputs: every variable's figure at its end into the first V results.
-pub fn run_checked(rule: &[u8], inputs: &[u32], results: &mut [u32])
+fn run_checked(rule: &[u8], inputs: &[u32], results: &mut [u32])
     requires { ⌜
         IsRead (readRule (now rule))
         × (length (now inputs) ≡ variables (now rule))
@@ -167,7 +167,7 @@ pub fn run_checked(rule: &[u8], inputs: &[u32], results: &mut [u32])
 }
 
 // Rows 40 to 42 of the inputs, the lowest first; 0 when none of them applies. `room` is how many results there is place for.
-pub fn inputs_refusal(rule: &[u8], inputs: &[u32], room: usize) -> u8
+fn inputs_refusal(rule: &[u8], inputs: &[u32], room: usize) -> u8
     requires { ⌜ HasKinds (now rule) ⌝ }
     ensures { λ r. ⌜ r ≡ inputRow (now (rule .entry)) (now (inputs .entry)) room ⌝ }
 {

@@ -18,7 +18,7 @@ use Rattle.reading.specs.Tree.{Statement, Block, end, then}
 use Rattle.reading.specs.Blocks.{readBlock, readStatement}
 use Rattle.reading.specs.Rule.{readRule}
 use Rattle.reading.specs.FirstStatement as read
-use Rattle.gates.specs.PlainCircuit.{Making, assignsIn, assigns, makeStatement, makeBlock, starts, plainCircuit, gatesOf, outputsOf}
+use Rattle.gates.specs.PlainCircuit.{Making, assignsIn, assigns, makeStatement, makeBlock, starts, plainCircuit}
 use Rattle.gates.specs.StartLaws.{read-plain, plain-sound}
 use Rattle.gates.specs.Rows.{rowsOf}
 use Rattle.making.specs.RuleMade.{RuleMade}

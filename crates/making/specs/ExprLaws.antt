@@ -5,7 +5,7 @@ use mathlib.Core.Path.{_≡_, refl, sym, ap, subst, subst⁻¹, _∙_}
 use mathlib.Core.List.{List, [], _∷_, _++_}
 use lib.ListN.{length, getD, length-append}
 use Rattle.codes.specs.Codes.{codeOf, rowOf}
-use Rattle.codes.specs.CodeLaws.{form-row}
+use Rattle.codes.specs.CodeLaws.{code-row}
 use Rattle.codes.specs.declared.Kind.{Kind}
 use Rattle.codes.specs.declared.Operation.{Operation}
 use Rattle.codes.specs.declared.Code.{Code}
@@ -116,7 +116,7 @@ module _ (s : List ℕ) (m : Parsed Expr) (present rows : List ℕ) (count : ℕ
 -- by the code c that stands there, an operation's
 module _ (deep : ℕ) (s : List ℕ) (want : Kind) (at : ℕ) (h : IsRead (readExpr deep s want at)) (c : Code) (e : c ≡ codeOf (getD s at 0)) (op : Operation) (q : c .form ≡ Apply op) where
   is-row : c ≡ rowOf op
-  is-row = e ∙ form-row (getD s at 0) op (ap (λ (x : Code). x .form) (sym e) ∙ q)
+  is-row = code-row (getD s at 0) c op e q
 
   opened : read.OperationRead deep s op want at (readExpr deep s want at)
   opened = read.as-operation deep s want at h c e op q

@@ -5,7 +5,7 @@ use codes::Operation;
 ghost use mathlib.Core.Path.{_≡_};
 ghost use mathlib.Core.List.{[], _∷_};
 ghost use Prim.Native.Nat.{_+_, _*_, _^_, _≤_, _<_};
-ghost use lib.ListN.{length, take};
+ghost use lib.ListN.{length};
 ghost use Rattle.answers.specs.ParsingLaws.{IsRead};
 ghost use Rattle.reading.specs.Header.{variables};
 ghost use Rattle.reading.specs.RuleLaws.{Headed};
@@ -14,8 +14,8 @@ ghost use Rattle.reading.specs.Blocks.{readAssign, branchWith, readStatement, r
 ghost use Rattle.reading.specs.Rule.{readRule};
 ghost use Rattle.settings.specs.Sets.{has};
 ghost use Rattle.gates.specs.Gates.{choice};
-ghost use Rattle.gates.specs.PlainCircuit.{applyGate, assignsIn, assigns, makeStatement, makeBlock, starts, gatesOf, outputsOf};
-ghost use Rattle.gates.specs.Rows.{startCode, byteOf, rowsOf};
+ghost use Rattle.gates.specs.PlainCircuit.{applyGate, assignsIn, assigns, makeStatement, makeBlock, starts};
+ghost use Rattle.gates.specs.Rows.{startCode, byteOf};
 ghost use Rattle.making.specs.RuleMade.{RuleMade};
 ghost use Rattle.making.specs.Holding.{Held, Pushed, Applied, ExprMade, Chose, Chosen, Done};
 

@@ -1,6 +1,5 @@
 -- Laws of reading statements and blocks, one for each step of the code. Assumes nothing.
 use Prim.Native.Nat.{ℕ, _+_, _-_, _<_, _≤_}
-use native.Mathlib.Omega.{arith}
 use mathlib.Core.Path.{_≡_, refl, sym, ap, _∙_}
 use mathlib.Core.List.{List}
 use lib.ListN.{length, getD}
@@ -10,7 +9,7 @@ use Rattle.codes.specs.declared.Kind.the-variants as kind
 use Rattle.codes.specs.declared.Code.{Code}
 use Rattle.codes.specs.declared.Form.{Form}
 use Rattle.codes.specs.declared.Form.the-variants.{Branch}
-use Rattle.answers.specs.Parsing.{Parsed, parsed, refused, stepOf}
+use Rattle.answers.specs.Parsing.{refused, stepOf}
 use Rattle.answers.specs.ParsingLaws.{past-then, refused-then, then-parsed, none-left, some-left}
 use Rattle.answers.specs.declared.Step.{Step}
 use Rattle.answers.specs.declared.Step.the-variants.{Past, Refused}

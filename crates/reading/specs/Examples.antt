@@ -2,7 +2,7 @@
 use Prim.Native.Nat.{ℕ, zero, suc}
 use mathlib.Core.Path.{_≡_, refl}
 use mathlib.Core.List.{List, [], _∷_, _++_, map}
-use lib.ListN.{length, set, take, replicate}
+use lib.ListN.{set, take}
 use Rattle.words.specs.Numbers.{number}
 use Rattle.codes.specs.Codes.{kindOf, operationOf, codeOf}
 use Rattle.codes.specs.declared.Operation.the-variants.{Product}

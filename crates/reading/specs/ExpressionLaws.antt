@@ -9,19 +9,19 @@ use lib.ListN.{length, getD}
 use lib.Dec.{ltb, leb, eqb}
 use borrow.Author.Tests.{le-ltb, lt-ltb, eq-eqb, ne-eqb}
 use Rattle.codes.specs.Codes.{codeOf, rowOf, sameKind}
-use Rattle.codes.specs.CodeLaws.{form-row}
+use Rattle.codes.specs.CodeLaws.{code-row}
 use Rattle.codes.specs.declared.Kind.{Kind}
 use Rattle.codes.specs.declared.Kind.the-variants as kind
 use Rattle.codes.specs.declared.Operation.{Operation}
 use Rattle.codes.specs.declared.Code.{Code}
 use Rattle.codes.specs.declared.Form.{Form}
 use Rattle.codes.specs.declared.Form.the-variants.{End, Assign, Skip, Branch, Variable, Word, Bit, Apply, Unknown}
-use Rattle.answers.specs.Parsing.{Parsed, parsed, refused, stepOf, unless, _>>=_}
+use Rattle.answers.specs.Parsing.{Parsed, refused, stepOf}
 use Rattle.answers.specs.ParsingLaws.{past-then, refused-then, then-parsed, none-left, some-left, Forward, forward-unless, forward-later, forward-then}
 use Rattle.answers.specs.declared.Step.{Step}
 use Rattle.answers.specs.declared.Step.the-variants.{Past, Refused}
 use Rattle.reading.specs.Header.{variables, kindAt}
-use Rattle.reading.specs.Tree.{Expr, one, two}
+use Rattle.reading.specs.Tree.{Expr, two}
 use Rattle.reading.specs.Expressions.{readVariable, readWord, readBit, secondWith, argumentsWith, operationWith, exprForm, exprWith, readExpr}
 
 -- what reads an argument, with `deep` levels left for the whole
@@ -68,7 +68,7 @@ module _ (deep : ℕ) (s : List ℕ) (want : Kind) (at : ℕ) where
     -- the code is an operation's
     module _ (op : Operation) (o : c .form ≡ Apply op) where
       is-row : c ≡ rowOf op
-      is-row = e ∙ form-row (getD s at 0) op (ap (λ (x : Code). x .form) (sym e) ∙ o)
+      is-row = code-row (getD s at 0) c op e o
 
       gives : sameKind (c .gives) want ≡ sameKind (rowOf op .gives) want
       gives = ap (λ (x : Code). sameKind (x .gives) want) is-row

@@ -1,12 +1,11 @@
 -- What was read, by its first byte: for the passes that walk the bytes of an accepted rule again. Assumes nothing.
 use Prim.Native.Nat.{ℕ, _+_, _-_, _<_, _≤_}
 use native.Mathlib.Omega.{arith}
-use mathlib.Core.Path.{_≡_, refl, sym, ap, subst, _∙_}
+use mathlib.Core.Path.{_≡_, ap, subst, _∙_}
 use mathlib.Core.List.{List}
-use mathlib.Core.Bool.{Bool, true, false}
 use lib.ListN.{length, getD}
 use lib.Dec.{ltb, leb, eqb}
-use borrow.Author.Tests.{le-ltb, lt-ltb, eq-eqb, ne-eqb, ltb-true, leb-true}
+use borrow.Author.Tests.{eq-eqb, ne-eqb, ltb-true, leb-true}
 use Rattle.words.specs.Numbers.{numberAt}
 use Rattle.codes.specs.Codes.{codeOf, rowOf, sameKind}
 use Rattle.codes.specs.CodeLaws.{same-kind}
@@ -15,16 +14,13 @@ use Rattle.codes.specs.declared.Kind.the-variants as kind
 use Rattle.codes.specs.declared.Operation.{Operation}
 use Rattle.codes.specs.declared.Code.{Code}
 use Rattle.codes.specs.declared.Form.{Form}
-use Rattle.codes.specs.declared.Form.the-variants.{End, Assign, Skip, Branch, Variable, Word, Bit, Apply, Unknown}
-use Rattle.answers.specs.Parsing.{Parsed, parsed, refused, unless, _>>=_}
-use Rattle.answers.specs.ParsingLaws.{IsRead, unless-read, first-read, rest-read, parts-read, read-is, some-left}
-use Rattle.reading.specs.Limits.{deepest}
+use Rattle.codes.specs.declared.Form.the-variants.{Variable, Word, Bit, Apply}
+use Rattle.answers.specs.Parsing.{Parsed, parsed, unless}
+use Rattle.answers.specs.ParsingLaws.{IsRead, unless-read, first-read, rest-read}
 use Rattle.reading.specs.Header.{variables, kindAt}
-use Rattle.reading.specs.Tree.{Expr, variable, word, bit, one, two, Statement, assign, branch, Block, end, then}
+use Rattle.reading.specs.Tree.{Expr, variable, word, bit, one, two}
 use Rattle.reading.specs.Expressions.{readVariable, readWord, readBit, secondWith, argumentsWith, operationWith, exprForm, exprWith, readExpr}
 use Rattle.reading.specs.ExpressionLaws.{below, below-is, expr-is, expr-as}
-use Rattle.reading.specs.Blocks.{readAssign, branchWith, statementWith, closedOr, blockWith, readBlock, readStatement}
-use Rattle.reading.specs.FuelLaws.{block-is}
 
 -- An expression.
 

@@ -11,7 +11,7 @@ use Rattle.codes.specs.Codes.{codeOf}
 use Rattle.codes.specs.declared.Kind.the-variants as kind
 use Rattle.codes.specs.declared.Form.{Form}
 use Rattle.codes.specs.declared.Form.the-variants.{End, Assign, Skip, Branch, Variable, Word, Bit, Apply, Unknown}
-use Rattle.answers.specs.Parsing.{Parsed, unless, _>>=_}
+use Rattle.answers.specs.Parsing.{Parsed, unless}
 use Rattle.answers.specs.ParsingLaws.{Forward, forward-unless, forward-later, forward-then, then-same}
 use Rattle.reading.specs.Limits.{deepest}
 use Rattle.reading.specs.Header.{variables, kindAt}

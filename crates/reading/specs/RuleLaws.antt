@@ -2,7 +2,7 @@
 use Prim.Native.Nat.{ℕ, zero, suc, _+_, _-_, _<_, _≤_}
 use native.Mathlib.Omega.{arith}
 use native.Mathlib.Numerals.{sub-one}
-use mathlib.Core.Path.{_≡_, refl, sym, ap, _∙_}
+use mathlib.Core.Path.{_≡_, refl, sym, ap}
 use mathlib.Core.List.{List}
 use lib.ListN.{length, getD}
 use lib.Dec.{ltb, leb}
@@ -13,7 +13,6 @@ use Rattle.answers.specs.declared.Step.{Step}
 use Rattle.answers.specs.declared.Step.the-variants.{Past, Refused}
 use Rattle.reading.specs.Limits.{mostVariables, lastKind, nested}
 use Rattle.reading.specs.Header.{mark, variables, HasKinds, readCount, readKinds, readHeader}
-use Rattle.reading.specs.Tree.{Block}
 use Rattle.reading.specs.Blocks.{readBlock}
 use Rattle.reading.specs.Rule.{nothingAfter, readRule}
 

@@ -93,7 +93,7 @@ fn read_bit(s: &[u8], at: usize, want: Kind, deep: u8) -> Step
 }
 
 // An expression of the kind wanted, at most `deep` levels deep.
-pub fn read_expr(s: &[u8], at: usize, want: Kind, deep: u8) -> Step
+fn read_expr(s: &[u8], at: usize, want: Kind, deep: u8) -> Step
     requires { ⌜ HasKinds (now s) ⌝ }
     ensures { λ r. ⌜ r ≡ stepOf (readExpr deep (now (s .entry)) want at) ⌝ }
 {

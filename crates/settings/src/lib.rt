@@ -1,3 +1,4 @@
+// Document 01, "Needed gates" and "The fused circuit file", at six conditions: a set of settings is 64 bits, bit j for setting j.
 ghost use mathlib.Core.Path.{_≡_};
 ghost use Prim.Native.Nat.{_<_, _^_};
 ghost use lib.ListN.{length};
@@ -5,12 +6,8 @@ ghost use Rattle.settings.specs.Settings.{bit};
 ghost use Rattle.settings.specs.Sets as sets;
 ghost use Rattle.settings.specs.Guards as guards;
 
-// Document 01, "Needed gates" and "The fused circuit file", at six conditions: a set of settings is 64 bits, bit j for setting j.
-
 // The conditions, at most.
 pub const CONDITIONS: u8 = 6;
-// Their settings: a set of settings has a bit for each.
-pub const SETTINGS: u8 = 64;
 
 // No setting.
 pub fn empty() -> u64

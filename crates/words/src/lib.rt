@@ -89,15 +89,3 @@ pub fn copy32(from: &[u32], to: &mut [u32])
         i += 1;
     }
 }
-
-// `from` at the start of `to`, and nothing after it touched.
-pub fn copy64(from: &[u64], to: &mut [u64])
-    requires { ⌜ length (now from) ≤ length (now to) ⌝ }
-    ensures { λ _. ⌜ now (to .exit) ≡ over (now (from .entry)) (now (to .entry)) ⌝ }
-{
-    let mut i = 0;
-    while i < from.len() {
-        to[i] = from[i];
-        i += 1;
-    }
-}

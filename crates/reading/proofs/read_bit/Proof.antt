@@ -1,6 +1,5 @@
 use Rattle.answers.specs.ParsingLaws.{none-left, some-left}
 use mathlib.Core.Path.{sym, _∙_}
-use native.Mathlib.Omega.{arith}
 use borrow.Author.Tests.{not-true, not-false, lt-ltb, le-ltb, lt-leb, le-leb}
 use Rattle.reading.specs.Expressions.{readBit}
 use borrow.Author.Needs.{needs}
