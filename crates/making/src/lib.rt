@@ -2,6 +2,7 @@
 use codes::Form;
 use codes::Kind;
 use codes::Operation;
+use gates::GateId;
 ghost use mathlib.Core.Path.{_≡_};
 ghost use mathlib.Core.List.{[], _∷_};
 ghost use Prim.Native.Nat.{_+_, _*_, _^_, _≤_, _<_};
@@ -19,9 +20,6 @@ ghost use Rattle.gates.specs.Rows.{startCode, byteOf};
 ghost use Rattle.making.specs.RuleMade.{RuleMade};
 ghost use Rattle.making.specs.Holding.{Held, Pushed, Applied, ExprMade, Chose, Chosen, Done};
 
-// A gate's number in the plain circuit.
-pub struct GateId(pub u16);
-
 // The gates that are stored, at most; one more says that there are more.
 const MOST_GATES: u16 = 256;
 
@@ -33,14 +31,14 @@ const BIT: u32 = 0x12;
 const CHOICE: u32 = 0x30;
 
 // What an expression was made into: the place after it, the gates then, and the gate that it stands for.
-pub struct MadeExpr {
+struct MadeExpr {
     pub next: usize,
     pub count: u16,
     pub gate: GateId,
 }
 
 // What a statement or block was made into: the place after it, the gates then, and the variables assigned in it, bit x for variable x.
-pub struct MadePart {
+struct MadePart {
     pub next: usize,
     pub count: u16,
     pub assigned: u32,

@@ -63,6 +63,14 @@ second-inside n a b h i = i b (rw (take-two n a b h) (inr (inl refl)))
 pub args-both : (n a b s : ℕ) (M M₁ M₂ : List ℕ) → 1 < n → M₁ ≡ addNumber a s M → M₂ ≡ addNumber b s M₁ → M₂ ≡ addNumbers (take n (a ∷ b ∷ [])) s M
 args-both n a b s M M₁ M₂ h e f = f ∙ ap (addNumber b s) e ∙ sym (args-two n a b s M h)
 
+-- the same of arguments x, y that were read where a, b stand
+pub read-one : (n a b x s : ℕ) (M N : List ℕ) → 0 < n → n ≤ 1 → x ≡ a → N ≡ addNumber x s M → N ≡ addNumbers (take n (a ∷ b ∷ [])) s M
+read-one n a b x s M N h l e q = q ∙ rw e (sym (args-one n a b s M h l))
+
+pub read-both : (n a b x y s : ℕ) (M M₁ M₂ : List ℕ) → 1 < n → x ≡ a → y ≡ b → M₁ ≡ addNumber x s M → M₂ ≡ addNumber y s M₁
+    → M₂ ≡ addNumbers (take n (a ∷ b ∷ [])) s M
+read-both n a b x y s M M₁ M₂ h e f q r = args-both n a b s M M₁ M₂ h (rw e at q) (rw f at r)
+
 pub choice-sets : (t c a b s g w : ℕ) (M M₁ M₂ M₃ : List ℕ) → M₁ ≡ addNumber c s M → g ≡ given 64 t s → M₂ ≡ addNumber a g M₁ → w ≡ without 64 t s
     → M₃ ≡ addNumber b w M₂ → M₃ ≡ addNumber b (without 64 t s) (addNumber a (given 64 t s) (addNumber c s M))
 choice-sets t c a b s g w M M₁ M₂ M₃ e₁ eg e₂ ew e₃ =

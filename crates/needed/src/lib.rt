@@ -1,3 +1,4 @@
+use gates::GateId;
 ghost use mathlib.Core.Path.{_≡_};
 ghost use mathlib.Core.List.{_∷_, [], _++_};
 ghost use Prim.Native.Nat.{_+_, _-_, _*_, _<_, _≤_};
@@ -11,21 +12,17 @@ ghost use Rattle.needed.specs.Held.{gatesIn, codeCost};
 ghost use Rattle.needed.specs.Places.{placesOf, Marked, markedIn, Numbered};
 ghost use Rattle.needed.specs.Pass.{preconditionSets};
 ghost use Rattle.needed.specs.StepLaws.{addNumber};
+ghost use Rattle.needed.specs.MarkSteps.{firstAt};
+ghost use Rattle.needed.specs.HandSteps.{secondAt};
 ghost use Rattle.needed.specs.Passing.{addNumbers, handGate, passGates, Passable};
 
 // Document 01, "The plain circuit" and "Needed gates", over lent arrays: a gate is four numbers of `rows`, `count` gates at most 256.
-// Gate numbers are plain numbers here; a caller wraps them.
+// The lent arrays hold plain numbers; a gate's number in hand is a `GateId`.
 
 // A choice's code.
 const CHOICE: u32 = 0x30;
 // A choice's cost.
 const CHOICE_COST: usize = 3;
-
-fn wide(x: u32) -> usize
-    ensures { λ r. ⌜ r ≡ x ⌝ }
-{
-    x as usize
-}
 
 fn wide16(x: u16) -> usize
     ensures { λ r. ⌜ r ≡ x ⌝ }
@@ -33,12 +30,12 @@ fn wide16(x: u16) -> usize
     x as usize
 }
 
-// The number at a place of the rows.
-fn number(rows: &[u32; 1024], at: usize) -> usize
-    requires { ⌜ at < 1024 ⌝ }
-    ensures { λ r. ⌜ r ≡ getD (now (rows .entry)) at 0 ⌝ }
+// The gate whose number stands at a place of the rows, where an argument stands; a figure is never read so.
+fn argument(rows: &[u32; 1024], at: usize) -> GateId
+    requires { ⌜ (at < 1024) × (getD (now rows) at 0 < 256) ⌝ }
+    ensures { λ r. ⌜ r .0 ≡ getD (now (rows .entry)) at 0 ⌝ }
 {
-    wide(rows[at])
+    GateId(rows[at] as u16)
 }
 
 // The code's row of the table of codes; a number that is no byte is no code, as FF is none.
@@ -92,8 +89,9 @@ fn mark(rows: &[u32; 1024], count: usize, places: &mut [u16; 256])
     let mut i: usize = 0;
     while i < count {
         if rows[4 * i] == CHOICE {
-            let c = number(rows, 4 * i + 1);
-            places[c] = 1;
+            let c = argument(rows, 4 * i + 1);
+            let at = c.0 as usize;
+            places[at] = 1;
         }
         i = i + 1;
     }
@@ -127,11 +125,12 @@ pub fn number_conditions(rows: &[u32; 1024], count: usize, places: &mut [u16; 25
 }
 
 // The set s is put to that of gate g.
-fn add(sets: &mut [u64; 256], g: usize, s: u64)
-    requires { ⌜ g < 256 ⌝ }
-    ensures { λ r. ⌜ now (sets .exit) ≡ addNumber g s (now (sets .entry)) ⌝ }
+fn add(sets: &mut [u64; 256], g: GateId, s: u64)
+    requires { ⌜ g .0 < 256 ⌝ }
+    ensures { λ r. ⌜ now (sets .exit) ≡ addNumber (g .0) s (now (sets .entry)) ⌝ }
 {
-    sets[g] = settings::union(sets[g], s);
+    let i = g.0 as usize;
+    sets[i] = settings::union(sets[i], s);
 }
 
 // Every wanted gate is needed under every setting.
@@ -141,29 +140,32 @@ fn want_all(wanted: &[u16], sets: &mut [u64; 256])
 {
     let mut x: usize = 0;
     while x < wanted.len() {
-        let g = wide16(wanted[x]);
+        let g = GateId(wanted[x]);
         add(sets, g, settings::whole());
         x = x + 1;
     }
 }
 
-// An operation's set goes to its arguments, one or two of them; a start or a constant has none.
-fn hand_arguments(sets: &mut [u64; 256], arity: u8, a: usize, b: usize, s: u64)
-    requires { ⌜ Inside 256 (take arity (a ∷ b ∷ [])) ⌝ }
-    ensures { λ r. ⌜ now (sets .exit) ≡ addNumbers (take arity (a ∷ b ∷ [])) s (now (sets .entry)) ⌝ }
+// An operation's set goes to its arguments, one or two of them; a start or a constant has none, and its figure is not read.
+fn hand_arguments(rows: &[u32; 1024], g: GateId, arity: u8, s: u64, sets: &mut [u64; 256])
+    requires { ⌜ (g .0 < 256) × Inside 256 (take arity (firstAt (now rows) (g .0) ∷ secondAt (now rows) (g .0) ∷ [])) ⌝ }
+    ensures { λ r. ⌜ now (sets .exit) ≡ addNumbers (take arity (firstAt (now (rows .entry)) (g .0) ∷ secondAt (now (rows .entry)) (g .0) ∷ [])) s (now (sets .entry)) ⌝ }
 {
+    let i = g.0 as usize;
     if 0 < arity {
+        let a = argument(rows, 4 * i + 1);
         add(sets, a, s);
     }
     if 1 < arity {
+        let b = argument(rows, 4 * i + 2);
         add(sets, b, s);
     }
 }
 
 // A choice on condition t: its set goes to the condition's gate, the settings that give t the bit 1 to the first value, the others to the second.
-fn hand_choice(sets: &mut [u64; 256], t: u8, c: usize, a: usize, b: usize, s: u64)
-    requires { ⌜ (t < 6) × ((c < 256) × ((a < 256) × (b < 256))) ⌝ }
-    ensures { λ r. ⌜ now (sets .exit) ≡ addNumber b (without 64 t s) (addNumber a (given 64 t s) (addNumber c s (now (sets .entry)))) ⌝ }
+fn hand_choice(sets: &mut [u64; 256], t: u8, c: GateId, a: GateId, b: GateId, s: u64)
+    requires { ⌜ (t < 6) × ((c .0 < 256) × ((a .0 < 256) × (b .0 < 256))) ⌝ }
+    ensures { λ r. ⌜ now (sets .exit) ≡ addNumber (b .0) (without 64 t s) (addNumber (a .0) (given 64 t s) (addNumber (c .0) s (now (sets .entry)))) ⌝ }
 {
     add(sets, c, s);
     add(sets, a, settings::given(t, s));
@@ -171,28 +173,30 @@ fn hand_choice(sets: &mut [u64; 256], t: u8, c: usize, a: usize, b: usize, s: u6
 }
 
 // The number of the condition that gate c is.
-fn place_of(places: &[u16; 256], c: usize) -> u8
-    requires { ⌜ (c < 256) × ((0 < getD (now places) c 0) × (getD (now places) c 0 ≤ 6)) ⌝ }
-    ensures { λ r. ⌜ r ≡ getD (now (places .entry)) c 0 - 1 ⌝ }
+fn place_of(places: &[u16; 256], c: GateId) -> u8
+    requires { ⌜ (c .0 < 256) × ((0 < getD (now places) (c .0) 0) × (getD (now places) (c .0) 0 ≤ 6)) ⌝ }
+    ensures { λ r. ⌜ r ≡ getD (now (places .entry)) (c .0) 0 - 1 ⌝ }
 {
-    (places[c] - 1) as u8
+    let i = c.0 as usize;
+    (places[i] - 1) as u8
 }
 
-// Gate i hands its set on to what it asks for.
-fn hand(rows: &[u32; 1024], count: usize, places: &[u16; 256], i: usize, sets: &mut [u64; 256])
-    requires { ⌜ Passable (now rows) (now places) count × (i < count) ⌝ }
-    ensures { λ r. ⌜ now (sets .exit) ≡ handGate (gatesIn (now (rows .entry)) count) i (now (sets .entry)) ⌝ }
+// Gate g hands its set on to what it asks for.
+fn hand(rows: &[u32; 1024], count: usize, places: &[u16; 256], g: GateId, sets: &mut [u64; 256])
+    requires { ⌜ Passable (now rows) (now places) count × (g .0 < count) ⌝ }
+    ensures { λ r. ⌜ now (sets .exit) ≡ handGate (gatesIn (now (rows .entry)) count) (g .0) (now (sets .entry)) ⌝ }
 {
+    let i = g.0 as usize;
     let code = rows[4 * i];
     let s = sets[i];
-    let a = number(rows, 4 * i + 1);
-    let b = number(rows, 4 * i + 2);
     if code == CHOICE {
-        let c = number(rows, 4 * i + 3);
-        let t = place_of(places, a);
-        hand_choice(sets, t, a, b, c, s);
+        let c = argument(rows, 4 * i + 1);
+        let a = argument(rows, 4 * i + 2);
+        let b = argument(rows, 4 * i + 3);
+        let t = place_of(places, c);
+        hand_choice(sets, t, c, a, b, s);
     } else {
-        hand_arguments(sets, row(code).arity, a, b, s);
+        hand_arguments(rows, g, row(code).arity, s, sets);
     }
 }
 
@@ -204,7 +208,8 @@ fn pass(rows: &[u32; 1024], count: usize, places: &[u16; 256], sets: &mut [u64; 
     let mut i = count;
     while 0 < i {
         i = i - 1;
-        hand(rows, count, places, i, sets);
+        let g = GateId(i as u16);
+        hand(rows, count, places, g, sets);
     }
 }
 

@@ -1,26 +1,33 @@
+use native.Mathlib.Omega.{arith}
 use mathlib.Core.Path.{refl}
-use Rattle.needed.specs.HandSteps.{condition-known, choice-known, choice-hands, other-inside, other-hands}
+use Rattle.needed.specs.HandSteps.{choice-inside, condition-known, choice-known, choice-hands, other-inside, other-hands}
 use borrow.Author.Needs.{needs}
 use Rattle.needed.proofs.hand.Statement.{statement}
 use Rattle.needed.proofs.hand.Tie as tie
 
+argument-requires : tie.Need-argument-requires
+argument-requires c κs = (search needs, choice-inside _ _ _ _ _ _ _ (c .before .before .before .before .pre .0) (c .before .before .before .before .pre .1) (c .if1 .taken) refl refl refl .0)
+
+argument-requires-2 : tie.Need-argument-requires-2
+argument-requires-2 c κs = (search needs, choice-inside _ _ _ _ _ _ _ (c .before .before .before .before .before .pre .0) (c .before .before .before .before .before .pre .1) (c .before .if1 .taken) refl refl refl .1 .0)
+
+argument-requires-3 : tie.Need-argument-requires-3
+argument-requires-3 c κs = (search needs, choice-inside _ _ _ _ _ _ _ (c .before .before .before .before .before .before .pre .0) (c .before .before .before .before .before .before .pre .1) (c .before .before .if1 .taken) refl refl refl .1 .1)
+
 place-of-requires : tie.Need-place-of-requires
-place-of-requires c κs = condition-known _ _ _ _ _ _ _ (c .before .before .before .before .before .before .pre .0) (c .before .before .before .before .before .before .pre .1) (c .before .if1 .taken) (c .before .before .before .number .ensures) (c .before .before .number2 .ensures) (c .number3 .ensures)
+place-of-requires c κs = condition-known _ _ _ _ _ _ _ (c .before .before .before .before .before .before .before .pre .0) (c .before .before .before .before .before .before .before .pre .1) (c .before .before .before .if1 .taken) (c .before .before .argument .ensures) (c .before .argument2 .ensures) (c .argument3 .ensures)
 
 hand-choice-requires : tie.Need-hand-choice-requires
-hand-choice-requires c κs =
-    choice-known _ _ _ _ _ _ _ (c .before .before .before .before .before .before .before .before .pre .0) (c .before .before .before .before .before .before .before .before .pre .1) (c .before .before .before .if1 .taken) (c .before .before .before .before .before .number .ensures) (c .before .before .before .before .number2 .ensures) (c .before .before .number3 .ensures) _ (c .before .place-of .ensures)
+hand-choice-requires c κs = choice-known _ _ _ _ _ _ _ (c .before .before .before .before .before .before .before .before .before .pre .0) (c .before .before .before .before .before .before .before .before .before .pre .1) (c .before .before .before .before .before .if1 .taken) (c .before .before .before .before .argument .ensures) (c .before .before .before .argument2 .ensures) (c .before .before .argument3 .ensures) _ (c .before .place-of .ensures)
 
 hand-arguments-requires : tie.Need-hand-arguments-requires
-hand-arguments-requires c κs = other-inside _ _ _ _ (c .before .before .before .before .before .before .before .pre .0) (c .before .before .before .before .before .before .before .pre .1) (c .before .before .if1 .left) _ _ _ (c .row .ensures) (c .before .before .before .before .number .ensures) (c .before .before .before .number2 .ensures)
+hand-arguments-requires c κs = (omega (arith, c .before .before .before .before .before .before .pre .0 .room, c .before .before .before .before .before .before .pre .1), other-inside _ _ _ _ (c .before .before .before .before .before .before .pre .0) (c .before .before .before .before .before .before .pre .1) (c .before .before .if1 .left) _ _ _ (c .before .row .ensures) refl refl)
 
 returns : tie.Need-returns
-returns c =
-    choice-hands _ _ _ _ _ _ _ (c .before .before .before .before .before .before .before .before .before .pre .0) (c .before .before .before .before .before .before .before .before .before .pre .1) (c .before .before .before .before .if1 .taken) (c .before .before .before .before .before .before .number .ensures) (c .before .before .before .before .before .number2 .ensures) (c .before .before .before .number3 .ensures) _ _ _ _ (c .before .before .place-of .ensures) refl (c .hand-choice .ensures)
+returns c = choice-hands _ _ _ _ _ _ _ (c .before .before .before .before .before .before .before .before .before .before .pre .0) (c .before .before .before .before .before .before .before .before .before .before .pre .1) (c .before .before .before .before .before .before .if1 .taken) (c .before .before .before .before .before .argument .ensures) (c .before .before .before .before .argument2 .ensures) (c .before .before .before .argument3 .ensures) _ _ _ _ (c .before .before .place-of .ensures) refl (c .hand-choice .ensures)
 
 returns-2 : tie.Need-returns-2
-returns-2 c =
-    other-hands _ _ _ _ (c .before .before .before .before .before .before .before .before .pre .0) (c .before .before .before .before .before .before .before .before .pre .1) (c .before .before .before .if1 .left) _ _ _ _ _ _ (c .before .row .ensures) (c .before .before .before .before .before .number .ensures) (c .before .before .before .before .number2 .ensures) refl (c .hand-arguments .ensures)
+returns-2 c = other-hands _ _ _ _ (c .before .before .before .before .before .before .before .pre .0) (c .before .before .before .before .before .before .before .pre .1) (c .before .before .before .if1 .left) _ _ _ _ _ _ (c .before .before .row .ensures) refl refl refl (c .hand-arguments .ensures)
 
 pub hand-spec : {M : Type 1} → statement M
 hand-spec =
@@ -33,13 +40,14 @@ hand-spec =
     (λ c. search needs)
     (λ c. search needs)
     (λ c. search needs)
-    (λ c κs. search needs)
+    (λ c. search needs)
+    argument-requires
     (λ c. search needs)
     (λ c. search needs)
-    (λ c κs. search needs)
+    argument-requires-2
     (λ c. search needs)
     (λ c. search needs)
-    (λ c κs. search needs)
+    argument-requires-3
     place-of-requires
     hand-choice-requires
     (λ c κs. search needs)

@@ -1,5 +1,6 @@
 use borrow.Author.Needs.{needs}
 use native.Mathlib.Omega.{arith}
+use mathlib.Core.Path.{refl}
 use mathlib.Core.Logic.{⊎-elim}
 use Prim.Native.Nat.{_-_}
 use Rattle.needed.specs.MarkSteps.{Marking, marking-start, marking-inside, marking-choice, marking-other, marking-end}
@@ -15,22 +16,21 @@ abbrev μ-loop : tie.MeasureT-loop
 loop-holds : tie.Need-loop-holds Inv-loop μ-loop
 loop-holds c = marking-start _ _ _ (c .before .before .pre) (c .clear-places .ensures)
 
+argument-requires : tie.Need-argument-requires Inv-loop μ-loop
+argument-requires c κs = (search needs, marking-inside _ _ _ _ _ (c .before .before .before .loop .inv) (c .before .before .loop-test .taken) (c .if1 .taken) refl)
+
 mul-places : tie.Need-mul-places Inv-loop μ-loop
-mul-places c =
-    let l = c .before .before .before .before .loop in
-    record { fits = omega (arith, marking-inside _ _ _ _ _ (l .inv) (c .before .before .before .loop-test .taken) (c .before .if1 .taken) (c .number .ensures)) }
+mul-places c = record { fits = omega (arith, marking-inside _ _ _ _ _ (c .before .before .before .before .before .loop .inv) (c .before .before .before .before .loop-test .taken) (c .before .before .if1 .taken) (c .before .argument .ensures)) }
 
 element-write-places : tie.Need-element-write-places Inv-loop μ-loop
-element-write-places c =
-    let l = c .before .before .before .before .loop in
-    marking-inside _ _ _ _ _ (l .inv) (c .before .before .before .loop-test .taken) (c .before .if1 .taken) (c .number .ensures)
+element-write-places c = marking-inside _ _ _ _ _ (c .before .before .before .before .before .loop .inv) (c .before .before .before .before .loop-test .taken) (c .before .before .if1 .taken) (c .before .argument .ensures)
 
 loop-again : tie.Need-loop-again Inv-loop μ-loop
 loop-again c =
     let l = c .before .before .before .loop in
     let t = c .before .before .loop-test .taken in
     ⊎-elim
-    (λ w. marking-choice _ _ _ _ _ _ (l .inv) t (w .0 .taken) (w .1 .ensures) (w .2))
+    (λ w. marking-choice _ _ _ _ _ _ (l .inv) t (w .0 .taken) (w .1 .ensures) (w .3))
     (λ w. marking-other _ _ _ _ _ (l .inv) t (w .0 .left) (w .1))
     (c .if1 .came)
 
@@ -50,7 +50,8 @@ mark-spec =
     (λ c. search needs)
     (λ c. search needs)
     (λ c. search needs)
-    (λ c κs. search needs)
+    argument-requires
+    (λ c. search needs)
     mul-places
     element-write-places
     (λ c. search needs)

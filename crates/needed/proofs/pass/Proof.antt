@@ -13,6 +13,9 @@ abbrev μ-loop : tie.MeasureT-loop
 loop-holds : tie.Need-loop-holds Inv-loop μ-loop
 loop-holds c = walking-start _ _ _ _ (c .pre)
 
+cast-t8 : tie.Need-cast-t8 Inv-loop μ-loop
+cast-t8 c = record { fits = omega (arith, c .before .loop .inv .low, c .before .loop .inv .passable .room) }
+
 hand-requires : tie.Need-hand-requires Inv-loop μ-loop
 hand-requires c κs = (c .before .before .loop .inv .passable, omega (arith, c .before .before .loop .inv .low, c .before .loop-test .taken))
 
@@ -25,4 +28,4 @@ returns c = walking-end _ _ _ _ _ _ (c .before .loop .inv) (c .loop-test .left)
 pub pass-spec : {M : Type 1} → statement M
 pass-spec =
     tie.close
-    (tie.spec Inv-loop μ-loop loop-holds (λ c. search needs) hand-requires (λ c. search needs) loop-again returns)
+    (tie.spec Inv-loop μ-loop loop-holds (λ c. search needs) cast-t8 hand-requires (λ c. search needs) loop-again returns)

@@ -1,4 +1,5 @@
 use borrow.Author.Needs.{needs}
+use mathlib.Core.Path.{refl}
 use Prim.Native.Nat.{_-_}
 use lib.ListN.{length}
 use Rattle.needed.specs.PassingLaws.{Wanting, wanting-start, wanting-inside, wanting-step, wanting-end}
@@ -15,10 +16,10 @@ loop-holds : tie.Need-loop-holds Inv-loop μ-loop
 loop-holds c = wanting-start _ _ (c .before .pre)
 
 add-requires : tie.Need-add-requires Inv-loop μ-loop
-add-requires c κs = wanting-inside _ _ _ _ _ (c .before .before .before .before .before .loop .inv) (c .before .before .before .before .loop-test .taken) (c .before .before .wide16 .ensures)
+add-requires c κs = wanting-inside _ _ _ _ _ (c .before .before .before .before .loop .inv) (c .before .before .before .loop-test .taken) refl
 
 loop-again : tie.Need-loop-again Inv-loop μ-loop
-loop-again c = wanting-step _ _ _ _ _ _ _ (c .before .before .before .before .before .before .loop .inv) (c .before .before .before .before .before .loop-test .taken) (c .before .before .before .wide16 .ensures) (c .before .whole .ensures) (c .add .ensures)
+loop-again c = wanting-step _ _ _ _ _ _ _ (c .before .before .before .before .before .loop .inv) (c .before .before .before .before .loop-test .taken) refl (c .before .whole .ensures) (c .add .ensures)
 
 returns : tie.Need-returns Inv-loop μ-loop
 returns c = wanting-end _ _ _ _ (c .before .loop .inv) (c .loop-test .left)
@@ -32,7 +33,6 @@ want-all-spec =
     loop-holds
     (λ c. search needs)
     (λ c. search needs)
-    (λ c κs. search needs)
     (λ c κs. search needs)
     add-requires
     (λ c. search needs)
