@@ -95,18 +95,6 @@ make-branch-claims t = (make-expr-reads.Asked, make-expr-reads.Learnt, make-bloc
 abbrev make-statement-claims : ℕ → make-statement-lts.Claims
 make-statement-claims t = (code-of-reads.Asked, code-of-reads.Learnt, make-assign-reads.Asked, make-assign-reads.Learnt, passed-reads.Asked, passed-reads.Learnt, make-branch-below t, make-branch.Post)
 
-make-block-loop-holds : (t : ℕ) → make-block-lts.Need-loop-holds (make-block-claims t) (make-block-at t) make-block.Post make-block-Inv-loop make-block-μ-loop
-make-block-loop-holds t c =
-    let a = c .before .args in walked-none (now (a .s)) (a .nest) (a .at) (now (a .rows)) (now (a .present)) (a .count) (c .before .pre .1 .1)
-
-make-block-shared-slice-read-if1 : (t : ℕ) → make-block-lts.Need-shared-slice-read-if1 (make-block-claims t) (make-block-at t) make-block.Post make-block-Inv-loop make-block-μ-loop
-make-block-shared-slice-read-if1 t c =
-    let a = c .before .before .before .args in let l = c .before .loop in block-inside (now (a .s)) (a .nest) (l .here) (rest-taken (now (a .s)) (a .nest) (a .at) (now (a .rows)) (now (a .present)) (a .count) (l .here) (l .n) (l .assigned) (l .rows) (l .present) (l .inv))
-
-make-block-add-t14 : (t : ℕ) → make-block-lts.Need-add-t14 (make-block-claims t) (make-block-at t) make-block.Post make-block-Inv-loop make-block-μ-loop
-make-block-add-t14 t c =
-    let a = c .before .before .before .before .args in let l = c .before .before .loop in omega (arith, block-inside (now (a .s)) (a .nest) (l .here) (rest-taken (now (a .s)) (a .nest) (a .at) (now (a .rows)) (now (a .present)) (a .count) (l .here) (l .n) (l .assigned) (l .rows) (l .present) (l .inv)))
-
 make-block-returns : (t : ℕ) → make-block-lts.Need-returns (make-block-claims t) (make-block-at t) make-block.Post make-block-Inv-loop make-block-μ-loop
 make-block-returns t c =
     let a = c .before .before .before .before .args in let l = c .before .before .loop in walked-all (now (a .s)) (a .nest) (a .at) (now (a .rows)) (now (a .present)) (a .count) (l .here) (l .n) (l .assigned) (l .rows) (l .present) (l .inv) (c .if1 .taken)
@@ -116,45 +104,20 @@ make-block-make-statement-requires t c κs =
     let a = c .before .before .before .before .before .before .args in let l = c .before .before .before .before .loop in let i = block-inside (now (a .s)) (a .nest) (l .here) (rest-taken (now (a .s)) (a .nest) (a .at) (now (a .rows)) (now (a .present)) (a .count) (l .here) (l .n) (l .assigned) (l .rows) (l .present) (l .inv)) in
     (omega (arith, l .inv .onward), (c .before .before .before .before .before .before .pre .1 .0, (i, statement-taken (now (a .s)) (a .nest) (a .at) (now (a .rows)) (now (a .present)) (a .count) (l .here) (l .n) (l .assigned) (l .rows) (l .present) (l .inv) (c .before .before .if1 .left))))
 
-make-block-loop-less : (t : ℕ) → make-block-lts.Need-loop-less (make-block-claims t) (make-block-at t) make-block.Post make-block-Inv-loop make-block-μ-loop
-make-block-loop-less t c =
-    let a = c .before .before .before .before .before .before .before .before .args in let l = c .before .before .before .before .before .before .loop in omega (arith, block-inside (now (a .s)) (a .nest) (l .here) (rest-taken (now (a .s)) (a .nest) (a .at) (now (a .rows)) (now (a .present)) (a .count) (l .here) (l .n) (l .assigned) (l .rows) (l .present) (l .inv)), forward-read (readStatement (now (a .s)) (a .nest) (l .here)) (statement-forward (now (a .s)) (a .nest) (l .here)) (c .before .make-statement .ensures .read))
-
 make-block-loop-again : (t : ℕ) → make-block-lts.Need-loop-again (make-block-claims t) (make-block-at t) make-block.Post make-block-Inv-loop make-block-μ-loop
 make-block-loop-again t c =
     let a = c .before .before .before .before .before .before .before .before .args in let l = c .before .before .before .before .before .before .loop in walked-more (now (a .s)) (a .nest) (a .at) (now (a .rows)) (now (a .present)) (a .count) (l .here) (l .n) (l .assigned) (l .rows) (l .present) (l .inv) (c .before .before .before .before .if1 .left) (c .before .make-statement .result .next) (c .before .make-statement .result .count) (c .before .make-statement .result .assigned) _ _
     (forward-read (readStatement (now (a .s)) (a .nest) (l .here)) (statement-forward (now (a .s)) (a .nest) (l .here)) (c .before .make-statement .ensures .read)) (c .before .make-statement .ensures)
-
-make-branch-make-expr-requires : (t : ℕ) → make-branch-lts.Need-make-expr-requires (make-branch-claims t) (make-branch-at t) make-branch.Post
-make-branch-make-expr-requires t c κs =
-    let a = c .before .before .before .args in let h = c .before .before .before .pre .1 .1 .1 in (c .before .before .before .pre .1 .0, test-taken (now (a .s)) (a .nest) (a .at) h)
-
-make-branch-sub-make-block : (t : ℕ) → make-branch-lts.Need-sub-make-block (make-branch-claims t) (make-branch-at t) make-branch.Post
-make-branch-sub-make-block t c =
-    let a = c .before .before .before .before .before .before .args in let h = c .before .before .before .before .before .before .pre .1 .1 .1 in omega (arith, branch-level (now (a .s)) (a .nest) (a .at) h)
 
 make-branch-make-block-requires : (t : ℕ) → make-branch-lts.Need-make-block-requires (make-branch-claims t) (make-branch-at t) make-branch.Post
 make-branch-make-block-requires t c κs =
     let a = c .before .before .before .before .before .before .before .before .args in let h = c .before .before .before .before .before .before .before .before .pre .1 .1 .1 in
     (omega (arith, forward-read (readExpr deepest (now (a .s)) Bit (a .at + 1)) (expr-forward deepest (now (a .s)) Bit (a .at + 1)) (c .before .before .before .before .make-expr .ensures .read)), (c .before .before .before .before .before .before .before .before .pre .1 .0, first-taken (now (a .s)) (a .nest) (a .at) h (now (a .present)) (now (a .rows)) (a .count) (c .before .before .before .before .make-expr .result .gate .0) (c .before .before .before .before .make-expr .result .next) (c .before .before .before .before .make-expr .result .count) _ (c .before .before .before .before .make-expr .ensures)))
 
-make-branch-sub-make-block-2 : (t : ℕ) → make-branch-lts.Need-sub-make-block-2 (make-branch-claims t) (make-branch-at t) make-branch.Post
-make-branch-sub-make-block-2 t c =
-    let a = c .before .before .before .before .before .before .before .before .before .args in let h = c .before .before .before .before .before .before .before .before .before .pre .1 .1 .1 in omega (arith, branch-level (now (a .s)) (a .nest) (a .at) h)
-
 make-branch-make-block-requires-2 : (t : ℕ) → make-branch-lts.Need-make-block-requires-2 (make-branch-claims t) (make-branch-at t) make-branch.Post
 make-branch-make-block-requires-2 t c κs =
     let a = c .before .before .before .before .before .before .before .before .before .before .before .args in let h = c .before .before .before .before .before .before .before .before .before .before .before .pre .1 .1 .1 in
     (omega (arith, forward-read (readExpr deepest (now (a .s)) Bit (a .at + 1)) (expr-forward deepest (now (a .s)) Bit (a .at + 1)) (c .before .before .before .before .before .before .before .make-expr .ensures .read), forward-read (readBlock (now (a .s)) (a .nest - 1) (c .before .before .before .before .before .before .before .make-expr .result .next)) (block-forward (now (a .s)) (a .nest - 1) (c .before .before .before .before .before .before .before .make-expr .result .next)) (c .before .before .make-block .ensures .read)), (c .before .before .before .before .before .before .before .before .before .before .before .pre .1 .0, second-taken (now (a .s)) (a .nest) (a .at) h (now (a .present)) (now (a .rows)) (a .count) (c .before .before .before .before .before .before .before .make-expr .result .gate .0) (c .before .before .before .before .before .before .before .make-expr .result .next) (c .before .before .before .before .before .before .before .make-expr .result .count) _ (c .before .before .before .before .before .before .before .make-expr .ensures) (c .before .before .make-block .result .next) (c .before .before .make-block .result .count) (c .before .before .make-block .result .assigned) _ _ (c .before .before .make-block .ensures)))
-
-make-branch-shared-slice-read-make-choices :
-    (t : ℕ) → make-branch-lts.Need-shared-slice-read-make-choices (make-branch-claims t) (make-branch-at t) make-branch.Post
-make-branch-shared-slice-read-make-choices t c =
-    omega (arith, c .before .before .before .before .before .before .before .before .before .before .before .before .before .before .before .before .before .pre .1 .0 .kinds)
-
-make-branch-make-choices-requires : (t : ℕ) → make-branch-lts.Need-make-choices-requires (make-branch-claims t) (make-branch-at t) make-branch.Post
-make-branch-make-choices-requires t c κs =
-    c .before .before .before .before .before .before .before .before .before .before .before .before .before .before .before .before .before .before .before .pre .1 .0 .few
 
 make-branch-returns : (t : ℕ) → make-branch-lts.Need-returns (make-branch-claims t) (make-branch-at t) make-branch.Post
 make-branch-returns t c =
@@ -175,37 +138,9 @@ make-statement-returns : (t : ℕ) → make-statement-lts.Need-returns (make-sta
 make-statement-returns t c =
     let a = c .before .before .before .before .before .before .before .before .args in let code = c .before .before .before .before .before .code-of .result in let is = c .before .before .before .before .before .code-of .ensures in done-as makeStatement assignsIn (now (a .s)) (readStatement (now (a .s)) (a .nest) (a .at)) (readAssign (now (a .s)) (a .at)) (statement-as (now (a .s)) (a .nest) (a .at) code form.Assign is (c .before .before .before .enum-told .given .1)) (c .make-assign .ensures)
 
-make-statement-returns-2 : (t : ℕ) → make-statement-lts.Need-returns-2 (make-statement-claims t) (make-statement-at t) make-statement.Post
-make-statement-returns-2 t c =
-    let a = c .before .before .before .before .before .before .args in let code = c .before .before .before .code-of .result in let is = c .before .before .before .code-of .ensures in made-skip (now (a .s)) (a .nest) (a .at) code is (c .before .enum-told2 .given .1) (now (a .rows)) (now (a .present)) (a .count) (c .passed .result .next) (c .passed .result .count) (c .passed .result .assigned) (c .passed .ensures .0) (c .passed .ensures .1 .0) (c .passed .ensures .1 .1)
-
 make-statement-returns-3 : (t : ℕ) → make-statement-lts.Need-returns-3 (make-statement-claims t) (make-statement-at t) make-statement.Post
 make-statement-returns-3 t c =
     let a = c .before .before .before .before .before .before .before .before .args in let code = c .before .before .before .before .before .code-of .result in let is = c .before .before .before .before .before .code-of .ensures in done-as makeStatement assignsIn (now (a .s)) (readStatement (now (a .s)) (a .nest) (a .at)) (branchWith (readBlock (now (a .s))) (now (a .s)) (a .nest) (a .at)) (statement-as (now (a .s)) (a .nest) (a .at) code form.Branch is (c .before .before .before .enum-told3 .given .1)) (c .make-branch .ensures)
-
-make-statement-returns-4 : (t : ℕ) → make-statement-lts.Need-returns-4 (make-statement-claims t) (make-statement-at t) make-statement.Post
-make-statement-returns-4 t c =
-    let a = c .before .before .before .before .before .before .args in let code = c .before .before .before .code-of .result in let is = c .before .before .before .code-of .ensures in absurd (statement-read-as (now (a .s)) (a .nest) (a .at) code is (c .before .before .before .before .before .before .pre .1 .1 .1) form.End (c .before .enum-told4 .given .1))
-
-make-statement-returns-5 : (t : ℕ) → make-statement-lts.Need-returns-5 (make-statement-claims t) (make-statement-at t) make-statement.Post
-make-statement-returns-5 t c =
-    let a = c .before .before .before .before .before .before .args in let code = c .before .before .before .code-of .result in let is = c .before .before .before .code-of .ensures in absurd (statement-read-as (now (a .s)) (a .nest) (a .at) code is (c .before .before .before .before .before .before .pre .1 .1 .1) form.Variable (c .before .enum-told5 .given .1))
-
-make-statement-returns-6 : (t : ℕ) → make-statement-lts.Need-returns-6 (make-statement-claims t) (make-statement-at t) make-statement.Post
-make-statement-returns-6 t c =
-    let a = c .before .before .before .before .before .before .args in let code = c .before .before .before .code-of .result in let is = c .before .before .before .code-of .ensures in absurd (statement-read-as (now (a .s)) (a .nest) (a .at) code is (c .before .before .before .before .before .before .pre .1 .1 .1) form.Word (c .before .enum-told6 .given .1))
-
-make-statement-returns-7 : (t : ℕ) → make-statement-lts.Need-returns-7 (make-statement-claims t) (make-statement-at t) make-statement.Post
-make-statement-returns-7 t c =
-    let a = c .before .before .before .before .before .before .args in let code = c .before .before .before .code-of .result in let is = c .before .before .before .code-of .ensures in absurd (statement-read-as (now (a .s)) (a .nest) (a .at) code is (c .before .before .before .before .before .before .pre .1 .1 .1) form.Bit (c .before .enum-told7 .given .1))
-
-make-statement-returns-8 : (t : ℕ) → make-statement-lts.Need-returns-8 (make-statement-claims t) (make-statement-at t) make-statement.Post
-make-statement-returns-8 t c =
-    let a = c .before .before .before .before .before .before .args in let code = c .before .before .before .code-of .result in let is = c .before .before .before .code-of .ensures in absurd (statement-read-as (now (a .s)) (a .nest) (a .at) code is (c .before .before .before .before .before .before .pre .1 .1 .1) (form.Apply (c .before .enum-told8 .given .0 .0)) (c .before .enum-told8 .given .1))
-
-make-statement-returns-9 : (t : ℕ) → make-statement-lts.Need-returns-9 (make-statement-claims t) (make-statement-at t) make-statement.Post
-make-statement-returns-9 t c =
-    let a = c .before .before .before .before .before .before .args in let code = c .before .before .before .code-of .result in let is = c .before .before .before .code-of .ensures in absurd (statement-read-as (now (a .s)) (a .nest) (a .at) code is (c .before .before .before .before .before .before .pre .1 .1 .1) form.Unknown (c .before .enum-told9 .given .1))
 
 pub +make-block+make-branch+make-statement-spec : {M : Type 1} → statement M
 +make-block+make-branch+make-statement-spec =
@@ -213,23 +148,23 @@ pub +make-block+make-branch+make-statement-spec : {M : Type 1} → statement M
     make-block.Post
     make-block-Inv-loop
     make-block-μ-loop
-    (make-block-loop-holds t)
-    (make-block-shared-slice-read-if1 t)
-    (make-block-add-t14 t)
+    (λ c. let a = c .before .args in walked-none (now (a .s)) (a .nest) (a .at) (now (a .rows)) (now (a .present)) (a .count) (c .before .pre .1 .1))
+    (λ c. let a = c .before .before .before .args in let l = c .before .loop in block-inside (now (a .s)) (a .nest) (l .here) (rest-taken (now (a .s)) (a .nest) (a .at) (now (a .rows)) (now (a .present)) (a .count) (l .here) (l .n) (l .assigned) (l .rows) (l .present) (l .inv)))
+    (λ c. let a = c .before .before .before .before .args in let l = c .before .before .loop in omega (arith, block-inside (now (a .s)) (a .nest) (l .here) (rest-taken (now (a .s)) (a .nest) (a .at) (now (a .rows)) (now (a .present)) (a .count) (l .here) (l .n) (l .assigned) (l .rows) (l .present) (l .inv))))
     (make-block-returns t)
     (make-block-make-statement-requires t)
-    (make-block-loop-less t)
+    (λ c. let a = c .before .before .before .before .before .before .before .before .args in let l = c .before .before .before .before .before .before .loop in omega (arith, block-inside (now (a .s)) (a .nest) (l .here) (rest-taken (now (a .s)) (a .nest) (a .at) (now (a .rows)) (now (a .present)) (a .count) (l .here) (l .n) (l .assigned) (l .rows) (l .present) (l .inv)), forward-read (readStatement (now (a .s)) (a .nest) (l .here)) (statement-forward (now (a .s)) (a .nest) (l .here)) (c .before .make-statement .ensures .read)))
     (make-block-loop-again t))
     (λ t. make-branch-lts.spec (make-branch-claims t) (make-branch-at t)
     make-branch.Post
     (λ c. search needs)
-    (make-branch-make-expr-requires t)
-    (make-branch-sub-make-block t)
+    (λ c κs. let a = c .before .before .before .args in let h = c .before .before .before .pre .1 .1 .1 in (c .before .before .before .pre .1 .0, test-taken (now (a .s)) (a .nest) (a .at) h))
+    (λ c. let a = c .before .before .before .before .before .before .args in let h = c .before .before .before .before .before .before .pre .1 .1 .1 in omega (arith, branch-level (now (a .s)) (a .nest) (a .at) h))
     (make-branch-make-block-requires t)
-    (make-branch-sub-make-block-2 t)
+    (λ c. let a = c .before .before .before .before .before .before .before .before .before .args in let h = c .before .before .before .before .before .before .before .before .before .pre .1 .1 .1 in omega (arith, branch-level (now (a .s)) (a .nest) (a .at) h))
     (make-branch-make-block-requires-2 t)
-    (make-branch-shared-slice-read-make-choices t)
-    (make-branch-make-choices-requires t)
+    (λ c. omega (arith, c .before .before .before .before .before .before .before .before .before .before .before .before .before .before .before .before .before .pre .1 .0 .kinds))
+    (λ c κs. c .before .before .before .before .before .before .before .before .before .before .before .before .before .before .before .before .before .before .before .pre .1 .0 .few)
     (make-branch-returns t))
     λ t. make-statement-lts.spec (make-statement-claims t) (make-statement-at t)
     make-statement.Post
@@ -255,11 +190,11 @@ pub +make-block+make-branch+make-statement-spec : {M : Type 1} → statement M
     (λ c. search needs)
     (λ c κs. search needs)
     (make-statement-returns t)
-    (make-statement-returns-2 t)
+    (λ c. let a = c .before .before .before .before .before .before .args in let code = c .before .before .before .code-of .result in let is = c .before .before .before .code-of .ensures in made-skip (now (a .s)) (a .nest) (a .at) code is (c .before .enum-told2 .given .1) (now (a .rows)) (now (a .present)) (a .count) (c .passed .result .next) (c .passed .result .count) (c .passed .result .assigned) (c .passed .ensures .0) (c .passed .ensures .1 .0) (c .passed .ensures .1 .1))
     (make-statement-returns-3 t)
-    (make-statement-returns-4 t)
-    (make-statement-returns-5 t)
-    (make-statement-returns-6 t)
-    (make-statement-returns-7 t)
-    (make-statement-returns-8 t)
-    (make-statement-returns-9 t)
+    (λ c. let a = c .before .before .before .before .before .before .args in let code = c .before .before .before .code-of .result in let is = c .before .before .before .code-of .ensures in absurd (statement-read-as (now (a .s)) (a .nest) (a .at) code is (c .before .before .before .before .before .before .pre .1 .1 .1) form.End (c .before .enum-told4 .given .1)))
+    (λ c. let a = c .before .before .before .before .before .before .args in let code = c .before .before .before .code-of .result in let is = c .before .before .before .code-of .ensures in absurd (statement-read-as (now (a .s)) (a .nest) (a .at) code is (c .before .before .before .before .before .before .pre .1 .1 .1) form.Variable (c .before .enum-told5 .given .1)))
+    (λ c. let a = c .before .before .before .before .before .before .args in let code = c .before .before .before .code-of .result in let is = c .before .before .before .code-of .ensures in absurd (statement-read-as (now (a .s)) (a .nest) (a .at) code is (c .before .before .before .before .before .before .pre .1 .1 .1) form.Word (c .before .enum-told6 .given .1)))
+    (λ c. let a = c .before .before .before .before .before .before .args in let code = c .before .before .before .code-of .result in let is = c .before .before .before .code-of .ensures in absurd (statement-read-as (now (a .s)) (a .nest) (a .at) code is (c .before .before .before .before .before .before .pre .1 .1 .1) form.Bit (c .before .enum-told7 .given .1)))
+    (λ c. let a = c .before .before .before .before .before .before .args in let code = c .before .before .before .code-of .result in let is = c .before .before .before .code-of .ensures in absurd (statement-read-as (now (a .s)) (a .nest) (a .at) code is (c .before .before .before .before .before .before .pre .1 .1 .1) (form.Apply (c .before .enum-told8 .given .0 .0)) (c .before .enum-told8 .given .1)))
+    (λ c. let a = c .before .before .before .before .before .before .args in let code = c .before .before .before .code-of .result in let is = c .before .before .before .code-of .ensures in absurd (statement-read-as (now (a .s)) (a .nest) (a .at) code is (c .before .before .before .before .before .before .pre .1 .1 .1) form.Unknown (c .before .enum-told9 .given .1)))

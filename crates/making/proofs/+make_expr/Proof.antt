@@ -134,26 +134,6 @@ make-expr-returns-5 : (t : ℕ) → make-expr-lts.Need-returns-5 (make-expr-clai
 make-expr-returns-5 t c =
     let a = c .before .before .before .before .before .before .before .before .before .before .before .before .before .before .args in let h = c .before .before .before .before .before .before .before .before .before .before .before .before .before .before .pre .1 .1 in let code = c .before .before .before .before .before .before .before .before .before .before .before .code-of .result in let is = c .before .before .before .before .before .before .before .before .before .before .before .code-of .ensures in made-two (a .deep) (now (a .s)) (a .want) (a .at) h code is (c .before .before .before .before .before .before .before .before .before .form .given .0 .0) (c .before .before .before .before .before .before .before .before .before .form .given .1) (now (a .present)) (now (a .rows)) (a .count) (c .before .before .before .before .before .before .make-expr .result .gate .0) (c .before .before .before .before .before .before .make-expr .result .next) (c .before .before .before .before .before .before .make-expr .result .count) _ (c .before .before .before .before .before .before .make-expr .ensures) (c .before .before .before .before .if1 .left) (c .before .before .make-expr2 .result .gate .0) (c .before .before .make-expr2 .result .next) (c .before .before .make-expr2 .result .count) _ (c .before .before .make-expr2 .ensures) (c .apply-gate .result) (c .apply-gate .last .0) (c .apply-gate .ensures)
 
-make-expr-returns-6 : (t : ℕ) → make-expr-lts.Need-returns-6 (make-expr-claims t) (make-expr-at t) make-expr.Post
-make-expr-returns-6 t c =
-    let a = c .before .before .before .before .before .before .args in let h = c .before .before .before .before .before .before .pre .1 .1 in let code = c .before .before .before .code-of .result in let is = c .before .before .before .code-of .ensures in absurd (read-as (a .deep) (now (a .s)) (a .want) (a .at) h code is End (c .before .enum-told4 .given .1))
-
-make-expr-returns-7 : (t : ℕ) → make-expr-lts.Need-returns-7 (make-expr-claims t) (make-expr-at t) make-expr.Post
-make-expr-returns-7 t c =
-    let a = c .before .before .before .before .before .before .args in let h = c .before .before .before .before .before .before .pre .1 .1 in let code = c .before .before .before .code-of .result in let is = c .before .before .before .code-of .ensures in absurd (read-as (a .deep) (now (a .s)) (a .want) (a .at) h code is Assign (c .before .enum-told5 .given .1))
-
-make-expr-returns-8 : (t : ℕ) → make-expr-lts.Need-returns-8 (make-expr-claims t) (make-expr-at t) make-expr.Post
-make-expr-returns-8 t c =
-    let a = c .before .before .before .before .before .before .args in let h = c .before .before .before .before .before .before .pre .1 .1 in let code = c .before .before .before .code-of .result in let is = c .before .before .before .code-of .ensures in absurd (read-as (a .deep) (now (a .s)) (a .want) (a .at) h code is Skip (c .before .enum-told6 .given .1))
-
-make-expr-returns-9 : (t : ℕ) → make-expr-lts.Need-returns-9 (make-expr-claims t) (make-expr-at t) make-expr.Post
-make-expr-returns-9 t c =
-    let a = c .before .before .before .before .before .before .args in let h = c .before .before .before .before .before .before .pre .1 .1 in let code = c .before .before .before .code-of .result in let is = c .before .before .before .code-of .ensures in absurd (read-as (a .deep) (now (a .s)) (a .want) (a .at) h code is Branch (c .before .enum-told7 .given .1))
-
-make-expr-returns-10 : (t : ℕ) → make-expr-lts.Need-returns-10 (make-expr-claims t) (make-expr-at t) make-expr.Post
-make-expr-returns-10 t c =
-    let a = c .before .before .before .before .before .before .args in let h = c .before .before .before .before .before .before .pre .1 .1 in let code = c .before .before .before .code-of .result in let is = c .before .before .before .code-of .ensures in absurd (read-as (a .deep) (now (a .s)) (a .want) (a .at) h code is Unknown (c .before .enum-told8 .given .1))
-
 pub +make-expr-spec : {M : Type 1} → statement M
 +make-expr-spec = close μ-make-expr λ t. make-expr-lts.spec (make-expr-claims t) (make-expr-at t)
     make-expr.Post
@@ -202,8 +182,8 @@ pub +make-expr-spec : {M : Type 1} → statement M
     (make-expr-returns-3 t)
     (make-expr-returns-4 t)
     (make-expr-returns-5 t)
-    (make-expr-returns-6 t)
-    (make-expr-returns-7 t)
-    (make-expr-returns-8 t)
-    (make-expr-returns-9 t)
-    (make-expr-returns-10 t)
+    (λ c. let a = c .before .before .before .before .before .before .args in let h = c .before .before .before .before .before .before .pre .1 .1 in let code = c .before .before .before .code-of .result in let is = c .before .before .before .code-of .ensures in absurd (read-as (a .deep) (now (a .s)) (a .want) (a .at) h code is End (c .before .enum-told4 .given .1)))
+    (λ c. let a = c .before .before .before .before .before .before .args in let h = c .before .before .before .before .before .before .pre .1 .1 in let code = c .before .before .before .code-of .result in let is = c .before .before .before .code-of .ensures in absurd (read-as (a .deep) (now (a .s)) (a .want) (a .at) h code is Assign (c .before .enum-told5 .given .1)))
+    (λ c. let a = c .before .before .before .before .before .before .args in let h = c .before .before .before .before .before .before .pre .1 .1 in let code = c .before .before .before .code-of .result in let is = c .before .before .before .code-of .ensures in absurd (read-as (a .deep) (now (a .s)) (a .want) (a .at) h code is Skip (c .before .enum-told6 .given .1)))
+    (λ c. let a = c .before .before .before .before .before .before .args in let h = c .before .before .before .before .before .before .pre .1 .1 in let code = c .before .before .before .code-of .result in let is = c .before .before .before .code-of .ensures in absurd (read-as (a .deep) (now (a .s)) (a .want) (a .at) h code is Branch (c .before .enum-told7 .given .1)))
+    (λ c. let a = c .before .before .before .before .before .before .args in let h = c .before .before .before .before .before .before .pre .1 .1 in let code = c .before .before .before .code-of .result in let is = c .before .before .before .code-of .ensures in absurd (read-as (a .deep) (now (a .s)) (a .want) (a .at) h code is Unknown (c .before .enum-told8 .given .1)))
