@@ -1,5 +1,5 @@
 -- Laws of one gate's turn in the pass, by its code: a choice, whose condition has its number, or a gate of no, one or two arguments.
-use Prim.Native.Nat.{ℕ, suc, _+_, _-_, _*_, _≤_, _<_}
+use Prim.Native.Nat.{ℕ, suc, _-_, _≤_, _<_}
 use mathlib.Core.Path.{_≡_, refl, sym, ap, _∙_}
 use mathlib.Core.List.{List, [], _∷_}
 use mathlib.Core.Logic.{inl, inr}
@@ -18,18 +18,11 @@ use Rattle.gates.specs.ConditionLaws.{condition-in}
 use Rattle.needed.specs.Pass.{addAll, hand}
 use Rattle.needed.specs.PreconditionLaws.{conditions-once}
 use Rattle.needed.specs.StepLaws.{addNumber, hand-choice}
-use Rattle.needed.specs.Held.{choiceCode, ofForm, argumentsOf, gateIn, gatesIn}
+use Rattle.needed.specs.Held.{choiceCode, ofForm, argumentsOf, codeAt, firstAt, secondAt, thirdAt, gateIn, gatesIn}
 use Rattle.needed.specs.HeldLaws.{gate-choice, gate-other, arguments-other, gates-at}
 use Rattle.needed.specs.PlaceLaws.{Found, place-found, place-at}
-use Rattle.needed.specs.MarkSteps.{codeAt, firstAt}
 use Rattle.needed.specs.Passing.{addNumbers, handGate, Passable}
 use Rattle.needed.specs.PassingLaws.{add-all}
-
-abbrev pub secondAt : List ℕ → ℕ → ℕ
-secondAt rows i = getD rows (4 * i + 2) 0
-
-abbrev pub thirdAt : List ℕ → ℕ → ℕ
-thirdAt rows i = getD rows (4 * i + 3) 0
 
 -- A choice c on the values a, b.
 

@@ -35,9 +35,22 @@ argumentsOf row a b = take (row .arity) (a ∷ b ∷ [])
 unfoldable pub gateOf : ℕ → ℕ → ℕ → ℕ → Gate
 gateOf code a b c = cond (eqb code choiceCode) (choice a b c) (ofForm (codeOf code .form) a (argumentsOf (codeOf code) a b))
 
+-- the four numbers of gate i
+abbrev pub codeAt : List ℕ → ℕ → ℕ
+codeAt rows i = getD rows (4 * i) 0
+
+abbrev pub firstAt : List ℕ → ℕ → ℕ
+firstAt rows i = getD rows (4 * i + 1) 0
+
+abbrev pub secondAt : List ℕ → ℕ → ℕ
+secondAt rows i = getD rows (4 * i + 2) 0
+
+abbrev pub thirdAt : List ℕ → ℕ → ℕ
+thirdAt rows i = getD rows (4 * i + 3) 0
+
 -- gate i of the rows
 unfoldable pub gateIn : List ℕ → ℕ → Gate
-gateIn rows i = gateOf (getD rows (4 * i) 0) (getD rows (4 * i + 1) 0) (getD rows (4 * i + 2) 0) (getD rows (4 * i + 3) 0)
+gateIn rows i = gateOf (codeAt rows i) (firstAt rows i) (secondAt rows i) (thirdAt rows i)
 
 -- the first n gates of the rows
 unfoldable pub gatesIn : List ℕ → ℕ → Gates

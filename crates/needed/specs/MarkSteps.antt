@@ -1,5 +1,5 @@
 -- Laws of the marks: the gates standing first in a choice gate, gate by gate, and that the marked ones are the conditions.
-use Prim.Native.Nat.{ℕ, zero, suc, _+_, _*_, _≤_, _<_}
+use Prim.Native.Nat.{ℕ, zero, suc, _+_, _≤_, _<_}
 use mathlib.Core.Path.{_≡_, refl, sym, ap, _∙_}
 use mathlib.Core.List.{List, [], _∷_, _++_, append-nil}
 use mathlib.Core.Bool.{Bool, true, false, not, cond}
@@ -18,7 +18,7 @@ use Rattle.codes.specs.declared.Form.the-variants.{End, Assign, Skip, Branch, V
 use Rattle.gates.specs.Gates.{Gate, start, word, bit, operation, choice, Gates, Earlier, heads, conditions}
 use Rattle.gates.specs.ConditionLaws.{condition-below}
 use Rattle.needed.specs.HandLaws.{inside-list}
-use Rattle.needed.specs.Held.{choiceCode, ofForm, argumentsOf, gateIn, gatesIn}
+use Rattle.needed.specs.Held.{choiceCode, ofForm, argumentsOf, gateIn, gatesIn, codeAt, firstAt, secondAt, thirdAt}
 use Rattle.needed.specs.HeldLaws.{gate-choice, gate-other, gates-length, earlier-in}
 use Rattle.needed.specs.Places.{Marked, placeIn, placesOf, markOf, markedIn, Numbered}
 use Rattle.needed.specs.PlaceLaws.{place-none, place-at, places-length}
@@ -47,22 +47,15 @@ elem-more g [] c = refl
 elem-more g (x ∷ l) c = split (eqb g x) (λ t. rw t (split (eqb g c) (λ u. rw u) (λ u. rw u))) (λ t. rw t (elem-more g l c))
 
 module _ (rows : List ℕ) (i : ℕ) where
-  -- the numbers of gate i
-  abbrev pub codeAt : ℕ
-  codeAt = getD rows (4 * i) 0
-
-  abbrev pub firstAt : ℕ
-  firstAt = getD rows (4 * i + 1) 0
-
-  heads-choice : codeAt ≡ choiceCode → heads (gatesIn rows (suc i)) ≡ heads (gatesIn rows i) ++ (firstAt ∷ [])
+  heads-choice : codeAt rows i ≡ choiceCode → heads (gatesIn rows (suc i)) ≡ heads (gatesIn rows i) ++ (firstAt rows i ∷ [])
   unfolding gatesIn gateIn
-  heads-choice h = heads-more (gatesIn rows i) _ ∙ rw (gate-choice codeAt firstAt (getD rows (4 * i + 2) 0) (getD rows (4 * i + 3) 0) h)
+  heads-choice h = heads-more (gatesIn rows i) _ ∙ rw (gate-choice (codeAt rows i) (firstAt rows i) (secondAt rows i) (thirdAt rows i) h)
 
-  heads-other : (codeAt ≡ choiceCode → ⊥) → heads (gatesIn rows (suc i)) ≡ heads (gatesIn rows i)
+  heads-other : (codeAt rows i ≡ choiceCode → ⊥) → heads (gatesIn rows (suc i)) ≡ heads (gatesIn rows i)
   unfolding gatesIn gateIn
   heads-other h =
       heads-more (gatesIn rows i) _
-      ∙ rw (gate-other codeAt firstAt (getD rows (4 * i + 2) 0) (getD rows (4 * i + 3) 0) h, heads-form (codeOf codeAt .form) firstAt (argumentsOf (codeOf codeAt) firstAt (getD rows (4 * i + 2) 0)))
+      ∙ rw (gate-other (codeAt rows i) (firstAt rows i) (secondAt rows i) (thirdAt rows i) h, heads-form (codeOf (codeAt rows i) .form) (firstAt rows i) (argumentsOf (codeOf (codeAt rows i)) (firstAt rows i) (secondAt rows i)))
       (append-nil (heads (gatesIn rows i)))
 
 -- The loop that marks: the marks of the gates below i are made.
@@ -79,7 +72,7 @@ getD-zeros (suc n) (suc g) = getD-zeros n g
 pub head-before : (rows : List ℕ) (count i c : ℕ) → Earlier (gatesIn rows count) → i < count → codeAt rows i ≡ choiceCode → c ≡ firstAt rows i → c < i
 unfolding gateIn
 head-before rows count i c e l h q =
-    earlier-in rows count e i c l (rw (gate-choice (codeAt rows i) (firstAt rows i) (getD rows (4 * i + 2) 0) (getD rows (4 * i + 3) 0) h) (inl q))
+    earlier-in rows count e i c l (rw (gate-choice (codeAt rows i) (firstAt rows i) (secondAt rows i) (thirdAt rows i) h) (inl q))
 
 pub record Marking (rows places : List ℕ) (count i : ℕ) : Type 0 where
   pub below : i ≤ count

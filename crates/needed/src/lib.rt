@@ -1,3 +1,5 @@
+// Document 01, "The plain circuit" and "Needed gates", over lent arrays: a gate is four numbers of `rows`, `count` gates at most 256.
+// The lent arrays hold plain numbers; a gate's number in hand is a `GateId`.
 use gates::GateId;
 ghost use mathlib.Core.Path.{_≡_};
 ghost use mathlib.Core.List.{_∷_, [], _++_};
@@ -8,16 +10,11 @@ ghost use Rattle.settings.specs.Sets.{whole, given, without};
 ghost use Rattle.gates.specs.Gates.{Earlier, costs, conditions};
 ghost use Rattle.gates.specs.Limits.{mostGates, mostConditions};
 ghost use Rattle.gates.specs.EarlierLaws.{Inside};
-ghost use Rattle.needed.specs.Held.{gatesIn, codeCost};
+ghost use Rattle.needed.specs.Held.{firstAt, secondAt, gatesIn, codeCost};
 ghost use Rattle.needed.specs.Places.{placesOf, Marked, markedIn, Numbered};
 ghost use Rattle.needed.specs.Pass.{preconditionSets};
 ghost use Rattle.needed.specs.StepLaws.{addNumber};
-ghost use Rattle.needed.specs.MarkSteps.{firstAt};
-ghost use Rattle.needed.specs.HandSteps.{secondAt};
 ghost use Rattle.needed.specs.Passing.{addNumbers, handGate, passGates, Passable};
-
-// Document 01, "The plain circuit" and "Needed gates", over lent arrays: a gate is four numbers of `rows`, `count` gates at most 256.
-// The lent arrays hold plain numbers; a gate's number in hand is a `GateId`.
 
 // A choice's code.
 const CHOICE: u32 = 0x30;
