@@ -6,7 +6,7 @@ use mathlib.Core.Logic.{_⊎_, inl, inr}
 use mathlib.Core.Bool.{Bool, true, false, _&&_, false≢true}
 use lib.Dec.{eqb, leb}
 use borrow.Author.Tests.{ne-eqb, le-leb, lt-leb}
-use Rattle.codes.specs.Codes.{pick, kindOf, sameKind, plain, rowOf, operationOf, codeOf}
+use Rattle.codes.specs.Codes.{pick, kindOf, sameKind, plain, rowOf, operationOf, byteOf, codeOf}
 use Rattle.codes.specs.declared.Kind.{Kind}
 use Rattle.codes.specs.declared.Kind.the-variants as kind
 use Rattle.codes.specs.declared.Operation.{Operation}
@@ -93,3 +93,15 @@ form-row b op =
 -- so is a code that equals it
 pub code-row : (b : ℕ) (c : Code) (op : Operation) → c ≡ codeOf b → c .form ≡ Apply op → c ≡ rowOf op
 code-row b c op e q = e ∙ form-row b op (ap (λ (x : Code). x .form) (sym e) ∙ q)
+
+-- an operation's byte is read as that operation
+pub byte-operation : (op : Operation) → operationOf (byteOf op) ≡ op
+unfolding operationOf
+byte-operation Sum = refl
+byte-operation Difference = refl
+byte-operation Product = refl
+byte-operation LessThan = refl
+byte-operation Equal = refl
+byte-operation And = refl
+byte-operation Or = refl
+byte-operation Not = refl

@@ -54,6 +54,17 @@ operationOf b =
     (pick (eqb b 0x26) Or
     Not))))))
 
+-- and back: the byte of an operation
+abbrev pub byteOf : Operation → ℕ
+byteOf Sum = 0x20
+byteOf Difference = 0x21
+byteOf Product = 0x22
+byteOf LessThan = 0x23
+byteOf Equal = 0x24
+byteOf And = 0x25
+byteOf Or = 0x26
+byteOf Not = 0x27
+
 -- a code that is no operation: it takes no argument and costs nothing
 abbrev pub plain : Form → Kind → Code
 plain form gives = record { form = form; takes = kind.Word; gives = gives; arity = 0; cost = 0 }

@@ -2,14 +2,12 @@
 -- the code that the gate's record of a circuit file begins with, then the variable of a starting value, the figure of a constant,
 -- or the argument gates; 0 where there is none.
 use Prim.Native.Nat.{ℕ, _*_}
-use mathlib.Core.Path.{_≡_, refl}
+use mathlib.Core.Path.{_≡_}
 use mathlib.Core.List.{List, [], _∷_, _++_}
 use lib.ListN.{length, getD, take}
-use Rattle.codes.specs.Codes.{operationOf}
+use Rattle.codes.specs.Codes.{byteOf}
 use Rattle.codes.specs.declared.Kind.{Kind}
 use Rattle.codes.specs.declared.Kind.the-variants as kind
-use Rattle.codes.specs.declared.Operation.{Operation}
-use Rattle.codes.specs.declared.Operation.the-variants.{Sum, Difference, Product, LessThan, Equal, And, Or, Not}
 use Rattle.reading.specs.Header.{kindAt}
 use Rattle.gates.specs.Gates.{Gate, start, operation, choice, Gates}
 use Rattle.gates.specs.Gates as gate
@@ -18,29 +16,6 @@ use Rattle.gates.specs.Gates as gate
 abbrev pub startCode : Kind → ℕ
 startCode kind.Word = 0x00
 startCode kind.Bit = 0x01
-
--- the byte of an operation
-abbrev pub byteOf : Operation → ℕ
-byteOf Sum = 0x20
-byteOf Difference = 0x21
-byteOf Product = 0x22
-byteOf LessThan = 0x23
-byteOf Equal = 0x24
-byteOf And = 0x25
-byteOf Or = 0x26
-byteOf Not = 0x27
-
--- it is the byte that reading takes for the operation
-pub byte-operation : (op : Operation) → operationOf (byteOf op) ≡ op
-unfolding operationOf
-byte-operation Sum = refl
-byte-operation Difference = refl
-byte-operation Product = refl
-byte-operation LessThan = refl
-byte-operation Equal = refl
-byte-operation And = refl
-byte-operation Or = refl
-byte-operation Not = refl
 
 -- the four numbers of a gate; s is the rule, for the kind of a starting value
 abbrev pub fourOf : List ℕ → Gate → List ℕ

@@ -4,7 +4,7 @@ use native.Mathlib.Omega.{arith}
 use mathlib.Core.Path.{_≡_, refl, sym, ap, subst, subst⁻¹, _∙_}
 use mathlib.Core.List.{List, [], _∷_, _++_}
 use lib.ListN.{length, getD, length-append}
-use Rattle.codes.specs.Codes.{codeOf, rowOf}
+use Rattle.codes.specs.Codes.{codeOf, rowOf, byteOf}
 use Rattle.codes.specs.CodeLaws.{code-row}
 use Rattle.codes.specs.declared.Kind.{Kind}
 use Rattle.codes.specs.declared.Operation.{Operation}
@@ -22,7 +22,6 @@ use Rattle.gates.specs.Gates.{Gate, operation, Gates}
 use Rattle.gates.specs.Gates as gate
 use Rattle.gates.specs.PlainCircuit.{applyGate, makeExpr}
 use Rattle.gates.specs.PlainLaws.{extends-length, expr-extends}
-use Rattle.gates.specs.Rows.{byteOf}
 use Rattle.making.specs.Holding.{Stored, Stands, Pushed, Applied, ExprMade}
 
 -- the last gate's place is the count before it

@@ -8,7 +8,8 @@ use lib.Seq.{take-suc-set, getD-append-add, getD-take}
 use Rattle.gates.specs.Gates.{Gate, start, word, bit, operation, choice, Gates, gateAt}
 use Rattle.codes.specs.declared.Operation.{Operation}
 use Rattle.gates.specs.PlainCircuit.{applyGate}
-use Rattle.gates.specs.Rows.{byteOf, fourOf, rowsOf, Lie}
+use Rattle.codes.specs.Codes.{byteOf}
+use Rattle.gates.specs.Rows.{fourOf, rowsOf, Lie}
 use Rattle.making.specs.Holding.{Pushed, Applied}
 
 -- one gate more

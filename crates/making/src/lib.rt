@@ -16,7 +16,8 @@ ghost use Rattle.reading.specs.Rule.{readRule};
 ghost use Rattle.settings.specs.Sets.{has};
 ghost use Rattle.gates.specs.Gates.{choice};
 ghost use Rattle.gates.specs.PlainCircuit.{applyGate, assignsIn, assigns, makeStatement, makeBlock, starts};
-ghost use Rattle.gates.specs.Rows.{startCode, byteOf};
+ghost use Rattle.codes.specs.Codes.{byteOf};
+ghost use Rattle.gates.specs.Rows.{startCode};
 ghost use Rattle.making.specs.RuleMade.{RuleMade};
 ghost use Rattle.making.specs.Holding.{Held, Pushed, Applied, ExprMade, Chose, Chosen, Done};
 
