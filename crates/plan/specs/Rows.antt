@@ -1,0 +1,114 @@
+-- Document 01, "Refusals by place": the rows 20 to 30 of a plan, and what its check answers.
+use Prim.Native.Nat.{ℕ}
+use mathlib.Core.List.{List, [], _∷_}
+use mathlib.Core.Bool.{Bool, true, false, not, cond, _&&_}
+use lib.Dec.{eqb, leb, ltb}
+use lib.ListN.{length, getD, take}
+use Rattle.words.specs.Lists.{elem}
+use Rattle.settings.specs.Sets.{excludes}
+use Rattle.answers.specs.Answers.{refusal}
+use Rattle.answers.specs.declared.Answer.{Answer}
+use Rattle.codes.specs.Codes.{costly, byteOf}
+use Rattle.gates.specs.Gates.{Gate, start, word, bit, operation, choice, Gates, gateAt}
+use Rattle.gates.specs.PlainCircuit.{gatesOf, gateCount}
+use Rattle.needed.specs.Pass.{rulePreconditions}
+use Rattle.circuit.specs.Whole.{ruleAnswer}
+use Rattle.plan.specs.PlanFile.{mark, leastBytes, mostBytes, gatesCounted, groupsCounted, Plan, ends, groupsIn}
+use Rattle.plan.specs.Groups.{groups, groupOf}
+use Rattle.plan.specs.Order.{allIn, order}
+
+-- every number of a list, every group of a plan passes the test
+abbrev pub every : (ℕ → Bool) → List ℕ → Bool
+every t [] = true
+every t (a ∷ l) = t a && every t l
+
+abbrev pub everyGroup : (List ℕ → Bool) → Plan → Bool
+everyGroup t [] = true
+everyGroup t (G ∷ Gs) = t G && everyGroup t Gs
+
+-- the same numbers in the same order
+abbrev pub same : List ℕ → List ℕ → Bool
+same [] [] = true
+same [] (b ∷ m) = false
+same (a ∷ l) [] = false
+same (a ∷ l) (b ∷ m) = eqb a b && same l m
+
+-- 25: the numbers of a group rise, and are gates
+abbrev pub above : ℕ → List ℕ → Bool
+above m [] = true
+above m (k ∷ l) = ltb m k
+
+abbrev pub rises : List ℕ → Bool
+rises [] = true
+rises (m ∷ l) = above m l && rises l
+
+-- 26: the gate is in a group of the plan; no gate is in two
+abbrev pub listed : Plan → ℕ → Bool
+listed [] g = false
+listed (G ∷ Gs) g = cond (elem g G) true (listed Gs g)
+
+abbrev pub apart : Plan → Bool
+apart [] = true
+apart (G ∷ Gs) = every (λ g. not (listed Gs g)) G && apart Gs
+
+-- 27: a costly operation
+abbrev pub isCostly : Gate → Bool
+isCostly (start x) = false
+isCostly (word n) = false
+isCostly (bit b) = false
+isCostly (operation op l) = costly op
+isCostly (choice c a b) = false
+
+-- 28: the operation's byte, 0 for a gate that is none; a group has the operation of its first member
+abbrev pub operationByte : Gate → ℕ
+operationByte (start x) = 0
+operationByte (word n) = 0
+operationByte (bit b) = 0
+operationByte (operation op l) = byteOf op
+operationByte (choice c a b) = 0
+
+abbrev pub alike : Gates → List ℕ → Bool
+alike C [] = true
+alike C (m ∷ l) = every (λ k. eqb (operationByte (gateAt C m)) (operationByte (gateAt C k))) l
+
+-- 29: the preconditions of two members have no setting in common
+abbrev pub parted : List ℕ → List ℕ → Bool
+parted sets G = every (λ m. every (λ k. cond (eqb m k) true (excludes (getD sets m 0) (getD sets k 0))) G) G
+
+-- 30: the order of writing places every group
+abbrev pub placed : Gates → List ℕ → (ℕ → ℕ) → Bool
+placed C sets group = allIn (groups (length C) group) (order C sets group)
+
+-- a row: its number, and the fact, of the rule's bytes and the plan's, whose failing it refuses
+pub record Row : Type 0 where
+  pub refuses : ℕ
+  pub holds : List ℕ → List ℕ → Bool
+
+-- the rows of a plan, in rising number
+abbrev pub rows : List Row
+rows =
+    record { refuses = 20; holds = λ s p. leb leastBytes (length p) && leb (length p) mostBytes }
+    ∷ record { refuses = 21; holds = λ s p. same (take 5 p) mark }
+    ∷ record { refuses = 22; holds = λ s p. eqb (gatesCounted p) (gateCount s) }
+    ∷ record { refuses = 23; holds = λ s p. ends (groupsCounted p) p leastBytes }
+    ∷ record { refuses = 24; holds = λ s p. everyGroup (λ G. leb 2 (length G)) (groupsIn p) }
+    ∷ record { refuses = 25; holds = λ s p. everyGroup (λ G. rises G && every (λ g. ltb g (gateCount s)) G) (groupsIn p) }
+    ∷ record { refuses = 26; holds = λ s p. apart (groupsIn p) }
+    ∷ record { refuses = 27; holds = λ s p. everyGroup (every (λ g. isCostly (gateAt (gatesOf s) g))) (groupsIn p) }
+    ∷ record { refuses = 28; holds = λ s p. everyGroup (alike (gatesOf s)) (groupsIn p) }
+    ∷ record { refuses = 29; holds = λ s p. everyGroup (parted (rulePreconditions s)) (groupsIn p) }
+    ∷ record { refuses = 30; holds = λ s p. placed (gatesOf s) (rulePreconditions s) (groupOf (groupsIn p)) }
+    ∷ []
+
+-- the number of the first row of the list that fails, 0 when none does
+abbrev pub firstFailing : List Row → List ℕ → List ℕ → ℕ
+firstFailing [] s p = 0
+firstFailing (r ∷ l) s p = cond (r .holds s p) (firstFailing l s p) (r .refuses)
+
+-- "the lowest number over the whole file decides"
+unfoldable pub planRow : List ℕ → List ℕ → ℕ
+planRow s p = firstFailing rows s p
+
+-- what checking a plan answers: rule comes before plan; success counts what reading the rule counts, gates and cost before
+unfoldable pub planAnswer : List ℕ → List ℕ → Answer
+planAnswer s p = cond (eqb (ruleAnswer s .number) 0) (cond (eqb (planRow s p) 0) (ruleAnswer s) (refusal (planRow s p) 0)) (ruleAnswer s)

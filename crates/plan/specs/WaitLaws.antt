@@ -1,0 +1,120 @@
+-- Document 01, "The plan file and its check (001, section 5.1)": the groups listed for a group are those that it waits for;
+-- so the order of writing places every group exactly when no group waits for itself by a chain.
+use mathlib.Core.Path.{_≡_}
+use mathlib.Core.Bool.{true, cond}
+use mathlib.Core.List.{List, [], map}
+use mathlib.Core.Logic.{_⊎_, inl, inr, _↔_}
+use Prim.Native.Nat.{ℕ, _≤_, _<_}
+use native.Mathlib.Omega.{arith}
+use lib.Dec.{leb}
+use borrow.Author.Tests.{le-leb, leb-true}
+use lib.ListN.{length}
+use Rattle.words.specs.Lists.{_∈_, elem, split, keep-from, upto, from-below, flat, in-flat, flat-in, in-map, map-in, in-append, append-in}
+use Rattle.settings.specs.Settings.{Once}
+use Rattle.gates.specs.Gates.{Gates, gateAt, arguments, Earlier, heads, conditions}
+use Rattle.gates.specs.Limits.{mostConditions}
+use Rattle.needed.specs.Pass.{preconditionSets}
+use Rattle.plan.specs.Groups.{Named, groups, members, RestsOn, Waits, Chain, one, more, restsOf, readsOf, waitsFor}
+use Rattle.plan.specs.Order.{order, Ordered}
+use Rattle.plan.specs.Rows.{placed}
+use Rattle.plan.specs.Accepted.{NoCircle}
+use Rattle.plan.specs.CircleLaws.{allIn-each, allIn-back}
+use Rattle.plan.specs.OrderLaws.{schedule-all, schedule-ordered, schedule-from, schedule-once}
+use Rattle.plan.specs.GroupLaws.{group-in, of-member}
+use Rattle.plan.specs.RestLaws.{rests-right}
+
+-- a chain of one relation is one of a wider relation
+pub chain-map : {R S : ℕ → ℕ → Type 0} → ((p q : ℕ) → R p q → S p q) → {p q : ℕ} → Chain R p q → Chain S p q
+chain-map f (one r) = one (f _ _ r)
+chain-map f (more r c) = more (f _ _ r) (chain-map f c)
+
+module _ (C : Gates) (wanted : List ℕ) (earlier : Earlier C) (inside : (g : ℕ) → g ∈ wanted → g < length C) (few : length (conditions C) ≤ mostConditions)
+    (group : ℕ → ℕ) where
+  abbrev sets : List ℕ
+  sets = preconditionSets mostConditions C wanted
+
+  -- the groups listed for p are those that it waits for
+  pub waits-right : (p q : ℕ) → (q ∈ waitsFor C (preconditionSets mostConditions C wanted) group p) ↔ Waits C wanted group p q
+  unfolding waitsFor
+  waits-right p q = (to, back)
+    where
+      ms : List ℕ
+      ms = members (length C) group p
+
+      of : (m a : ℕ) → (a ∈ arguments (gateAt C m)) ⊎ (a ∈ cond (leb 2 (length ms)) (restsOf C sets m) [])
+          → (a ∈ arguments (gateAt C m)) ⊎ ((2 ≤ length ms) × RestsOn C wanted m a)
+      of m a (inl k) = inl k
+      of m a (inr k) = split (leb 2 (length ms)) (λ t. inr (leb-true 2 (length ms) t, rests-right C wanted earlier inside few m a .0 (rw t at k))) (λ t. absurd (rw t at k))
+
+      to : q ∈ map group (flat (readsOf C sets ms) ms) → Waits C wanted group p q
+      to h =
+          let r = map-in group q (flat (readsOf C sets ms) ms) h in
+          let s = flat-in (readsOf C sets ms) (r .0) ms (r .1) in
+          (s .0, s .1, r .0, r .2, of (s .0) (r .0) (append-in (r .0) (arguments (gateAt C (s .0))) (cond (leb 2 (length ms)) (restsOf C sets (s .0)) []) (s .2)))
+
+      reads : (m a : ℕ) → (a ∈ arguments (gateAt C m)) ⊎ ((2 ≤ length ms) × RestsOn C wanted m a)
+          → (a ∈ arguments (gateAt C m)) ⊎ (a ∈ cond (leb 2 (length ms)) (restsOf C sets m) [])
+      reads m a (inl k) = inl k
+      reads m a (inr (l, k)) = inr (rw (le-leb 2 (length ms) l) (rests-right C wanted earlier inside few m a .1 k))
+
+      back : Waits C wanted group p q → q ∈ map group (flat (readsOf C sets ms) ms)
+      back (m, h, a, e, k) =
+          rw e (in-map group a (flat (readsOf C sets ms) ms)
+          (in-flat (readsOf C sets ms) a m ms h (in-append a (arguments (gateAt C m)) (cond (leb 2 (length ms)) (restsOf C sets m) []) (reads m a k))))
+
+  -- what a group reads is in the circuit; so what it waits for is a group
+  waits-inside : (p m a : ℕ) → m < length C → (a ∈ arguments (gateAt C m)) ⊎ ((2 ≤ length (members (length C) group p)) × RestsOn C wanted m a) → a < length C
+  unfolding conditions
+  waits-inside p m a l (inl k) = omega (arith, earlier m a k)
+  waits-inside p m a l (inr (_, (c, _, _, _))) = omega (arith, from-below 0 (length C) a (keep-from (λ d. elem d (heads C)) (upto (length C)) a c .0))
+
+  pub waits-group : Named group → (p q : ℕ) → Waits C wanted group p q → q ∈ groups (length C) group
+  waits-group named p q (m, h, a, e, k) =
+      rw e (group-in (length C) group named a (waits-inside p m a (of-member (length C) group m p h .0) k))
+
+  -- and what waits is one
+  pub waiting-group : Named group → (p q : ℕ) → Waits C wanted group p q → p ∈ groups (length C) group
+  waiting-group named p q (m, h, _, _, _) =
+      let s = of-member (length C) group m p h in
+      rw (s .1) at (group-in (length C) group named m (s .0))
+
+  -- the order of writing places every group exactly when no group waits for itself by a chain of one or more waits
+  pub order-places : Named group
+      → ((p : ℕ) → p ∈ groups (length C) group → p ∈ order C (preconditionSets mostConditions C wanted) group) ↔ NoCircle C wanted group
+  unfolding order
+  order-places named = (to, back)
+    where
+      all : ((p : ℕ) → p ∈ groups (length C) group → Chain (λ x y. y ∈ waitsFor C sets group x) p p → ⊥)
+          ↔ ((p : ℕ) → p ∈ groups (length C) group → p ∈ order C sets group)
+      all = schedule-all (waitsFor C sets group) (groups (length C) group) (λ p q _ h. waits-group named p q (waits-right p q .0 h))
+
+      begins : (p q : ℕ) → Chain (Waits C wanted group) p q → p ∈ groups (length C) group
+      begins p q (one w) = waiting-group named p q w
+      begins p q (more {q = r} w _) = waiting-group named p r w
+
+      to : ((p : ℕ) → p ∈ groups (length C) group → p ∈ order C sets group) → NoCircle C wanted group
+      to places p c = all .1 places p (begins p p c) (chain-map (λ x y w. waits-right x y .1 w) c)
+
+      back : NoCircle C wanted group → (p : ℕ) → p ∈ groups (length C) group → p ∈ order C sets group
+      back free = all .0 (λ p _ c. free p (chain-map (λ x y h. waits-right x y .0 h) c))
+
+  -- 30
+  pub placed-right : Named group → (placed C (preconditionSets mostConditions C wanted) group ≡ true) ↔ NoCircle C wanted group
+  placed-right named = (
+    λ t. order-places named .0 (allIn-each (groups (length C) group) (order C sets group) t),
+    λ free. allIn-back (groups (length C) group) (order C sets group) (order-places named .1 free),
+  )
+
+-- what the order of writing places: each group after those that it waits for, groups only, each once
+module _ (C : Gates) (sets : List ℕ) (group : ℕ → ℕ) where
+  pub order-ordered : Ordered (waitsFor C sets group) (order C sets group)
+  unfolding order
+  order-ordered = schedule-ordered (waitsFor C sets group) (groups (length C) group) (length (groups (length C) group)) [] tt
+
+  pub order-from : (p : ℕ) → p ∈ order C sets group → p ∈ groups (length C) group
+  unfolding order
+  order-from = schedule-from (waitsFor C sets group) (groups (length C) group) (length (groups (length C) group)) [] (λ q z. absurd z)
+
+  pub order-once : Once (order C sets group)
+  unfolding order
+  order-once = schedule-once (waitsFor C sets group) (groups (length C) group) (length (groups (length C) group)) [] tt
