@@ -1,5 +1,5 @@
 // Prints what reading answers for many files made by plain loops. The file `stdout` has the lines that
-// the implementation in compare/ printed, which was written from document 01 alone.
+// the implementation in compare/ printed, which was not written from this code.
 use answers::Answer;
 use libc::STDOUT_FILENO;
 ghost use Prim.Native.Nat.{_≤_, _<_};
