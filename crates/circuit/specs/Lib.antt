@@ -4,4 +4,5 @@ pub mod Shown
 pub mod WholeLaws
 pub mod MakingLaws
 pub mod ShownLaws
+pub mod ShownParts
 pub mod Examples

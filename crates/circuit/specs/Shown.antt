@@ -4,8 +4,10 @@ use mathlib.Core.List.{List, [], _++_}
 use lib.ListN.{length, replicate}
 use lib.Dec.{eqb}
 use Rattle.codes.specs.Codes.{pick}
-use Rattle.gates.specs.Limits.{mostGates}
-use Rattle.gates.specs.PlainCircuit.{gatesOf}
+use Rattle.reading.specs.Limits.{mostVariables}
+use Rattle.gates.specs.Limits.{mostGates, mostConditions}
+use Rattle.gates.specs.Gates.{conditions}
+use Rattle.gates.specs.PlainCircuit.{gatesOf, outputsOf}
 use Rattle.gates.specs.Rows.{rowsOf}
 use Rattle.needed.specs.Pass.{rulePreconditions}
 use Rattle.circuit.specs.Whole.{ruleAnswer}
@@ -25,3 +27,11 @@ shownRows s = padded (4 * mostGates) (ifAccepted s (rowsOf s (gatesOf s)))
 -- each gate's precondition
 abbrev pub shownNeeds : List ℕ → List ℕ
 shownNeeds s = padded mostGates (ifAccepted s (rulePreconditions s))
+
+-- every variable's last gate
+abbrev pub shownOutputs : List ℕ → List ℕ
+shownOutputs s = padded mostVariables (ifAccepted s (outputsOf s))
+
+-- condition t is element t
+abbrev pub shownConditions : List ℕ → List ℕ
+shownConditions s = padded mostConditions (ifAccepted s (conditions (gatesOf s)))

@@ -7,8 +7,8 @@ ghost use Rattle.gates.specs.Gates.{Earlier};
 ghost use Rattle.needed.specs.Held.{gatesIn};
 ghost use Rattle.needed.specs.Places.{placesOf};
 ghost use Rattle.circuit.specs.Whole.{ruleAnswer};
-ghost use Rattle.circuit.specs.Shown.{shownRows, shownNeeds};
-ghost use Rattle.circuit.specs.Making.{wholeIn};
+ghost use Rattle.circuit.specs.Shown.{shownRows, shownNeeds, shownOutputs, shownConditions};
+ghost use Rattle.circuit.specs.Making.{wholeIn, Ready};
 
 // The limits of a plain circuit.
 const MOST_GATES: u16 = 256;
@@ -54,21 +54,60 @@ pub fn read_rule(rule: &[u8]) -> Answer
     whole(rule.len(), &rows, count, &mut places)
 }
 
-// A plain circuit shown: the answer of reading its rule, four numbers a gate, and each gate's precondition; zeros after the gates.
+// A plain circuit shown: the answer of reading its rule, four numbers a gate, each gate's precondition, every variable's last gate,
+// and each condition's gate; zeros after them.
 pub struct Shown {
     pub answer: Answer,
     pub rows: [u32; 1024],
     pub needs: [u64; 256],
+    pub outputs: [u16; 32],
+    pub conditions: [u16; 6],
 }
 
 // A refused rule has no circuit.
 fn nothing(answer: Answer) -> Shown
-    ensures { λ r. ⌜ (r .answer ≡ answer) × ((r .rows ≡ replicate 1024 0) × (r .needs ≡ replicate 256 0)) ⌝ }
+    ensures { λ r. ⌜ (r .answer ≡ answer) × ((r .rows ≡ replicate 1024 0) × ((r .needs ≡ replicate 256 0) × ((r .outputs ≡ replicate 32 0) × (r .conditions ≡ replicate 6 0)))) ⌝ }
 {
     Shown {
         answer,
         rows: [0u32; 1024],
         needs: [0u64; 256],
+        outputs: [0u16; 32],
+        conditions: [0u16; 6],
+    }
+}
+
+// The circuit of an accepted rule, once it is made and its conditions are numbered.
+fn filled(
+    rule: &[u8],
+    answer: Answer,
+    made: &[u32; 1024],
+    present: &[u16; 32],
+    places: &[u16; 256],
+    count: usize,
+) -> Shown
+    requires { ⌜ Ready (now rule) (now made) (now present) (now places) count ⌝ }
+    ensures answer { λ r. ⌜ r .answer ≡ answer ⌝ }
+    ensures rows { λ r. ⌜ r .rows ≡ shownRows (now (rule .entry)) ⌝ }
+    ensures needs { λ r. ⌜ r .needs ≡ shownNeeds (now (rule .entry)) ⌝ }
+    ensures outputs { λ r. ⌜ r .outputs ≡ shownOutputs (now (rule .entry)) ⌝ }
+    ensures conditions { λ r. ⌜ r .conditions ≡ shownConditions (now (rule .entry)) ⌝ }
+{
+    let v = rule[5] as usize;
+    let mut rows = [0u32; 1024];
+    let mut needs = [0u64; 256];
+    let mut outputs = [0u16; 32];
+    needed::find_needed(made, count, places, present, v, &mut needs);
+    let gates = &made[..];
+    words::copy32(&gates[0..4 * count], &mut rows);
+    let last = &present[..];
+    words::copy16(&last[0..v], &mut outputs);
+    Shown {
+        answer,
+        rows,
+        needs,
+        outputs,
+        conditions: needed::condition_gates(places, count),
     }
 }
 
@@ -77,6 +116,8 @@ pub fn show(rule: &[u8]) -> Shown
     ensures answer { λ r. ⌜ r .answer ≡ ruleAnswer (now (rule .entry)) ⌝ }
     ensures rows { λ r. ⌜ r .rows ≡ shownRows (now (rule .entry)) ⌝ }
     ensures needs { λ r. ⌜ r .needs ≡ shownNeeds (now (rule .entry)) ⌝ }
+    ensures outputs { λ r. ⌜ r .outputs ≡ shownOutputs (now (rule .entry)) ⌝ }
+    ensures conditions { λ r. ⌜ r .conditions ≡ shownConditions (now (rule .entry)) ⌝ }
 {
     let a = reading::read_rule(rule);
     if a.number != 0 {
@@ -90,15 +131,5 @@ pub fn show(rule: &[u8]) -> Shown
     if answer.number != 0 {
         return nothing(answer);
     }
-    let n = count as usize;
-    let v = rule[5] as usize;
-    let mut rows = [0u32; 1024];
-    let mut needs = [0u64; 256];
-    needed::find_needed(&made, n, &places, &present, v, &mut needs);
-    words::copy32(&made[0..4 * n], &mut rows);
-    Shown {
-        answer,
-        rows,
-        needs,
-    }
+    filled(rule, answer, &made, &present, &places, count as usize)
 }

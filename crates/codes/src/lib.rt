@@ -4,7 +4,7 @@ ghost use mathlib.Core.Bool.{_&&_, _||_};
 ghost use Prim.Native.Nat.{_≤_};
 ghost use lib.Dec.{eqb};
 ghost use Rattle.codes.specs.Results.{bitOf, resultOf};
-ghost use Rattle.codes.specs.Codes.{kindOf, sameKind, plain, row, rowOf, operationOf, codeOf};
+ghost use Rattle.codes.specs.Codes.{kindOf, sameKind, plain, row, rowOf, operationOf, byteOf, codeOf};
 
 // What a figure is: a word of 32 bits or a bit.
 pub enum Kind {
@@ -124,6 +124,22 @@ fn operation_of(b: u8) -> Operation
         0x25 => Operation::And,
         0x26 => Operation::Or,
         _ => Operation::Not,
+    }
+}
+
+// The byte of an operation.
+pub fn byte_of(op: Operation) -> u8
+    ensures { λ r. ⌜ r ≡ byteOf op ⌝ }
+{
+    match op {
+        Operation::Sum => 0x20,
+        Operation::Difference => 0x21,
+        Operation::Product => 0x22,
+        Operation::LessThan => 0x23,
+        Operation::Equal => 0x24,
+        Operation::And => 0x25,
+        Operation::Or => 0x26,
+        Operation::Not => 0x27,
     }
 }
 

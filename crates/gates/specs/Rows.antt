@@ -1,10 +1,9 @@
 -- Document 01, "The plain circuit" and "The fused circuit file": gates as they lie in a lent array, four numbers a gate:
 -- the code that the gate's record of a circuit file begins with, then the variable of a starting value, the figure of a constant,
 -- or the argument gates; 0 where there is none.
-use Prim.Native.Nat.{ℕ, _*_}
-use mathlib.Core.Path.{_≡_}
+use Prim.Native.Nat.{ℕ}
 use mathlib.Core.List.{List, [], _∷_, _++_}
-use lib.ListN.{length, getD, take}
+use lib.ListN.{getD}
 use Rattle.codes.specs.Codes.{byteOf}
 use Rattle.codes.specs.declared.Kind.{Kind}
 use Rattle.codes.specs.declared.Kind.the-variants as kind
@@ -29,8 +28,3 @@ fourOf s (choice c a b) = 0x30 ∷ c ∷ a ∷ b ∷ []
 unfoldable pub rowsOf : List ℕ → Gates → List ℕ
 rowsOf s [] = []
 rowsOf s (k ∷ C) = fourOf s k ++ rowsOf s C
-
--- the rows of these gates, `count` of them, lie at the start of the array
-pub record Lie (s : List ℕ) (C : Gates) (rows : List ℕ) (count : ℕ) : Type 0 where
-  pub counted : count ≡ length C
-  pub lie : take (4 * count) rows ≡ rowsOf s C

@@ -1,15 +1,15 @@
 -- Laws of the rows of gates, and of pushing one. Assumes nothing.
-use Prim.Native.Nat.{ℕ, zero, suc, _+_, _*_, _≤_, _<_}
+use Prim.Native.Nat.{ℕ, suc, _+_, _*_, _≤_, _<_}
 use native.Mathlib.Omega.{arith}
 use mathlib.Core.Path.{_≡_, refl, sym, ap, _∙_}
 use mathlib.Core.List.{List, [], _∷_, _++_, append-assoc, append-nil}
-use lib.ListN.{length, getD, set, take, length-set, length-append, List·getD-append}
-use lib.Seq.{take-suc-set, getD-append-add, getD-take}
-use Rattle.gates.specs.Gates.{Gate, start, word, bit, operation, choice, Gates, gateAt}
+use lib.ListN.{length, set, take, length-set, length-append}
+use lib.Seq.{take-suc-set}
+use Rattle.gates.specs.Gates.{Gate, Gates}
 use Rattle.codes.specs.declared.Operation.{Operation}
 use Rattle.gates.specs.PlainCircuit.{applyGate}
 use Rattle.codes.specs.Codes.{byteOf}
-use Rattle.gates.specs.Rows.{fourOf, rowsOf, Lie}
+use Rattle.gates.specs.Rows.{fourOf, rowsOf}
 use Rattle.making.specs.Holding.{Pushed, Applied}
 
 -- one gate more
@@ -81,27 +81,3 @@ pub two-applied : (op : Operation) (a b byte : ℕ) {rows after : List ℕ} {cou
 unfolding applyGate
 two-applied op a b byte e p =
     record { applied = λ s C wanted right held. p .pushed s C wanted (λ h. ap (fourOf s) (right h) ∙ ap (λ (j : ℕ). j ∷ a ∷ b ∷ 0 ∷ []) (sym e)) held }
-
--- reading a row: number j of gate g
-four-long : (s : List ℕ) (k : Gate) → length (fourOf s k) ≡ 4
-four-long s (start x) = refl
-four-long s (word n) = refl
-four-long s (bit b) = refl
-four-long s (operation op l) = refl
-four-long s (choice c a b) = refl
-
-rows-at : (s : List ℕ) (C : Gates) (g j : ℕ) → j < 4 → g < length C → getD (rowsOf s C) (4 * g + j) 0 ≡ getD (fourOf s (gateAt C g)) j 0
-unfolding rowsOf
-rows-at s [] g j h i = absurd (omega arith)
-rows-at s (k ∷ C) zero j h i =
-    let e : 4 * 0 + j ≡ j = omega arith in
-    ap (λ (n : ℕ). getD (fourOf s k ++ rowsOf s C) n 0) e ∙ List·getD-append (fourOf s k) (rowsOf s C) 0 j (omega (arith, four-long s k))
-rows-at s (k ∷ C) (suc g) j h i =
-    let e : 4 * suc g + j ≡ length (fourOf s k) + (4 * g + j) = omega (arith, four-long s k) in
-    ap (λ (n : ℕ). getD (fourOf s k ++ rowsOf s C) n 0) e ∙ getD-append-add (fourOf s k) (rowsOf s C) (4 * g + j) 0 ∙ rows-at s C g j h (omega arith)
-
-pub row-at : (s : List ℕ) (C : Gates) (rows : List ℕ) (count g j : ℕ) → Lie s C rows count → j < 4 → g < count → getD rows (4 * g + j) 0 ≡ getD (fourOf s (gateAt C g)) j 0
-row-at s C rows count g j r h i =
-    sym (getD-take (4 * count) rows (4 * g + j) 0 (omega arith))
-    ∙ ap (λ (l : List ℕ). getD l (4 * g + j) 0) (r .lie)
-    ∙ rows-at s C g j h (omega (arith, r .counted))

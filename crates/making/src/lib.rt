@@ -60,20 +60,11 @@ fn push(rows: &mut [u32; 1024], count: u16, code: u32, a: u32, b: u32, c: u32) -
     count + 1
 }
 
-// The byte of an operation.
+// The byte of an operation, as wide as a row's numbers.
 fn byte_of(op: Operation) -> u32
     ensures { λ r. ⌜ r ≡ byteOf op ⌝ }
 {
-    match op {
-        Operation::Sum => 0x20,
-        Operation::Difference => 0x21,
-        Operation::Product => 0x22,
-        Operation::LessThan => 0x23,
-        Operation::Equal => 0x24,
-        Operation::And => 0x25,
-        Operation::Or => 0x26,
-        Operation::Not => 0x27,
-    }
+    codes::byte_of(op) as u32
 }
 
 // The code of a starting value.

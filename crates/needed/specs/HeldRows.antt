@@ -4,7 +4,7 @@ use mathlib.Core.Path.{_≡_, refl, sym, ap, _∙_}
 use mathlib.Core.List.{List, [], _∷_}
 use native.Mathlib.Nat.{add-zero}
 use native.Mathlib.Omega.{arith}
-use lib.ListN.{length, getD, take, List·getD-append}
+use lib.ListN.{length, getD, take, length-append, List·getD-append}
 use lib.Seq.{getD-append-add, getD-take, take-suc, take-length}
 use Rattle.codes.specs.Codes.{rowOf, operationOf, codeOf, byteOf}
 use Rattle.codes.specs.declared.Code.{Code}
@@ -30,6 +30,11 @@ four-length s (word n) = refl
 four-length s (bit b) = refl
 four-length s (operation op l) = refl
 four-length s (choice c a b) = refl
+
+pub rows-length : (s : List ℕ) (C : Gates) → length (rowsOf s C) ≡ 4 * length C
+unfolding rowsOf
+rows-length s [] = refl
+rows-length s (g ∷ C) = rw (length-append, four-length s g, rows-length s C) (omega arith)
 
 rows-at : (s : List ℕ) (C : Gates) (i k : ℕ) → i < length C → k < 4 → getD (rowsOf s C) (4 * i + k) 0 ≡ getD (fourOf s (gateAt C i)) k 0
 unfolding rowsOf

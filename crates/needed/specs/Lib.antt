@@ -7,6 +7,7 @@ pub mod ShapedLaws
 pub mod HeldRows
 pub mod PlaceLaws
 pub mod MarkSteps
+pub mod GatherLaws
 pub mod NeededLaws
 pub mod HandLaws
 pub mod MarkLaws

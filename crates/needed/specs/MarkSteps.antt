@@ -63,7 +63,7 @@ module _ (rows : List ℕ) (i : ℕ) where
 more : (i : ℕ) → i + 1 ≡ suc i
 more i = omega arith
 
-getD-zeros : (n g : ℕ) → _≡_ {A = ℕ} (getD (replicate n 0) g 0) 0
+pub getD-zeros : (n g : ℕ) → _≡_ {A = ℕ} (getD (replicate n 0) g 0) 0
 getD-zeros zero g = refl
 getD-zeros (suc n) zero = refl
 getD-zeros (suc n) (suc g) = getD-zeros n g

@@ -82,10 +82,10 @@ marked-next marks n =
     ap (keep (λ g. not (eqb (getD marks g 0) 0))) (from-more 0 n ∙ ap (λ (k : ℕ). upto n ++ (k ∷ [])) (zero-add n))
     ∙ keep-more (λ g. not (eqb (getD marks g 0) 0)) (upto n) n
 
-marked-one : (marks : List ℕ) (n : ℕ) → (getD marks n 0 ≡ 0 → ⊥) → markedIn marks (suc n) ≡ markedIn marks n ++ (n ∷ [])
+pub marked-one : (marks : List ℕ) (n : ℕ) → (getD marks n 0 ≡ 0 → ⊥) → markedIn marks (suc n) ≡ markedIn marks n ++ (n ∷ [])
 marked-one marks n h = marked-next marks n ∙ rw (ne-eqb (getD marks n 0) 0 h)
 
-marked-none : (marks : List ℕ) (n : ℕ) → getD marks n 0 ≡ 0 → markedIn marks (suc n) ≡ markedIn marks n ++ []
+pub marked-none : (marks : List ℕ) (n : ℕ) → getD marks n 0 ≡ 0 → markedIn marks (suc n) ≡ markedIn marks n ++ []
 marked-none marks n h = marked-next marks n ∙ rw (eq-eqb (getD marks n 0) 0 h)
 
 marked-below : (marks : List ℕ) (n g : ℕ) → g ∈ markedIn marks n → g < n

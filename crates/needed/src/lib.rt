@@ -5,6 +5,7 @@ ghost use mathlib.Core.Path.{_≡_};
 ghost use mathlib.Core.List.{_∷_, [], _++_};
 ghost use Prim.Native.Nat.{_+_, _-_, _*_, _<_, _≤_};
 ghost use lib.ListN.{length, getD, take, replicate};
+ghost use Rattle.words.specs.Buffers.{over};
 ghost use Rattle.codes.specs.Codes.{codeOf};
 ghost use Rattle.settings.specs.Sets.{whole, given, without};
 ghost use Rattle.gates.specs.Gates.{Earlier, costs, conditions};
@@ -119,6 +120,24 @@ pub fn number_conditions(rows: &[u32; 1024], count: usize, places: &mut [u16; 25
 {
     mark(rows, count, places);
     number_marked(count, places)
+}
+
+// The gates that have a number, in rising order: of places that number the conditions, condition t is element t; zeros after them.
+pub fn condition_gates(places: &[u16; 256], count: usize) -> [u16; 6]
+    requires { ⌜ (count ≤ mostGates) × (length (markedIn (now places) count) ≤ mostConditions) ⌝ }
+    ensures { λ r. ⌜ r ≡ over (markedIn (now (places .entry)) count) (replicate mostConditions 0) ⌝ }
+{
+    let mut gates = [0u16; 6];
+    let mut t: usize = 0;
+    let mut g: usize = 0;
+    while g < count {
+        if places[g] != 0 {
+            gates[t] = g as u16;
+            t = t + 1;
+        }
+        g = g + 1;
+    }
+    gates
 }
 
 // The set s is put to that of gate g.
