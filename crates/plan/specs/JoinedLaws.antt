@@ -19,7 +19,7 @@ use Rattle.plan.specs.Accepted.{OneCostly, NoTwoNeeded, Acceptable}
 use Rattle.plan.specs.GroupLaws.{smallest-in, groupOf-kind, of-member}
 
 -- the name of a listed group is the name of no gate outside it
-foreign : (G : List ℕ) (Gs : Plan) → 2 ≤ length G → ((g : ℕ) → g ∈ G → Listed Gs g → ⊥) → Each (λ H. 2 ≤ length H) Gs → (b : ℕ) → elem b G ≡ false
+pub foreign : (G : List ℕ) (Gs : Plan) → 2 ≤ length G → ((g : ℕ) → g ∈ G → Listed Gs g → ⊥) → Each (λ H. 2 ≤ length H) Gs → (b : ℕ) → elem b G ≡ false
     → groupOf Gs b ≡ smallest G → ⊥
 foreign G Gs s d o b t e = go (groupOf-kind Gs o b)
   where

@@ -14,6 +14,7 @@ pub mod MarkLaws
 pub mod MemberLaws
 pub mod AcceptedLaws
 pub mod JoinedLaws
+pub mod ListedLaws
 pub mod LayoutLaws
 pub mod FoundLaws
 pub mod Examples

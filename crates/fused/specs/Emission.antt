@@ -1,0 +1,58 @@
+-- Document 01, "The fused circuit file": the records of a group. "A group alone is one record. A larger one is: for each member, rising, a guard
+-- over the conditions it rests on; a pick for each argument place, members rising; the operation, whose wire stands for every member."
+use Prim.Native.Nat.{ℕ, suc, _+_}
+use mathlib.Core.List.{List, [], _∷_, _++_, map}
+use lib.ListN.{length, getD}
+use Rattle.words.specs.Lists.{from, upto}
+use Rattle.settings.specs.Guards.{table}
+use Rattle.codes.specs.declared.Operation.{Operation}
+use Rattle.codes.specs.declared.Operation.the-variants as operations
+use Rattle.reading.specs.Header.{kindAt}
+use Rattle.gates.specs.Gates.{Gate, Gates, gateAt, arguments}
+use Rattle.gates.specs.Gates as gate
+use Rattle.gates.specs.Limits.{mostConditions}
+use Rattle.plan.specs.Groups.{restsOf}
+use Rattle.fused.specs.Records.{Pair, Record, input, word, bit, operation, choice, pick, guard}
+
+-- a gate alone, its arguments read from the wires of their groups; s is the rule, for the kind of a starting value
+abbrev pub alone : List ℕ → (ℕ → ℕ) → Gate → Record
+alone s wire (gate.start x) = input (kindAt s x) x
+alone s wire (gate.word n) = word n
+alone s wire (gate.bit b) = bit b
+alone s wire (gate.operation op l) = operation op (map wire l)
+alone s wire (gate.choice c a b) = choice (wire c) (wire a) (wire b)
+
+-- the operation of a joined gate
+abbrev pub operationOf : Gate → Operation
+operationOf (gate.start x) = operations.Sum
+operationOf (gate.word n) = operations.Sum
+operationOf (gate.bit b) = operations.Sum
+operationOf (gate.operation op l) = op
+operationOf (gate.choice c a b) = operations.Sum
+
+-- the pairs of a pick: the guards are the wires from n on, one for each value
+abbrev pub pairs : ℕ → List ℕ → List Pair
+pairs n [] = []
+pairs n (w ∷ values) = record { guarding = n; value = w } ∷ pairs (suc n) values
+
+-- a joined group, from its members' guards and, for each argument place, its members' wires at that place: n is the first guard's wire.
+-- The one place that says which picks there are and what the operation reads.
+abbrev pub joined : ℕ → Operation → List Record → List (List ℕ) → List Record
+joined n op guards places = guards ++ (map (λ values. pick (pairs n values)) places ++ (operation op (from (n + length guards) (length places)) ∷ []))
+
+-- over the gates C of the rule s with their preconditions; wire: the wire that stands for a gate
+module _ (s : List ℕ) (C : Gates) (sets : List ℕ) (wire : ℕ → ℕ) where
+  -- the guard of a member, over the conditions it rests on, rising
+  abbrev pub guardOf : ℕ → Record
+  guardOf m = guard (map wire (restsOf C sets m)) (table mostConditions (getD sets m 0))
+
+  -- the members' wires at argument place k
+  abbrev pub valuesAt : List ℕ → ℕ → List ℕ
+  valuesAt ms k = map (λ m. wire (getD (arguments (gateAt C m)) k 0)) ms
+
+  -- the records of a group with these members, the first of them being wire n
+  abbrev pub emit : ℕ → List ℕ → List Record
+  emit n [] = []
+  emit n (m ∷ []) = alone s wire (gateAt C m) ∷ []
+  emit n (m ∷ k ∷ l) =
+      joined n (operationOf (gateAt C m)) (map guardOf (m ∷ k ∷ l)) (map (valuesAt (m ∷ k ∷ l)) (upto (length (arguments (gateAt C m)))))

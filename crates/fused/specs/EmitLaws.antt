@@ -1,0 +1,90 @@
+-- Laws of a group's records: there is one at least, and they read only earlier wires when what the group reads is earlier. Assumes nothing.
+use Prim.Native.Nat.{ℕ, suc, _+_, _≤_, _<_}
+use mathlib.Core.Path.{_≡_, refl, sym, ap, _∙_}
+use mathlib.Core.List.{List, [], _∷_, map}
+use mathlib.Core.Logic.{inl, inr}
+use native.Mathlib.Omega.{arith}
+use lib.ListN.{length, getD, length-map}
+use Rattle.words.specs.Lists.{_∈_, from, upto, from-below, map-in, getD-in}
+use Rattle.codes.specs.declared.Operation.{Operation}
+use Rattle.gates.specs.Gates.{Gate, Gates, gateAt, arguments}
+use Rattle.gates.specs.Gates as gate
+use Rattle.plan.specs.Groups.{restsOf}
+use Rattle.fused.specs.Records.{Record, operation, pick, pairWires, reads}
+use Rattle.fused.specs.Emission.{alone, operationOf, pairs, joined, guardOf, valuesAt, emit}
+use Rattle.fused.specs.RecordLaws.{Along, ReadsBefore, Below, along-append, along-map}
+
+-- mapped twice is mapped once
+pub map-map : {A B D : Type 0} (v : B → D) (f : A → B) (l : List A) → map v (map f l) ≡ map (λ a. v (f a)) l
+map-map v f [] = refl
+map-map v f (a ∷ l) = ap (λ (r : List _). v (f a) ∷ r) (map-map v f l)
+
+-- a gate alone reads the wires of its arguments
+pub alone-reads : (s : List ℕ) (wire : ℕ → ℕ) (k : Gate) → reads (alone s wire k) ≡ map wire (arguments k)
+alone-reads s wire (gate.start x) = refl
+alone-reads s wire (gate.word n) = refl
+alone-reads s wire (gate.bit b) = refl
+alone-reads s wire (gate.operation op l) = refl
+alone-reads s wire (gate.choice c a b) = refl
+
+mapped-below : (wire : ℕ → ℕ) (n : ℕ) (l : List ℕ) → ((a : ℕ) → a ∈ l → wire a < n) → (w : ℕ) → w ∈ map wire l → w < n
+mapped-below wire n l h w m = let r = map-in wire w l m in rw (r .2) (h (r .0) (r .1))
+
+pairs-below : (N : ℕ) (values : List ℕ) (n : ℕ) → n + length values ≤ N → ((w : ℕ) → w ∈ values → w < N)
+    → (a : ℕ) → a ∈ pairWires (pairs n values) → a < N
+pairs-below N [] n h b a m = absurd m
+pairs-below N (v ∷ values) n h b a (inl e) = omega arith
+pairs-below N (v ∷ values) n h b a (inr (inl e)) = rw e (b v (inl refl))
+pairs-below N (v ∷ values) n h b a (inr (inr m)) = pairs-below N values (suc n) (omega arith) (λ w q. b w (inr q)) a m
+
+-- what holds of a joined group's guards, of its picks and of its operation holds along the group; F i: the values at place i
+pub joined-along : (P : ℕ → Record → Type 0) (n : ℕ) (op : Operation) (guards : List Record) (F : ℕ → List ℕ) (ks : List ℕ) → Along P n guards
+    → ((i : ℕ) → i ∈ ks → (j : ℕ) → n + length guards ≤ j → P j (pick (pairs n (F i))))
+    → P (n + length guards + length ks) (operation op (from (n + length guards) (length ks)))
+    → Along P n (joined n op guards (map F ks))
+joined-along P n op guards F ks g h o =
+    along-append P guards _ n g
+    (along-append P (map (λ values. pick (pairs n values)) (map F ks)) _ (n + length guards)
+    (rw (map-map (λ values. pick (pairs n values)) F ks) (along-map P (λ i. pick (pairs n (F i))) ks (n + length guards) (n + length guards) (omega arith) h))
+    (rw (length-map (map F ks) (λ values. pick (pairs n values)), length-map ks F) (o, tt)))
+
+-- a joined group whose guards and values are earlier
+joined-below : (n : ℕ) (op : Operation) (guards : List Record) (F : ℕ → List ℕ) (ks : List ℕ) → Below n guards
+    → ((i : ℕ) → i ∈ ks → (length (F i) ≡ length guards) × ((w : ℕ) → w ∈ F i → w < n))
+    → Below n (joined n op guards (map F ks))
+joined-below n op guards F ks g h =
+    joined-along ReadsBefore n op guards F ks g
+    (λ i m j b a k. omega (arith, pairs-below (n + length guards) (F i) n (omega (arith, h i m .0)) (λ w q. omega (arith, h i m .1 w q)) a k))
+    (λ a m. from-below (n + length guards) (length ks) a m .1)
+
+module _ (s : List ℕ) (C : Gates) (sets : List ℕ) (wire : ℕ → ℕ) where
+  -- a group with members has a record
+  pub emit-some : (n : ℕ) (ms : List ℕ) → 0 < length ms → 0 < length (emit s C sets wire n ms)
+  emit-some n [] h = h
+  emit-some n (m ∷ []) h = omega arith
+  emit-some n (m ∷ k ∷ l) h = omega arith
+
+  -- its records read only earlier wires
+  pub emit-below : (n : ℕ) (ms : List ℕ)
+      → (2 ≤ length ms → (m k : ℕ) → m ∈ ms → k ∈ ms → length (arguments (gateAt C m)) ≡ length (arguments (gateAt C k)))
+      → ((m a : ℕ) → m ∈ ms → a ∈ arguments (gateAt C m) → wire a < n)
+      → (2 ≤ length ms → (m c : ℕ) → m ∈ ms → c ∈ restsOf C sets m → wire c < n)
+      → Below n (emit s C sets wire n ms)
+  emit-below n [] level args rests = tt
+  emit-below n (m ∷ []) level args rests =
+      (λ a k. mapped-below wire n (arguments (gateAt C m)) (λ b q. args m b (inl refl) q) a (rw (alone-reads s wire (gateAt C m)) at k), tt)
+  emit-below n (m ∷ j ∷ l) level args rests =
+      joined-below n (operationOf (gateAt C m)) (map (guardOf s C sets wire) ms) (valuesAt s C sets wire ms) (upto (length (arguments (gateAt C m))))
+      (along-map ReadsBefore (guardOf s C sets wire) ms n n (omega arith)
+      (λ i q j o a k. omega (arith, mapped-below wire n (restsOf C sets i) (λ c r. rests two i c q r) a k)))
+      (λ k b. (
+        length-map ms _ ∙ sym (length-map ms _),
+        mapped-below (λ i. wire (getD (arguments (gateAt C i)) k 0)) n ms
+            (λ i q. args i _ q (getD-in (arguments (gateAt C i)) k (omega (arith, from-below 0 (length (arguments (gateAt C m))) k b, level two m i (inl refl) q)))),
+      ))
+    where
+      ms : List ℕ
+      ms = m ∷ j ∷ l
+
+      two : 2 ≤ length (m ∷ j ∷ l)
+      two = omega arith

@@ -1,0 +1,68 @@
+-- Document 01, "Examples": 3, R1 with P1, whole, computed from the definitions.
+use Prim.Native.Nat.{ℕ}
+use mathlib.Core.Path.{_≡_, refl}
+use mathlib.Core.List.{List, [], _∷_, _++_, map}
+use Rattle.words.specs.Numbers.{number}
+use Rattle.codes.specs.Results.{resultOf}
+use Rattle.codes.specs.Codes.{kindOf, operationOf, codeOf}
+use Rattle.answers.specs.Answers.{success, refusal}
+use Rattle.answers.specs.Parsing.{readMark}
+use Rattle.reading.specs.Header.{readCount, readKinds, readHeader}
+use Rattle.reading.specs.Expressions.{readVariable, readWord, readBit, operationWith, exprWith, readExpr}
+use Rattle.reading.specs.Blocks.{readAssign, branchWith, statementWith, blockWith, blockFuel, readBlock}
+use Rattle.reading.specs.Rule.{readRule}
+use Rattle.reading.specs.Examples.{r1}
+use Rattle.gates.specs.Gates.{conditions, costs}
+use Rattle.gates.specs.PlainCircuit.{applyGate, makeExpr, assignsIn, assigns, choices, makeStatement, makeBlock, plainCircuit}
+use Rattle.settings.specs.Sets.{collect, restsOn, rests}
+use Rattle.settings.specs.Numbers.{numbers}
+use Rattle.needed.specs.Pass.{preconditions, preconditionSets}
+use Rattle.circuit.specs.Whole.{wholeWithin, ruleAnswer}
+use Rattle.plan.specs.PlanFile.{groupsIn}
+use Rattle.plan.specs.Groups.{groups, restsOf, waitsFor}
+use Rattle.plan.specs.Order.{order}
+use Rattle.plan.specs.Rows.{planRow, planAnswer}
+use Rattle.words.specs.Numbers.{bytesOf}
+use Rattle.words.specs.Buffers.{over}
+use Rattle.settings.specs.Guards.{spread, tableOver, table}
+use Rattle.plan.specs.Examples.{p1}
+use Rattle.fused.specs.FusedCircuit.{written, fused}
+use Rattle.fused.specs.Records.{recordsCost, wireFigure}
+use Rattle.fused.specs.CircuitFile.{fusedFile}
+use Rattle.fused.specs.FileFigures.{recordAt, sizeAt, fileRecords, fileOutputs, fileFigures}
+use Rattle.fused.specs.Answers.{fusedCounts, writeAnswer}
+
+-- the file of R1 with P1, a record a line
+abbrev pub file3 : List ℕ
+file3 =
+    0x43 ∷ 0x49 ∷ 0x52 ∷ 0x00 ∷ 0x01 ∷ 0x03 ∷ 0x00 ∷ 0x09
+    ∷ 0x01 ∷ 0x00
+    ∷ 0x00 ∷ 0x01
+    ∷ 0x00 ∷ 0x02
+    ∷ 0x32 ∷ 0x01 ∷ 0x00 ∷ 0x00 ∷ 0x00 ∷ 0x00 ∷ 0x00 ∷ 0x00 ∷ 0x00 ∷ 0x00 ∷ 0x00 ∷ 0x02
+    ∷ 0x32 ∷ 0x01 ∷ 0x00 ∷ 0x00 ∷ 0x00 ∷ 0x00 ∷ 0x00 ∷ 0x00 ∷ 0x00 ∷ 0x00 ∷ 0x00 ∷ 0x01
+    ∷ 0x31 ∷ 0x02 ∷ 0x00 ∷ 0x03 ∷ 0x00 ∷ 0x01 ∷ 0x00 ∷ 0x04 ∷ 0x00 ∷ 0x02
+    ∷ 0x31 ∷ 0x02 ∷ 0x00 ∷ 0x03 ∷ 0x00 ∷ 0x02 ∷ 0x00 ∷ 0x04 ∷ 0x00 ∷ 0x02
+    ∷ 0x22 ∷ 0x00 ∷ 0x05 ∷ 0x00 ∷ 0x06
+    ∷ 0x30 ∷ 0x00 ∷ 0x00 ∷ 0x00 ∷ 0x07 ∷ 0x00 ∷ 0x07
+    ∷ 0x00 ∷ 0x00 ∷ 0x00 ∷ 0x08 ∷ 0x00 ∷ 0x02
+    ∷ []
+
+-- example 3, whole
+pub example-3 : fusedFile r1 p1 ≡ file3
+unfolding number kindOf operationOf codeOf readMark readCount readKinds readHeader readVariable readWord readBit operationWith exprWith readExpr readAssign branchWith statementWith blockWith blockFuel readBlock readRule applyGate makeExpr assignsIn assigns choices makeStatement makeBlock plainCircuit conditions collect numbers preconditions preconditionSets restsOn rests groupsIn groups restsOf waitsFor order bytesOf spread tableOver table written fused fusedFile
+example-3 = refl
+
+-- its counts: 6 gates, 9 wires, 76 bytes, cost 33 before and 28 after; a buffer of 75: 50
+pub example-3-answer : writeAnswer r1 p1 76 ≡ success 6 9 76 33 28
+unfolding number kindOf operationOf codeOf readMark readCount readKinds readHeader readVariable readWord readBit operationWith exprWith readExpr readAssign branchWith statementWith blockWith blockFuel readBlock readRule applyGate makeExpr assignsIn assigns choices makeStatement makeBlock plainCircuit conditions collect numbers preconditions preconditionSets costs wholeWithin ruleAnswer restsOn rests groupsIn groups restsOf waitsFor order planRow planAnswer bytesOf spread tableOver table written fused fusedFile recordsCost fusedCounts writeAnswer
+example-3-answer = refl
+
+pub example-3-short : writeAnswer r1 p1 75 ≡ refusal 50 0
+unfolding number kindOf operationOf codeOf readMark readCount readKinds readHeader readVariable readWord readBit operationWith exprWith readExpr readAssign branchWith statementWith blockWith blockFuel readBlock readRule applyGate makeExpr assignsIn assigns choices makeStatement makeBlock plainCircuit conditions collect numbers preconditions preconditionSets costs wholeWithin ruleAnswer restsOn rests groupsIn groups restsOf waitsFor order planRow planAnswer bytesOf spread tableOver table written fused fusedFile recordsCost fusedCounts writeAnswer
+example-3-short = refl
+
+-- and its figures, from its bytes
+pub example-3-run : map (λ x. fileFigures file3 (x ∷ 6 ∷ 7 ∷ [])) (0 ∷ 1 ∷ []) ≡ (0 ∷ 49 ∷ 7 ∷ []) ∷ (1 ∷ 42 ∷ 7 ∷ []) ∷ []
+unfolding number operationOf codeOf resultOf recordAt sizeAt fileRecords fileOutputs wireFigure fileFigures
+example-3-run = refl

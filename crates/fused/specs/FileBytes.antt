@@ -1,0 +1,89 @@
+-- Document 01, "The fused circuit file": a file of records that fit consists of bytes. Assumes nothing.
+use mathlib.Core.Path.{_≡_}
+use mathlib.Core.List.{List, [], _∷_, _++_}
+use Prim.Native.Nat.{ℕ, zero, suc, _<_}
+use native.Mathlib.Omega.{arith}
+use lib.ListN.{length}
+use Rattle.words.specs.Numbers.{bytesOf, Bytes}
+use Rattle.words.specs.NumberLaws.{bytes-below}
+use Rattle.codes.specs.Codes.{byteOf}
+use Rattle.codes.specs.declared.Kind.{Kind}
+use Rattle.codes.specs.declared.Kind.the-variants as kind
+use Rattle.codes.specs.declared.Operation.{Operation}
+use Rattle.codes.specs.declared.Operation.the-variants.{Sum, Difference, Product, LessThan, Equal, And, Or, Not}
+use Rattle.answers.specs.declared.Answer.{Answer}
+use Rattle.reading.specs.Header.{variables}
+use Rattle.gates.specs.Rows.{startCode}
+use Rattle.plan.specs.Rows.{planAnswer}
+use Rattle.fused.specs.Records.{Record, input, word, bit, operation, choice, pick, guard, pairWires, ReadsEarlier}
+use Rattle.fused.specs.FusedCircuit.{recordsOf, outputWires}
+use Rattle.fused.specs.CircuitFile.{mark, wiresBytes, recordBytes, recordsBytes, fileBytes, fusedFile}
+use Rattle.fused.specs.FitRecords.{Fits, AllFit}
+use Rattle.fused.specs.FitPlan.{fused-fits}
+use Rattle.fused.specs.SizeBounds.{outputs-count}
+
+-- no byte, one byte more, and two runs of bytes
+nothing : Bytes []
+nothing i h = absurd (omega arith)
+
+bytes-cons : (b : ℕ) (l : List ℕ) → b < 256 → Bytes l → Bytes (b ∷ l)
+bytes-cons b l h k zero i = h
+bytes-cons b l h k (suc j) i = k j (omega arith)
+
+bytes-join : (a b : List ℕ) → Bytes a → Bytes b → Bytes (a ++ b)
+bytes-join [] b h k = k
+bytes-join (x ∷ a) b h k = bytes-cons x (a ++ b) (h 0 (omega arith)) (bytes-join a b (λ i l. h (suc i) (omega arith)) k)
+
+wires-bytes : (l : List ℕ) → Bytes (wiresBytes l)
+wires-bytes [] = nothing
+wires-bytes (w ∷ l) = bytes-join (bytesOf 2 w) (wiresBytes l) (bytes-below 2 w) (wires-bytes l)
+
+byte-small : (op : Operation) → byteOf op < 256
+byte-small Sum = omega arith
+byte-small Difference = omega arith
+byte-small Product = omega arith
+byte-small LessThan = omega arith
+byte-small Equal = omega arith
+byte-small And = omega arith
+byte-small Or = omega arith
+byte-small Not = omega arith
+
+start-small : (k : Kind) → startCode k < 256
+start-small kind.Word = omega arith
+start-small kind.Bit = omega arith
+
+pub record-bytes : (r : Record) → Fits r → Bytes (recordBytes r)
+record-bytes (input k x) h = bytes-cons (startCode k) (x ∷ []) (start-small k) (bytes-cons x [] h nothing)
+record-bytes (word n) h = bytes-cons 0x11 (bytesOf 4 n) (omega arith) (bytes-below 4 n)
+record-bytes (bit b) h = bytes-cons 0x12 (b ∷ []) (omega arith) (bytes-cons b [] h nothing)
+record-bytes (operation op l) h = bytes-cons (byteOf op) (wiresBytes l) (byte-small op) (wires-bytes l)
+record-bytes (choice c a b) h = bytes-cons 0x30 (wiresBytes (c ∷ a ∷ b ∷ [])) (omega arith) (wires-bytes (c ∷ a ∷ b ∷ []))
+record-bytes (pick l) (h, w) =
+    bytes-cons 0x31 (length l ∷ wiresBytes (pairWires l)) (omega arith) (bytes-cons (length l) (wiresBytes (pairWires l)) h (wires-bytes (pairWires l)))
+record-bytes (guard cs t) (h, w, u) =
+    bytes-cons 0x32 (length cs ∷ (wiresBytes cs ++ bytesOf 8 t)) (omega arith)
+    (bytes-cons (length cs) (wiresBytes cs ++ bytesOf 8 t) h (bytes-join (wiresBytes cs) (bytesOf 8 t) (wires-bytes cs) (bytes-below 8 t)))
+
+pub records-bytes : (R : List Record) → AllFit R → Bytes (recordsBytes R)
+records-bytes [] f = nothing
+records-bytes (r ∷ R) (h, f) = bytes-join (recordBytes r) (recordsBytes R) (record-bytes r h) (records-bytes R f)
+
+pub file-bytes : (v : ℕ) (R : List Record) (outputs : List ℕ) → v < 256 → AllFit R → Bytes (fileBytes v R outputs)
+file-bytes v R outputs h f =
+    bytes-join mark (v ∷ (bytesOf 2 (length R) ++ (recordsBytes R ++ wiresBytes outputs))) five
+    (bytes-cons v (bytesOf 2 (length R) ++ (recordsBytes R ++ wiresBytes outputs)) h
+    (bytes-join (bytesOf 2 (length R)) (recordsBytes R ++ wiresBytes outputs) (bytes-below 2 (length R))
+    (bytes-join (recordsBytes R) (wiresBytes outputs) (records-bytes R f) (wires-bytes outputs))))
+  where
+    five : Bytes mark
+    five =
+        bytes-cons 0x43 (0x49 ∷ 0x52 ∷ 0x00 ∷ 0x01 ∷ []) (omega arith)
+        (bytes-cons 0x49 (0x52 ∷ 0x00 ∷ 0x01 ∷ []) (omega arith)
+        (bytes-cons 0x52 (0x00 ∷ 0x01 ∷ []) (omega arith)
+        (bytes-cons 0x00 (0x01 ∷ []) (omega arith)
+        (bytes-cons 0x01 [] (omega arith) nothing))))
+
+-- so does the file of an accepted plan
+pub fused-bytes : (s p : List ℕ) → planAnswer s p .number ≡ 0 → Bytes s → ReadsEarlier (recordsOf s p) → Bytes (fusedFile s p)
+unfolding fusedFile
+fused-bytes s p h bytes earlier = file-bytes (variables s) (recordsOf s p) (outputWires s p) (omega (arith, outputs-count s p h .1)) (fused-fits s p h bytes earlier)

@@ -1,0 +1,137 @@
+-- Document 01, "The fused circuit file": "Each record begins where the one before ended." A circuit file put together and taken apart again
+-- gives its records and its output wires; where each record lies. Assumes nothing.
+use mathlib.Core.Path.{_≡_, refl, sym, ap, ap₂, _∙_}
+use mathlib.Core.List.{List, [], _∷_, _++_, append-assoc, append-nil}
+use Prim.Native.Nat.{ℕ, zero, suc, _+_, _*_, _^_, _≤_, _<_}
+use native.Mathlib.Omega.{arith}
+use lib.ListN.{length, take, drop, length-append, take-append-drop}
+use lib.Seq.{take-length, take-at, drop-at}
+use Rattle.words.specs.Numbers.{bytesOf}
+use Rattle.words.specs.NumberLaws.{length-bytes, number-found}
+use Rattle.fused.specs.Records.{Record, recordIn}
+use Rattle.fused.specs.CircuitFile.{mark, wiresBytes, recordBytes, recordsBytes, fileBytes}
+use Rattle.fused.specs.FileFigures.{wiresAt, recordAt, sizeAt, recordsFrom, placeAfter, firstRecord, fileVariables, wireCount, fileRecords, fileOutputs}
+use Rattle.fused.specs.FitRecords.{Wires, AllFit}
+use Rattle.fused.specs.SizeLaws.{size-append, file-size}
+use Rattle.fused.specs.FoundWires.{wires-found}
+use Rattle.fused.specs.FoundRecords.{record-found}
+
+-- records from the place at of a file x on: before them a, behind them b
+module _ (x : List ℕ) where
+  Lie : ℕ → List ℕ → List ℕ → List Record → Type 0
+  Lie at a b R = AllFit R × (at ≡ length a) × (x ≡ a ++ (recordsBytes R ++ b))
+
+  -- the rest lies behind the first, which is found
+  first-found : (at : ℕ) (a b : List ℕ) (r : Record) (R : List Record) → Lie at a b (r ∷ R)
+      → (recordAt x at ≡ r) × (sizeAt x at ≡ length (recordBytes r)) × Lie (at + sizeAt x at) (a ++ recordBytes r) b R
+  unfolding Lie
+  first-found at a b r R ((h, u), p, e) =
+      let f : x ≡ a ++ (recordBytes r ++ (recordsBytes R ++ b)) = e ∙ ap (λ (l : List ℕ). a ++ l) (append-assoc (recordBytes r) (recordsBytes R) b) in
+      let g = record-found x at a (recordsBytes R ++ b) p r h f in
+      (g .0, g .1, (u, rw (g .1, length-append, p), f ∙ sym (append-assoc a (recordBytes r) (recordsBytes R ++ b))))
+
+  records-found : (R : List Record) (at : ℕ) (a b : List ℕ) → Lie at a b R → recordsFrom (length R) x at ≡ R
+  records-found [] at a b l = refl
+  records-found (r ∷ R) at a b l =
+      let f = first-found at a b r R l in
+      ap₂ (λ (q : Record) (Q : List Record). q ∷ Q) (f .0) (records-found R (at + sizeAt x at) (a ++ recordBytes r) b (f .2))
+
+  place-found : (i : ℕ) (R : List Record) (at : ℕ) (a b : List ℕ) → Lie at a b R → i ≤ length R → placeAfter i x at ≡ at + length (recordsBytes (take i R))
+  place-found zero R at a b l h = omega arith
+  place-found (suc i) [] at a b l h = absurd (omega arith)
+  place-found (suc i) (r ∷ R) at a b l h =
+      let f = first-found at a b r R l in
+      place-found i R (at + sizeAt x at) (a ++ recordBytes r) b (f .2) (omega arith)
+      ∙ rw (f .1, length-append) (omega arith)
+
+  record-at : (i : ℕ) (R : List Record) (at : ℕ) (a b : List ℕ) → Lie at a b R → i < length R
+      → (recordAt x (placeAfter i x at) ≡ recordIn R i) × (sizeAt x (placeAfter i x at) ≡ length (recordBytes (recordIn R i)))
+  record-at i [] at a b l h = absurd (omega arith)
+  record-at zero (r ∷ R) at a b l h = let f = first-found at a b r R l in (f .0, f .1)
+  record-at (suc i) (r ∷ R) at a b l h =
+      let f = first-found at a b r R l in
+      record-at i R (at + sizeAt x at) (a ++ recordBytes r) b (f .2) (omega arith)
+
+  -- the part of the file that holds record i
+  part-found : (i : ℕ) (R : List Record) (at : ℕ) (a b : List ℕ) → Lie at a b R → i < length R
+      → take (sizeAt x (placeAfter i x at)) (drop (placeAfter i x at) x) ≡ recordBytes (recordIn R i)
+  unfolding Lie
+  part-found i [] at a b l h = absurd (omega arith)
+  part-found zero (r ∷ R) at a b (f, p, e) h =
+      let g = first-found at a b r R (f, p, e) in
+      let d : drop at x ≡ recordBytes r ++ (recordsBytes R ++ b) =
+      ap (drop at) e ∙ drop-at a ((recordBytes r ++ recordsBytes R) ++ b) at (sym p) ∙ append-assoc (recordBytes r) (recordsBytes R) b in
+      rw (d, g .1) (take-at (recordBytes r) (recordsBytes R ++ b) (length (recordBytes r)) refl)
+  part-found (suc i) (r ∷ R) at a b l h =
+      let f = first-found at a b r R l in
+      part-found i R (at + sizeAt x at) (a ++ recordBytes r) b (f .2) (omega arith)
+
+-- one place further
+pub place-next : (i : ℕ) (x : List ℕ) (at : ℕ) → placeAfter (suc i) x at ≡ placeAfter i x at + sizeAt x (placeAfter i x at)
+place-next zero x at = refl
+place-next (suc i) x at = place-next i x (at + sizeAt x at)
+
+-- a file of records that fit
+module _ (v : ℕ) (R : List Record) (outputs : List ℕ) where
+  abbrev head : List ℕ
+  head = mark ++ (v ∷ bytesOf 2 (length R))
+
+  head-size : 8 ≡ length head
+  head-size = rw length-bytes
+
+  pub variables-found : fileVariables (fileBytes v R outputs) ≡ v
+  variables-found = refl
+
+  pub count-found : length R < 256 ^ 2 → wireCount (fileBytes v R outputs) ≡ length R
+  count-found h = number-found 2 (length R) (mark ++ (v ∷ [])) (recordsBytes R ++ wiresBytes outputs) h
+
+  module _ (fit : AllFit R) where
+    lie : Lie (fileBytes v R outputs) firstRecord head (wiresBytes outputs) R
+    unfolding Lie
+    lie = (fit, head-size, refl)
+
+    -- the place of record i, or, for the last i, of the output wires
+    pub file-place : (i : ℕ) → i ≤ length R → placeAfter i (fileBytes v R outputs) firstRecord ≡ firstRecord + length (recordsBytes (take i R))
+    file-place i h = place-found (fileBytes v R outputs) i R firstRecord head (wiresBytes outputs) lie h
+
+    -- what stands there
+    pub file-record : (i : ℕ) → i < length R
+        → (recordAt (fileBytes v R outputs) (placeAfter i (fileBytes v R outputs) firstRecord) ≡ recordIn R i)
+        × (sizeAt (fileBytes v R outputs) (placeAfter i (fileBytes v R outputs) firstRecord) ≡ length (recordBytes (recordIn R i)))
+    file-record i h = record-at (fileBytes v R outputs) i R firstRecord head (wiresBytes outputs) lie h
+
+    -- and the part of the file that holds it, which lies inside the file
+    pub file-part : (i : ℕ) → i < length R
+        → take (sizeAt (fileBytes v R outputs) (placeAfter i (fileBytes v R outputs) firstRecord)) (drop (placeAfter i (fileBytes v R outputs) firstRecord) (fileBytes v R outputs))
+        ≡ recordBytes (recordIn R i)
+    file-part i h = part-found (fileBytes v R outputs) i R firstRecord head (wiresBytes outputs) lie h
+
+    pub file-inside : (i : ℕ) → i < length R
+        → placeAfter i (fileBytes v R outputs) firstRecord + sizeAt (fileBytes v R outputs) (placeAfter i (fileBytes v R outputs) firstRecord) + 2 * length outputs
+        ≤ length (fileBytes v R outputs)
+    file-inside i h =
+        let e : length (recordsBytes (take (suc i) R)) + length (recordsBytes (drop (suc i) R)) ≡ length (recordsBytes R) =
+        sym (size-append (take (suc i) R) (drop (suc i) R)) ∙ ap (λ (Q : List Record). length (recordsBytes Q)) (take-append-drop (suc i) R) in
+        omega (arith, e, place-next i (fileBytes v R outputs) firstRecord, file-place (suc i) h, file-size v R outputs)
+
+    module _ (few : length R < 256 ^ 2) where
+      pub file-records : fileRecords (fileBytes v R outputs) ≡ R
+      unfolding fileRecords
+      file-records =
+          ap (λ (n : ℕ). recordsFrom n (fileBytes v R outputs) firstRecord) (count-found few)
+          ∙ records-found (fileBytes v R outputs) R firstRecord head (wiresBytes outputs) lie
+
+      pub file-outputs : Wires outputs → length outputs ≡ v → fileOutputs (fileBytes v R outputs) ≡ outputs
+      unfolding fileOutputs
+      file-outputs w e =
+          ap₂ (λ (n m : ℕ). wiresAt n (fileBytes v R outputs) (placeAfter m (fileBytes v R outputs) firstRecord)) (sym e) (count-found few)
+          ∙ wires-found outputs (fileBytes v R outputs) (placeAfter (length R) (fileBytes v R outputs) firstRecord) (head ++ recordsBytes R) [] w
+          (file-place (length R) (omega arith) ∙ rw (length-append head (recordsBytes R), take-length R, ← head-size))
+          (rw append-nil (sym (append-assoc head (recordsBytes R) (wiresBytes outputs))))
+
+-- a file put together and taken apart again
+pub file-found : (v : ℕ) (R : List Record) (outputs : List ℕ) → length R < 256 ^ 2 → AllFit R → Wires outputs → length outputs ≡ v
+    → (fileRecords (fileBytes v R outputs) ≡ R) × (fileOutputs (fileBytes v R outputs) ≡ outputs)
+    × (fileVariables (fileBytes v R outputs) ≡ v) × (wireCount (fileBytes v R outputs) ≡ length R)
+file-found v R outputs few fit w e =
+    (file-records v R outputs fit few, file-outputs v R outputs fit few w e, variables-found v R outputs, count-found v R outputs few)

@@ -1,0 +1,136 @@
+-- Document 01, "The fused circuit file": the records and output wires of an accepted plan fit their bytes; so its file, taken apart, gives them back.
+use mathlib.Core.Path.{_≡_, sym, ap₂, _∙_}
+use mathlib.Core.List.{List, [], _∷_, map}
+use Prim.Native.Nat.{ℕ, _+_, _≤_, _<_}
+use native.Mathlib.Omega.{arith}
+use lib.Dec.{eqb, ltb}
+use borrow.Author.Tests.{eqb-true, ltb-true, ltb-false}
+use lib.ListN.{length, take, drop, length-map, List·getD-eq-default}
+use Rattle.words.specs.Lists.{_∈_, split, upto, map-in}
+use Rattle.settings.specs.ListLaws.{length-from, length-keep}
+use Rattle.codes.specs.declared.Operation.{Operation}
+use Rattle.words.specs.Numbers.{Bytes}
+use Rattle.answers.specs.declared.Answer.{Answer}
+use Rattle.answers.specs.ParsingLaws.{is-read}
+use Rattle.reading.specs.Header.{variables, kindAt}
+use Rattle.reading.specs.Rule.{readRule}
+use Rattle.reading.specs.FirstStatement.{rule-read}
+use Rattle.gates.specs.Gates.{Gates, gateAt, start, operation}
+use Rattle.gates.specs.GateKinds.{kindOfGate}
+use Rattle.gates.specs.GateKindLaws.{plain-fits}
+use Rattle.gates.specs.PlainCircuit.{gatesOf, outputsOf, gateCount}
+use Rattle.needed.specs.Pass.{rulePreconditions}
+use Rattle.circuit.specs.WholeLaws.{Accepted, accepted}
+use Rattle.plan.specs.PlanFile.{groupsIn}
+use Rattle.plan.specs.Groups.{groupOf, members}
+use Rattle.plan.specs.GroupLaws.{member-of}
+use Rattle.plan.specs.Order.{order}
+use Rattle.plan.specs.Rows.{planAnswer}
+use Rattle.plan.specs.AcceptedLaws.{plan-accepted}
+use Rattle.plan.specs.JoinedLaws.{members-costly}
+use Rattle.fused.specs.Records.{Record, word, reads, recordIn, ReadsEarlier, wireFigure}
+use Rattle.fused.specs.Emission.{emit}
+use Rattle.fused.specs.FusedCircuit.{groupRecords, written, fused, recordsOf, wireOf, outputWires}
+use Rattle.fused.specs.CircuitFile.{recordBytes, recordsBytes, fusedFile}
+use Rattle.fused.specs.FileFigures.{recordAt, sizeAt, placeAfter, firstRecord, fileVariables, wireCount, fileRecords, fileOutputs, fileFigures}
+use Rattle.fused.specs.FitRecords.{Wires, AllFit}
+use Rattle.fused.specs.FitStarts.{rule-starting, rule-start}
+use Rattle.fused.specs.FitLaws.{AllSized, all-fit, sized-append, members-few, emit-sized}
+use Rattle.fused.specs.SizeBounds.{wires-bound, outputs-count}
+use Rattle.fused.specs.FileLaws.{file-place, file-record, file-part, file-found}
+
+-- what is written of groups that fit
+module _ (s : List ℕ) (C : Gates) (sets : List ℕ) (group : ℕ → ℕ)
+    (sized : (wire : ℕ → ℕ) (n q : ℕ) → AllSized (emit s C sets wire n (members (length C) group q))) where
+  written-sized : (done : List ℕ) → AllSized (written s C sets group done .records)
+  unfolding written
+  written-sized [] = tt
+  written-sized (q ∷ done) =
+      let w = written s C sets group done in
+      sized-append (w .records) (groupRecords s C sets group w q) (written-sized done) (sized (λ a. w .wire (group a)) (length (w .records)) q)
+
+-- a starting value is no operation
+start-apart : (x : ℕ) (op : Operation) (l : List ℕ) → start x ≡ operation op l → ⊥
+start-apart x op l e = let z : _≡_ {A = ℕ} 0 1 = cc in omega arith
+
+-- the output wires lie below n when every output's wire does
+pub outputs-below : (s p : List ℕ) (n : ℕ) → ((o : ℕ) → o ∈ outputsOf s → wireOf s p o < n) → (w : ℕ) → w ∈ outputWires s p → w < n
+outputs-below s p n f w m = let (o, k, e) = map-in (wireOf s p) w (outputsOf s) m in rw e (f o k)
+
+module _ (s p : List ℕ) (h : planAnswer s p .number ≡ 0) where
+  abbrev group : ℕ → ℕ
+  group = groupOf (groupsIn p)
+
+  rule : Accepted s
+  rule = accepted s (plan-accepted s p .0 h .0)
+
+  -- a group of two or more is one costly operation, and gate 0 is none
+  group-few : (q : ℕ) → 2 ≤ length (members (gateCount s) group q) → length (members (gateCount s) group q) < 256
+  group-few q many =
+      let (op, c, f) = members-costly s p (plan-accepted s p .0 h .1) q many in
+      let (b, n, read) = is-read (readRule s) (rule .read) in
+      let zero : gateAt (gatesOf s) 0 ≡ start 0 = rule-start s b n read 0 (rule-read s (rule .read) .header .some) in
+      split (eqb (group 0) q)
+      (λ t.
+      let some : 0 < gateCount s = omega (arith, many, length-keep (λ g. eqb (group g) q) (upto (gateCount s)), length-from 0 (gateCount s)) in
+      let (l, e) = f 0 (member-of (gateCount s) group 0 q some (eqb-true (group 0) q t)) in
+      absurd (start-apart 0 op l (sym zero ∙ e)))
+      (λ t. members-few (gatesOf s) group q t (rule .gates))
+
+  -- the rule is bytes
+  module _ (bytes : Bytes s) where
+    pub fused-sized : AllSized (recordsOf s p)
+    unfolding fused
+    fused-sized =
+        let (b, n, read) = is-read (readRule s) (rule .read) in
+        written-sized s (gatesOf s) (rulePreconditions s) group
+        (λ wire k q. emit-sized s (gatesOf s) (rulePreconditions s) wire (kindOfGate (kindAt s) (gatesOf s)) (variables s) (outputs-count s p h .1)
+        (plain-fits s bytes b n read) (rule-starting s b n read) k (members (gateCount s) group q)
+        (λ many. (members-costly s p (plan-accepted s p .0 h .1) q many, group-few q many)))
+        (order (gatesOf s) (rulePreconditions s) group)
+
+    -- every record reads earlier wires
+    module _ (earlier : ReadsEarlier (recordsOf s p)) where
+      reads-small : (i : ℕ) → Wires (reads (recordIn (recordsOf s p) i))
+      reads-small i w m =
+          split (ltb i (length (recordsOf s p)))
+          (λ t. omega (arith, ltb-true i (length (recordsOf s p)) t, earlier i w m, wires-bound s p h))
+          (λ t. absurd (rw (List·getD-eq-default (recordsOf s p) (word 0) {n = i} (ltb-false i (length (recordsOf s p)) t)) at m))
+
+      pub fused-fits : AllFit (recordsOf s p)
+      fused-fits = all-fit (recordsOf s p) fused-sized reads-small
+
+      -- the place of record i in the file, and what stands there
+      pub fused-place : (i : ℕ) → i ≤ length (recordsOf s p)
+          → placeAfter i (fusedFile s p) firstRecord ≡ firstRecord + length (recordsBytes (take i (recordsOf s p)))
+      unfolding fusedFile
+      fused-place i l = file-place (variables s) (recordsOf s p) (outputWires s p) fused-fits i l
+
+      pub fused-record : (i : ℕ) → i < length (recordsOf s p)
+          → (recordAt (fusedFile s p) (placeAfter i (fusedFile s p) firstRecord) ≡ recordIn (recordsOf s p) i)
+          × (sizeAt (fusedFile s p) (placeAfter i (fusedFile s p) firstRecord) ≡ length (recordBytes (recordIn (recordsOf s p) i)))
+      unfolding fusedFile
+      fused-record i l = file-record (variables s) (recordsOf s p) (outputWires s p) fused-fits i l
+
+      pub fused-part : (i : ℕ) → i < length (recordsOf s p)
+          → take (sizeAt (fusedFile s p) (placeAfter i (fusedFile s p) firstRecord)) (drop (placeAfter i (fusedFile s p) firstRecord) (fusedFile s p))
+          ≡ recordBytes (recordIn (recordsOf s p) i)
+      unfolding fusedFile
+      fused-part i l = file-part (variables s) (recordsOf s p) (outputWires s p) fused-fits i l
+
+      -- and every output wire is a wire: the file, taken apart, gives its records and its output wires
+      pub fused-found : ((w : ℕ) → w ∈ outputWires s p → w < length (recordsOf s p))
+          → (fileRecords (fusedFile s p) ≡ recordsOf s p) × (fileOutputs (fusedFile s p) ≡ outputWires s p)
+          × (fileVariables (fusedFile s p) ≡ variables s) × (wireCount (fusedFile s p) ≡ length (recordsOf s p))
+      unfolding fusedFile
+      fused-found inside =
+          file-found (variables s) (recordsOf s p) (outputWires s p) (omega (arith, wires-bound s p h)) fused-fits
+          (λ w m. omega (arith, inside w m, wires-bound s p h)) (length-map (outputsOf s) (wireOf s p) ∙ outputs-count s p h .0)
+
+      -- so its figures, worked out from its bytes, are those of its records at its output wires
+      pub fused-file-figures : ((w : ℕ) → w ∈ outputWires s p → w < length (recordsOf s p)) → (inputs : List ℕ)
+          → fileFigures (fusedFile s p) inputs ≡ map (wireFigure inputs (recordsOf s p)) (outputWires s p)
+      unfolding fileFigures
+      fused-file-figures inside inputs =
+          let f = fused-found inside in
+          ap₂ (λ (R : List Record) (l : List ℕ). map (wireFigure inputs R) l) (f .0) (f .1)

@@ -1,0 +1,57 @@
+-- Document 01, "The fused circuit file": the records of an accepted plan in the order of writing, and the wire that stands for each gate.
+use Prim.Native.Nat.{ℕ, _+_, _-_}
+use mathlib.Core.List.{List, [], _∷_, _++_, map}
+use mathlib.Core.Bool.{cond}
+use lib.Dec.{eqb}
+use lib.ListN.{length}
+use Rattle.gates.specs.Gates.{Gates}
+use Rattle.gates.specs.PlainCircuit.{gatesOf, outputsOf}
+use Rattle.needed.specs.Pass.{rulePreconditions}
+use Rattle.plan.specs.PlanFile.{groupsIn}
+use Rattle.plan.specs.Groups.{groupOf, members}
+use Rattle.plan.specs.Order.{order}
+use Rattle.fused.specs.Records.{Record, recordsCost}
+use Rattle.fused.specs.Emission.{emit}
+
+-- the records written so far, and the wire of each group written: its last record's
+pub record Written : Type 0 where
+  pub records : List Record
+  pub wire : ℕ → ℕ
+
+-- over the gates C of the rule s with their preconditions and a map from gates to groups
+module _ (s : List ℕ) (C : Gates) (sets : List ℕ) (group : ℕ → ℕ) where
+  -- the records of group p, from what is written
+  abbrev pub groupRecords : Written → ℕ → List Record
+  groupRecords w p = emit s C sets (λ a. w .wire (group a)) (length (w .records)) (members (length C) group p)
+
+  -- one group more
+  abbrev pub write : Written → ℕ → Written
+  write w p = record {
+    records = w .records ++ groupRecords w p;
+    wire = λ q. cond (eqb q p) (length (w .records) + length (groupRecords w p) - 1) (w .wire q);
+  }
+
+  -- these groups, the last first
+  unfoldable pub written : List ℕ → Written
+  written [] = record { records = []; wire = λ q. 0 }
+  written (p ∷ done) = write (written done) p
+
+-- the fused circuit of a rule and its plan
+unfoldable pub fused : List ℕ → List ℕ → Written
+fused s p =
+    let group = groupOf (groupsIn p) in
+    written s (gatesOf s) (rulePreconditions s) group (order (gatesOf s) (rulePreconditions s) group)
+
+abbrev pub recordsOf : List ℕ → List ℕ → List Record
+recordsOf s p = fused s p .records
+
+-- the wire that stands for gate g, and the output wires: those of every variable's last gate
+abbrev pub wireOf : List ℕ → List ℕ → ℕ → ℕ
+wireOf s p g = fused s p .wire (groupOf (groupsIn p) g)
+
+abbrev pub outputWires : List ℕ → List ℕ → List ℕ
+outputWires s p = map (wireOf s p) (outputsOf s)
+
+-- the cost after fusing
+abbrev pub costAfter : List ℕ → List ℕ → ℕ
+costAfter s p = recordsCost (recordsOf s p)

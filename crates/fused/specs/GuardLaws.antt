@@ -1,0 +1,69 @@
+-- Laws of guards: a guard says whether its member is needed under the setting that the wires of the conditions make, and that is whether it is needed
+-- under the actual setting, also where a wire that it reads belongs to a condition that nothing needs. Assumes nothing.
+use Prim.Native.Nat.{ℕ, _≤_, _<_}
+use mathlib.Core.Path.{_≡_, sym, ap, _∙_}
+use mathlib.Core.Bool.{Bool, cond}
+use mathlib.Core.List.{List, map}
+use lib.ListN.{length, getD}
+use Rattle.words.specs.Lists.{_∈_, split, keep-in}
+use Rattle.settings.specs.Settings.{Setting, bitOf, numberOf, preRestsOn, preRests}
+use Rattle.settings.specs.Sets.{has}
+use Rattle.settings.specs.Guards.{table}
+use Rattle.settings.specs.Holding.{Holds}
+use Rattle.settings.specs.SettingLaws.{numberOf-map}
+use Rattle.settings.specs.RestLaws.{pre-rests-right}
+use Rattle.settings.specs.HoldLaws.{rests-places}
+use Rattle.settings.specs.GuardLaws.{guard-holds}
+use Rattle.gates.specs.Running.{isOne}
+use Rattle.gates.specs.Gates.{Gates, Earlier, Condition, conditions}
+use Rattle.gates.specs.ConditionLaws.{condition-in}
+use Rattle.gates.specs.Limits.{mostConditions}
+use Rattle.needed.specs.Needed.{Needed}
+use Rattle.needed.specs.Pass.{needed, preconditionSets, preconditionOf}
+use Rattle.needed.specs.PreconditionLaws.{needed-agree, needed-over, precondition-holds}
+use Rattle.plan.specs.Groups.{restsOf}
+use Rattle.fused.specs.Records.{guardFigure}
+
+module _ (C : Gates) (wanted : List ℕ) (earlier : Earlier C) (inside : (g : ℕ) → g ∈ wanted → g < length C) (few : length (conditions C) ≤ mostConditions) where
+  abbrev sets : List ℕ
+  sets = preconditionSets mostConditions C wanted
+
+  held : (m : ℕ) → Holds mostConditions (preconditionOf mostConditions C wanted m) (conditions C) (needed C wanted m)
+  held m = precondition-holds C wanted earlier inside mostConditions few m
+
+  -- the condition gates listed for m are those that its being needed rests on
+  rests-list : (m : ℕ) → restsOf C (preconditionSets mostConditions C wanted) m ≡ preRests (needed C wanted m) (conditions C)
+  unfolding restsOf
+  rests-list m = sym (rests-places mostConditions (preconditionOf mostConditions C wanted m) (conditions C) (needed C wanted m) (held m))
+
+  -- a guard's figure: is its member needed under the setting that the wires make?
+  pub guard-figure : (W wire : ℕ → ℕ) (m : ℕ)
+      → guardFigure W (map wire (restsOf C (preconditionSets mostConditions C wanted) m)) (table mostConditions (preconditionOf mostConditions C wanted m)) ≡ bitOf (needed C wanted m (λ c. isOne (W (wire c))))
+  guard-figure W wire m =
+      ap (λ (j : ℕ). bitOf (has (table mostConditions (getD sets m 0)) j))
+      (numberOf-map wire (restsOf C sets m) (λ c. isOne (W c)) ∙ ap (λ (l : List ℕ). numberOf l (λ c. isOne (W (wire c)))) (rests-list m))
+      ∙ ap bitOf (guard-holds mostConditions (getD sets m 0) (conditions C) (needed C wanted m) (held m) (λ c. isOne (W (wire c))))
+
+  -- the setting ρ that gives the needed conditions among those that m rests on their actual bits needs m exactly when the actual setting σ does
+  pub guard-needed : (σ ρ : Setting) (m : ℕ)
+      → ((c : ℕ) → c ∈ restsOf C (preconditionSets mostConditions C wanted) m → Needed C wanted σ c → ρ c ≡ σ c)
+      → needed C wanted m ρ ≡ needed C wanted m σ
+  guard-needed σ ρ m h =
+      pre-rests-right P (conditions C) over mixed ρ (λ c k r. rw r)
+      ∙ sym (needed-agree C wanted earlier inside σ mixed agree m)
+    where
+      P : Setting → Bool
+      P = needed C wanted m
+
+      over : (τ υ : Setting) → ((c : ℕ) → c ∈ conditions C → τ c ≡ υ c) → P τ ≡ P υ
+      over = needed-over C wanted earlier inside m
+
+      -- the bits of ρ at the conditions that m rests on, the actual bits at the others
+      mixed : Setting
+      mixed c = cond (preRestsOn P (conditions C) c) (ρ c) (σ c)
+
+      agree : (c : ℕ) → Condition C c → Needed C wanted σ c → σ c ≡ mixed c
+      agree c k n =
+          split (preRestsOn P (conditions C) c)
+          (λ r. rw r (sym (h c (rw (rests-list m) (keep-in (preRestsOn P (conditions C)) (conditions C) c (condition-in C earlier c k) r)) n)))
+          (λ r. rw r)

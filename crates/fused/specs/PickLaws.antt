@@ -1,0 +1,100 @@
+-- Laws of the figures of a group's records: a gate alone, a joined group, a pick by its members' guards. Assumes nothing.
+use Prim.Native.Nat.{ℕ, suc, _+_, _-_, _<_}
+use mathlib.Core.Path.{_≡_, refl, sym, ap, _∙_}
+use mathlib.Core.Bool.{Bool, true, false}
+use mathlib.Core.List.{List, [], _∷_, _++_, map}
+use mathlib.Core.Logic.{_⊎_, inl, inr}
+use native.Mathlib.Nat.{add-zero, zero-add}
+use native.Mathlib.Omega.{arith}
+use lib.ListN.{length, getD, length-append}
+use Rattle.words.specs.Lists.{_∈_, same?, from, upto}
+use Rattle.settings.specs.Settings.{bitOf}
+use Rattle.codes.specs.declared.Operation.{Operation}
+use Rattle.gates.specs.Running.{isOne}
+use Rattle.gates.specs.Gates.{Gate, resultOn, figure}
+use Rattle.gates.specs.Gates as gate
+use Rattle.fused.specs.Records.{Record, operation, pick, pickFigure, recordFigure}
+use Rattle.fused.specs.Emission.{alone, pairs, joined}
+use Rattle.fused.specs.RecordLaws.{Along, Gives, Figured, along-left, along-right}
+use Rattle.fused.specs.EmitLaws.{map-map}
+
+-- a list by its places
+pub places-map : (f v : ℕ → ℕ) (l : List ℕ) → ((k : ℕ) → k < length l → f k ≡ v (getD l k 0)) → map f (upto (length l)) ≡ map v l
+places-map f v l h = go l 0 (λ k b. ap f (zero-add k) ∙ h k b)
+  where
+    go : (l : List ℕ) (i : ℕ) → ((k : ℕ) → k < length l → f (i + k) ≡ v (getD l k 0)) → map f (from i (length l)) ≡ map v l
+    go [] i h = refl
+    go (a ∷ l) i h = cc (rw add-zero at (h 0 (omega arith)), go l (suc i) (λ k b. ap f (omega arith) ∙ h (suc k) (omega arith)))
+
+-- a gate alone has the gate's figure of the figures of its arguments' wires
+pub alone-figure : (inputs s : List ℕ) (W wire : ℕ → ℕ) (k : Gate) → recordFigure inputs W (alone s wire k) ≡ figure inputs (λ a. W (wire a)) k
+alone-figure inputs s W wire (gate.start x) = refl
+alone-figure inputs s W wire (gate.word n) = refl
+alone-figure inputs s W wire (gate.bit b) = refl
+alone-figure inputs s W wire (gate.operation op l) = ap (resultOn op) (map-map W wire l)
+alone-figure inputs s W wire (gate.choice c a b) = refl
+
+-- a bit's number is 1 exactly when the bit is
+pub is-bit : (b : Bool) → isOne (bitOf b) ≡ b
+is-bit true = refl
+is-bit false = refl
+
+module _ (W : ℕ → ℕ) (bit : ℕ → Bool) where
+  -- the wires from n on hold the bits of the members
+  abbrev pub Guarding : ℕ → List ℕ → Type 0
+  Guarding n [] = Unit {0}
+  Guarding n (m ∷ ms) = (W n ≡ bitOf (bit m)) × Guarding (suc n) ms
+
+  -- so do the wires of guards F that give these bits
+  pub guards-hold : (P : ℕ → Record → Type 0) (F : ℕ → Record) → ((i m : ℕ) → P i (F m) → W i ≡ bitOf (bit m))
+      → (ms : List ℕ) (n : ℕ) → Along P n (map F ms) → Guarding n ms
+  guards-hold P F h [] n g = tt
+  guards-hold P F h (m ∷ ms) n (e, g) = (h n m e, guards-hold P F h ms (suc n) g)
+
+  -- a pick gives the value of the one member whose bit is 1
+  pub pick-one : (value : ℕ → ℕ) (ms : List ℕ) (n : ℕ) → Guarding n ms
+      → (i : ℕ) → i ∈ ms → bit i ≡ true → ((m : ℕ) → m ∈ ms → (i ≡ m → ⊥) → bit m ≡ false)
+      → pickFigure W (pairs n (map value ms)) ≡ W (value i)
+  pick-one value [] n g i m t others = absurd m
+  pick-one value (j ∷ ms) n (g, r) i m t others =
+      go (same? i j) m (λ k. pick-one value ms (suc n) r i k t (λ a q. others a (inr q)))
+    where
+      first : isOne (W n) ≡ bit j
+      first = ap isOne g ∙ is-bit (bit j)
+
+      go : (i ≡ j) ⊎ (i ≡ j → ⊥) → i ∈ (j ∷ ms) → (i ∈ ms → pickFigure W (pairs (suc n) (map value ms)) ≡ W (value i))
+          → pickFigure W (pairs n (map value (j ∷ ms))) ≡ W (value i)
+      go (inl e) q ih = let u : isOne (W n) ≡ true = first ∙ ap bit (sym e) ∙ t in rw u (ap (λ (a : ℕ). W (value a)) (sym e))
+      go (inr f) (inl e) ih = absurd (f e)
+      go (inr f) (inr k) ih = let u : isOne (W n) ≡ false = first ∙ others j (inl refl) f in rw u (ih k)
+
+-- what holds along a joined group holds along its guards
+pub joined-guards : (P : ℕ → Record → Type 0) (n : ℕ) (op : Operation) (guards : List Record) (places : List (List ℕ)) → Along P n (joined n op guards places)
+    → Along P n guards
+joined-guards P n op guards places h = along-left P guards _ n h
+
+module _ (inputs : List ℕ) (W : ℕ → ℕ) where
+  picks-figured : (n : ℕ) (places : List (List ℕ)) (at : ℕ) → Figured inputs W at (map (λ values. pick (pairs n values)) places)
+      → map W (from at (length places)) ≡ map (λ values. pickFigure W (pairs n values)) places
+  picks-figured n [] at h = refl
+  picks-figured n (values ∷ places) at (h, r) = cc (h, picks-figured n places (suc at) r)
+
+  module _ (n : ℕ) (op : Operation) (guards : List Record) (places : List (List ℕ)) (h : Figured inputs W n (joined n op guards places)) where
+    abbrev P : List Record
+    P = map (λ values. pick (pairs n values)) places
+
+    abbrev O : List Record
+    O = operation op (from (n + length guards) (length places)) ∷ []
+
+    -- a joined group's last record is the operation's result on the figures of its picks
+    pub joined-figure : W (n + length (joined n op guards places) - 1) ≡ resultOn op (map (λ values. pickFigure W (pairs n values)) places)
+    joined-figure =
+        ap W at-end
+        ∙ along-right (Gives inputs W) P O (n + length guards) after .0
+        ∙ ap (resultOn op) (picks-figured n places (n + length guards) (along-left (Gives inputs W) P O (n + length guards) after))
+      where
+        after : Figured inputs W (n + length guards) (P ++ O)
+        after = along-right (Gives inputs W) guards (P ++ O) n h
+
+        at-end : n + length (guards ++ (P ++ O)) - 1 ≡ n + length guards + length P
+        at-end = rw (length-append guards (P ++ O), length-append P O) (omega arith)

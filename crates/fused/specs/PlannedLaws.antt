@@ -1,0 +1,140 @@
+-- What an accepted plan gives the fused circuit: its groups' members are alike and exclude each other, every group is written, each gate's wire is a record's,
+-- and a needed gate's wire has the plain figure. Assumes nothing.
+use Prim.Native.Nat.{ℕ, _≤_, _<_}
+use mathlib.Core.Path.{_≡_, sym, ap, _∙_}
+use mathlib.Core.List.{List}
+use native.Mathlib.Nat.{zero-add}
+use lib.ListN.{length}
+use Rattle.words.specs.Lists.{_∈_}
+use Rattle.codes.specs.Codes.{rowOf}
+use Rattle.codes.specs.declared.Code.{Code}
+use Rattle.codes.specs.declared.Operation.{Operation}
+use Rattle.answers.specs.Parsing.{parsed}
+use Rattle.answers.specs.ParsingLaws.{is-read}
+use Rattle.answers.specs.declared.Answer.{Answer}
+use Rattle.reading.specs.Tree.{Block}
+use Rattle.reading.specs.Rule.{readRule}
+use Rattle.gates.specs.Running.{isOne}
+use Rattle.gates.specs.Gates.{Gate, operation, gateAt, arguments, Earlier, figureAt, conditions}
+use Rattle.gates.specs.Limits.{mostConditions}
+use Rattle.gates.specs.PlainCircuit.{gatesOf}
+use Rattle.needed.specs.Held.{ShapedGate}
+use Rattle.needed.specs.Needed.{Needed, wantedOf}
+use Rattle.needed.specs.NeededLaws.{needed-inside}
+use Rattle.needed.specs.Pass.{rulePreconditions}
+use Rattle.needed.specs.RulePreconditions.{rule-earlier, wanted-inside}
+use Rattle.needed.specs.ShapedLaws.{rule-shaped}
+use Rattle.circuit.specs.WholeLaws.{Accepted, accepted}
+use Rattle.plan.specs.PlanFile.{groupsIn}
+use Rattle.plan.specs.Groups.{Named, groupOf, groups}
+use Rattle.plan.specs.Order.{order}
+use Rattle.plan.specs.Rows.{planAnswer}
+use Rattle.plan.specs.Accepted.{Acceptable}
+use Rattle.plan.specs.AcceptedLaws.{plan-accepted}
+use Rattle.plan.specs.GroupLaws.{groupOf-named, group-in}
+use Rattle.plan.specs.JoinedLaws.{members-costly, members-exclude}
+use Rattle.plan.specs.WaitLaws.{order-places, order-ordered, order-from, order-once}
+use Rattle.fused.specs.Records.{recordIn, ReadsEarlier, wireFigure}
+use Rattle.fused.specs.Emission.{operationOf}
+use Rattle.fused.specs.FusedCircuit.{fused, recordsOf, wireOf}
+use Rattle.fused.specs.RecordLaws.{along-each, along-at, run-figured}
+use Rattle.fused.specs.WrittenLaws.{Level, wire-below, written-earlier}
+use Rattle.fused.specs.JoinedLaws.{Joined}
+use Rattle.fused.specs.SumLaws.{GivesGuard, OneGuard, written-one}
+use Rattle.fused.specs.RightLaws.{written-right}
+
+-- gates of one operation have equally many arguments, where the table says how many
+pub same-arity : (op : Operation) (a b : Gate) (l m : List ℕ) → ShapedGate a → ShapedGate b → a ≡ operation op l → b ≡ operation op m → length l ≡ length m
+same-arity op a b l m x y e f =
+    let u : length l ≡ rowOf op .arity = rw e at x in
+    let w : length m ≡ rowOf op .arity = rw f at y in
+    u ∙ sym w
+
+module _ (s p : List ℕ) (h : planAnswer s p .number ≡ 0) where
+  abbrev group : ℕ → ℕ
+  group = groupOf (groupsIn p)
+
+  plan : Acceptable s p
+  plan = plan-accepted s p .0 h .1
+
+  rule : Accepted s
+  rule = accepted s (plan-accepted s p .0 h .0)
+
+  -- the rule was read, and its circuit is sound and has few conditions
+  pub planned-read : (b : Block) × (n : ℕ) × (readRule s ≡ parsed b n)
+  planned-read = is-read (readRule s) (rule .read)
+
+  pub planned-gates : Earlier (gatesOf s)
+  planned-gates = rule-earlier s (planned-read .0) (planned-read .1) (planned-read .2)
+
+  pub planned-wanted : (g : ℕ) → g ∈ wantedOf s → g < length (gatesOf s)
+  planned-wanted = wanted-inside s (planned-read .0) (planned-read .1) (planned-read .2)
+
+  pub planned-few : length (conditions (gatesOf s)) ≤ mostConditions
+  planned-few = rule .conds
+
+  -- groups are named by their smallest member, and each is written
+  pub planned-named : Named (groupOf (groupsIn p))
+  planned-named = groupOf-named (groupsIn p) (plan .laid-out .joins) (plan .laid-out .rising) (plan .once)
+
+  pub planned-order : (q : ℕ) → q ∈ groups (length (gatesOf s)) (groupOf (groupsIn p)) → q ∈ order (gatesOf s) (rulePreconditions s) (groupOf (groupsIn p))
+  planned-order = order-places (gatesOf s) (wantedOf s) planned-gates planned-wanted planned-few group planned-named .1 (plan .no-circle)
+
+  -- so is the group of every gate
+  pub planned-group : (g : ℕ) → g < length (gatesOf s) → groupOf (groupsIn p) g ∈ order (gatesOf s) (rulePreconditions s) (groupOf (groupsIn p))
+  planned-group g l = planned-order (group g) (group-in (length (gatesOf s)) group planned-named g l)
+
+  pub planned-joined : Joined (gatesOf s) (wantedOf s) (groupOf (groupsIn p))
+  planned-joined =
+      record {
+        alike = λ q t m k i j.
+            let (op, _, f) = members-costly s p plan q t in
+            let shaped = rule-shaped s (planned-read .0) (planned-read .1) (planned-read .2) in (
+              op,
+              f k j .0,
+              f k j .1,
+              ap operationOf (f m i .1),
+              ap (λ (g : Gate). length (arguments g)) (f m i .1) ∙ same-arity op (gateAt (gatesOf s) m) (gateAt (gatesOf s) k) (f m i .0) (f k j .0) (shaped m) (shaped k) (f m i .1) (f k j .1),
+            );
+        exclude = λ q t. members-exclude s p plan q t;
+      }
+
+  pub planned-level : Level (gatesOf s) (groupOf (groupsIn p))
+  planned-level q t m k i j =
+      let r = planned-joined .alike q t m k i j in
+      r .4 ∙ ap (λ (g : Gate). length (arguments g)) (sym (r .2))
+
+  -- every record reads only earlier wires
+  pub planned-earlier : ReadsEarlier (recordsOf s p)
+  unfolding fused
+  planned-earlier =
+      written-earlier s (gatesOf s) (rulePreconditions s) group planned-level (order (gatesOf s) (rulePreconditions s) group)
+      (order-from (gatesOf s) (rulePreconditions s) group) (order-ordered (gatesOf s) (rulePreconditions s) group)
+
+  -- every gate's wire is a record's
+  pub planned-wire : (g : ℕ) → g < length (gatesOf s) → wireOf s p g < length (recordsOf s p)
+  unfolding fused
+  planned-wire g l =
+      wire-below s (gatesOf s) (rulePreconditions s) group (order (gatesOf s) (rulePreconditions s) group)
+      (order-from (gatesOf s) (rulePreconditions s) group) (group g) (planned-group g l)
+
+  -- the wire of a gate that is needed has the plain circuit's figure
+  pub planned-figure : (inputs : List ℕ) (g : ℕ) → Needed (gatesOf s) (wantedOf s) (λ c. isOne (figureAt inputs (gatesOf s) c)) g
+      → wireFigure inputs (recordsOf s p) (wireOf s p g) ≡ figureAt inputs (gatesOf s) g
+  unfolding fused
+  planned-figure inputs g d =
+      written-right s (gatesOf s) (wantedOf s) planned-gates planned-wanted planned-few group planned-joined inputs
+      (wireFigure inputs (recordsOf s p)) (order (gatesOf s) (rulePreconditions s) group)
+      (order-once (gatesOf s) (rulePreconditions s) group) (order-ordered (gatesOf s) (rulePreconditions s) group)
+      (run-figured inputs (recordsOf s p) planned-earlier) g
+      (planned-group g (needed-inside (gatesOf s) (wantedOf s) (λ c. isOne (figureAt inputs (gatesOf s) c)) planned-gates planned-wanted g d)) d
+
+  -- whatever figures W the wires hold, if each guard has its own, at most one guard of a pick is 1
+  pub planned-one : (W : ℕ → ℕ) → ((i : ℕ) → GivesGuard W i (recordIn (recordsOf s p) i))
+      → (i : ℕ) → i < length (recordsOf s p) → OneGuard W i (recordIn (recordsOf s p) i)
+  unfolding fused
+  planned-one W f i l =
+      rw zero-add at
+      (along-at (OneGuard W) (recordsOf s p) 0
+      (written-one W s (gatesOf s) (wantedOf s) planned-gates planned-wanted planned-few group planned-joined (order (gatesOf s) (rulePreconditions s) group)
+      (along-each (GivesGuard W) (recordsOf s p) 0 (λ j _. rw zero-add (f j)))) i l)

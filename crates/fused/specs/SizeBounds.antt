@@ -1,0 +1,107 @@
+-- Document 01, "The fused circuit file": an accepted plan's file has at most 640 wires and 16,384 bytes.
+use mathlib.Core.Path.{_≡_, ap, _∙_}
+use mathlib.Core.List.{List, [], _∷_}
+use Prim.Native.Nat.{ℕ, _+_, _*_, _≤_}
+use native.Mathlib.Omega.{arith}
+use lib.ListN.{length, length-append, length-map}
+use Rattle.words.specs.Lists.{upto}
+use Rattle.settings.specs.Settings.{Once}
+use Rattle.settings.specs.ListLaws.{length-from}
+use Rattle.answers.specs.declared.Answer.{Answer}
+use Rattle.answers.specs.ParsingLaws.{is-read}
+use Rattle.reading.specs.Limits.{mostVariables}
+use Rattle.reading.specs.Header.{variables}
+use Rattle.reading.specs.Rule.{readRule}
+use Rattle.reading.specs.FirstStatement.{rule-read}
+use Rattle.gates.specs.Gates.{Gates}
+use Rattle.gates.specs.PlainCircuit.{gatesOf, outputsOf}
+use Rattle.gates.specs.StartLaws.{plain-sound}
+use Rattle.needed.specs.Held.{Shaped}
+use Rattle.needed.specs.ShapedLaws.{rule-shaped}
+use Rattle.needed.specs.Pass.{rulePreconditions}
+use Rattle.circuit.specs.WholeLaws.{accepted}
+use Rattle.plan.specs.PlanFile.{groupsIn}
+use Rattle.plan.specs.Groups.{groupOf, members}
+use Rattle.plan.specs.Order.{order}
+use Rattle.plan.specs.Rows.{planAnswer}
+use Rattle.plan.specs.Accepted.{OneCostly}
+use Rattle.plan.specs.AcceptedLaws.{plan-accepted}
+use Rattle.plan.specs.JoinedLaws.{members-costly}
+use Rattle.plan.specs.WaitLaws.{order-once}
+use Rattle.fused.specs.Records.{recordsCost}
+use Rattle.fused.specs.FusedCircuit.{groupRecords, written, fused, recordsOf, wireOf, outputWires, costAfter}
+use Rattle.fused.specs.CircuitFile.{recordsBytes, fusedFile}
+use Rattle.fused.specs.SizeLaws.{size-append, cost-append, file-size}
+use Rattle.fused.specs.SizeEmit.{emit-most}
+use Rattle.fused.specs.SizeTotal.{total, total-le}
+
+-- the groups written so far: five wires to two gates at most, 69 bytes to two, 40 of cost to one
+module _ (s : List ℕ) (C : Gates) (shaped : Shaped C) (sets : List ℕ) (group : ℕ → ℕ)
+    (costly : (q : ℕ) → 2 ≤ length (members (length C) group q) → OneCostly C (members (length C) group q)) where
+  by-group : (done : List ℕ)
+      → (2 * length (written s C sets group done .records) ≤ 5 * total group (upto (length C)) done)
+      × (2 * length (recordsBytes (written s C sets group done .records)) ≤ 69 * total group (upto (length C)) done)
+      × (recordsCost (written s C sets group done .records) ≤ 40 * total group (upto (length C)) done)
+  unfolding written recordsCost
+  by-group [] = (omega arith, omega arith, omega arith)
+  by-group (q ∷ done) =
+      let w = written s C sets group done in
+      let new = groupRecords s C sets group w q in
+      let ih = by-group done in
+      let e = emit-most s C sets (λ a. w .wire (group a)) (length (w .records)) shaped (members (length C) group q) (costly q) in (
+        rw (length-append (w .records) new) (omega (arith, ih .0, e .0)),
+        rw (size-append (w .records) new) (omega (arith, ih .1, e .1)),
+        rw (cost-append (w .records) new) (omega (arith, ih .2, e .2)),
+      )
+
+  pub written-most : (done : List ℕ) → Once done
+      → (2 * length (written s C sets group done .records) ≤ 5 * length C)
+      × (2 * length (recordsBytes (written s C sets group done .records)) ≤ 69 * length C)
+      × (recordsCost (written s C sets group done .records) ≤ 40 * length C)
+  written-most done once =
+      let w = by-group done in
+      let t : total group (upto (length C)) done ≤ length C = rw (length-from 0 (length C)) at (total-le group (upto (length C)) done once) in
+      (omega (arith, w .0, t), omega (arith, w .1, t), omega (arith, w .2, t))
+
+-- of an accepted plan, whatever groups are written, each once
+pub plan-written : (s p : List ℕ) → planAnswer s p .number ≡ 0 → (done : List ℕ) → Once done
+    → let R = written s (gatesOf s) (rulePreconditions s) (groupOf (groupsIn p)) done .records in
+    (length R ≤ 640) × (length (recordsBytes R) ≤ 8832) × (recordsCost R ≤ 10240)
+plan-written s p h done once =
+    let (r, x) = plan-accepted s p .0 h in
+    let a = accepted s r in
+    let (b, n, read) = is-read (readRule s) (a .read) in
+    let m = written-most s (gatesOf s) (rule-shaped s b n read) (rulePreconditions s) (groupOf (groupsIn p)) (members-costly s p x) done once in
+    (omega (arith, m .0, a .gates), omega (arith, m .1, a .gates), omega (arith, m .2, a .gates))
+
+pub plan-most : (s p : List ℕ) → planAnswer s p .number ≡ 0 → (length (recordsOf s p) ≤ 640) × (length (recordsBytes (recordsOf s p)) ≤ 8832) × (costAfter s p ≤ 10240)
+unfolding fused
+plan-most s p h =
+    plan-written s p h (order (gatesOf s) (rulePreconditions s) (groupOf (groupsIn p)))
+    (order-once (gatesOf s) (rulePreconditions s) (groupOf (groupsIn p)))
+
+-- at most 640 wires
+pub wires-bound : (s p : List ℕ) → planAnswer s p .number ≡ 0 → length (recordsOf s p) ≤ 640
+wires-bound s p h = plan-most s p h .0
+
+-- an output for each of at most 32 variables
+pub outputs-count : (s p : List ℕ) → planAnswer s p .number ≡ 0 → (length (outputsOf s) ≡ variables s) × (variables s ≤ mostVariables)
+outputs-count s p h =
+    let a = accepted s (plan-accepted s p .0 h .0) in
+    let (b, n, read) = is-read (readRule s) (a .read) in
+    (plain-sound s b n read .count, rule-read s (a .read) .header .few)
+
+-- the file's bytes: 8, its records, two for each output
+pub fused-size : (s p : List ℕ) → planAnswer s p .number ≡ 0 → length (fusedFile s p) ≡ 8 + length (recordsBytes (recordsOf s p)) + 2 * variables s
+unfolding fusedFile
+fused-size s p h =
+    file-size (variables s) (recordsOf s p) (outputWires s p)
+    ∙ ap (λ (k : ℕ). 8 + length (recordsBytes (recordsOf s p)) + 2 * k) (length-map (outputsOf s) (wireOf s p) ∙ outputs-count s p h .0)
+
+-- at most 16,384 bytes
+pub bytes-bound : (s p : List ℕ) → planAnswer s p .number ≡ 0 → length (fusedFile s p) ≤ 16384
+bytes-bound s p h = omega (arith, plan-most s p h .1, fused-size s p h, outputs-count s p h .1)
+
+-- a cost of at most 10,240
+pub cost-bound : (s p : List ℕ) → planAnswer s p .number ≡ 0 → costAfter s p ≤ 10240
+cost-bound s p h = plan-most s p h .2

@@ -1,0 +1,86 @@
+-- Document 01, "The fused circuit file": the bytes of each form of record, and bytes and costs of records one after another. Assumes nothing.
+use mathlib.Core.Path.{_≡_, refl, sym, ap, _∙_}
+use mathlib.Core.List.{List, [], _∷_, _++_, append-assoc, append-nil}
+use Prim.Native.Nat.{ℕ, suc, _+_, _*_, _<_}
+use native.Mathlib.Numerals.{add-one}
+use native.Mathlib.Omega.{arith}
+use lib.ListN.{length, take, getD, length-append}
+use lib.Seq.{take-suc}
+use Rattle.words.specs.Numbers.{bytesOf}
+use Rattle.words.specs.NumberLaws.{length-bytes}
+use Rattle.codes.specs.declared.Kind.{Kind}
+use Rattle.codes.specs.declared.Operation.{Operation}
+use Rattle.fused.specs.Records.{Pair, Record, input, word, bit, operation, choice, pick, guard, pairWires, recordIn, recordCost, recordsCost}
+use Rattle.fused.specs.CircuitFile.{wiresBytes, recordBytes, recordsBytes, fileBytes}
+
+-- two bytes a wire, two wires a pair
+pub wires-size : (l : List ℕ) → length (wiresBytes l) ≡ 2 * length l
+wires-size [] = refl
+wires-size (w ∷ l) = rw (length-append, length-bytes, wires-size l) (omega arith)
+
+pub pairs-size : (l : List Pair) → length (pairWires l) ≡ 2 * length l
+pairs-size [] = refl
+pairs-size (p ∷ l) = rw (pairs-size l) (omega arith)
+
+-- wires one after another
+pub wires-append : (a b : List ℕ) → wiresBytes (a ++ b) ≡ wiresBytes a ++ wiresBytes b
+wires-append [] b = refl
+wires-append (w ∷ a) b = rw (wires-append a b) (sym (append-assoc (bytesOf 2 w) (wiresBytes a) (wiresBytes b)))
+
+pub wires-more : (l : List ℕ) (i : ℕ) → i < length l → wiresBytes (take (i + 1) l) ≡ wiresBytes (take i l) ++ bytesOf 2 (getD l i 0)
+wires-more l i h =
+    ap (λ (k : ℕ). wiresBytes (take k l)) (add-one i) ∙ ap wiresBytes (take-suc l i 0 h) ∙ wires-append (take i l) (getD l i 0 ∷ [])
+    ∙ ap (λ (r : List ℕ). wiresBytes (take i l) ++ r) (append-nil (bytesOf 2 (getD l i 0)))
+
+-- each form of record
+pub input-size : (k : Kind) (x : ℕ) → length (recordBytes (input k x)) ≡ 2
+input-size k x = refl
+
+pub word-size : (n : ℕ) → length (recordBytes (word n)) ≡ 5
+word-size n = rw length-bytes
+
+pub bit-size : (b : ℕ) → length (recordBytes (bit b)) ≡ 2
+bit-size b = refl
+
+pub operation-size : (op : Operation) (l : List ℕ) → length (recordBytes (operation op l)) ≡ 1 + 2 * length l
+operation-size op l = rw (wires-size l) (omega arith)
+
+pub choice-size : (c a b : ℕ) → length (recordBytes (choice c a b)) ≡ 7
+choice-size c a b = ap suc (wires-size (c ∷ a ∷ b ∷ []))
+
+pub pick-size : (l : List Pair) → length (recordBytes (pick l)) ≡ 2 + 4 * length l
+pick-size l = rw (wires-size (pairWires l), pairs-size l) (omega arith)
+
+pub guard-size : (cs : List ℕ) (t : ℕ) → length (recordBytes (guard cs t)) ≡ 10 + 2 * length cs
+guard-size cs t = rw (length-append, wires-size cs, length-bytes) (omega arith)
+
+-- records one after another: their bytes, how many bytes, their cost
+pub bytes-append : (A B : List Record) → recordsBytes (A ++ B) ≡ recordsBytes A ++ recordsBytes B
+bytes-append [] B = refl
+bytes-append (r ∷ A) B = rw (bytes-append A B) (sym (append-assoc (recordBytes r) (recordsBytes A) (recordsBytes B)))
+
+pub size-append : (A B : List Record) → length (recordsBytes (A ++ B)) ≡ length (recordsBytes A) + length (recordsBytes B)
+size-append A B = rw (bytes-append A B, length-append)
+
+pub records-more : (R : List Record) (i : ℕ) → i < length R → recordsBytes (take (i + 1) R) ≡ recordsBytes (take i R) ++ recordBytes (recordIn R i)
+records-more R i h =
+    ap (λ (k : ℕ). recordsBytes (take k R)) (add-one i) ∙ ap recordsBytes (take-suc R i (word 0) h) ∙ bytes-append (take i R) (recordIn R i ∷ [])
+    ∙ ap (λ (r : List ℕ). recordsBytes (take i R) ++ r) (append-nil (recordBytes (recordIn R i)))
+
+pub cost-append : (A B : List Record) → recordsCost (A ++ B) ≡ recordsCost A + recordsCost B
+unfolding recordsCost
+cost-append [] B = omega arith
+cost-append (r ∷ A) B = rw (cost-append A B) (omega arith)
+
+pub size-one : (r : Record) → length (recordsBytes (r ∷ [])) ≡ length (recordBytes r)
+size-one r = rw length-append (omega arith)
+
+pub cost-one : (r : Record) → recordsCost (r ∷ []) ≡ recordCost r
+unfolding recordsCost
+cost-one r = omega arith
+
+-- a file: 8 bytes, its records, two bytes an output
+pub file-size : (v : ℕ) (R : List Record) (outputs : List ℕ) → length (fileBytes v R outputs) ≡ 8 + length (recordsBytes R) + 2 * length outputs
+file-size v R outputs =
+    rw (length-append (bytesOf 2 (length R)) (recordsBytes R ++ wiresBytes outputs), length-append (recordsBytes R) (wiresBytes outputs), length-bytes, wires-size outputs)
+    (omega arith)
