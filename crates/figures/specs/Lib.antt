@@ -1,0 +1,8 @@
+pub mod Runnable
+pub mod Working
+pub mod ReadingLaws
+pub mod StepLaws
+pub mod OperationLaws
+pub mod RecordLaws
+pub mod WorkingLaws
+pub mod Examples

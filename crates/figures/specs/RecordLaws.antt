@@ -1,0 +1,102 @@
+-- Document 01, "The fused circuit file": laws of one record, by its first byte: what its figure needs, and that the code's figure is it. Assumes nothing.
+use Prim.Native.Nat.{ℕ, _+_, _*_, _≤_, _<_}
+use mathlib.Core.Path.{_≡_, refl, sym, ap, subst, _∙_}
+use mathlib.Core.List.{List, [], _∷_}
+use mathlib.Core.Logic.{inl, inr}
+use native.Mathlib.Omega.{arith}
+use lib.ListN.{length, getD}
+use Rattle.words.specs.Lists.{_∈_}
+use Rattle.words.specs.Numbers.{numberAt}
+use Rattle.settings.specs.Settings.{bitOf}
+use Rattle.settings.specs.SettingLaws.{numberOf-agree}
+use Rattle.settings.specs.Sets.{has}
+use Rattle.codes.specs.Codes.{codeOf}
+use Rattle.codes.specs.declared.Code.{Code}
+use Rattle.gates.specs.Running.{isOne}
+use Rattle.gates.specs.Gates.{resultOn}
+use Rattle.gates.specs.FigureLaws.{map-same}
+use Rattle.gates.specs.EarlierLaws.{Inside}
+use Rattle.gates.specs.Limits.{mostConditions}
+use Rattle.fused.specs.Records.{Pair, Record, input, word, bit, operation, choice, pick, guard, pairWires, reads, pickFigure, recordFigure}
+use Rattle.fused.specs.FileFigures.{wiresAt, pairsAt, recordAt, sizeAt}
+use Rattle.figures.specs.Runnable.{mostWires, recordCodes}
+use Rattle.figures.specs.Working.{held, Workable}
+use Rattle.figures.specs.ReadingLaws.{Other, choice-at, pick-at, guard-at, operation-at, input-word-size, input-bit-size, word-size, bit-size, choice-size, pick-size, guard-size, operation-size, size-some}
+
+-- a record's figure reads only the wires that it names
+pick-same : (v w : ℕ → ℕ) (l : List Pair) → ((a : ℕ) → a ∈ pairWires l → v a ≡ w a) → pickFigure v l ≡ pickFigure w l
+pick-same v w [] h = refl
+pick-same v w (p ∷ l) h = rw (h (p .guarding) (inl refl), h (p .value) (inr (inl refl)), pick-same v w l (λ a m. h a (inr (inr m))))
+
+pub record-same : (inputs : List ℕ) (r : Record) (v w : ℕ → ℕ) → ((a : ℕ) → a ∈ reads r → v a ≡ w a) → recordFigure inputs v r ≡ recordFigure inputs w r
+record-same inputs (input k x) v w h = refl
+record-same inputs (word n) v w h = refl
+record-same inputs (bit b) v w h = refl
+record-same inputs (operation op l) v w h = ap (resultOn op) (map-same v w l h)
+record-same inputs (choice c a b) v w h = rw (h c (inl refl), h a (inr (inl refl)), h b (inr (inr (inl refl))))
+record-same inputs (pick l) v w h = pick-same v w l h
+record-same inputs (guard cs t) v w h =
+    ap (λ (j : ℕ). bitOf (has t j)) (numberOf-agree cs (λ c. isOne (v c)) (λ c. isOne (w c)) (λ c m. ap isOne (h c m)))
+
+-- a byte of a record that is none of the others is an operation's
+pub operation-byte : (b : ℕ) → b ∈ recordCodes → Other b → (0x20 ≤ b) × (b ≤ 0x27)
+operation-byte b (inl e) o = absurd (o .no-word e)
+operation-byte b (inr (inl e)) o = absurd (o .no-bit e)
+operation-byte b (inr (inr (inl e))) o = absurd (o .no-word-constant e)
+operation-byte b (inr (inr (inr (inl e)))) o = absurd (o .no-bit-constant e)
+operation-byte b (inr (inr (inr (inr (inl e))))) o = omega arith
+operation-byte b (inr (inr (inr (inr (inr (inl e)))))) o = omega arith
+operation-byte b (inr (inr (inr (inr (inr (inr (inl e))))))) o = omega arith
+operation-byte b (inr (inr (inr (inr (inr (inr (inr (inl e)))))))) o = omega arith
+operation-byte b (inr (inr (inr (inr (inr (inr (inr (inr (inl e))))))))) o = omega arith
+operation-byte b (inr (inr (inr (inr (inr (inr (inr (inr (inr (inl e)))))))))) o = omega arith
+operation-byte b (inr (inr (inr (inr (inr (inr (inr (inr (inr (inr (inl e))))))))))) o = omega arith
+operation-byte b (inr (inr (inr (inr (inr (inr (inr (inr (inr (inr (inr (inl e)))))))))))) o = omega arith
+operation-byte b (inr (inr (inr (inr (inr (inr (inr (inr (inr (inr (inr (inr (inl e))))))))))))) o = absurd (o .no-choice e)
+operation-byte b (inr (inr (inr (inr (inr (inr (inr (inr (inr (inr (inr (inr (inr (inl e)))))))))))))) o = absurd (o .no-pick e)
+operation-byte b (inr (inr (inr (inr (inr (inr (inr (inr (inr (inr (inr (inr (inr (inr (inl e))))))))))))))) o = absurd (o .no-guard e)
+operation-byte b (inr (inr (inr (inr (inr (inr (inr (inr (inr (inr (inr (inr (inr (inr (inr e))))))))))))))) o = absurd e
+
+-- what the figure of a record needs, by its first byte
+pub first-inside : (f : List ℕ) (at : ℕ) → at + sizeAt f at ≤ length f → at < length f
+first-inside f at h = omega (arith, h, size-some f at)
+
+module _ (f : List ℕ) (v at : ℕ) (k : Workable f v mostWires at) where
+  wires-as : (r : Record) → recordAt f at ≡ r → Inside mostWires (reads r)
+  wires-as r e = subst (λ (q : Record). Inside mostWires (reads q)) e (k .earlier)
+
+  pub input-word-takes : getD f at 0 ≡ 0x00 → (at + 1 < length f) × (getD f (at + 1) 0 < v)
+  input-word-takes h = (omega (arith, k .inside, input-word-size f at h), k .inputs (omega (arith, h)))
+
+  pub input-bit-takes : getD f at 0 ≡ 0x01 → (at + 1 < length f) × (getD f (at + 1) 0 < v)
+  input-bit-takes h = (omega (arith, k .inside, input-bit-size f at h), k .inputs (omega (arith, h)))
+
+  pub word-takes : getD f at 0 ≡ 0x11 → at + 1 + 4 ≤ length f
+  word-takes h = omega (arith, k .inside, word-size f at h)
+
+  pub bit-takes : getD f at 0 ≡ 0x12 → at + 1 < length f
+  bit-takes h = omega (arith, k .inside, bit-size f at h)
+
+  pub choice-takes : getD f at 0 ≡ 0x30
+      → (at + 7 ≤ length f) × Inside mostWires (numberAt 2 f (at + 1) ∷ numberAt 2 f (at + 3) ∷ numberAt 2 f (at + 5) ∷ [])
+  choice-takes h = (omega (arith, k .inside, choice-size f at h), wires-as _ (choice-at f at h))
+
+  pub pick-takes : getD f at 0 ≡ 0x31
+      → (at + 2 + 4 * getD f (at + 1) 0 ≤ length f) × Inside mostWires (pairWires (pairsAt (getD f (at + 1) 0) f (at + 2)))
+  pick-takes h = (omega (arith, k .inside, pick-size f at h), wires-as _ (pick-at f at h))
+
+  pub guard-takes : getD f at 0 ≡ 0x32
+      → (getD f (at + 1) 0 ≤ mostConditions) × (at + 2 + 2 * getD f (at + 1) 0 + 8 ≤ length f) × Inside mostWires (wiresAt (getD f (at + 1) 0) f (at + 2))
+  guard-takes h = (k .counted h, omega (arith, k .inside, guard-size f at h), wires-as _ (guard-at f at h))
+
+  pub operation-takes : Other (getD f at 0)
+      → (0x20 ≤ getD f at 0) × (getD f at 0 ≤ 0x27) × (at + (1 + 2 * codeOf (getD f at 0) .arity) ≤ length f)
+      × Inside mostWires (wiresAt (codeOf (getD f at 0) .arity) f (at + 1))
+  operation-takes o =
+      let b = operation-byte (getD f at 0) (k .known) o in
+      (b .0, b .1, subst (λ (n : ℕ). at + n ≤ length f) (operation-size f at o) (k .inside), wires-as _ (operation-at f at o))
+
+-- the figure by its first byte
+pub figure-by : (f inputs figures : List ℕ) (at n : ℕ) (r : Record) → recordAt f at ≡ r → n ≡ recordFigure inputs (held figures) r
+    → n ≡ recordFigure inputs (held figures) (recordAt f at)
+figure-by f inputs figures at n r e q = q ∙ ap (recordFigure inputs (held figures)) (sym e)

@@ -1,0 +1,236 @@
+// Document 01, "The fused circuit file": the figures of a circuit file, worked out from its bytes record by record.
+// The figures lie in an array of plain numbers; a wire's number in hand is a `WireId`.
+use codes::Form;
+use fused::WireId;
+ghost use mathlib.Core.Path.{_≡_};
+ghost use mathlib.Core.Bool.{cond};
+ghost use mathlib.Core.List.{map, [], _∷_};
+ghost use Prim.Native.Nat.{_+_, _*_, _<_, _≤_};
+ghost use lib.ListN.{length, getD};
+ghost use Rattle.words.specs.Numbers.{numberAt};
+ghost use Rattle.words.specs.Buffers.{over};
+ghost use Rattle.settings.specs.Settings.{numberOf};
+ghost use Rattle.codes.specs.Codes.{operationOf, codeOf};
+ghost use Rattle.codes.specs.declared.Code.{Code};
+ghost use Rattle.gates.specs.Running.{isOne};
+ghost use Rattle.gates.specs.Gates.{resultOn};
+ghost use Rattle.gates.specs.EarlierLaws.{Inside};
+ghost use Rattle.gates.specs.Limits.{mostConditions};
+ghost use Rattle.fused.specs.Records.{pairWires, pickFigure, guardFigure, recordFigure};
+ghost use Rattle.fused.specs.FileFigures.{wiresAt, pairsAt, recordAt, sizeAt, fileVariables, wireCount, fileFigures};
+ghost use Rattle.figures.specs.Runnable.{mostWires, recordPlace, Runnable};
+ghost use Rattle.figures.specs.Working.{held, Workable, figuresOf};
+
+// A byte and a wire's number as wider numbers: the bounds are proved here once.
+fn wide8(x: u8) -> usize
+    ensures { λ r. ⌜ (r ≡ x) × (r < 256) ⌝ }
+{
+    x as usize
+}
+
+fn wide16(x: u16) -> usize
+    ensures { λ r. ⌜ (r ≡ x) × (r < 65536) ⌝ }
+{
+    x as usize
+}
+
+// The wire whose number stands at a place.
+fn wire_at(file: &[u8], at: usize) -> WireId
+    requires { ⌜ at + 2 ≤ length (now file) ⌝ }
+    ensures { λ r. ⌜ r .0 ≡ numberAt 2 (now (file .entry)) at ⌝ }
+{
+    WireId(words::read16(file, at))
+}
+
+// The figure of a wire that is worked out.
+fn figure_of(figures: &[u32; 640], w: WireId) -> u32
+    requires { ⌜ w .0 < mostWires ⌝ }
+    ensures { λ r. ⌜ r ≡ held (now (figures .entry)) (w .0) ⌝ }
+{
+    figures[wide16(w.0)]
+}
+
+// The figure of the wire whose number stands at a place.
+fn figure_at(file: &[u8], at: usize, figures: &[u32; 640]) -> u32
+    requires { ⌜ (at + 2 ≤ length (now file)) × (numberAt 2 (now file) at < mostWires) ⌝ }
+    ensures { λ r. ⌜ r ≡ held (now (figures .entry)) (numberAt 2 (now (file .entry)) at) ⌝ }
+{
+    let w = wire_at(file, at);
+    figure_of(figures, w)
+}
+
+// An operation, 20 to 27, on the figures of its one or two wires.
+fn operation_figure(file: &[u8], at: usize, figures: &[u32; 640]) -> u32
+    requires { ⌜
+        (0x20 ≤ getD (now file) at 0) × (getD (now file) at 0 ≤ 0x27)
+        × (at + (1 + 2 * codeOf (getD (now file) at 0) .arity) ≤ length (now file))
+        × Inside mostWires (wiresAt (codeOf (getD (now file) at 0) .arity) (now file) (at + 1))
+        ⌝ }
+    ensures { λ r. ⌜ r ≡ resultOn (operationOf (getD (now (file .entry)) at 0)) (map (held (now (figures .entry))) (wiresAt (codeOf (getD (now (file .entry)) at 0) .arity) (now (file .entry)) (at + 1))) ⌝ }
+{
+    let c = codes::code_of(file[at]);
+    let form = c.form;
+    match form {
+        Form::Apply(op) => {
+            let a = figure_at(file, at + 1, figures);
+            if c.arity == 1 {
+                codes::apply(op, a, 0)
+            } else {
+                let b = figure_at(file, at + 3, figures);
+                codes::apply(op, a, b)
+            }
+        }
+        _ => 0,
+    }
+}
+
+// A choice, 30: its condition wire names one of two wires.
+fn choice_figure(file: &[u8], at: usize, figures: &[u32; 640]) -> u32
+    requires { ⌜
+        (at + 7 ≤ length (now file))
+        × Inside mostWires (numberAt 2 (now file) (at + 1) ∷ numberAt 2 (now file) (at + 3) ∷ numberAt 2 (now file) (at + 5) ∷ [])
+        ⌝ }
+    ensures { λ r. ⌜ r ≡ cond (isOne (held (now (figures .entry)) (numberAt 2 (now (file .entry)) (at + 1))))
+        (held (now (figures .entry)) (numberAt 2 (now (file .entry)) (at + 3)))
+        (held (now (figures .entry)) (numberAt 2 (now (file .entry)) (at + 5))) ⌝ }
+{
+    if figure_at(file, at + 1, figures) == 1 {
+        figure_at(file, at + 3, figures)
+    } else {
+        figure_at(file, at + 5, figures)
+    }
+}
+
+// A pick of `count` pairs from `at` on: the value of the first pair whose guard is 1, else 0.
+fn pick_figure(file: &[u8], at: usize, count: u8, figures: &[u32; 640]) -> u32
+    requires { ⌜ (at + 4 * count ≤ length (now file)) × Inside mostWires (pairWires (pairsAt count (now file) at)) ⌝ }
+    ensures { λ r. ⌜ r ≡ pickFigure (held (now (figures .entry))) (pairsAt count (now (file .entry)) at) ⌝ }
+{
+    let mut here = at;
+    let mut left = count;
+    while 0 < left {
+        if figure_at(file, here, figures) == 1 {
+            return figure_at(file, here + 2, figures);
+        }
+        here = here + 4;
+        left = left - 1;
+    }
+    0
+}
+
+// The number whose bit t is the wire t of `count` wires from `at` on; the last wire is read first, so each moves those after it up.
+fn guard_number(file: &[u8], at: usize, count: u8, figures: &[u32; 640]) -> u8
+    requires { ⌜
+        (count ≤ mostConditions)
+        × (at + 2 * count ≤ length (now file))
+        × Inside mostWires (wiresAt count (now file) at)
+        ⌝ }
+    ensures { λ r. ⌜ (r ≡ numberOf (wiresAt count (now (file .entry)) at) (λ w. isOne (held (now (figures .entry)) w))) × (r < 64) ⌝ }
+{
+    let mut j: u8 = 0;
+    let mut t = wide8(count);
+    while 0 < t {
+        t = t - 1;
+        if figure_at(file, at + 2 * t, figures) == 1 {
+            j = 2 * j + 1;
+        } else {
+            j = 2 * j;
+        }
+    }
+    j
+}
+
+// A guard, 32: bit j of its table.
+fn guard_figure(file: &[u8], at: usize, count: u8, figures: &[u32; 640]) -> u32
+    requires { ⌜
+        (count ≤ mostConditions)
+        × (at + 2 * count + 8 ≤ length (now file))
+        × Inside mostWires (wiresAt count (now file) at)
+        ⌝ }
+    ensures { λ r. ⌜ r ≡ guardFigure (held (now (figures .entry))) (wiresAt count (now (file .entry)) at) (numberAt 8 (now (file .entry)) (at + 2 * count)) ⌝ }
+{
+    let j = guard_number(file, at, count, figures);
+    let table = words::read64(file, at + 2 * wide8(count));
+    if settings::has(table, j) { 1 } else { 0 }
+}
+
+// The figure of the record at a place, by its first byte.
+fn record_figure(file: &[u8], at: usize, inputs: &[u32], figures: &[u32; 640]) -> u32
+    requires { ⌜ Workable (now file) (length (now inputs)) mostWires at ⌝ }
+    ensures { λ r. ⌜ r ≡ recordFigure (now (inputs .entry)) (held (now (figures .entry))) (recordAt (now (file .entry)) at) ⌝ }
+{
+    match file[at] {
+        0x00 => inputs[wide8(file[at + 1])],
+        0x01 => inputs[wide8(file[at + 1])],
+        0x11 => words::read32(file, at + 1),
+        0x12 => file[at + 1] as u32,
+        0x30 => choice_figure(file, at, figures),
+        0x31 => pick_figure(file, at + 2, file[at + 1], figures),
+        0x32 => guard_figure(file, at + 2, file[at + 1], figures),
+        _ => operation_figure(file, at, figures),
+    }
+}
+
+// The bytes of the record at a place.
+fn record_size(file: &[u8], at: usize) -> usize
+    requires { ⌜ at + sizeAt (now file) at ≤ length (now file) ⌝ }
+    ensures { λ r. ⌜ r ≡ sizeAt (now (file .entry)) at ⌝ }
+{
+    match file[at] {
+        0x00 => 2,
+        0x01 => 2,
+        0x11 => 5,
+        0x12 => 2,
+        0x30 => 7,
+        0x31 => 2 + 4 * wide8(file[at + 1]),
+        0x32 => 10 + 2 * wide8(file[at + 1]),
+        _ => 1 + 2 * wide8(codes::code_of(file[at]).arity),
+    }
+}
+
+// Works out every record's figure; gives the place after the records.
+fn work_out(file: &[u8], inputs: &[u32], figures: &mut [u32; 640]) -> usize
+    requires { ⌜ Runnable (now file) (length (now inputs)) × (length (now figures) ≡ mostWires) ⌝ }
+    ensures place { λ r. ⌜ r ≡ recordPlace (now (file .entry)) (wireCount (now (file .entry))) ⌝ }
+    ensures figures { λ _. ⌜ now (figures .exit) ≡ over (figuresOf (now (file .entry)) (now (inputs .entry)) (wireCount (now (file .entry)))) (now (figures .entry)) ⌝ }
+{
+    let count = wide16(words::read16(file, 6));
+    let mut at: usize = 8;
+    let mut i: usize = 0;
+    while i < count {
+        let figure = record_figure(file, at, inputs, figures);
+        figures[i] = figure;
+        at = at + record_size(file, at);
+        i = i + 1;
+    }
+    at
+}
+
+// The figure of every variable's output wire; the output wires stand from `at` on.
+fn give_outputs(file: &[u8], at: usize, figures: &[u32; 640], results: &mut [u32])
+    requires { ⌜
+        (8 ≤ length (now file))
+        × (at + 2 * fileVariables (now file) ≤ length (now file))
+        × Inside mostWires (wiresAt (fileVariables (now file)) (now file) at)
+        × (fileVariables (now file) ≤ length (now results))
+        ⌝ }
+    ensures { λ _. ⌜ now (results .exit) ≡ over (map (held (now (figures .entry))) (wiresAt (fileVariables (now (file .entry))) (now (file .entry)) at)) (now (results .entry)) ⌝ }
+{
+    let v = wide8(file[5]);
+    let mut x: usize = 0;
+    while x < v {
+        let figure = figure_at(file, at + 2 * x, figures);
+        results[x] = figure;
+        x = x + 1;
+    }
+}
+
+// Every variable's figure into the first results, from the inputs; nothing after them is touched.
+pub fn run_file(file: &[u8], inputs: &[u32], results: &mut [u32])
+    requires { ⌜ Runnable (now file) (length (now inputs)) × (fileVariables (now file) ≤ length (now results)) ⌝ }
+    ensures { λ _. ⌜ now (results .exit) ≡ over (fileFigures (now (file .entry)) (now (inputs .entry))) (now (results .entry)) ⌝ }
+{
+    let mut figures = [0u32; 640];
+    let at = work_out(file, inputs, &mut figures);
+    give_outputs(file, at, &figures, results);
+}
