@@ -1,7 +1,7 @@
 -- Demand 3, first sentence: the check of a plan for an accepted rule finds no row failing exactly when the plan is accepted in document 01's terms.
 use mathlib.Core.Path.{_≡_, refl, sym, ap, _∙_}
 use mathlib.Core.Bool.{Bool, true, _&&_}
-use mathlib.Core.List.{List, [], _∷_}
+use mathlib.Core.List.{List, [], _∷_, _++_}
 use mathlib.Core.Logic.{_↔_}
 use Prim.Native.Nat.{ℕ, _≤_}
 use native.Mathlib.Omega.{arith}
@@ -33,32 +33,44 @@ use Rattle.plan.specs.RowLaws.{both, and, each-right, same-right, ends-r
 use Rattle.plan.specs.MemberLaws.{costly-right, parted-right}
 
 -- every row of a list holds; every row of a list has a number above 0
-abbrev Hold : List Row → List ℕ → List ℕ → Type 0
-Hold [] s p = Unit {0}
-Hold (r ∷ l) s p = (r .holds s p ≡ true) × Hold l s p
+abbrev pub Hold : List Row → Type 0
+Hold [] = Unit {0}
+Hold (r ∷ l) = (r .holds ≡ true) × Hold l
 
-abbrev numbered : List Row → Bool
+abbrev pub numbered : List Row → Bool
 numbered [] = true
 numbered (r ∷ l) = ltb 0 (r .refuses) && numbered l
 
 -- no row fails exactly when each holds, whatever the list
-pub none-fails : (l : List Row) → numbered l ≡ true → (s p : List ℕ) → (firstFailing l s p ≡ 0) ↔ Hold l s p
-none-fails l n s p = (to l n, back l)
+pub none-fails : (l : List Row) → numbered l ≡ true → (firstFailing l ≡ 0) ↔ Hold l
+none-fails l n = (to l n, back l)
   where
-    to : (l : List Row) → numbered l ≡ true → firstFailing l s p ≡ 0 → Hold l s p
+    to : (l : List Row) → numbered l ≡ true → firstFailing l ≡ 0 → Hold l
     to [] n h = tt
     to (r ∷ l) n h =
         let b = both (ltb 0 (r .refuses)) _ n in
-        split (r .holds s p)
+        split (r .holds)
         (λ t. (t, to l (b .1) (rw t at h)))
         (λ t. let z : r .refuses ≡ 0 = rw t at h in absurd (omega (arith, ltb-true 0 (r .refuses) (b .0))))
 
-    back : (l : List Row) → Hold l s p → firstFailing l s p ≡ 0
+    back : (l : List Row) → Hold l → firstFailing l ≡ 0
     back [] h = refl
     back (r ∷ l) (t, h) = rw t (back l h)
 
+-- of two lists of rows: the first decides when a row of it fails, else the second
+pub failing-second : (l m : List Row) → numbered l ≡ true → firstFailing l ≡ 0 → firstFailing (l ++ m) ≡ firstFailing m
+failing-second l m n e = go l (none-fails l n .0 e)
+  where
+    go : (l : List Row) → Hold l → firstFailing (l ++ m) ≡ firstFailing m
+    go [] h = refl
+    go (r ∷ l) (t, h) = rw t (go l h)
+
+pub failing-first : (l m : List Row) → (firstFailing l ≡ 0 → ⊥) → firstFailing (l ++ m) ≡ firstFailing l
+failing-first [] m f = absurd (f refl)
+failing-first (r ∷ l) m f = split (r .holds) (λ t. rw t (failing-first l m (rw t at f))) (λ t. rw t)
+
 -- 25 is two facts
-rising-exist : (n : ℕ) (Gs : Plan) → (everyGroup (λ G. rises G && every (λ g. ltb g n) G) Gs ≡ true) ↔ (Each Rising Gs × Each (Exist n) Gs)
+pub rising-exist : (n : ℕ) (Gs : Plan) → (everyGroup (λ G. rises G && every (λ g. ltb g n) G) Gs ≡ true) ↔ (Each Rising Gs × Each (Exist n) Gs)
 rising-exist n Gs = (to Gs, λ h. back Gs (h .0) (h .1))
   where
     to : (Gs : Plan) → everyGroup (λ G. rises G && every (λ g. ltb g n) G) Gs ≡ true → Each Rising Gs × Each (Exist n) Gs
@@ -74,7 +86,7 @@ rising-exist n Gs = (to Gs, λ h. back Gs (h .0) (h .1))
     back (G ∷ Gs) (r, u) (x, y) = and (and (rises-right G .1 r) (exist-right n G .1 x)) (back Gs u y)
 
 module _ (s : List ℕ) (b : Block) (n : ℕ) (read : readRule s ≡ parsed b n) (few : length (conditions (gatesOf s)) ≤ mostConditions) (p : List ℕ) where
-  holds-to : Hold rows s p → Acceptable s p
+  holds-to : Hold (rows s p) → Acceptable s p
   holds-to (t20, (t21, (t22, (t23, (t24, (t25, (t26, (t27, (t28, (t29, (t30, _))))))))))) =
       let size = both (leb leastBytes (length p)) _ t20 in
       let joins = each-right (λ G. leb 2 (length G)) (λ G. 2 ≤ length G) joins-right (groupsIn p) .0 t24 in
@@ -98,7 +110,7 @@ module _ (s : List ℕ) (b : Block) (n : ℕ) (read : readRule s ≡ parsed b n)
             (groupOf-named (groupsIn p) joins (shape .0) once) .0 t30;
       }
 
-  holds-back : Acceptable s p → Hold rows s p
+  holds-back : Acceptable s p → Hold (rows s p)
   holds-back a =
       let l = a .laid-out in
       let costly = costly-right (gatesOf s) (groupsIn p) (l .joins) .1 (a .one-costly) in
@@ -121,8 +133,8 @@ unfolding planRow
 row-right s p h =
     let a = accepted s h in
     let r = is-read (readRule s) (a .read) in (
-      λ e. holds-to s (r .0) (r .1) (r .2) (a .conds) p (none-fails rows refl s p .0 e),
-      λ x. none-fails rows refl s p .1 (holds-back s (r .0) (r .1) (r .2) (a .conds) p x),
+      λ e. holds-to s (r .0) (r .1) (r .2) (a .conds) p (none-fails (rows s p) refl .0 e),
+      λ x. none-fails (rows s p) refl .1 (holds-back s (r .0) (r .1) (r .2) (a .conds) p x),
     )
 
 -- what the check answers: the rule's refusal comes first; then the lowest row; else what reading the rule counts

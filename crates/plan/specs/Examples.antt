@@ -77,5 +77,5 @@ unfolding number kindOf operationOf codeOf readMark readCount readKinds readHead
 examples-rows = refl
 
 -- the rows stand in rising number
-pub rows-rise : rises (numbers-of rows) ≡ true
+pub rows-rise : rises (numbers-of (rows r1 p1)) ≡ true
 rows-rise = refl

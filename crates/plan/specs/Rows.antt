@@ -1,6 +1,6 @@
 -- Document 01, "Refusals by place": the rows 20 to 30 of a plan, and what its check answers.
 use Prim.Native.Nat.{ℕ}
-use mathlib.Core.List.{List, [], _∷_}
+use mathlib.Core.List.{List, [], _∷_, _++_}
 use mathlib.Core.Bool.{Bool, true, false, not, cond, _&&_}
 use lib.Dec.{eqb, leb, ltb}
 use lib.ListN.{length, getD, take}
@@ -79,35 +79,49 @@ parted sets G = every (λ m. every (λ k. cond (eqb m k) true (excludes (getD se
 abbrev pub placed : Gates → List ℕ → (ℕ → ℕ) → Bool
 placed C sets group = allIn (groups (length C) group) (order C sets group)
 
--- a row: its number, and the fact, of the rule's bytes and the plan's, whose failing it refuses
+-- a row: its number, and the fact whose failing it refuses
 pub record Row : Type 0 where
   pub refuses : ℕ
-  pub holds : List ℕ → List ℕ → Bool
+  pub holds : Bool
 
--- the rows of a plan, in rising number
-abbrev pub rows : List Row
-rows =
-    record { refuses = 20; holds = λ s p. leb leastBytes (length p) && leb (length p) mostBytes }
-    ∷ record { refuses = 21; holds = λ s p. same (take 5 p) mark }
-    ∷ record { refuses = 22; holds = λ s p. eqb (gatesCounted p) (gateCount s) }
-    ∷ record { refuses = 23; holds = λ s p. ends (groupsCounted p) p leastBytes }
-    ∷ record { refuses = 24; holds = λ s p. everyGroup (λ G. leb 2 (length G)) (groupsIn p) }
-    ∷ record { refuses = 25; holds = λ s p. everyGroup (λ G. rises G && every (λ g. ltb g (gateCount s)) G) (groupsIn p) }
-    ∷ record { refuses = 26; holds = λ s p. apart (groupsIn p) }
-    ∷ record { refuses = 27; holds = λ s p. everyGroup (every (λ g. isCostly (gateAt (gatesOf s) g))) (groupsIn p) }
-    ∷ record { refuses = 28; holds = λ s p. everyGroup (alike (gatesOf s)) (groupsIn p) }
-    ∷ record { refuses = 29; holds = λ s p. everyGroup (parted (rulePreconditions s)) (groupsIn p) }
-    ∷ record { refuses = 30; holds = λ s p. placed (gatesOf s) (rulePreconditions s) (groupOf (groupsIn p)) }
+-- the rows in rising number: 20 to 26, of the plan p for a circuit of n gates
+abbrev pub layoutRows : ℕ → List ℕ → List Row
+layoutRows n p =
+    record { refuses = 20; holds = leb leastBytes (length p) && leb (length p) mostBytes }
+    ∷ record { refuses = 21; holds = same (take 5 p) mark }
+    ∷ record { refuses = 22; holds = eqb (gatesCounted p) n }
+    ∷ record { refuses = 23; holds = ends (groupsCounted p) p leastBytes }
+    ∷ record { refuses = 24; holds = everyGroup (λ G. leb 2 (length G)) (groupsIn p) }
+    ∷ record { refuses = 25; holds = everyGroup (λ G. rises G && every (λ g. ltb g n) G) (groupsIn p) }
+    ∷ record { refuses = 26; holds = apart (groupsIn p) }
     ∷ []
 
+-- 27 to 29, of the plan p for the gates C, whose preconditions are the sets
+abbrev pub joinRows : Gates → List ℕ → List ℕ → List Row
+joinRows C sets p =
+    record { refuses = 27; holds = everyGroup (every (λ g. isCostly (gateAt C g))) (groupsIn p) }
+    ∷ record { refuses = 28; holds = everyGroup (alike C) (groupsIn p) }
+    ∷ record { refuses = 29; holds = everyGroup (parted sets) (groupsIn p) }
+    ∷ []
+
+-- 30, of the same
+abbrev pub orderRows : Gates → List ℕ → List ℕ → List Row
+orderRows C sets p =
+    record { refuses = 30; holds = placed C sets (groupOf (groupsIn p)) }
+    ∷ []
+
+-- the rows of the plan p for the rule s
+abbrev pub rows : List ℕ → List ℕ → List Row
+rows s p = layoutRows (gateCount s) p ++ (joinRows (gatesOf s) (rulePreconditions s) p ++ orderRows (gatesOf s) (rulePreconditions s) p)
+
 -- the number of the first row of the list that fails, 0 when none does
-abbrev pub firstFailing : List Row → List ℕ → List ℕ → ℕ
-firstFailing [] s p = 0
-firstFailing (r ∷ l) s p = cond (r .holds s p) (firstFailing l s p) (r .refuses)
+abbrev pub firstFailing : List Row → ℕ
+firstFailing [] = 0
+firstFailing (r ∷ l) = cond (r .holds) (firstFailing l) (r .refuses)
 
 -- "the lowest number over the whole file decides"
 unfoldable pub planRow : List ℕ → List ℕ → ℕ
-planRow s p = firstFailing rows s p
+planRow s p = firstFailing (rows s p)
 
 -- what checking a plan answers: rule comes before plan; success counts what reading the rule counts, gates and cost before
 unfoldable pub planAnswer : List ℕ → List ℕ → Answer

@@ -1,0 +1,29 @@
+use borrow.Author.Needs.{needs}
+use native.Mathlib.Omega.{arith}
+use mathlib.Core.Path.{sym, _∙_}
+use denote.Ref.{now}
+use Rattle.grouping.specs.RowLaws.{shape-readable, layout-before, layout-26, layout-none}
+use Rattle.grouping.proofs.group_gates.Statement.{statement}
+use Rattle.grouping.proofs.group_gates.Tie as tie
+
+returns : tie.Need-returns
+returns c = (layout-before (c .before .before .before .args .count) (now (c .before .before .before .args .plan)) _ (c .before .layout-row .ensures) (c .if1 .taken), (λ e. absurd (c .if1 .taken e), λ e. absurd (c .if1 .taken e)))
+
+join-groups-requires : tie.Need-join-groups-requires
+join-groups-requires c κs = shape-readable (c .before .before .before .before .before .args .count) (now (c .before .before .before .before .before .args .plan)) (c .before .before .before .before .before .pre) (sym (c .before .before .before .layout-row .ensures) ∙ c .before .before .if1 .left)
+
+returns-2 : tie.Need-returns-2
+returns-2 c = (layout-none (c .before .before .before .before .before .before .before .args .count) (now (c .before .before .before .before .before .before .before .args .plan)) _ _ (c .before .before .before .before .before .layout-row .ensures) (c .before .before .before .before .if1 .left) (c .before .join-groups .ensures .0) (c .if2 .taken), (λ e. c .before .join-groups .ensures .1 .0 (c .if2 .taken), λ e. c .before .join-groups .ensures .1 .1 (c .if2 .taken)))
+
+returns-3 : tie.Need-returns-3
+returns-3 c = (layout-26 (c .before .before .before .before .before .before .before .args .count) (now (c .before .before .before .before .before .before .before .args .plan)) _ _ (c .before .before .before .before .before .layout-row .ensures) (c .before .before .before .before .if1 .left) (c .before .join-groups .ensures .0) (c .if2 .left), (λ e. absurd (omega (arith, e)), λ e. absurd (omega (arith, e))))
+
+pub group-gates-spec : {M : Type 1} → statement M
+group-gates-spec =
+    tie.close
+    (tie.spec
+    (λ c κs. search needs)
+    returns
+    join-groups-requires
+    returns-2
+    returns-3)

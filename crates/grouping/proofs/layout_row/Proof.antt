@@ -1,0 +1,61 @@
+use borrow.Author.Needs.{needs}
+use borrow.Author.Tests.{not-true, not-false}
+use mathlib.Core.Path.{sym, _∙_}
+use denote.Ref.{now}
+use Rattle.grouping.specs.RowLaws.{size-right, row-20, row-21, row-22, row-23, row-24, row-25, row-none, layout-lie}
+use Rattle.grouping.proofs.layout_row.Statement.{statement}
+use Rattle.grouping.proofs.layout_row.Tie as tie
+
+returns : tie.Need-returns
+returns c = row-20 _ (now (c .before .before .before .args .plan)) (sym (c .before .size-fits .ensures) ∙ not-true _ (c .if1 .taken))
+
+marked-requires : tie.Need-marked-requires
+marked-requires c κs = size-right (now (c .before .before .before .args .plan)) (sym (c .before .size-fits .ensures) ∙ not-false _ (c .if1 .left)) .0
+
+returns-2 : tie.Need-returns-2
+returns-2 c = row-21 _ (now (c .before .before .before .before .before .args .plan)) (sym (c .before .before .before .size-fits .ensures) ∙ not-false _ (c .before .before .if1 .left)) (sym (c .before .marked .ensures) ∙ not-true _ (c .if2 .taken))
+
+gates-counted-requires : tie.Need-gates-counted-requires
+gates-counted-requires c κs = size-right (now (c .before .before .before .before .before .args .plan)) (sym (c .before .before .before .size-fits .ensures) ∙ not-false _ (c .before .before .if1 .left)) .0
+
+returns-3 : tie.Need-returns-3
+returns-3 c = row-22 _ (now (c .before .before .before .before .before .before .before .args .plan)) (sym (c .before .before .before .before .before .size-fits .ensures) ∙ not-false _ (c .before .before .before .before .if1 .left)) (sym (c .before .before .before .marked .ensures) ∙ not-false _ (c .before .before .if2 .left)) (λ e. c .if3 .taken (c .before .gates-counted .ensures ∙ e))
+
+groups-end-requires : tie.Need-groups-end-requires
+groups-end-requires c κs = size-right (now (c .before .before .before .before .before .before .before .args .plan)) (sym (c .before .before .before .before .before .size-fits .ensures) ∙ not-false _ (c .before .before .before .before .if1 .left))
+
+returns-4 : tie.Need-returns-4
+returns-4 c = row-23 _ (now (c .before .before .before .before .before .before .before .before .before .args .plan)) (sym (c .before .before .before .before .before .before .before .size-fits .ensures) ∙ not-false _ (c .before .before .before .before .before .before .if1 .left)) (sym (c .before .before .before .before .before .marked .ensures) ∙ not-false _ (c .before .before .before .before .if2 .left)) (sym (c .before .before .before .gates-counted .ensures) ∙ c .before .before .if3 .left) (sym (c .before .groups-end .ensures) ∙ not-true _ (c .if4 .taken))
+
+every-shape-requires : tie.Need-every-shape-requires
+every-shape-requires c κs = layout-lie (c .before .before .before .before .before .before .before .before .before .args .count) (now (c .before .before .before .before .before .before .before .before .before .args .plan)) (sym (c .before .before .before .before .before .before .before .size-fits .ensures) ∙ not-false _ (c .before .before .before .before .before .before .if1 .left)) (sym (c .before .groups-end .ensures) ∙ not-false _ (c .if4 .left))
+
+returns-5 : tie.Need-returns-5
+returns-5 c = row-24 _ (now (c .before .before .before .before .before .before .before .before .before .before .before .args .plan)) (sym (c .before .before .before .before .before .before .before .before .before .size-fits .ensures) ∙ not-false _ (c .before .before .before .before .before .before .before .before .if1 .left)) (sym (c .before .before .before .before .before .before .before .marked .ensures) ∙ not-false _ (c .before .before .before .before .before .before .if2 .left)) (sym (c .before .before .before .before .before .gates-counted .ensures) ∙ c .before .before .before .before .if3 .left) (sym (c .before .before .before .groups-end .ensures) ∙ not-false _ (c .before .before .if4 .left)) (sym (c .before .every-shape .ensures) ∙ not-true _ (c .if5 .taken))
+
+every-shape-requires-2 : tie.Need-every-shape-requires-2
+every-shape-requires-2 c κs = layout-lie (c .before .before .before .before .before .before .before .before .before .before .before .args .count) (now (c .before .before .before .before .before .before .before .before .before .before .before .args .plan)) (sym (c .before .before .before .before .before .before .before .before .before .size-fits .ensures) ∙ not-false _ (c .before .before .before .before .before .before .before .before .if1 .left)) (sym (c .before .before .before .groups-end .ensures) ∙ not-false _ (c .before .before .if4 .left))
+
+returns-6 : tie.Need-returns-6
+returns-6 c = row-25 _ (now (c .before .before .before .before .before .before .before .before .before .before .before .before .before .args .plan)) (sym (c .before .before .before .before .before .before .before .before .before .before .before .size-fits .ensures) ∙ not-false _ (c .before .before .before .before .before .before .before .before .before .before .if1 .left)) (sym (c .before .before .before .before .before .before .before .before .before .marked .ensures) ∙ not-false _ (c .before .before .before .before .before .before .before .before .if2 .left)) (sym (c .before .before .before .before .before .before .before .gates-counted .ensures) ∙ c .before .before .before .before .before .before .if3 .left) (sym (c .before .before .before .before .before .groups-end .ensures) ∙ not-false _ (c .before .before .before .before .if4 .left)) (sym (c .before .before .before .every-shape .ensures) ∙ not-false _ (c .before .before .if5 .left)) (sym (c .before .every-shape2 .ensures) ∙ not-true _ (c .if6 .taken))
+
+returns-7 : tie.Need-returns-7
+returns-7 c = row-none _ (now (c .before .before .before .before .before .before .before .before .before .before .before .before .before .args .plan)) (sym (c .before .before .before .before .before .before .before .before .before .before .before .size-fits .ensures) ∙ not-false _ (c .before .before .before .before .before .before .before .before .before .before .if1 .left)) (sym (c .before .before .before .before .before .before .before .before .before .marked .ensures) ∙ not-false _ (c .before .before .before .before .before .before .before .before .if2 .left)) (sym (c .before .before .before .before .before .before .before .gates-counted .ensures) ∙ c .before .before .before .before .before .before .if3 .left) (sym (c .before .before .before .before .before .groups-end .ensures) ∙ not-false _ (c .before .before .before .before .if4 .left)) (sym (c .before .before .before .every-shape .ensures) ∙ not-false _ (c .before .before .if5 .left)) (sym (c .before .every-shape2 .ensures) ∙ not-false _ (c .if6 .left))
+
+pub layout-row-spec : {M : Type 1} → statement M
+layout-row-spec =
+    tie.close
+    (tie.spec
+    (λ c κs. search needs)
+    returns
+    marked-requires
+    returns-2
+    gates-counted-requires
+    returns-3
+    groups-end-requires
+    returns-4
+    every-shape-requires
+    returns-5
+    every-shape-requires-2
+    returns-6
+    returns-7)

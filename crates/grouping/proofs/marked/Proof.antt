@@ -1,0 +1,23 @@
+use borrow.Author.Needs.{needs}
+use mathlib.Core.Path.{sym, _∙_}
+use denote.Ref.{now}
+use Rattle.grouping.specs.RowLaws.{mark-past, mark-refused}
+use Rattle.grouping.proofs.marked.Statement.{statement}
+use Rattle.grouping.proofs.marked.Tie as tie
+
+returns : tie.Need-returns
+returns c = mark-past _ _ (c .before .before .before .before .before .pre) (sym (c .enum-told .given .1) ∙ c .before .before .read-mark .ensures)
+
+returns-2 : tie.Need-returns-2
+returns-2 c = mark-refused _ _ _ (c .before .before .before .before .before .pre) (sym (c .enum-told2 .given .1) ∙ c .before .before .read-mark .ensures)
+
+pub marked-spec : {M : Type 1} → statement M
+marked-spec =
+    tie.close
+    (tie.spec
+    (λ c. search needs)
+    (λ c κs. search needs)
+    (λ c. search needs)
+    (λ c. search needs)
+    returns
+    returns-2)

@@ -1,0 +1,128 @@
+-- Document 01, "Refusals by place", rows 27 and 28: what a gate's code says of them. Assumes nothing.
+use Prim.Native.Nat.{ℕ, _+_, _≤_, _<_}
+use mathlib.Core.Path.{_≡_, refl, sym, ap, _∙_}
+use mathlib.Core.List.{List, [], _∷_}
+use mathlib.Core.Bool.{Bool, true, false, _&&_}
+use native.Mathlib.Omega.{arith}
+use lib.Dec.{eqb, leb, ltb}
+use borrow.Author.Tests.{eqb-true, eqb-false, eq-eqb, ne-eqb, leb-true, le-leb, lt-leb}
+use Rattle.words.specs.Lists.{split}
+use Rattle.codes.specs.Codes.{pick, rowOf, byteOf, operationOf, codeOf}
+use Rattle.codes.specs.CodeLaws.{code-operation}
+use Rattle.codes.specs.declared.Code.{Code}
+use Rattle.codes.specs.declared.Operation.{Operation}
+use Rattle.gates.specs.Gates.{Gates, gateAt}
+use Rattle.needed.specs.Held.{choiceCode, ofForm, argumentsOf, codeAt, firstAt, secondAt, thirdAt, gateIn}
+use Rattle.needed.specs.HeldLaws.{EachCode, each-code, each-row, gate-choice, gate-other}
+use Rattle.plan.specs.Groups.{smallest}
+use Rattle.plan.specs.Rows.{every, isCostly, operationByte}
+use Rattle.plan.specs.RowLaws.{both}
+use Rattle.grouping.specs.Tests.{memberTest, membersTest, operationCode}
+
+-- 27: a costly gate is one whose code has a cost above 0 in the table of codes; a choice's code is not in it
+other-costly : (code a b : ℕ) → isCostly (ofForm (codeOf code .form) a (argumentsOf (codeOf code) a b)) ≡ ltb 0 (codeOf code .cost)
+other-costly code a b = each-code (λ r. isCostly (ofForm (r .form) a (argumentsOf r a b)) ≡ ltb 0 (r .cost)) each code
+  where
+    of-row : (op : Operation) → isCostly (ofForm (rowOf op .form) a (argumentsOf (rowOf op) a b)) ≡ ltb 0 (rowOf op .cost)
+    of-row op = each-row (λ r o. isCostly (ofForm (r .form) a (argumentsOf r a b)) ≡ ltb 0 (r .cost)) refl refl refl refl refl refl refl refl op
+
+    each : EachCode (λ r. isCostly (ofForm (r .form) a (argumentsOf r a b)) ≡ ltb 0 (r .cost))
+    each = record { of-row = of-row; of-end = refl; of-assign = refl; of-skip = refl; of-branch = refl; of-variable = refl; of-word = refl; of-bit = refl; of-unknown = refl }
+
+choice-costs : ltb 0 (codeOf choiceCode .cost) ≡ false
+unfolding codeOf
+choice-costs = refl
+
+pub costly-code : (rows : List ℕ) (i : ℕ) → isCostly (gateIn rows i) ≡ ltb 0 (codeOf (codeAt rows i) .cost)
+unfolding gateIn
+costly-code rows i =
+    split (eqb (codeAt rows i) choiceCode)
+    (λ e. let q = eqb-true (codeAt rows i) choiceCode e in
+    ap isCostly (gate-choice (codeAt rows i) (firstAt rows i) (secondAt rows i) (thirdAt rows i) q)
+    ∙ sym (ap (λ (x : ℕ). ltb 0 (codeOf x .cost)) q ∙ choice-costs))
+    (λ e. ap isCostly (gate-other (codeAt rows i) (firstAt rows i) (secondAt rows i) (thirdAt rows i) (eqb-false (codeAt rows i) choiceCode e))
+    ∙ other-costly (codeAt rows i) (firstAt rows i) (secondAt rows i))
+
+-- 28: an operation's byte is its code
+pick-each : (Q : Code → Type 0) (t : Bool) (a b : Code) → Q a → Q b → Q (pick t a b)
+pick-each Q true a b p q = p
+pick-each Q false a b p q = q
+
+up : (k b : ℕ) → k ≤ b → (b ≡ k → ⊥) → k + 1 ≤ b
+up k b l f = omega arith
+
+top : (b : ℕ) → 0x27 ≤ b → b ≤ 0x27 → 0x27 ≡ b
+top b l h = omega arith
+
+operation-byte : (b : ℕ) → 0x20 ≤ b → b ≤ 0x27 → byteOf (operationOf b) ≡ b
+unfolding operationOf
+operation-byte b l h =
+    split (eqb b 0x20) (λ e. rw (eqb-true b 0x20 e))
+    (λ e0. split (eqb b 0x21) (λ e. rw (eqb-true b 0x21 e))
+    (λ e1. split (eqb b 0x22) (λ e. rw (eqb-true b 0x22 e))
+    (λ e2. split (eqb b 0x23) (λ e. rw (eqb-true b 0x23 e))
+    (λ e3. split (eqb b 0x24) (λ e. rw (eqb-true b 0x24 e))
+    (λ e4. split (eqb b 0x25) (λ e. rw (eqb-true b 0x25 e))
+    (λ e5. split (eqb b 0x26) (λ e. rw (eqb-true b 0x26 e))
+    (λ e6. rw (e0, e1, e2, e3, e4, e5, e6) (last (eqb-false b 0x20 e0) (eqb-false b 0x21 e1) (eqb-false b 0x22 e2) (eqb-false b 0x23 e3) (eqb-false b 0x24 e4) (eqb-false b 0x25 e5) (eqb-false b 0x26 e6)))))))))
+  where
+    last : (b ≡ 0x20 → ⊥) → (b ≡ 0x21 → ⊥) → (b ≡ 0x22 → ⊥) → (b ≡ 0x23 → ⊥) → (b ≡ 0x24 → ⊥) → (b ≡ 0x25 → ⊥) → (b ≡ 0x26 → ⊥) → 0x27 ≡ b
+    last f0 f1 f2 f3 f4 f5 f6 = top b (up 0x26 b (up 0x25 b (up 0x24 b (up 0x23 b (up 0x22 b (up 0x21 b (up 0x20 b l f0) f1) f2) f3) f4) f5) f6) h
+
+row-byte : (a : ℕ) (l : List ℕ) (op : Operation) → operationByte (ofForm (rowOf op .form) a l) ≡ byteOf op
+row-byte a l op = each-row (λ r o. operationByte (ofForm (r .form) a l) ≡ byteOf o) refl refl refl refl refl refl refl refl op
+
+other-byte : (b a : ℕ) (l : List ℕ) → (leb 0x20 b && leb b 0x27) ≡ false → operationByte (ofForm (codeOf b .form) a l) ≡ 0
+unfolding codeOf
+other-byte b a l h =
+    rw h (pick-each Q (eqb b 0x00) _ _ refl
+    (pick-each Q (eqb b 0x01) _ _ refl
+    (pick-each Q (eqb b 0x02) _ _ refl
+    (pick-each Q (eqb b 0x03) _ _ refl
+    (pick-each Q (eqb b 0x10) _ _ refl
+    (pick-each Q (eqb b 0x11) _ _ refl
+    (pick-each Q (eqb b 0x12) _ _ refl refl)))))))
+  where
+    Q : Code → Type 0
+    Q r = operationByte (ofForm (r .form) a l) ≡ 0
+
+pub operation-code : (rows : List ℕ) (i : ℕ) → operationByte (gateIn rows i) ≡ operationCode (codeAt rows i)
+unfolding gateIn operationCode
+operation-code rows i =
+    split (eqb (codeAt rows i) choiceCode)
+    (λ e. let q = eqb-true (codeAt rows i) choiceCode e in
+    ap operationByte (gate-choice (codeAt rows i) (firstAt rows i) (secondAt rows i) (thirdAt rows i) q) ∙ sym (rw q))
+    (λ e. ap operationByte (gate-other (codeAt rows i) (firstAt rows i) (secondAt rows i) (thirdAt rows i) (eqb-false (codeAt rows i) choiceCode e))
+    ∙ split (leb 0x20 (codeAt rows i) && leb (codeAt rows i) 0x27)
+    (λ t. let r = both (leb 0x20 (codeAt rows i)) _ t in let lo = leb-true _ _ (r .0) in let hi = leb-true _ _ (r .1) in
+    rw (t, code-operation (codeAt rows i) lo hi) (row-byte _ _ (operationOf (codeAt rows i)) ∙ operation-byte (codeAt rows i) lo hi))
+    (λ t. rw t (other-byte (codeAt rows i) _ _ t)))
+
+pub operation-low : (code : ℕ) → code < 0x20 → 0 ≡ operationCode code
+unfolding operationCode
+operation-low code h = rw (lt-leb 0x20 code h)
+
+pub operation-high : (code : ℕ) → 0x20 ≤ code → 0x27 < code → 0 ≡ operationCode code
+unfolding operationCode
+operation-high code l h = rw (le-leb 0x20 code l, lt-leb code 0x27 h)
+
+pub operation-is : (code : ℕ) → 0x20 ≤ code → code ≤ 0x27 → code ≡ operationCode code
+unfolding operationCode
+operation-is code l h = rw (le-leb 0x20 code l, le-leb code 0x27 h)
+
+-- the tests of a member by its row
+pub member-costly : (row : ℕ) (rows : List ℕ) (first g code : ℕ) (r : Bool) → row ≡ 27 → code ≡ codeAt rows g → r ≡ ltb 0 (codeOf code .cost) → r ≡ memberTest row (gateIn rows first) (gateIn rows g)
+unfolding memberTest
+member-costly row rows first g code r e c q = q ∙ ap (λ (x : ℕ). ltb 0 (codeOf x .cost)) c ∙ sym (costly-code rows g) ∙ rw (eq-eqb row 27 e)
+
+pub member-alike : (row : ℕ) (rows : List ℕ) (first g a b c d : ℕ) → (row ≡ 27 → ⊥) → a ≡ codeAt rows first → b ≡ codeAt rows g → c ≡ operationCode a → d ≡ operationCode b
+    → eqb c d ≡ memberTest row (gateIn rows first) (gateIn rows g)
+unfolding memberTest
+member-alike row rows first g a b c d e p q u v =
+    rw (ne-eqb row 27 e, operation-code rows first, operation-code rows g, u, v, p, q)
+
+-- 27 or 28 of a group is that test of each member by the first
+pub members-test : (C : Gates) (row : ℕ) (G : List ℕ) → membersTest C row G ≡ every (λ g. memberTest row (gateAt C (smallest G)) (gateAt C g)) G
+unfolding membersTest memberTest
+members-test C row [] = split (eqb row 27) (λ e. rw e) (λ e. rw e)
+members-test C row (m ∷ l) = split (eqb row 27) (λ e. rw e) (λ e. rw (e, eq-eqb (operationByte (gateAt C m)) (operationByte (gateAt C m)) refl))

@@ -1,0 +1,13 @@
+pub mod Tables
+pub mod Tests
+pub mod Walks
+pub mod MemberLaws
+pub mod TestLaws
+pub mod GateLaws
+pub mod GroupLaws
+pub mod WalkLaws
+pub mod TableLaws
+pub mod PutLaws
+pub mod JoinLaws
+pub mod RowLaws
+pub mod SameLaws

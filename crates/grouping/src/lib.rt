@@ -1,0 +1,428 @@
+// Document 01, "The plan file and its check" and "Refusals by place": rows 20 to 29 of a plan, and each gate's group.
+// Each row is a pass over the whole file, in the order of their numbers; from row 24 on the groups are known to lie in the file.
+use answers::Step;
+use gates::GateId;
+ghost use mathlib.Core.Path.{_≡_};
+ghost use mathlib.Core.Bool.{_&&_, true};
+ghost use Prim.Native.Nat.{_+_, _*_, _<_, _≤_};
+ghost use lib.Dec.{eqb, leb, ltb};
+ghost use lib.ListN.{length, getD, take, replicate};
+ghost use Rattle.words.specs.Numbers.{numberAt};
+ghost use Rattle.codes.specs.Codes.{codeOf};
+ghost use Rattle.gates.specs.Limits.{mostGates};
+ghost use Rattle.needed.specs.Held.{codeAt, gateIn, gatesIn};
+ghost use Rattle.plan.specs.PlanFile as file;
+ghost use Rattle.plan.specs.Groups.{smallest};
+ghost use Rattle.plan.specs.Rows as checks;
+ghost use Rattle.grouping.specs.Tables.{groupTable, placeTable, eachAlone};
+ghost use Rattle.grouping.specs.Tests.{shapeTest, memberTest, membersTest, joinTest, operationCode, putAll};
+ghost use Rattle.grouping.specs.Walks.{Lie, Fits, Readable};
+
+// A plan's bytes, at least and at most.
+const LEAST_BYTES: usize = 9;
+
+const MOST_BYTES: usize = 1024;
+
+// The rows that are tested of each group alone, by what they ask.
+const SIZES: u8 = 24;
+
+const NUMBERS: u8 = 25;
+
+const COSTLY: u8 = 27;
+
+const ALIKE: u8 = 28;
+
+const PARTED: u8 = 29;
+
+fn wide(x: u8) -> usize
+    ensures { λ r. ⌜ (r ≡ x) × (r < 256) ⌝ }
+{
+    x as usize
+}
+
+fn wide16(x: u16) -> usize
+    ensures { λ r. ⌜ (r ≡ x) × (r < 65536) ⌝ }
+{
+    x as usize
+}
+
+// The size of the group that begins at a place.
+fn size_at(plan: &[u8], at: usize) -> usize
+    requires { ⌜ at < length (now plan) ⌝ }
+    ensures { λ r. ⌜ (r ≡ getD (now (plan .entry)) at 0) × (r < 256) ⌝ }
+{
+    wide(plan[at])
+}
+
+// The place after that group.
+fn after(plan: &[u8], at: usize) -> usize
+    requires { ⌜ (at < length (now plan)) × (length (now plan) ≤ 1024) ⌝ }
+    ensures { λ r. ⌜ r ≡ file.after (now (plan .entry)) at ⌝ }
+{
+    at + 1 + 2 * size_at(plan, at)
+}
+
+// Member k of the group that begins at a place.
+fn member(plan: &[u8], at: usize, k: usize) -> GateId
+    requires { ⌜ (at + 1 + 2 * k + 2 ≤ length (now plan)) × (length (now plan) ≤ 1024) ⌝ }
+    ensures { λ r. ⌜ r .0 ≡ numberAt 2 (now (plan .entry)) (at + 1 + 2 * k) ⌝ }
+{
+    GateId(words::read16(plan, at + 1 + 2 * k))
+}
+
+// The gate count and the group count that the plan gives.
+fn gates_counted(plan: &[u8]) -> usize
+    requires { ⌜ 9 ≤ length (now plan) ⌝ }
+    ensures { λ r. ⌜ r ≡ file.gatesCounted (now (plan .entry)) ⌝ }
+{
+    wide16(words::read16(plan, 5))
+}
+
+fn groups_counted(plan: &[u8]) -> usize
+    requires { ⌜ 9 ≤ length (now plan) ⌝ }
+    ensures { λ r. ⌜ r ≡ file.groupsCounted (now (plan .entry)) ⌝ }
+{
+    wide16(words::read16(plan, 7))
+}
+
+// 20: the plan's size.
+fn size_fits(plan: &[u8]) -> bool
+    ensures { λ r. ⌜ r ≡ (leb file.leastBytes (length (now (plan .entry))) && leb (length (now (plan .entry))) file.mostBytes) ⌝ }
+{
+    if plan.len() < LEAST_BYTES {
+        return false;
+    }
+    plan.len() <= MOST_BYTES
+}
+
+// 21: the mark and version.
+fn marked(plan: &[u8]) -> bool
+    requires { ⌜ 9 ≤ length (now plan) ⌝ }
+    ensures { λ r. ⌜ r ≡ checks.same (take 5 (now (plan .entry))) file.mark ⌝ }
+{
+    match answers::read_mark(plan, b"PLN\x00\x01", 21) {
+        Step::Past(_) => true,
+        Step::Refused(_, _) => false,
+    }
+}
+
+// 23: as many groups as the plan counts lie in the file and end where it ends.
+fn groups_end(plan: &[u8]) -> bool
+    requires { ⌜ (9 ≤ length (now plan)) × (length (now plan) ≤ 1024) ⌝ }
+    ensures { λ r. ⌜ r ≡ file.ends (file.groupsCounted (now (plan .entry))) (now (plan .entry)) file.leastBytes ⌝ }
+{
+    let mut left = groups_counted(plan);
+    let mut at = LEAST_BYTES;
+    while 0 < left {
+        if plan.len() <= at {
+            return false;
+        }
+        at = after(plan, at);
+        if plan.len() < at {
+            return false;
+        }
+        left = left - 1;
+    }
+    at == plan.len()
+}
+
+// 25: the numbers of the group rise, and are gates: each is at least `least`, one above the number before it, and below the gate count.
+fn numbers_rise(plan: &[u8], at: usize, count: usize) -> bool
+    requires { ⌜ (file.after (now plan) at ≤ length (now plan)) × (length (now plan) ≤ 1024) ⌝ }
+    ensures { λ r. ⌜ r ≡ (checks.rises (file.groupAt (now (plan .entry)) at) && checks.every (λ g. ltb g count) (file.groupAt (now (plan .entry)) at)) ⌝ }
+{
+    let size = size_at(plan, at);
+    let mut least: usize = 0;
+    let mut k: usize = 0;
+    while k < size {
+        let g = member(plan, at, k);
+        let i = g.0 as usize;
+        if i < least {
+            return false;
+        }
+        if count <= i {
+            return false;
+        }
+        least = i + 1;
+        k = k + 1;
+    }
+    true
+}
+
+// 24 or 25 of the group that begins at a place.
+fn shape_holds(row: u8, plan: &[u8], at: usize, count: usize) -> bool
+    requires { ⌜ (file.after (now plan) at ≤ length (now plan)) × (length (now plan) ≤ 1024) ⌝ }
+    ensures { λ r. ⌜ r ≡ shapeTest row count (file.groupAt (now (plan .entry)) at) ⌝ }
+{
+    if row == SIZES {
+        2 <= size_at(plan, at)
+    } else {
+        numbers_rise(plan, at, count)
+    }
+}
+
+// 24 or 25 of every group.
+fn every_shape(row: u8, plan: &[u8], count: usize) -> bool
+    requires { ⌜ (9 ≤ length (now plan)) × Lie (now plan) (file.groupsCounted (now plan)) 9 ⌝ }
+    ensures { λ r. ⌜ r ≡ checks.everyGroup (shapeTest row count) (file.groupsIn (now (plan .entry))) ⌝ }
+{
+    let mut left = groups_counted(plan);
+    let mut at = LEAST_BYTES;
+    while 0 < left {
+        if !shape_holds(row, plan, at, count) {
+            return false;
+        }
+        at = after(plan, at);
+        left = left - 1;
+    }
+    true
+}
+
+// The rows 20 to 25.
+fn layout_row(plan: &[u8], count: usize) -> u8
+    ensures { λ r. ⌜ r ≡ checks.firstFailing (take 6 (checks.layoutRows count (now (plan .entry)))) ⌝ }
+{
+    if !size_fits(plan) {
+        return 20;
+    }
+    if !marked(plan) {
+        return 21;
+    }
+    if gates_counted(plan) != count {
+        return 22;
+    }
+    if !groups_end(plan) {
+        return 23;
+    }
+    if !every_shape(SIZES, plan, count) {
+        return SIZES;
+    }
+    if !every_shape(NUMBERS, plan, count) {
+        return NUMBERS;
+    }
+    0
+}
+
+fn clear(table: &mut [u16; 256])
+    ensures { λ r. ⌜ now (table .exit) ≡ replicate 256 0 ⌝ }
+{
+    *table = [0u16; 256];
+}
+
+// Each gate alone: a group that its own number names.
+fn number_gates(count: usize, group: &mut [u16; 256])
+    requires { ⌜ count ≤ mostGates ⌝ }
+    ensures { λ r. ⌜ now (group .exit) ≡ eachAlone count ⌝ }
+{
+    clear(group);
+    let mut g: usize = 0;
+    while g < count {
+        group[g] = g as u16;
+        g = g + 1;
+    }
+}
+
+// The members of the group that begins at a place take its first member's number and that place; false when one of them has a place already.
+fn join_members(
+    plan: &[u8],
+    at: usize,
+    count: usize,
+    group: &mut [u16; 256],
+    joined: &mut [u16; 256],
+) -> bool
+    requires { ⌜ Fits count (now plan) at ⌝ }
+    ensures free { λ r. ⌜ r ≡ checks.every (λ g. eqb (getD (now (joined .entry)) g 0) 0) (file.groupAt (now (plan .entry)) at) ⌝ }
+    ensures groups { λ r. ⌜ (r ≡ true → now (group .exit) ≡ putAll (file.groupAt (now (plan .entry)) at) (smallest (file.groupAt (now (plan .entry)) at)) (now (group .entry))) ⌝ }
+    ensures places { λ r. ⌜ (r ≡ true → now (joined .exit) ≡ putAll (file.groupAt (now (plan .entry)) at) at (now (joined .entry))) ⌝ }
+{
+    let size = size_at(plan, at);
+    let first = member(plan, at, 0);
+    let mut k: usize = 0;
+    while k < size {
+        let g = member(plan, at, k);
+        let i = g.0 as usize;
+        if joined[i] != 0 {
+            return false;
+        }
+        group[i] = first.0;
+        joined[i] = at as u16;
+        k = k + 1;
+    }
+    true
+}
+
+// 26: no gate is in two groups. Every gate's group, and the place of its group in the plan.
+fn join_groups(plan: &[u8], count: usize, group: &mut [u16; 256], joined: &mut [u16; 256]) -> bool
+    requires { ⌜ Readable count (now plan) ⌝ }
+    ensures once { λ r. ⌜ r ≡ checks.apart (file.groupsIn (now (plan .entry))) ⌝ }
+    ensures groups { λ r. ⌜ (r ≡ true → now (group .exit) ≡ groupTable count (file.groupsIn (now (plan .entry)))) ⌝ }
+    ensures places { λ r. ⌜ (r ≡ true → now (joined .exit) ≡ placeTable count (now (plan .entry))) ⌝ }
+{
+    number_gates(count, group);
+    clear(joined);
+    let mut left = groups_counted(plan);
+    let mut at = LEAST_BYTES;
+    while 0 < left {
+        if !join_members(plan, at, count, group, joined) {
+            return false;
+        }
+        at = after(plan, at);
+        left = left - 1;
+    }
+    true
+}
+
+// Rows 20 to 26 of the plan for a circuit of `count` gates: the lowest that refuses it, or 0. With 0 each gate's group, by its smallest member, is in
+// `group`, and the place of that group in the plan, 0 for a gate that no group lists, in `joined`.
+pub fn group_gates(plan: &[u8], count: usize, group: &mut [u16; 256], joined: &mut [u16; 256]) -> u8
+    requires { ⌜ count ≤ mostGates ⌝ }
+    ensures number { λ r. ⌜ r ≡ checks.firstFailing (checks.layoutRows count (now (plan .entry))) ⌝ }
+    ensures groups { λ r. ⌜ (r ≡ 0 → now (group .exit) ≡ groupTable count (file.groupsIn (now (plan .entry)))) ⌝ }
+    ensures places { λ r. ⌜ (r ≡ 0 → now (joined .exit) ≡ placeTable count (now (plan .entry))) ⌝ }
+{
+    let row = layout_row(plan, count);
+    if row != 0 {
+        return row;
+    }
+    if join_groups(plan, count, group, joined) {
+        0
+    } else {
+        26
+    }
+}
+
+// A costly operation, by a gate's code; a choice is none.
+fn costly(code: u32) -> bool
+    ensures { λ r. ⌜ r ≡ ltb 0 (codeOf code .cost) ⌝ }
+{
+    if code < 256 {
+        0 < codes::code_of(code as u8).cost
+    } else {
+        false
+    }
+}
+
+fn operation_code(code: u32) -> u32
+    ensures { λ r. ⌜ r ≡ operationCode code ⌝ }
+{
+    if code < 0x20 {
+        return 0;
+    }
+    if 0x27 < code {
+        return 0;
+    }
+    code
+}
+
+fn code_at(rows: &[u32; 1024], g: GateId) -> u32
+    requires { ⌜ g .0 < 256 ⌝ }
+    ensures { λ r. ⌜ r ≡ codeAt (now (rows .entry)) (g .0) ⌝ }
+{
+    let i = g.0 as usize;
+    rows[4 * i]
+}
+
+// 27 or 28 of a member, by the first member.
+fn member_holds(row: u8, rows: &[u32; 1024], first: GateId, g: GateId) -> bool
+    requires { ⌜ (first .0 < 256) × (g .0 < 256) ⌝ }
+    ensures { λ r. ⌜ r ≡ memberTest row (gateIn (now (rows .entry)) (first .0)) (gateIn (now (rows .entry)) (g .0)) ⌝ }
+{
+    let code = code_at(rows, g);
+    if row == COSTLY {
+        costly(code)
+    } else {
+        operation_code(code_at(rows, first)) == operation_code(code)
+    }
+}
+
+// 27 or 28 of the group that begins at a place.
+fn members_hold(row: u8, plan: &[u8], at: usize, rows: &[u32; 1024], count: usize) -> bool
+    requires { ⌜ Fits count (now plan) at ⌝ }
+    ensures { λ r. ⌜ r ≡ membersTest (gatesIn (now (rows .entry)) count) row (file.groupAt (now (plan .entry)) at) ⌝ }
+{
+    let size = size_at(plan, at);
+    let first = member(plan, at, 0);
+    let mut k: usize = 0;
+    while k < size {
+        let g = member(plan, at, k);
+        if !member_holds(row, rows, first, g) {
+            return false;
+        }
+        k = k + 1;
+    }
+    true
+}
+
+// 29 of the group that begins at a place: numbers rise, so a member met later is another one.
+fn members_part(plan: &[u8], at: usize, count: usize, needs: &[u64; 256]) -> bool
+    requires { ⌜ Fits count (now plan) at ⌝ }
+    ensures { λ r. ⌜ r ≡ checks.parted (now (needs .entry)) (file.groupAt (now (plan .entry)) at) ⌝ }
+{
+    let size = size_at(plan, at);
+    let mut seen = settings::empty();
+    let mut k: usize = 0;
+    while k < size {
+        let g = member(plan, at, k);
+        let i = g.0 as usize;
+        let s = needs[i];
+        if !settings::excludes(seen, s) {
+            return false;
+        }
+        seen = settings::union(seen, s);
+        k = k + 1;
+    }
+    true
+}
+
+// 27, 28 or 29 of the group that begins at a place.
+fn join_holds(
+    row: u8,
+    plan: &[u8],
+    at: usize,
+    rows: &[u32; 1024],
+    count: usize,
+    needs: &[u64; 256],
+) -> bool
+    requires { ⌜ Fits count (now plan) at ⌝ }
+    ensures { λ r. ⌜ r ≡ joinTest (gatesIn (now (rows .entry)) count) (now (needs .entry)) row (file.groupAt (now (plan .entry)) at) ⌝ }
+{
+    if row == PARTED {
+        members_part(plan, at, count, needs)
+    } else {
+        members_hold(row, plan, at, rows, count)
+    }
+}
+
+// 27, 28 or 29 of every group.
+fn every_join(row: u8, plan: &[u8], rows: &[u32; 1024], count: usize, needs: &[u64; 256]) -> bool
+    requires { ⌜ Readable count (now plan) ⌝ }
+    ensures { λ r. ⌜ r ≡ checks.everyGroup (joinTest (gatesIn (now (rows .entry)) count) (now (needs .entry)) row) (file.groupsIn (now (plan .entry))) ⌝ }
+{
+    let mut unchecked = groups_counted(plan);
+    let mut at = LEAST_BYTES;
+    while 0 < unchecked {
+        if !join_holds(row, plan, at, rows, count, needs) {
+            return false;
+        }
+        at = after(plan, at);
+        unchecked = unchecked - 1;
+    }
+    true
+}
+
+// Rows 27 to 29 of a plan that the rows before do not refuse, for the gates that lie in `rows` and their preconditions: the lowest that refuses it, or 0.
+pub fn check_groups(plan: &[u8], rows: &[u32; 1024], count: usize, needs: &[u64; 256]) -> u8
+    requires { ⌜ Readable count (now plan) ⌝ }
+    ensures { λ r. ⌜ r ≡ checks.firstFailing (checks.joinRows (gatesIn (now (rows .entry)) count) (now (needs .entry)) (now (plan .entry))) ⌝ }
+{
+    if !every_join(COSTLY, plan, rows, count, needs) {
+        return COSTLY;
+    }
+    if !every_join(ALIKE, plan, rows, count, needs) {
+        return ALIKE;
+    }
+    if !every_join(PARTED, plan, rows, count, needs) {
+        return PARTED;
+    }
+    0
+}

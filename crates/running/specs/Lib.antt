@@ -1,0 +1,2 @@
+pub mod RecordBounds
+pub mod RunnableLaws

@@ -1,0 +1,101 @@
+-- Document 01, "The fused circuit file": the file of every accepted plan can be run. Assumes nothing.
+use mathlib.Core.Path.{_≡_, sym, ap, subst⁻¹, _∙_}
+use mathlib.Core.List.{List}
+use Prim.Native.Nat.{ℕ, _+_, _*_, _≤_, _<_}
+use native.Mathlib.Omega.{arith}
+use native.Mathlib.Nat.{add-zero}
+use lib.ListN.{length, getD, take, drop, length-append, take-append-drop}
+use lib.Seq.{getD-take, getD-drop, take-length}
+use Rattle.words.specs.Numbers.{Bytes}
+use Rattle.answers.specs.ParsingLaws.{is-read}
+use Rattle.codes.specs.declared.Kind.the-variants as kind
+use Rattle.reading.specs.Header.{variables}
+use Rattle.reading.specs.Rule.{readRule}
+use Rattle.gates.specs.Gates as gate
+use Rattle.gates.specs.PlainCircuit.{gatesOf}
+use Rattle.needed.specs.Pass.{rulePreconditions}
+use Rattle.circuit.specs.WholeLaws.{accepted}
+use Rattle.plan.specs.PlanFile.{groupsIn}
+use Rattle.plan.specs.Groups.{groupOf}
+use Rattle.plan.specs.Order.{order}
+use Rattle.plan.specs.Rows.{planAnswer}
+use Rattle.plan.specs.AcceptedLaws.{plan-accepted}
+use Rattle.fused.specs.Records.{Record, recordIn, ReadsEarlier}
+use Rattle.fused.specs.FusedCircuit.{fused, recordsOf}
+use Rattle.fused.specs.CircuitFile.{recordBytes, recordsBytes, fusedFile}
+use Rattle.fused.specs.FileFigures.{sizeAt}
+use Rattle.fused.specs.RecordLaws.{along-at}
+use Rattle.fused.specs.FitStarts.{rule-starting}
+use Rattle.fused.specs.FitPlan.{fused-place, fused-record, fused-part, fused-found}
+use Rattle.fused.specs.SizeLaws.{size-append, records-more}
+use Rattle.fused.specs.SizeBounds.{wires-bound, fused-size}
+use Rattle.fused.specs.Demand3.{reads-earlier, output-earlier}
+use Rattle.figures.specs.Runnable.{recordPlace, Runnable}
+use Rattle.running.specs.RecordBounds.{Bounded, Kept, written-bounded, known-byte, counted-byte, input-byte, two-bytes, some-byte}
+
+module _ (s p : List ℕ) (h : planAnswer s p .number ≡ 0) (bytes : Bytes s) where
+  abbrev f : List ℕ
+  f = fusedFile s p
+
+  abbrev R : List Record
+  R = recordsOf s p
+
+  earlier : ReadsEarlier R
+  earlier = reads-earlier s p h
+
+  bounded : (i : ℕ) → i < length R → Bounded (variables s) (recordIn R i)
+  unfolding fused
+  bounded i l =
+      let (b, n, read) = is-read (readRule s) (accepted s (plan-accepted s p .0 h .0) .read) in
+      let group = groupOf (groupsIn p) in
+      along-at (Kept (variables s) s (gatesOf s) (rulePreconditions s) (rule-starting s b n read)) R 0
+      (written-bounded (variables s) s (gatesOf s) (rulePreconditions s) (rule-starting s b n read) group (order (gatesOf s) (rulePreconditions s) group)) i l
+
+  -- byte j of record i
+  byte : (i j : ℕ) → i < length R → j < length (recordBytes (recordIn R i)) → getD f (recordPlace f i + j) 0 ≡ getD (recordBytes (recordIn R i)) j 0
+  byte i j l k =
+      sym (getD-drop (recordPlace f i) f j 0)
+      ∙ sym (getD-take (sizeAt f (recordPlace f i)) (drop (recordPlace f i) f) j 0 (omega (arith, fused-record s p h bytes earlier i l .1)))
+      ∙ ap (λ (x : List ℕ). getD x j 0) (fused-part s p h bytes earlier i l)
+
+  first : (i : ℕ) → i < length R → getD f (recordPlace f i) 0 ≡ getD (recordBytes (recordIn R i)) 0 0
+  first i l = ap (λ (k : ℕ). getD f k 0) (sym (add-zero (recordPlace f i))) ∙ byte i 0 l (some-byte (recordIn R i))
+
+  -- the places of the records, and of what stands after them
+  ended : recordPlace f (length R) + 2 * variables s ≡ length f
+  ended =
+      let e = fused-place s p h bytes earlier (length R) (omega arith) in
+      let t : length (recordsBytes (take (length R) R)) ≡ length (recordsBytes R) = ap (λ (x : List Record). length (recordsBytes x)) (take-length R) in
+      omega (arith, e, t, fused-size s p h)
+
+  whole : (i : ℕ) → i < length R → recordPlace f i + sizeAt f (recordPlace f i) ≤ length f
+  whole i l =
+      let e = fused-place s p h bytes earlier i (omega arith) in
+      let m = fused-place s p h bytes earlier (i + 1) (omega arith) in
+      let r : length (recordsBytes (take (i + 1) R)) ≡ length (recordsBytes (take i R)) + length (recordBytes (recordIn R i)) = ap length (records-more R i l) ∙ length-append (recordsBytes (take i R)) (recordBytes (recordIn R i)) in
+      let t : length (recordsBytes R) ≡ length (recordsBytes (take (i + 1) R)) + length (recordsBytes (drop (i + 1) R)) = rest (i + 1) in
+      omega (arith, e, r, t, fused-record s p h bytes earlier i l .1, fused-size s p h)
+    where
+      rest : (k : ℕ) → length (recordsBytes R) ≡ length (recordsBytes (take k R)) + length (recordsBytes (drop k R))
+      rest k = ap (λ (x : List Record). length (recordsBytes x)) (sym (take-append-drop k R)) ∙ size-append (take k R) (drop k R)
+
+  pub fused-runnable : Runnable (fusedFile s p) (variables s)
+  fused-runnable =
+      let (records, outs, v, n) = fused-found s p h bytes earlier (output-earlier s p h) in
+      record {
+        headed = omega (arith, fused-size s p h);
+        wires = omega (arith, n, wires-bound s p h);
+        inside = λ i l. whole i (omega (arith, n, l));
+        known = λ i l. rw (first i (omega (arith, n, l))) (known-byte (recordIn R i));
+        counted = λ i l c.
+          let k : i < length R = omega (arith, n, l) in
+          let c0 : getD (recordBytes (recordIn R i)) 0 0 ≡ 0x32 = sym (first i k) ∙ c in
+          rw (byte i 1 k (two-bytes (recordIn R i) (λ a b. omega (arith, c0, b)))) (counted-byte (variables s) (recordIn R i) (bounded i k) c0);
+        inputs = λ i l c.
+          let k : i < length R = omega (arith, n, l) in
+          let c0 : getD (recordBytes (recordIn R i)) 0 0 ≤ 0x01 = rw (first i k) at c in
+          rw (byte i 1 k (two-bytes (recordIn R i) (λ a b. omega (arith, c0, a)))) (input-byte (variables s) (recordIn R i) (bounded i k) c0);
+        earlier = subst⁻¹ ReadsEarlier records earlier;
+        ends = rw (n, v) (omega (arith, ended));
+        outputs = λ w m. rw n (output-earlier s p h w (rw outs at m));
+      }

@@ -1,0 +1,1 @@
+// Runs the fused circuit of a rule and a plan.
