@@ -53,7 +53,7 @@ drop-same z (suc k) zero = let e : 0 ≡ 0 - suc k = omega arith in ap (λ (m : 
 drop-same z (suc k) (suc n) = let e : n - k ≡ suc n - suc k = omega arith in drop-same z k n ∙ ap (λ (m : ℕ). replicate m z) e
 
 -- numbers at the start of zeros are the numbers, then zeros
-over-zeros : (l : List ℕ) (n : ℕ) → over l (replicate n 0) ≡ padded n l
+pub over-zeros : (l : List ℕ) (n : ℕ) → over l (replicate n 0) ≡ padded n l
 unfolding over
 over-zeros l n = ap (λ (z : List ℕ). l ++ z) (drop-same 0 (length l) n)
 

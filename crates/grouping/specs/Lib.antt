@@ -11,3 +11,4 @@ pub mod PutLaws
 pub mod JoinLaws
 pub mod RowLaws
 pub mod SameLaws
+pub mod PlaceLaws

@@ -7,7 +7,7 @@ use Prim.Native.Nat.{ℕ, zero, suc, _≤_, _<_}
 use native.Mathlib.Omega.{arith}
 use lib.Dec.{eqb}
 use lib.ListN.{length}
-use Rattle.words.specs.Lists.{_∈_, elem, elem→∈, ∈→elem, split, keep, keep-from, from, upto, from-below}
+use Rattle.words.specs.Lists.{_∈_, elem, elem→∈, ∈→elem, split, keep, keep-from, from, from-below}
 use Rattle.plan.specs.PlanFile.{Plan, Each, Above, Rising, Listed, Apart}
 use Rattle.plan.specs.Groups.{smallest, groupOf, members}
 use Rattle.plan.specs.Accepted.{Exist}
@@ -61,7 +61,7 @@ stands-listed (H ∷ Gs) G g (inl e) m = inl (rw e m)
 stands-listed (H ∷ Gs) G g (inr s) m = inr (stands-listed Gs G g s m)
 
 -- a listed group's gates have its name, and no others
-name-to : (Gs : Plan) (G : List ℕ) (g : ℕ) → Apart Gs → Stands Gs G → g ∈ G → groupOf Gs g ≡ smallest G
+pub name-to : (Gs : Plan) (G : List ℕ) (g : ℕ) → Apart Gs → Stands Gs G → g ∈ G → groupOf Gs g ≡ smallest G
 name-to (H ∷ Gs) G g (d, a) (inl e) m = rw (e, ∈→elem g G m)
 name-to (H ∷ Gs) G g (d, a) (inr s) m =
     split (elem g H) (λ t. absurd (d g (elem→∈ g H t) (stands-listed Gs G g s m))) (λ t. rw t (name-to Gs G g a s m))
@@ -76,7 +76,7 @@ name-back (H ∷ Gs) G g (o, u) (d, a) (inr s) h =
     (λ t. name-back Gs G g u a s (rw t at h))
 
 -- a gate outside all of them names itself; the name of a gate inside is inside
-unlisted-name : (Gs : Plan) (g : ℕ) → (Listed Gs g → ⊥) → groupOf Gs g ≡ g
+pub unlisted-name : (Gs : Plan) (g : ℕ) → (Listed Gs g → ⊥) → groupOf Gs g ≡ g
 unlisted-name [] g n = refl
 unlisted-name (H ∷ Gs) g n = split (elem g H) (λ t. absurd (n (inl (elem→∈ g H t)))) (λ t. rw t (unlisted-name Gs g (λ h. n (inr h))))
 

@@ -125,4 +125,3 @@ some-byte (operation op l) = omega arith
 some-byte (choice c a b) = omega arith
 some-byte (pick l) = omega arith
 some-byte (guard cs t) = omega arith
-

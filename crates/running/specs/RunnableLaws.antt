@@ -88,13 +88,13 @@ module _ (s p : List ℕ) (h : planAnswer s p .number ≡ 0) (bytes : Bytes s) w
         inside = λ i l. whole i (omega (arith, n, l));
         known = λ i l. rw (first i (omega (arith, n, l))) (known-byte (recordIn R i));
         counted = λ i l c.
-          let k : i < length R = omega (arith, n, l) in
-          let c0 : getD (recordBytes (recordIn R i)) 0 0 ≡ 0x32 = sym (first i k) ∙ c in
-          rw (byte i 1 k (two-bytes (recordIn R i) (λ a b. omega (arith, c0, b)))) (counted-byte (variables s) (recordIn R i) (bounded i k) c0);
+            let k : i < length R = omega (arith, n, l) in
+            let c0 : getD (recordBytes (recordIn R i)) 0 0 ≡ 0x32 = sym (first i k) ∙ c in
+            rw (byte i 1 k (two-bytes (recordIn R i) (λ a b. omega (arith, c0, b)))) (counted-byte (variables s) (recordIn R i) (bounded i k) c0);
         inputs = λ i l c.
-          let k : i < length R = omega (arith, n, l) in
-          let c0 : getD (recordBytes (recordIn R i)) 0 0 ≤ 0x01 = rw (first i k) at c in
-          rw (byte i 1 k (two-bytes (recordIn R i) (λ a b. omega (arith, c0, a)))) (input-byte (variables s) (recordIn R i) (bounded i k) c0);
+            let k : i < length R = omega (arith, n, l) in
+            let c0 : getD (recordBytes (recordIn R i)) 0 0 ≤ 0x01 = rw (first i k) at c in
+            rw (byte i 1 k (two-bytes (recordIn R i) (λ a b. omega (arith, c0, a)))) (input-byte (variables s) (recordIn R i) (bounded i k) c0);
         earlier = subst⁻¹ ReadsEarlier records earlier;
         ends = rw (n, v) (omega (arith, ended));
         outputs = λ w m. rw n (output-earlier s p h w (rw outs at m));

@@ -1,0 +1,110 @@
+-- Laws of what the check of a plan hands up: nothing of a refused plan, the tables and the order of an accepted one. Assumes nothing.
+use Prim.Native.Nat.{ℕ, _-_, _≤_, _<_}
+use native.Mathlib.Omega.{arith}
+use mathlib.Core.Path.{_≡_, refl, sym, ap, _∙_}
+use mathlib.Core.List.{List, []}
+use mathlib.Core.Logic.{_⊎_, inl, inr}
+use mathlib.Core.Bool.{not}
+use lib.Dec.{eqb, leb}
+use lib.ListN.{length, getD}
+use borrow.Author.Tests.{eq-eqb, ne-eqb, le-leb}
+use Rattle.words.specs.Lists.{same?}
+use Rattle.answers.specs.declared.Answer.{Answer}
+use Rattle.gates.specs.Gates.{conditions}
+use Rattle.gates.specs.Limits.{mostGates}
+use Rattle.circuit.specs.Shown.{padded}
+use Rattle.circuit.specs.declared.Shown.{Shown}
+use Rattle.plan.specs.PlanFile.{groupsIn, Apart}
+use Rattle.plan.specs.Groups.{groupOf, Named, groups, members}
+use Rattle.plan.specs.Order.{order}
+use Rattle.plan.specs.Rows.{layoutRows, firstFailing, planAnswer}
+use Rattle.plan.specs.RowLaws.{apart-right}
+use Rattle.plan.specs.AcceptedLaws.{none-fails}
+use Rattle.plan.specs.GroupLaws.{groupOf-named}
+use Rattle.plan.specs.ListedLaws.{unlisted-name}
+use Rattle.grouping.specs.Walks.{Readable}
+use Rattle.grouping.specs.Tables.{placeOf, groupTable, placeTable}
+use Rattle.grouping.specs.TableLaws.{group-at, place-at}
+use Rattle.grouping.specs.RowLaws.{layout-readable}
+use Rattle.grouping.specs.PlaceLaws.{unplaced, place-alone, place-members, place-name, place-two}
+use Rattle.ordering.specs.SameLaws.{members-same}
+use Rattle.checking.specs.Checked.{ifChecked}
+use Rattle.checking.specs.Refused.{Ungrouped}
+use Rattle.checking.specs.Handed.{Showing, Handed}
+use Rattle.checking.specs.declared.Checked.{Checked}
+
+pub refused-lists : (s p : List ℕ) → (planAnswer s p .number ≡ 0 → ⊥) → (l : List ℕ) → ifChecked s p l ≡ []
+unfolding ifChecked
+refused-lists s p h l = rw (ne-eqb _ _ h)
+
+pub accepted-lists : (s p : List ℕ) → planAnswer s p .number ≡ 0 → (l : List ℕ) → ifChecked s p l ≡ l
+unfolding ifChecked
+accepted-lists s p h l = rw (eq-eqb _ _ h)
+
+-- a refused plan hands up no groups
+pub refused-handed : (s p : List ℕ) (c : Shown) → Showing s c → (a : Answer) (r : Checked) → Ungrouped c a r → a ≡ planAnswer s p → (a .number ≡ 0 → ⊥) → Handed s p r
+refused-handed s p c sh a r u e h =
+    let n : planAnswer s p .number ≡ 0 → ⊥ = λ z. h (ap (λ (b : Answer). b .number) e ∙ z) in
+    let none = refused-lists s p n in (
+      u .answered ∙ e,
+      (
+        u .rows ∙ sh .1 .0,
+        (
+          u .needs ∙ sh .1 .1 .0,
+          (
+            u .outputs ∙ sh .1 .1 .1 .0,
+            (
+              u .conditions ∙ sh .1 .1 .1 .1,
+              (
+                u .group ∙ ap (padded mostGates) (sym (none _)),
+                (
+                  u .joined ∙ ap (padded mostGates) (sym (none _)),
+                  (
+                    u .order ∙ ap (padded mostGates) (sym (none _)),
+                    u .groups ∙ ap length (sym (none _)),
+                  ),
+                ),
+              ),
+            ),
+          ),
+        ),
+      ),
+    )
+
+-- the tables of a plan that is laid out, of n gates
+module _ (n : ℕ) (p : List ℕ) (room : n ≤ mostGates) (none : firstFailing (layoutRows n p) ≡ 0) where
+  readable : Readable n p
+  readable = layout-readable n p room none
+
+  once : Apart (groupsIn p)
+  once = apart-right (groupsIn p) .0 (none-fails (layoutRows n p) refl .0 none .1 .1 .1 .1 .1 .1 .0)
+
+  named : Named (groupOf (groupsIn p))
+  named = groupOf-named (groupsIn p) (readable .joins) (readable .rising) once
+
+  abbrev group : ℕ → ℕ
+  group g = getD (groupTable n (groupsIn p)) g 0
+
+  pub table-named : (x : ℕ) → x < n → (group x ≤ x) × (group (group x) ≡ group x)
+  table-named x l =
+      let e = group-at n p x l in
+      let r : (groupOf (groupsIn p) x ≤ x) × (groupOf (groupsIn p) (groupOf (groupsIn p) x) ≡ groupOf (groupsIn p) x) = named x in
+      (rw e (r .0), rw e (group-at n p (groupOf (groupsIn p) x) (omega (arith, r .0)) ∙ r .1))
+
+  -- a gate has a place in the plan exactly when its group has two or more members
+  pub table-many : (m : ℕ) → m < n → leb 2 (length (members n group (group m))) ≡ not (eqb (getD (placeTable n p) m 0) 0)
+  table-many m l = go (same? (placeOf p m) 0)
+    where
+      as-table : members n group (group m) ≡ members n (groupOf (groupsIn p)) (groupOf (groupsIn p) m)
+      as-table = members-same n group (groupOf (groupsIn p)) (λ x k. group-at n p x k) (group m) ∙ ap (members n (groupOf (groupsIn p))) (group-at n p m l)
+
+      place : getD (placeTable n p) m 0 ≡ placeOf p m
+      place = place-at n p m l
+
+      go : (placeOf p m ≡ 0) ⊎ (placeOf p m ≡ 0 → ⊥) → leb 2 (length (members n group (group m))) ≡ not (eqb (getD (placeTable n p) m 0) 0)
+      go (inl z) =
+          rw (as-table, unlisted-name (groupsIn p) m (unplaced p m z), place-alone n p (readable .joins) (readable .rising) once m l z, place, eq-eqb (placeOf p m) 0 z)
+      go (inr z) =
+          let e = place-name n p (readable .joins) (readable .rising) once m (readable .ended) z in
+          let f = place-members n p (readable .joins) (readable .rising) once m (readable .exist) (readable .ended) z in
+          rw (as-table, e, f, place, le-leb _ _ (place-two n p (readable .joins) (readable .rising) once m (readable .ended) z), ne-eqb (placeOf p m) 0 z)

@@ -1,0 +1,126 @@
+-- Laws of the check of a plan that is laid out: its tables can be ordered, and what is handed up of an accepted plan. Assumes nothing.
+use Prim.Native.Nat.{ℕ, _<_}
+use mathlib.Core.Path.{_≡_, sym, ap, subst⁻¹, _∙_}
+use mathlib.Core.List.{List, map, reverse}
+use mathlib.Core.Bool.{true, false}
+use lib.ListN.{length, getD, replicate, length-reverse}
+use Rattle.words.specs.Lists.{upto}
+use Rattle.words.specs.Buffers.{over}
+use Rattle.answers.specs.declared.Answer.{Answer}
+use Rattle.gates.specs.Gates.{Gates, Earlier, conditions}
+use Rattle.gates.specs.Limits.{mostGates}
+use Rattle.gates.specs.PlainCircuit.{gatesOf}
+use Rattle.needed.specs.Held.{gatesIn}
+use Rattle.needed.specs.Pass.{rulePreconditions}
+use Rattle.circuit.specs.Shown.{padded, shownRows, shownNeeds, shownOutputs, shownConditions}
+use Rattle.circuit.specs.ShownLaws.{over-zeros}
+use Rattle.circuit.specs.ShownParts.{shown-earlier, shown-condition}
+use Rattle.circuit.specs.declared.Shown.{Shown}
+use Rattle.plan.specs.PlanFile.{groupsIn}
+use Rattle.plan.specs.Groups.{groupOf, groups}
+use Rattle.plan.specs.Order.{order}
+use Rattle.plan.specs.Rows.{layoutRows, joinRows, firstFailing, placed, planAnswer}
+use Rattle.grouping.specs.Tables.{groupTable, placeTable, placeOf}
+use Rattle.grouping.specs.TableLaws.{group-at}
+use Rattle.ordering.specs.Reads.{Orderable, orderOf}
+use Rattle.ordering.specs.SameLaws.{order-same, placed-same, order-sets-same, placed-sets-same}
+use Rattle.ordering.specs.AnswerLaws.{placed-count, answer-placed, answer-circle}
+use Rattle.ordering.specs.declared.Order.the-variants.{Placed, Circle}
+use Rattle.checking.specs.Checked.{ifChecked, writingOrder, checkedGroups, checkedPlaces, checkedOrder}
+use Rattle.checking.specs.Handed.{Showing}
+use Rattle.checking.specs.AnswerLaws.{accepted-rule, gates-are, gates-room, gates-in, needs-in, plan-taken}
+use Rattle.checking.specs.HandedLaws.{accepted-lists, table-named, table-many}
+
+module _ (s p : List ℕ) (c : Shown) (sh : Showing s c) (zero : c .answer .number ≡ 0)
+    (laid : ℕ) (e : laid ≡ firstFailing (layoutRows (c .answer .gates) p)) (none : laid ≡ 0) (group joined : List ℕ)
+    (g : group ≡ groupTable (c .answer .gates) (groupsIn p)) (j : joined ≡ placeTable (c .answer .gates) p) where
+  abbrev n : ℕ
+  n = c .answer .gates
+
+  rule : Earlier (gatesOf s)
+  rule = shown-earlier s (accepted-rule s p c sh zero)
+
+  -- what the order of the groups is worked out from
+  pub tables-orderable : Orderable (c .rows) (c .answer .gates) (c .conditions) group joined
+  tables-orderable =
+      let room = gates-room s p c sh zero in
+      let gates = gates-in s p c sh zero in
+      let laid-out : firstFailing (layoutRows n p) ≡ 0 = sym e ∙ none in
+      record {
+        room = room;
+        earlier = subst⁻¹ Earlier gates rule;
+        listed = λ t l.
+            ap (λ (d : List ℕ). getD d t 0) (sh .1 .1 .1 .1) ∙ shown-condition s (accepted-rule s p c sh zero) t ∙ ap (λ (C : Gates). getD (conditions C) t 0) (sym gates);
+        named = λ x l. rw g (table-named n p room laid-out x l);
+        many = λ m l. rw (g, j) (table-many n p room laid-out m l);
+      }
+
+  abbrev tabled : ℕ → ℕ
+  tabled x = getD group x 0
+
+  as-plan : (x : ℕ) → x < length (gatesOf s) → tabled x ≡ groupOf (groupsIn p) x
+  as-plan x l = ap (λ (t : List ℕ). getD t x 0) g ∙ group-at n p x (rw (gates-are s p c sh zero) l)
+
+  -- the order that is found is the plan's
+  order-is : order (gatesIn (c .rows) n) (c .needs) tabled ≡ order (gatesOf s) (rulePreconditions s) (groupOf (groupsIn p))
+  order-is =
+      ap (λ (C : Gates). order C (c .needs) tabled) (gates-in s p c sh zero)
+      ∙ order-sets-same (gatesOf s) (c .needs) (rulePreconditions s) (needs-in s p c sh zero) tabled
+      ∙ order-same (gatesOf s) rule (rulePreconditions s) tabled (groupOf (groupsIn p)) as-plan
+
+  placed-is : placed (gatesIn (c .rows) n) (c .needs) tabled ≡ placed (gatesOf s) (rulePreconditions s) (groupOf (groupsIn p))
+  placed-is =
+      ap (λ (C : Gates). placed C (c .needs) tabled) (gates-in s p c sh zero)
+      ∙ placed-sets-same (gatesOf s) (c .needs) (rulePreconditions s) (needs-in s p c sh zero) tabled
+      ∙ placed-same (gatesOf s) rule (rulePreconditions s) tabled (groupOf (groupsIn p)) as-plan
+
+  -- a circle remains
+  pub circle-is : Circle ≡ orderOf (gatesIn (c .rows) n) (c .needs) tabled → placed (gatesOf s) (rulePreconditions s) (groupOf (groupsIn p)) ≡ false
+  circle-is h = sym placed-is ∙ answer-circle (gatesIn (c .rows) n) (c .needs) tabled h
+
+  -- every group is placed
+  module _ (join : ℕ) (f : join ≡ firstFailing (joinRows (gatesIn (c .rows) n) (c .needs) p)) (gone : join ≡ 0)
+      (k : ℕ) (h : Placed k ≡ orderOf (gatesIn (c .rows) n) (c .needs) tabled)
+      (found : List ℕ) (o : found ≡ over (reverse (order (gatesIn (c .rows) n) (c .needs) tabled)) (replicate 256 0)) where
+    all : placed (gatesOf s) (rulePreconditions s) (groupOf (groupsIn p)) ≡ true
+    all = sym placed-is ∙ answer-placed (gatesIn (c .rows) n) (c .needs) tabled k h .0
+
+    taken-answer : c .answer ≡ planAnswer s p
+    taken-answer = plan-taken s p c sh zero laid e none join f gone all
+
+    accepted : planAnswer s p .number ≡ 0
+    accepted = ap (λ (a : Answer). a .number) (sym taken-answer) ∙ zero
+
+    taken-group : group ≡ checkedGroups s p
+    unfolding groupTable
+    taken-group =
+        g ∙ ap (λ (m : ℕ). padded mostGates (map (groupOf (groupsIn p)) (upto m))) (gates-are s p c sh zero) ∙ ap (padded mostGates) (sym (accepted-lists s p accepted _))
+
+    taken-joined : joined ≡ checkedPlaces s p
+    unfolding placeTable
+    taken-joined =
+        j ∙ ap (λ (m : ℕ). padded mostGates (map (placeOf p) (upto m))) (gates-are s p c sh zero) ∙ ap (padded mostGates) (sym (accepted-lists s p accepted _))
+
+    taken-order : found ≡ checkedOrder s p
+    taken-order =
+        o ∙ over-zeros (reverse (order (gatesIn (c .rows) n) (c .needs) tabled)) mostGates
+        ∙ ap (λ (l : List ℕ). padded mostGates (reverse l)) order-is ∙ ap (padded mostGates) (sym (accepted-lists s p accepted _))
+
+    taken-groups : k ≡ length (ifChecked s p (writingOrder s p))
+    taken-groups =
+        let t = answer-placed (gatesIn (c .rows) n) (c .needs) tabled k h in
+        t .1 ∙ sym (placed-count (gatesIn (c .rows) n) (c .needs) tabled (t .0)) ∙ ap length order-is
+        ∙ sym (length-reverse (order (gatesOf s) (rulePreconditions s) (groupOf (groupsIn p)))) ∙ ap length (sym (accepted-lists s p accepted _))
+
+    -- all that is handed up
+    pub taken-handed : (c .answer ≡ planAnswer s p)
+        × ((c .rows ≡ shownRows s)
+        × ((c .needs ≡ shownNeeds s)
+        × ((c .outputs ≡ shownOutputs s)
+        × ((c .conditions ≡ shownConditions s)
+        × ((group ≡ checkedGroups s p)
+        × ((joined ≡ checkedPlaces s p)
+        × ((found ≡ checkedOrder s p)
+        × (k ≡ length (ifChecked s p (writingOrder s p))))))))))
+    taken-handed =
+        (taken-answer, (sh .1 .0, (sh .1 .1 .0, (sh .1 .1 .1 .0, (sh .1 .1 .1 .1, (taken-group, (taken-joined, (taken-order, taken-groups))))))))

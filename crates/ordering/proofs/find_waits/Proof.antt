@@ -1,0 +1,86 @@
+use mathlib.Core.Logic.{⊎-elim}
+use mathlib.Core.Path.{sym, _∙_, refl}
+use borrow.Author.Needs.{needs}
+use native.Mathlib.Omega.{arith}
+use Prim.Native.Nat.{_-_}
+use Rattle.ordering.specs.TableLaws.{clear-words}
+use Rattle.ordering.specs.GatherLaws.{Gathering, gathering-start, gathering-group, gathering-size, gathering-arguments, gathering-conditions, gathering-alone, gathering-joined, gathering-end}
+use Rattle.ordering.proofs.find_waits.Statement.{statement}
+use Rattle.ordering.proofs.find_waits.Tie as tie
+
+abbrev Inv-loop : tie.InvT-loop
+Inv-loop rows count needs conditions group joined waits₀ i₀ waits i = Gathering rows count needs conditions group joined waits i
+
+abbrev μ-loop : tie.MeasureT-loop
+μ-loop rows count needs conditions group joined waits₀ i₀ waits i = count - i
+
+loop-holds : tie.Need-loop-holds Inv-loop μ-loop
+loop-holds c = gathering-start _ _ _ _ _ _ _ (c .before .pre .0) (c .before .pre .1)
+
+cast-if1 : tie.Need-cast-if1 Inv-loop μ-loop
+cast-if1 c = record { fits = omega (arith, c .before .loop .inv .orderable .room, c .loop-test .taken) }
+
+group-of-requires : tie.Need-group-of-requires Inv-loop μ-loop
+group-of-requires c κs = omega (arith, c .before .loop .inv .orderable .room, c .loop-test .taken)
+
+wait-arguments-requires : tie.Need-wait-arguments-requires Inv-loop μ-loop
+wait-arguments-requires c κs =
+    let i = c .before .before .before .loop .inv in
+    let t = c .before .before .loop-test .taken in
+    ((omega (arith, i .orderable .room, t), omega (arith, i .orderable .room, t, c .before .group-of .ensures, gathering-group _ _ _ _ _ _ _ _ i t)), (i .words .size, gathering-arguments _ _ _ _ _ _ _ _ i t))
+
+mul-if1 : tie.Need-mul-if1 Inv-loop μ-loop
+mul-if1 c = record { fits = omega (arith, c .before .before .before .before .before .before .loop .inv .orderable .room, c .before .before .before .before .before .loop-test .taken) }
+
+element-copy-out-if1 : tie.Need-element-copy-out-if1 Inv-loop μ-loop
+element-copy-out-if1 c = omega (arith, c .before .before .before .before .before .before .loop .inv .orderable .room, c .before .before .before .before .before .loop-test .taken)
+
+mul-wait-conditions : tie.Need-mul-wait-conditions Inv-loop μ-loop
+mul-wait-conditions c = record { fits = omega (arith, c .before .before .before .before .before .before .before .before .loop .inv .orderable .room, c .before .before .before .before .before .before .before .loop-test .taken) }
+
+element-copy-out-wait-conditions : tie.Need-element-copy-out-wait-conditions Inv-loop μ-loop
+element-copy-out-wait-conditions c = omega (arith, c .before .before .before .before .before .before .before .before .loop .inv .orderable .room, c .before .before .before .before .before .before .before .loop-test .taken)
+
+wait-conditions-requires : tie.Need-wait-conditions-requires Inv-loop μ-loop
+wait-conditions-requires c κs =
+    let i = c .before .before .before .before .before .before .before .before .before .before .loop .inv in
+    let t = c .before .before .before .before .before .before .before .before .before .loop-test .taken in (
+      rw (c .before .before .before .before .before .before .before .before .group-of .ensures) (gathering-group _ _ _ _ _ _ _ _ i t),
+      (gathering-size _ _ _ _ _ _ _ _ i t _ _ _ (c .before .before .before .before .before .before .wait-arguments .ensures), gathering-conditions _ _ _ _ _ _ _ _ i t _ refl),
+    )
+
+loop-again : tie.Need-loop-again Inv-loop μ-loop
+loop-again c =
+    let i = c .before .before .before .before .before .before .before .before .loop .inv in
+    let t = c .before .before .before .before .before .before .before .loop-test .taken in
+    ⊎-elim
+    (λ w. gathering-joined _ _ _ _ _ _ _ _ i t _ _ _ _ (c .before .before .before .before .before .before .group-of .ensures) (w .0 .taken) refl (c .before .before .before .before .wait-arguments .ensures) (w .6 ∙ w .3 .ensures))
+    (λ w. gathering-alone _ _ _ _ _ _ _ _ i t _ _ (c .before .before .before .before .before .before .group-of .ensures) (w .0 .left) (w .1 ∙ c .before .before .before .before .wait-arguments .ensures))
+    (c .if1 .came)
+
+same-length : tie.Need-same-length Inv-loop μ-loop
+same-length c = c .before .loop .inv .words .size ∙ sym (clear-words 1024 _ (c .before .before .before .pre .1) .size)
+
+returns : tie.Need-returns Inv-loop μ-loop
+returns c = gathering-end _ _ _ _ _ _ _ _ (c .before .loop .inv) (c .loop-test .left)
+
+pub find-waits-spec : {M : Type 1} → statement M
+find-waits-spec =
+    tie.close
+    (tie.spec
+    Inv-loop
+    μ-loop
+    loop-holds
+    cast-if1
+    group-of-requires
+    wait-arguments-requires
+    mul-if1
+    element-copy-out-if1
+    mul-wait-conditions
+    element-copy-out-wait-conditions
+    wait-conditions-requires
+    (λ c. search needs)
+    (λ c. search needs)
+    loop-again
+    same-length
+    returns)

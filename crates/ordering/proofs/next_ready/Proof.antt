@@ -1,0 +1,71 @@
+use borrow.Author.Tests.{not-true, not-false}
+use mathlib.Core.Logic.{⊎-elim}
+use mathlib.Core.Path.{sym, _∙_}
+use borrow.Author.Needs.{needs}
+use Prim.Native.Nat.{_-_}
+use Rattle.ordering.specs.SearchLaws.{Searching, Testing, searching-start, searching-past, searching-held, searching-end, testing-start, testing-next, testing-end}
+use Rattle.ordering.proofs.next_ready.Statement.{statement}
+use Rattle.ordering.proofs.next_ready.Tie as tie
+
+abbrev Inv-waits : tie.InvT-waits
+Inv-waits waits left from count p w₀ w = Testing waits left from count p w
+
+abbrev μ-waits : tie.MeasureT-waits
+μ-waits waits left from count p w₀ w = 4 - w
+
+abbrev Inv-search : tie.InvT-search
+Inv-search waits left from count p₀ p = Searching waits left from count p
+
+abbrev μ-search : tie.MeasureT-search
+μ-search waits left from count p₀ p = count - p
+
+search-holds : tie.Need-search-holds Inv-waits μ-waits Inv-search μ-search
+search-holds c = searching-start _ _ _ _ (c .before .before .pre .0) (c .before .before .pre .1 .0) (c .before .before .pre .1 .1)
+
+waits-holds : tie.Need-waits-holds Inv-waits μ-waits Inv-search μ-search
+waits-holds c = testing-start _ _ _ _ _ (c .before .before .before .search .inv) (c .before .before .if1 .left) (sym (c .before .has .ensures) ∙ c .if2 .taken)
+
+waits-again : tie.Need-waits-again Inv-waits μ-waits Inv-search μ-search
+waits-again c = testing-next _ _ _ _ _ _ (c .before .before .before .before .before .waits .inv) (c .before .before .before .before .if3 .left) (sym (c .before .excludes .ensures) ∙ not-false _ (c .if4 .left))
+
+search-again : tie.Need-search-again Inv-waits μ-waits Inv-search μ-search
+search-again c =
+    ⊎-elim
+    (λ w. searching-held _ _ _ _ _ _ (w .1 .inv) (w .2 .left) (sym (w .5 .ensures) ∙ not-true _ (w .6 .taken)))
+    (λ w. searching-past _ _ _ _ _ (c .before .before .before .search .inv) (c .before .before .if1 .left) (sym (c .before .has .ensures) ∙ w .left))
+    (c .if2 .came)
+
+returns : tie.Need-returns Inv-waits μ-waits Inv-search μ-search
+returns c = searching-end _ _ _ _ _ (c .before .search .inv) (c .if1 .taken)
+
+returns-2 : tie.Need-returns-2 Inv-waits μ-waits Inv-search μ-search
+returns-2 c = testing-end _ _ _ _ _ _ (c .before .waits .inv) (c .if3 .taken)
+
+pub next-ready-spec : {M : Type 1} → statement M
+next-ready-spec =
+    tie.close
+    (tie.spec
+    Inv-waits
+    μ-waits
+    Inv-search
+    μ-search
+    search-holds
+    (λ c. search needs)
+    (λ c κs. search needs)
+    waits-holds
+    (λ c. search needs)
+    (λ c. search needs)
+    (λ c. search needs)
+    (λ c. search needs)
+    (λ c. search needs)
+    (λ c. search needs)
+    (λ c. search needs)
+    (λ c κs. search needs)
+    (λ c. search needs)
+    (λ c. search needs)
+    waits-again
+    (λ c. search needs)
+    (λ c. search needs)
+    search-again
+    returns
+    returns-2)

@@ -1,0 +1,25 @@
+use lib.Bits.{bitXor}
+use lib.ListN.{set, getD}
+use Prim.Native.Nat.{ℕ, _/_}
+use mathlib.Core.Path.{ap}
+use borrow.Author.Needs.{needs}
+use Rattle.ordering.specs.Tables.{strikeBit}
+use Rattle.ordering.proofs.strike.Statement.{statement}
+use Rattle.ordering.proofs.strike.Tie as tie
+
+returns : tie.Need-returns
+unfolding strikeBit
+returns c = ap (λ (x : ℕ). set (c .before .before .before .before .args .words .now) (c .before .before .before .before .args .q .0 / 64) (bitXor (getD (c .before .before .before .before .args .words .now) (c .before .before .before .before .args .q .0 / 64) 0) x)) (c .mark .ensures)
+
+pub strike-spec : {M : Type 1} → statement M
+strike-spec =
+    tie.close
+    (tie.spec
+    (λ c. search needs)
+    (λ c. search needs)
+    (λ c. search needs)
+    (λ c κs. search needs)
+    (λ c. search needs)
+    (λ c. search needs)
+    (λ c. search needs)
+    returns)

@@ -1,0 +1,180 @@
+-- Laws of the two passes over the gates: the table of waits, gate by gate, and the set of groups left at first. Assumes nothing.
+use Prim.Native.Nat.{ℕ, _+_, _*_, _≤_, _<_}
+use mathlib.Core.Path.{_≡_, refl, sym, ap, _∙_}
+use mathlib.Core.Bool.{true, cond}
+use mathlib.Core.List.{List, _++_, map, append-nil, map-append}
+use mathlib.Core.Logic.{_⊎_, inl, inr}
+use native.Mathlib.Omega.{arith}
+use lib.Dec.{eqb}
+use lib.ListN.{length, getD, replicate}
+use borrow.Author.Tests.{eq-eqb, ne-eqb}
+use Rattle.words.specs.Lists.{_∈_, elem, same?, keep, keep-from, upto, from-below, flat, map-in}
+use Rattle.settings.specs.Sets.{restsOn, rests}
+use Rattle.gates.specs.Gates.{Gates, gateAt, arguments, conditions}
+use Rattle.gates.specs.FigureLaws.{map-same}
+use Rattle.needed.specs.Held.{gatesIn}
+use Rattle.needed.specs.HeldLaws.{gates-length, gates-at}
+use Rattle.plan.specs.Groups.{groups, members, restsOf, readsOf, waitsFor}
+use Rattle.ordering.specs.Tables.{Words, bitIn, putBit, putAll}
+use Rattle.ordering.specs.Reads.{argumentsAt, Into, Orderable}
+use Rattle.ordering.specs.Gathering.{Waiting, Left}
+use Rattle.ordering.specs.TableLaws.{clear-words, clear-bit, put-words, put-bit, puts-words, puts-bit, puts-append}
+use Rattle.ordering.specs.ReadLaws.{arguments-at, keep-yes, keep-no, elem-last, elem-joined, flat-last}
+use Rattle.ordering.specs.WaitsLaws.{place-inside, reads-inside}
+
+-- The set of groups left: those named by a gate below i.
+pub record Listing (group : List ℕ) (count : ℕ) (left : List ℕ) (i : ℕ) : Type 0 where
+  pub room : count ≤ 256
+  pub below : i ≤ count
+  pub words : Words 4 left
+  pub holds : (q : ℕ) → q < 256 → bitIn 0 left q ≡ elem q (keep (λ p. eqb (getD group p 0) p) (upto i))
+
+module _ (group : List ℕ) (count : ℕ) where
+  pub listing-start : (left : List ℕ) → count ≤ 256 → left ≡ replicate 4 0 → Listing group count left 0
+  listing-start left h e = record { room = h; below = omega arith; words = clear-words 4 left e; holds = λ q l. clear-bit 4 0 q left e }
+
+  pub listing-yes : (left new : List ℕ) (i : ℕ) → Listing group count left i → i < count → getD group i 0 ≡ i → new ≡ putBit 0 i left → Listing group count new (i + 1)
+  listing-yes left new i s l h e =
+      record {
+        room = s .room;
+        below = omega arith;
+        words = rw e (put-words 4 0 i left (s .words));
+        holds = λ q k. rw (e, keep-yes (λ p. eqb (getD group p 0) p) i (eq-eqb (getD group i 0) i h), elem-last q (keep (λ p. eqb (getD group p 0) p) (upto i)) i, ← s .holds q k)
+            (put-bit 4 0 left (s .words .size) (omega arith) i (omega (arith, s .room)) 0 q k);
+      }
+
+  pub listing-no : (left new : List ℕ) (i : ℕ) → Listing group count left i → i < count → (getD group i 0 ≡ i → ⊥) → new ≡ left → Listing group count new (i + 1)
+  listing-no left new i s l h e =
+      record {
+        room = s .room;
+        below = omega arith;
+        words = rw e (s .words);
+        holds = λ q k. rw (e, keep-no (λ p. eqb (getD group p 0) p) i (ne-eqb (getD group i 0) i h)) (s .holds q k);
+      }
+
+  pub listing-end : (left : List ℕ) (i : ℕ) → Listing group count left i → count ≤ i → Left (λ x. getD group x 0) count left
+  unfolding groups
+  listing-end left i s l = let e : count ≡ i = omega (arith, s .below) in record { words = s .words; holds = λ q k. rw e (s .holds q k) }
+
+-- the groups that p waits for on account of the gates below i
+unfoldable pub waitsBelow : Gates → List ℕ → (ℕ → ℕ) → ℕ → ℕ → List ℕ
+waitsBelow C sets group i p = map group (flat (readsOf C sets (members (length C) group p)) (keep (λ x. eqb (group x) p) (upto i)))
+
+below-yes : (C : Gates) (sets : List ℕ) (group : ℕ → ℕ) (i p : ℕ) → group i ≡ p
+    → waitsBelow C sets group (i + 1) p ≡ waitsBelow C sets group i p ++ map group (readsOf C sets (members (length C) group p) i)
+unfolding waitsBelow
+below-yes C sets group i p e =
+    let f = readsOf C sets (members (length C) group p) in
+    let l = keep (λ x. eqb (group x) p) (upto i) in
+    ap (λ (r : List ℕ). map group (flat f r)) (keep-yes (λ x. eqb (group x) p) i (eq-eqb (group i) p e))
+    ∙ ap (map group) (flat-last f l i) ∙ map-append group (flat f l) (f i)
+
+below-no : (C : Gates) (sets : List ℕ) (group : ℕ → ℕ) (i p : ℕ) → (group i ≡ p → ⊥) → waitsBelow C sets group (i + 1) p ≡ waitsBelow C sets group i p
+unfolding waitsBelow
+below-no C sets group i p e =
+    ap (λ (r : List ℕ). map group (flat (readsOf C sets (members (length C) group p)) r)) (keep-no (λ x. eqb (group x) p) i (ne-eqb (group i) p e))
+
+-- The table of waits: those on account of the gates below i.
+pub record Gathering (rows : List ℕ) (count : ℕ) (needs conds group joined waits : List ℕ) (i : ℕ) : Type 0 where
+  pub orderable : Orderable rows count conds group joined
+  pub below : i ≤ count
+  pub words : Words 1024 waits
+  pub holds : (p q : ℕ) → p < 256 → q < 256 → bitIn (4 * p) waits q ≡ elem q (waitsBelow (gatesIn rows count) needs (λ x. getD group x 0) i p)
+
+module _ (rows : List ℕ) (count : ℕ) (needs conds group joined : List ℕ) where
+  abbrev C : Gates
+  C = gatesIn rows count
+
+  abbrev g : ℕ → ℕ
+  g = λ x. getD group x 0
+
+  pub gathering-start : (waits : List ℕ) → Orderable rows count conds group joined → waits ≡ replicate 1024 0 → Gathering rows count needs conds group joined waits 0
+  unfolding waitsBelow
+  gathering-start waits o e = record { orderable = o; below = omega arith; words = clear-words 1024 waits e; holds = λ p q h l. clear-bit 1024 (4 * p) q waits e }
+
+  module _ (waits : List ℕ) (i : ℕ) (s : Gathering rows count needs conds group joined waits i) (l : i < count) where
+    inside : i < length C
+    inside = rw (gates-length rows count) l
+
+    group-low : (a : ℕ) → a < count → getD group a 0 < 256
+    group-low a h = omega (arith, s .orderable .named a h .0, s .orderable .room)
+
+    arguments-here : arguments (gateAt C i) ≡ argumentsAt rows i
+    arguments-here = ap arguments (gates-at rows count i l) ∙ arguments-at rows i
+
+    pub gathering-group : getD group i 0 < 256
+    gathering-group = group-low i l
+
+    pub gathering-arguments : Into group (argumentsAt rows i)
+    gathering-arguments a m =
+        let k : a < i = s .orderable .earlier i a (rw arguments-here m) in
+        (omega (arith, s .orderable .room), group-low a (omega arith))
+
+    rests-here : map (λ t. getD conds t 0) (rests 6 (getD needs i 0)) ≡ restsOf C needs i
+    unfolding restsOf rests
+    rests-here =
+        map-same (λ t. getD conds t 0) (λ t. getD (conditions C) t 0) (rests 6 (getD needs i 0))
+        (λ t m. s .orderable .listed t (omega (arith, from-below 0 6 t (keep-from (restsOn 6 (getD needs i 0)) (upto 6) t m .0))))
+
+    pub gathering-conditions : (n : ℕ) → n ≡ getD needs i 0 → Into group (map (λ t. getD conds t 0) (rests 6 n))
+    unfolding restsOf
+    gathering-conditions n e a m =
+        let r = map-in (λ t. getD (conditions C) t 0) a (rests 6 (getD needs i 0)) (rw rests-here at (rw e at m)) in
+        let k : a < length C = rw (r .2) (place-inside C (r .0) (omega (arith, inside))) in
+        let h : a < count = rw (gates-length rows count) at k in
+        (omega (arith, s .orderable .room), group-low a h)
+
+    step : (new : List ℕ) → new ≡ putAll (4 * g i) (map g (readsOf C needs (members (length C) g (g i)) i)) waits → Gathering rows count needs conds group joined new (i + 1)
+    step new e = record { orderable = s .orderable; below = omega arith; words = rw e (puts-words 1024 (4 * g i) reads waits (s .words)); holds = held }
+      where
+        reads : List ℕ
+        reads = map g (readsOf C needs (members (length C) g (g i)) i)
+
+        low : (q : ℕ) → q ∈ reads → q < 256
+        low q m =
+            let r = map-in g q (readsOf C needs (members (length C) g (g i)) i) m in
+            let k : r .0 < length C = reads-inside C (s .orderable .earlier) needs (members (length C) g (g i)) i (r .0) inside (r .1) in
+            rw (r .2) (group-low (r .0) (omega (arith, k, gates-length rows count)))
+
+        held : (p q : ℕ) → p < 256 → q < 256 → bitIn (4 * p) new q ≡ elem q (waitsBelow C needs g (i + 1) p)
+        held p q h k =
+            ap (λ (w : List ℕ). bitIn (4 * p) w q) e
+            ∙ puts-bit 1024 (g i) reads waits (s .words) (omega (arith, gathering-group)) low p q k
+            ∙ go (same? p (g i))
+          where
+            go : (p ≡ g i) ⊎ (p ≡ g i → ⊥)
+                → cond (eqb p (g i)) (cond (elem q reads) true (bitIn (4 * p) waits q)) (bitIn (4 * p) waits q) ≡ elem q (waitsBelow C needs g (i + 1) p)
+            go (inl f) = rw (f, eq-eqb (g i) (g i) refl, ← f, s .holds p q h k, below-yes C needs g i p (sym f), elem-joined q (waitsBelow C needs g i p) (map g (readsOf C needs (members (length C) g p) i)))
+            go (inr f) = rw (ne-eqb p (g i) f, below-no C needs g i p (λ z. f (sym z))) (s .holds p q h k)
+
+    pub gathering-size : (base : ℕ) (m mid : List ℕ) → mid ≡ putAll base m waits → length mid ≡ 1024
+    gathering-size base m mid e = ap length e ∙ puts-words 1024 base m waits (s .words) .size
+
+    -- a member of a group of one
+    pub gathering-alone : (new : List ℕ) (p : ℕ) → p ≡ getD group i 0 → getD joined i 0 ≡ 0 → new ≡ putAll (4 * p) (map (λ a. getD group a 0) (argumentsAt rows i)) waits
+        → Gathering rows count needs conds group joined new (i + 1)
+    gathering-alone new p e z h = step new (h ∙ rw e (ap (λ (r : List ℕ). putAll (4 * g i) (map g r) waits) reads))
+      where
+        reads : argumentsAt rows i ≡ readsOf C needs (members (length C) g (g i)) i
+        reads = rw (gates-length rows count, s .orderable .many i l, eq-eqb (getD joined i 0) 0 z, append-nil) (sym arguments-here)
+
+    -- a member of a larger group
+    pub gathering-joined : (mid new : List ℕ) (p n : ℕ) → p ≡ getD group i 0 → (getD joined i 0 ≡ 0 → ⊥) → n ≡ getD needs i 0
+        → mid ≡ putAll (4 * p) (map (λ a. getD group a 0) (argumentsAt rows i)) waits
+        → new ≡ putAll (4 * p) (map (λ a. getD group a 0) (map (λ t. getD conds t 0) (rests 6 n))) mid
+        → Gathering rows count needs conds group joined new (i + 1)
+    gathering-joined mid new p n e z f h k =
+        step new
+        (k ∙ rw (h, f, e) (puts-append (4 * g i) (map g (argumentsAt rows i)) (map g (map (λ t. getD conds t 0) (rests 6 (getD needs i 0)))) waits
+        ∙ ap (λ (r : List ℕ). putAll (4 * g i) r waits) (sym (map-append g (argumentsAt rows i) (map (λ t. getD conds t 0) (rests 6 (getD needs i 0)))) ∙ ap (map g) reads)))
+      where
+        reads : argumentsAt rows i ++ map (λ t. getD conds t 0) (rests 6 (getD needs i 0)) ≡ readsOf C needs (members (length C) g (g i)) i
+        reads = rw (gates-length rows count, s .orderable .many i l, ne-eqb (getD joined i 0) 0 z, rests-here, arguments-here)
+
+  pub gathering-end : (waits : List ℕ) (i : ℕ) → Gathering rows count needs conds group joined waits i → count ≤ i → Waiting C needs g waits
+  unfolding waitsBelow waitsFor
+  gathering-end waits i s l =
+      record { words = s .words; holds = λ p q h k. s .holds p q h k ∙ ap (λ (n : ℕ). elem q (map g (flat (readsOf C needs (members (length C) g p)) (keep (λ x. eqb (g x) p) (upto n))))) len }
+    where
+      len : i ≡ length C
+      len = omega (arith, s .below, gates-length rows count)

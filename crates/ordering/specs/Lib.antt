@@ -1,0 +1,17 @@
+pub mod Tables
+pub mod Reads
+pub mod Search
+pub mod Gathering
+pub mod TableLaws
+pub mod ReadLaws
+pub mod WaitsLaws
+pub mod ArgumentLaws
+pub mod GatherLaws
+pub mod SearchLaws
+pub mod ReadyLaws
+pub mod CountLaws
+pub mod TurnLaws
+pub mod PlacingLaws
+pub mod OrderingLaws
+pub mod SameLaws
+pub mod AnswerLaws

@@ -1,0 +1,145 @@
+-- Laws of what a gate reads: its arguments by its code, and runs of numbers one longer. Assumes nothing.
+use Prim.Native.Nat.{ℕ, zero, suc, _+_, _*_, _≤_, _<_}
+use mathlib.Core.Path.{_≡_, refl, sym, ap, _∙_}
+use mathlib.Core.Bool.{Bool, true, false, cond}
+use mathlib.Core.List.{List, [], _∷_, _++_, map, append-assoc, append-nil}
+use mathlib.Core.Logic.{_⊎_, inl, inr}
+use native.Mathlib.Nat.{zero-add}
+use native.Mathlib.Omega.{arith}
+use lib.ListN.{length, getD, take}
+use lib.Seq.{take-suc, take-all, getD-take, length-take-le}
+use lib.Dec.{eqb}
+use borrow.Author.Tests.{eq-eqb, ne-eqb}
+use Rattle.words.specs.Lists.{_∈_, elem, split, same?, keep, from, upto, flat, getD-in}
+use Rattle.codes.specs.Codes.{codeOf}
+use Rattle.codes.specs.declared.Code.{Code}
+use Rattle.gates.specs.Gates.{arguments}
+use Rattle.needed.specs.Held.{choiceCode, gateOf, gateIn, codeAt, firstAt, secondAt, thirdAt}
+use Rattle.needed.specs.HeldLaws.{EachCode, each-code, each-row, code-above, gate-choice, gate-other, arguments-other}
+use Rattle.ordering.specs.Reads.{arityOf, argumentsAt}
+
+-- how many arguments, by the code
+pub arity-choice : (code : ℕ) → code ≡ choiceCode → 3 ≡ arityOf code
+unfolding arityOf
+arity-choice code h = rw (eq-eqb code choiceCode h)
+
+pub arity-other : (code n : ℕ) → (code ≡ choiceCode → ⊥) → n ≡ codeOf code .arity → n ≡ arityOf code
+unfolding arityOf
+arity-other code n h e = rw (ne-eqb code choiceCode h) e
+
+pub arity-above : (code : ℕ) → (code ≡ choiceCode → ⊥) → 256 ≤ code → 0 ≡ arityOf code
+unfolding codeOf
+arity-above code h l = arity-other code 0 h (ap (λ (r : Code). r .arity) (code-above code l))
+
+two-most : (code : ℕ) → codeOf code .arity ≤ 2
+two-most code = each-code (λ r. r .arity ≤ 2) each code
+  where
+    each : EachCode (λ r. r .arity ≤ 2)
+    each = record {
+      of-row = each-row (λ r op. r .arity ≤ 2) (omega arith) (omega arith) (omega arith) (omega arith) (omega arith) (omega arith) (omega arith) (omega arith);
+      of-end = omega arith;
+      of-assign = omega arith;
+      of-skip = omega arith;
+      of-branch = omega arith;
+      of-variable = omega arith;
+      of-word = omega arith;
+      of-bit = omega arith;
+      of-unknown = omega arith;
+    }
+
+pub arity-most : (code : ℕ) → arityOf code ≤ 3
+unfolding arityOf
+arity-most code = go (same? code choiceCode)
+  where
+    go : (code ≡ choiceCode) ⊎ (code ≡ choiceCode → ⊥) → cond (eqb code choiceCode) 3 (codeOf code .arity) ≤ 3
+    go (inl e) = rw (eq-eqb code choiceCode e) (omega arith)
+    go (inr n) = rw (ne-eqb code choiceCode n) (omega (arith, two-most code))
+
+take-first : (n a b c : ℕ) → n ≤ 2 → take n (a ∷ b ∷ []) ≡ take n (a ∷ b ∷ c ∷ [])
+take-first zero a b c h = refl
+take-first (suc zero) a b c h = refl
+take-first (suc (suc zero)) a b c h = refl
+take-first (suc (suc (suc n))) a b c h = absurd (omega arith)
+
+-- the arguments of gate i are those of its numbers
+pub arguments-at : (rows : List ℕ) (i : ℕ) → arguments (gateIn rows i) ≡ argumentsAt rows i
+unfolding gateIn argumentsAt arityOf
+arguments-at rows i = go (same? (codeAt rows i) choiceCode)
+  where
+    go : (codeAt rows i ≡ choiceCode) ⊎ (codeAt rows i ≡ choiceCode → ⊥)
+        → arguments (gateOf (codeAt rows i) (firstAt rows i) (secondAt rows i) (thirdAt rows i))
+        ≡ take (cond (eqb (codeAt rows i) choiceCode) 3 (codeOf (codeAt rows i) .arity)) (firstAt rows i ∷ secondAt rows i ∷ thirdAt rows i ∷ [])
+    go (inl e) =
+        ap arguments (gate-choice (codeAt rows i) (firstAt rows i) (secondAt rows i) (thirdAt rows i) e) ∙ rw (eq-eqb (codeAt rows i) choiceCode e)
+    go (inr n) =
+        ap arguments (gate-other (codeAt rows i) (firstAt rows i) (secondAt rows i) (thirdAt rows i) n)
+        ∙ arguments-other (codeAt rows i) (firstAt rows i) (secondAt rows i)
+        ∙ rw (ne-eqb (codeAt rows i) choiceCode n) (take-first (codeOf (codeAt rows i) .arity) (firstAt rows i) (secondAt rows i) (thirdAt rows i) (two-most (codeAt rows i)))
+
+-- the argument at place k
+place-of : (rows : List ℕ) (i k : ℕ) → k < 3 → getD (firstAt rows i ∷ secondAt rows i ∷ thirdAt rows i ∷ []) k 0 ≡ getD rows (4 * i + 1 + k) 0
+place-of rows i zero h = ap (λ (j : ℕ). getD rows j 0) (omega arith)
+place-of rows i (suc zero) h = ap (λ (j : ℕ). getD rows j 0) (omega arith)
+place-of rows i (suc (suc zero)) h = ap (λ (j : ℕ). getD rows j 0) (omega arith)
+place-of rows i (suc (suc (suc k))) h = absurd (omega arith)
+
+arguments-length : (rows : List ℕ) (i : ℕ) → length (argumentsAt rows i) ≡ arityOf (codeAt rows i)
+unfolding argumentsAt
+arguments-length rows i = length-take-le (arityOf (codeAt rows i)) (firstAt rows i ∷ secondAt rows i ∷ thirdAt rows i ∷ []) (arity-most (codeAt rows i))
+
+pub argument-at : (rows : List ℕ) (i k : ℕ) → k < arityOf (codeAt rows i) → getD (argumentsAt rows i) k 0 ≡ getD rows (4 * i + 1 + k) 0
+unfolding argumentsAt
+argument-at rows i k h =
+    getD-take (arityOf (codeAt rows i)) (firstAt rows i ∷ secondAt rows i ∷ thirdAt rows i ∷ []) k 0 h ∙ place-of rows i k (omega (arith, arity-most (codeAt rows i)))
+
+pub argument-in : (rows : List ℕ) (i k a : ℕ) → k < arityOf (codeAt rows i) → a ≡ getD rows (4 * i + 1 + k) 0 → a ∈ argumentsAt rows i
+argument-in rows i k a h e = rw (e ∙ sym (argument-at rows i k h)) (getD-in (argumentsAt rows i) k (rw (arguments-length rows i) h))
+
+pub arguments-more : (rows : List ℕ) (i k : ℕ) → k < arityOf (codeAt rows i)
+    → take (k + 1) (argumentsAt rows i) ≡ take k (argumentsAt rows i) ++ (getD rows (4 * i + 1 + k) 0 ∷ [])
+arguments-more rows i k h =
+    let e : k + 1 ≡ suc k = omega arith in
+    rw e (take-suc (argumentsAt rows i) k 0 (rw (arguments-length rows i) h) ∙ ap (λ (a : ℕ). take k (argumentsAt rows i) ++ (a ∷ [])) (argument-at rows i k h))
+
+pub arguments-all : (rows : List ℕ) (i k : ℕ) → arityOf (codeAt rows i) ≤ k → take k (argumentsAt rows i) ≡ argumentsAt rows i
+arguments-all rows i k h = take-all k (argumentsAt rows i) (rw (arguments-length rows i) h)
+
+-- one more of a mapped, kept or joined run
+pub map-more : (f : ℕ → ℕ) (l : List ℕ) (a : ℕ) → map f (l ++ (a ∷ [])) ≡ map f l ++ (f a ∷ [])
+map-more f [] a = refl
+map-more f (x ∷ l) a = ap (λ (r : List ℕ). f x ∷ r) (map-more f l a)
+
+from-more : (i n : ℕ) → from i (suc n) ≡ from i n ++ ((i + n) ∷ [])
+from-more i zero = ap (λ (k : ℕ). k ∷ []) (omega arith)
+from-more i (suc n) = ap (λ (l : List ℕ). i ∷ l) (from-more (suc i) n ∙ ap (λ (k : ℕ). from (suc i) n ++ (k ∷ [])) (omega arith))
+
+keep-last : (p : ℕ → Bool) (l : List ℕ) (a : ℕ) → keep p (l ++ (a ∷ [])) ≡ keep p l ++ cond (p a) (a ∷ []) []
+keep-last p [] a = refl
+keep-last p (x ∷ l) a = split (p x) (λ t. rw t (ap (λ (r : List ℕ). x ∷ r) (keep-last p l a))) (λ t. rw t (keep-last p l a))
+
+pub keep-more : (p : ℕ → Bool) (n : ℕ) → keep p (upto (n + 1)) ≡ keep p (upto n) ++ cond (p n) (n ∷ []) []
+keep-more p n =
+    let e : n + 1 ≡ suc n = omega arith in
+    rw e (ap (keep p) (from-more 0 n ∙ ap (λ (k : ℕ). upto n ++ (k ∷ [])) (zero-add n)) ∙ keep-last p (upto n) n)
+
+pub keep-yes : (p : ℕ → Bool) (n : ℕ) → p n ≡ true → keep p (upto (n + 1)) ≡ keep p (upto n) ++ (n ∷ [])
+keep-yes p n h = keep-more p n ∙ rw h
+
+pub keep-no : (p : ℕ → Bool) (n : ℕ) → p n ≡ false → keep p (upto (n + 1)) ≡ keep p (upto n)
+keep-no p n h = keep-more p n ∙ rw h (append-nil (keep p (upto n)))
+
+pub elem-last : (q : ℕ) (l : List ℕ) (a : ℕ) → elem q (l ++ (a ∷ [])) ≡ cond (eqb q a) true (elem q l)
+elem-last q [] a = refl
+elem-last q (x ∷ l) a = split (eqb q x) (λ t. rw t (split (eqb q a) (λ u. rw u) (λ u. rw u))) (λ t. rw t (elem-last q l a))
+
+pub elem-joined : (q : ℕ) (l m : List ℕ) → elem q (l ++ m) ≡ cond (elem q m) true (elem q l)
+elem-joined q [] m = split (elem q m) (λ t. rw t) (λ t. rw t)
+elem-joined q (x ∷ l) m = split (eqb q x) (λ t. rw t (split (elem q m) (λ u. rw u) (λ u. rw u))) (λ t. rw t (elem-joined q l m))
+
+pub flat-last : (f : ℕ → List ℕ) (l : List ℕ) (a : ℕ) → flat f (l ++ (a ∷ [])) ≡ flat f l ++ f a
+flat-last f [] a = append-nil (f a)
+flat-last f (x ∷ l) a = ap (λ (r : List ℕ). f x ++ r) (flat-last f l a) ∙ sym (append-assoc (f x) (flat f l) (f a))
+
+pub flat-same : (f h : ℕ → List ℕ) (l : List ℕ) → ((a : ℕ) → a ∈ l → f a ≡ h a) → flat f l ≡ flat h l
+flat-same f h [] e = refl
+flat-same f h (x ∷ l) e = rw (e x (inl refl), flat-same f h l (λ a m. e a (inr m)))

@@ -1,0 +1,106 @@
+-- Document 01, "The fused circuit file", Order: it looks at no group of a gate past the circuit, nor at how the sets are held past their end. Assumes nothing.
+use Prim.Native.Nat.{ℕ, zero, suc, _+_, _≤_, _<_}
+use mathlib.Core.Path.{_≡_, refl, ap, ap₂, _∙_}
+use mathlib.Core.Bool.{cond}
+use mathlib.Core.List.{List, [], _∷_, _++_, map}
+use mathlib.Core.Option.{Option, none, some}
+use native.Mathlib.Omega.{arith}
+use lib.Dec.{eqb, leb}
+use lib.ListN.{length, getD}
+use Rattle.words.specs.Lists.{upto, from-below, flat, flat-in}
+use Rattle.settings.specs.Sets.{rests}
+use Rattle.settings.specs.ListLaws.{keep-same}
+use Rattle.gates.specs.Gates.{Gates, gateAt, arguments, Earlier, conditions}
+use Rattle.gates.specs.FigureLaws.{map-same}
+use Rattle.gates.specs.Limits.{mostConditions}
+use Rattle.plan.specs.Groups.{groups, members, restsOf, readsOf, waitsFor}
+use Rattle.plan.specs.GroupLaws.{of-member}
+use Rattle.plan.specs.Order.{allIn, firstReady, schedule, order}
+use Rattle.plan.specs.Rows.{placed}
+use Rattle.ordering.specs.ReadLaws.{flat-same}
+use Rattle.ordering.specs.WaitsLaws.{reads-inside}
+use Rattle.ordering.specs.TurnLaws.{groups-most}
+
+-- The order over the same waits.
+
+module _ (W Z : ℕ → List ℕ) (same : (p : ℕ) → W p ≡ Z p) where
+  first-same : (done l : List ℕ) → firstReady W done l ≡ firstReady Z done l
+  first-same done [] = refl
+  first-same done (p ∷ l) = rw (same p, first-same done l)
+
+  schedule-same : (gs : List ℕ) (k : ℕ) (done : List ℕ) → schedule W gs k done ≡ schedule Z gs k done
+  schedule-same gs zero done = refl
+  schedule-same gs (suc k) done =
+      ap (λ (f : Option ℕ). elim f [ none ↦ done | some p ↦ schedule W gs k (p ∷ done) ]) (first-same done gs) ∙ go (firstReady Z done gs) (λ p. schedule-same gs k (p ∷ done))
+    where
+      go : (f : Option ℕ) → ((p : ℕ) → schedule W gs k (p ∷ done) ≡ schedule Z gs k (p ∷ done))
+          → _≡_ {A = List ℕ} (elim f [ none ↦ done | some p ↦ schedule W gs k (p ∷ done) ]) (elim f [ none ↦ done | some p ↦ schedule Z gs k (p ∷ done) ])
+      go none ih = refl
+      go (some p) ih = ih p
+
+-- Two maps that agree on the gates of the circuit.
+
+pub groups-same : (n : ℕ) (f h : ℕ → ℕ) → ((x : ℕ) → x < n → f x ≡ h x) → groups n f ≡ groups n h
+unfolding groups
+groups-same n f h e =
+    keep-same (λ p. eqb (f p) p) (λ p. eqb (h p) p) (upto n) (λ p m. ap (λ (x : ℕ). eqb x p) (e p (omega (arith, from-below 0 n p m))))
+
+pub members-same : (n : ℕ) (f h : ℕ → ℕ) → ((x : ℕ) → x < n → f x ≡ h x) → (p : ℕ) → members n f p ≡ members n h p
+members-same n f h e p =
+    keep-same (λ g. eqb (f g) p) (λ g. eqb (h g) p) (upto n) (λ g m. ap (λ (x : ℕ). eqb x p) (e g (omega (arith, from-below 0 n g m))))
+
+module _ (C : Gates) (earlier : Earlier C) (sets : List ℕ) (f h : ℕ → ℕ) (e : (x : ℕ) → x < length C → f x ≡ h x) where
+  pub waits-same : (p : ℕ) → waitsFor C sets f p ≡ waitsFor C sets h p
+  unfolding waitsFor
+  waits-same p =
+      map-same f h (flat (readsOf C sets (members (length C) f p)) (members (length C) f p))
+      (λ a m.
+      let r = flat-in (readsOf C sets (members (length C) f p)) a (members (length C) f p) m in
+      e a (reads-inside C earlier sets (members (length C) f p) (r .0) a (of-member (length C) f (r .0) p (r .1) .0) (r .2)))
+      ∙ ap (λ (ms : List ℕ). map h (flat (readsOf C sets ms) ms)) (members-same (length C) f h e p)
+
+  pub order-same : order C sets f ≡ order C sets h
+  unfolding order
+  order-same =
+      schedule-same (waitsFor C sets f) (waitsFor C sets h) waits-same (groups (length C) f) (length (groups (length C) f)) []
+      ∙ ap (λ (gs : List ℕ). schedule (waitsFor C sets h) gs (length gs) []) (groups-same (length C) f h e)
+
+  pub placed-same : placed C sets f ≡ placed C sets h
+  placed-same = ap₂ allIn (groups-same (length C) f h e) order-same
+
+-- Two lists of sets that read alike: an array padded with zeros reads as the list.
+
+module _ (C : Gates) (sets tabs : List ℕ) (e : (m : ℕ) → getD sets m 0 ≡ getD tabs m 0) (group : ℕ → ℕ) where
+  rests-same : (m : ℕ) → restsOf C sets m ≡ restsOf C tabs m
+  unfolding restsOf
+  rests-same m = ap (λ (s : ℕ). map (λ t. getD (conditions C) t 0) (rests mostConditions s)) (e m)
+
+  pub waits-sets-same : (p : ℕ) → waitsFor C sets group p ≡ waitsFor C tabs group p
+  unfolding waitsFor
+  waits-sets-same p =
+      let ms = members (length C) group p in
+      ap (map group) (flat-same (readsOf C sets ms) (readsOf C tabs ms) ms
+      (λ m k. ap (λ (l : List ℕ). arguments (gateAt C m) ++ cond (leb 2 (length ms)) l []) (rests-same m)))
+
+  pub order-sets-same : order C sets group ≡ order C tabs group
+  unfolding order
+  order-sets-same = schedule-same (waitsFor C sets group) (waitsFor C tabs group) waits-sets-same (groups (length C) group) (length (groups (length C) group)) []
+
+  pub placed-sets-same : placed C sets group ≡ placed C tabs group
+  placed-sets-same = ap (allIn (groups (length C) group)) order-sets-same
+
+-- How many groups the order places.
+
+schedule-length : (W : ℕ → List ℕ) (gs : List ℕ) (k : ℕ) (done : List ℕ) → length (schedule W gs k done) ≤ k + length done
+schedule-length W gs zero done = omega arith
+schedule-length W gs (suc k) done = go (firstReady W done gs) (λ p. schedule-length W gs k (p ∷ done))
+  where
+    go : (f : Option ℕ) → ((p : ℕ) → length (schedule W gs k (p ∷ done)) ≤ k + suc (length done))
+        → length {A = ℕ} (elim f [ none ↦ done | some p ↦ schedule W gs k (p ∷ done) ]) ≤ suc k + length done
+    go none ih = omega arith
+    go (some p) ih = omega (arith, ih p)
+
+pub order-length : (C : Gates) (sets : List ℕ) (group : ℕ → ℕ) → length (order C sets group) ≤ length C
+unfolding order
+order-length C sets group =
+    omega (arith, schedule-length (waitsFor C sets group) (groups (length C) group) (length (groups (length C) group)) [], groups-most (length C) group)

@@ -1,0 +1,33 @@
+-- Document 01, "The fused circuit file", Order: the search for the next ready group over the tables, in the form that the code goes.
+use Prim.Native.Nat.{ℕ, zero, suc, _+_, _-_, _*_}
+use mathlib.Core.Bool.{Bool, true, false, cond}
+use mathlib.Core.List.{List}
+use mathlib.Core.Option.{Option, none, some}
+use lib.ListN.{getD}
+use Rattle.settings.specs.Sets.{excludes}
+use Rattle.ordering.specs.Tables.{bitIn}
+use Rattle.ordering.specs.declared.Next.{Next}
+use Rattle.ordering.specs.declared.Next.the-variants.{Group, Circle}
+
+-- p waits for no group that is left: k of its words from w on have none in common with what is left
+unfoldable pub freeFrom : List ℕ → List ℕ → ℕ → ℕ → ℕ → Bool
+freeFrom waits left p w zero = true
+freeFrom waits left p w (suc k) = cond (excludes (getD waits (4 * p + w) 0) (getD left w 0)) (freeFrom waits left p (w + 1) k) false
+
+-- p is left, and waits for none that is
+unfoldable pub readyIn : List ℕ → List ℕ → ℕ → Bool
+readyIn waits left p = cond (bitIn 0 left p) (freeFrom waits left p 0 4) false
+
+-- the first such of the k groups from p on
+unfoldable pub searchFrom : List ℕ → List ℕ → ℕ → ℕ → Next
+searchFrom waits left p zero = Circle
+searchFrom waits left p (suc k) = cond (readyIn waits left p) (Group (record { 0 = p })) (searchFrom waits left (p + 1) k)
+
+-- the first from `from` on, below count
+unfoldable pub nextReady : List ℕ → List ℕ → ℕ → ℕ → Next
+nextReady waits left first count = searchFrom waits left first (count - first)
+
+-- what a search over the list of groups gives, as the code yields it
+abbrev pub asNext : Option ℕ → Next
+asNext none = Circle
+asNext (some p) = Group (record { 0 = p })

@@ -1,0 +1,245 @@
+// Document 01, "The fused circuit file", Order, and row 30 of "Refusals by place": which group waits for which, and the next ready group, again and again.
+// A set of groups is four words: group q is bit q % 64 of word q / 64. The waits are one such set for each group p, from word 4 * p on.
+use gates::GateId;
+ghost use mathlib.Core.Path.{_≡_};
+ghost use mathlib.Core.List.{map, reverse};
+ghost use Prim.Native.Nat.{_+_, _*_, _%_, _^_, _<_, _≤_};
+ghost use lib.ListN.{length, getD, replicate};
+ghost use Rattle.words.specs.Buffers.{over};
+ghost use Rattle.settings.specs.Sets.{rests};
+ghost use Rattle.needed.specs.Held.{gatesIn};
+ghost use Rattle.plan.specs.Order as plan;
+ghost use Rattle.ordering.specs.Tables.{bitIn, putBit, putAll, strikeBit};
+ghost use Rattle.ordering.specs.Reads.{arityOf, argumentsAt, Into, Orderable, orderOf};
+ghost use Rattle.ordering.specs.Search.{nextReady};
+ghost use Rattle.ordering.specs.Gathering.{Waiting, Left};
+
+// A choice's code.
+const CHOICE: u32 = 0x30;
+// A choice has three arguments.
+const CHOICE_ARITY: usize = 3;
+// The words of a set of groups.
+const WORDS: usize = 4;
+// The conditions, at most.
+const CONDITIONS: u8 = 6;
+
+// What a search for a ready group yields: the first one, or that each unwritten group waits for one.
+pub enum Next {
+    Group(GateId),
+    Circle,
+}
+
+// Row 30: so many groups are placed, all of them; or a circle remains.
+pub enum Order {
+    Placed(usize),
+    Circle,
+}
+
+// The bit of group q in its word.
+fn mark(q: GateId) -> u64
+    ensures { λ r. ⌜ r ≡ 2 ^ (q .0 % 64) ⌝ }
+{
+    1 << (q.0 % 64)
+}
+
+// Is group q in the set from word `base` on?
+fn has(words: &[u64], base: usize, q: GateId) -> bool
+    requires { ⌜ (base + 4 ≤ length (now words)) × (q .0 < 256) ⌝ }
+    ensures { λ r. ⌜ r ≡ bitIn base (now (words .entry)) (q .0) ⌝ }
+{
+    let i = base + (q.0 / 64) as usize;
+    settings::has(words[i], (q.0 % 64) as u8)
+}
+
+// Group q is put in the set from word `base` on.
+fn put(words: &mut [u64], base: usize, q: GateId)
+    requires { ⌜ (base + 4 ≤ length (now words)) × (q .0 < 256) ⌝ }
+    ensures { λ r. ⌜ now (words .exit) ≡ putBit base (q .0) (now (words .entry)) ⌝ }
+{
+    let i = base + (q.0 / 64) as usize;
+    words[i] = settings::union(words[i], mark(q));
+}
+
+// Group q, which is in the set, is struck from it.
+fn strike(words: &mut [u64], q: GateId)
+    requires { ⌜ (4 ≤ length (now words)) × (q .0 < 256) ⌝ }
+    ensures { λ r. ⌜ now (words .exit) ≡ strikeBit (q .0) (now (words .entry)) ⌝ }
+{
+    let i = (q.0 / 64) as usize;
+    words[i] = words[i] ^ mark(q);
+}
+
+// How many arguments a gate of this code has; a number that is no byte is no code.
+fn arity_of(code: u32) -> usize
+    ensures { λ r. ⌜ r ≡ arityOf code ⌝ }
+{
+    if code == CHOICE {
+        CHOICE_ARITY
+    } else if code < 256 {
+        codes::code_of(code as u8).arity as usize
+    } else {
+        0
+    }
+}
+
+// The gate whose number stands at a place of the rows, where an argument stands.
+fn argument(rows: &[u32; 1024], at: usize) -> GateId
+    requires { ⌜ (at < 1024) × (getD (now rows) at 0 < 256) ⌝ }
+    ensures { λ r. ⌜ r .0 ≡ getD (now (rows .entry)) at 0 ⌝ }
+{
+    GateId(rows[at] as u16)
+}
+
+// The group of a gate, by its smallest member.
+fn group_of(group: &[u16; 256], g: GateId) -> GateId
+    requires { ⌜ g .0 < 256 ⌝ }
+    ensures { λ r. ⌜ r .0 ≡ getD (now (group .entry)) (g .0) 0 ⌝ }
+{
+    let i = g.0 as usize;
+    GateId(group[i])
+}
+
+// Group p waits for group q, which may be p itself.
+fn wait_for(waits: &mut [u64], p: GateId, q: GateId)
+    requires { ⌜ (length (now waits) ≡ 1024) × ((p .0 < 256) × (q .0 < 256)) ⌝ }
+    ensures { λ r. ⌜ now (waits .exit) ≡ putBit (4 * p .0) (q .0) (now (waits .entry)) ⌝ }
+{
+    let i = p.0 as usize;
+    put(waits, 4 * i, q);
+}
+
+// Group p waits for the groups of gate m's arguments, its own too.
+fn wait_arguments(rows: &[u32; 1024], group: &[u16; 256], m: GateId, p: GateId, waits: &mut [u64])
+    requires { ⌜ ((m .0 < 256) × (p .0 < 256)) × ((length (now waits) ≡ 1024) × Into (now group) (argumentsAt (now rows) (m .0))) ⌝ }
+    ensures { λ r. ⌜ now (waits .exit) ≡ putAll (4 * p .0) (map (λ a. getD (now (group .entry)) a 0) (argumentsAt (now (rows .entry)) (m .0))) (now (waits .entry)) ⌝ }
+{
+    let i = m.0 as usize;
+    let n = arity_of(rows[4 * i]);
+    let mut k: usize = 0;
+    while k < n {
+        let a = argument(rows, 4 * i + 1 + k);
+        wait_for(waits, p, group_of(group, a));
+        k = k + 1;
+    }
+}
+
+// Group p waits for the groups of the conditions that a joined member rests on, its own too; s: when the member is needed.
+fn wait_conditions(conditions: &[u16; 6], group: &[u16; 256], s: u64, p: GateId, waits: &mut [u64])
+    requires { ⌜ (p .0 < 256) × ((length (now waits) ≡ 1024) × Into (now group) (map (λ t. getD (now conditions) t 0) (rests 6 s))) ⌝ }
+    ensures { λ r. ⌜ now (waits .exit) ≡ putAll (4 * p .0) (map (λ a. getD (now (group .entry)) a 0) (map (λ t. getD (now (conditions .entry)) t 0) (rests 6 s))) (now (waits .entry)) ⌝ }
+{
+    let mut t: u8 = 0;
+    while t < CONDITIONS {
+        if settings::rests_on(s, t) {
+            let i = t as usize;
+            let c = GateId(conditions[i]);
+            wait_for(waits, p, group_of(group, c));
+        }
+        t = t + 1;
+    }
+}
+
+// The waits of every group, in one pass over the gates, from a clear table.
+fn find_waits(
+    rows: &[u32; 1024],
+    count: usize,
+    needs: &[u64; 256],
+    conditions: &[u16; 6],
+    group: &[u16; 256],
+    joined: &[u16; 256],
+    waits: &mut [u64],
+)
+    requires { ⌜ Orderable (now rows) count (now conditions) (now group) (now joined) × (now waits ≡ replicate 1024 0) ⌝ }
+    ensures { λ r. ⌜ Waiting (gatesIn (now (rows .entry)) count) (now (needs .entry)) (λ x. getD (now (group .entry)) x 0) (now (waits .exit)) ⌝ }
+{
+    let mut i: usize = 0;
+    while i < count {
+        let m = GateId(i as u16);
+        let p = group_of(group, m);
+        wait_arguments(rows, group, m, p, waits);
+        if joined[i] != 0 {
+            wait_conditions(conditions, group, needs[i], p, waits);
+        }
+        i = i + 1;
+    }
+}
+
+// Every group is left to write at first, from a clear set.
+fn find_left(group: &[u16; 256], count: usize, left: &mut [u64])
+    requires { ⌜ (count ≤ 256) × (now left ≡ replicate 4 0) ⌝ }
+    ensures { λ r. ⌜ Left (λ x. getD (now (group .entry)) x 0) count (now (left .exit)) ⌝ }
+{
+    let mut i: usize = 0;
+    while i < count {
+        let p = GateId(i as u16);
+        if group[i] == p.0 {
+            put(left, 0, p);
+        }
+        i = i + 1;
+    }
+}
+
+// The first group from `from` on that is left and waits for none that is left; or that a circle remains.
+fn next_ready(waits: &[u64], left: &[u64], from: usize, count: usize) -> Next
+    requires { ⌜ (count ≤ 256) × ((length (now waits) ≡ 1024) × (length (now left) ≡ 4)) ⌝ }
+    ensures { λ r. ⌜ r ≡ nextReady (now (waits .entry)) (now (left .entry)) from count ⌝ }
+{
+    let mut p = from;
+    'search: loop {
+        if p >= count {
+            break 'search Next::Circle;
+        }
+        if has(left, 0, GateId(p as u16)) {
+            let mut w: usize = 0;
+            'waits: loop {
+                if w >= WORDS {
+                    break 'search Next::Group(GateId(p as u16));
+                }
+                if !settings::excludes(waits[4 * p + w], left[w]) {
+                    break 'waits;
+                }
+                w = w + 1;
+            }
+        }
+        p = p + 1;
+    }
+}
+
+// The groups in the order of writing. `from` is the first gate that may name an unwritten group: each turn passes it by, or writes the next ready group.
+pub fn order_groups(
+    rows: &[u32; 1024],
+    count: usize,
+    needs: &[u64; 256],
+    conditions: &[u16; 6],
+    group: &[u16; 256],
+    joined: &[u16; 256],
+    order: &mut [u16; 256],
+) -> Order
+    requires { ⌜ Orderable (now rows) count (now conditions) (now group) (now joined) × (length (now order) ≡ 256) ⌝ }
+    ensures answer { λ r. ⌜ r ≡ orderOf (gatesIn (now (rows .entry)) count) (now (needs .entry)) (λ x. getD (now (group .entry)) x 0) ⌝ }
+    ensures written { λ r. ⌜ now (order .exit) ≡ over (reverse (plan.order (gatesIn (now (rows .entry)) count) (now (needs .entry)) (λ x. getD (now (group .entry)) x 0))) (now (order .entry)) ⌝ }
+{
+    let mut waits = [0u64; 1024];
+    find_waits(rows, count, needs, conditions, group, joined, &mut waits);
+    let mut left = [0u64; 4];
+    find_left(group, count, &mut left);
+    let mut k: usize = 0;
+    let mut from: usize = 0;
+    while from < count {
+        if has(&left, 0, GateId(from as u16)) {
+            match next_ready(&waits, &left, from, count) {
+                Next::Group(p) => {
+                    order[k] = p.0;
+                    strike(&mut left, p);
+                    k = k + 1;
+                }
+                Next::Circle => {
+                    return Order::Circle;
+                }
+            }
+        } else {
+            from = from + 1;
+        }
+    }
+    Order::Placed(k)
+}
