@@ -1,5 +1,5 @@
 // Reads a conformance stream on standard input and prints one line a case (shared/CONFORMANCE.md).
-// So far operations 01, 02 and 06; any other ends the stream with `refused`.
+// So far operations 01, 02, 03 and 06; any other ends the stream with `refused`.
 use answers::Answer;
 use libc::STDIN_FILENO;
 use libc::STDOUT_FILENO;
@@ -175,7 +175,7 @@ fn circuit_line(rule: &[u8]) {
 }
 
 // The line of a case, but for an operation that is not built.
-fn work(operation: u8, room: usize, rule: &[u8], inputs: &[u32]) -> bool
+fn work(operation: u8, room: usize, rule: &[u8], plan: &[u8], inputs: &[u32]) -> bool
     requires { ⌜ room ≤ 65535 ⌝ }
 {
     match operation {
@@ -184,6 +184,7 @@ fn work(operation: u8, room: usize, rule: &[u8], inputs: &[u32]) -> bool
             let mut results = [UNTOUCHED; 65535];
             direct_line(rule, inputs, &mut results[0..room]);
         }
+        3 => print_answer(checking::check_plan(rule, plan)),
         6 => circuit_line(rule),
         _ => {
             return false;
@@ -214,6 +215,7 @@ fn fields(head: [u8; 6]) -> bool {
         head[0],
         words::read16(&head, 4) as usize,
         &first[0..n],
+        &second[0..m],
         &inputs[0..k],
     )
 }

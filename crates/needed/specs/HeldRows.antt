@@ -87,11 +87,11 @@ gate-back s (choice c a b) h = refl
 -- All of them.
 
 module _ (s rows : List ℕ) (C : Gates) (shaped : Shaped C) (held : take (4 * length C) rows ≡ rowsOf s C) where
-  number-at : (i k : ℕ) → i < length C → k < 4 → getD rows (4 * i + k) 0 ≡ getD (fourOf s (gateAt C i)) k 0
+  pub number-at : (i k : ℕ) → i < length C → k < 4 → getD rows (4 * i + k) 0 ≡ getD (fourOf s (gateAt C i)) k 0
   number-at i k h l =
       sym (getD-take (4 * length C) rows (4 * i + k) 0 (omega arith)) ∙ ap (λ (r : List ℕ). getD r (4 * i + k) 0) held ∙ rows-at s C i k h l
 
-  gate-held : (i : ℕ) → i < length C → gateIn rows i ≡ gateAt C i
+  pub gate-held : (i : ℕ) → i < length C → gateIn rows i ≡ gateAt C i
   unfolding gateIn
   gate-held i h =
       let zero-at : getD rows (4 * i) 0 ≡ getD (fourOf s (gateAt C i)) 0 0 = ap (λ (k : ℕ). getD rows k 0) (sym (add-zero (4 * i))) ∙ number-at i 0 h (omega arith) in

@@ -29,7 +29,7 @@ fn wide16(x: u16) -> usize
 }
 
 // The gate whose number stands at a place of the rows, where an argument stands; a figure is never read so.
-fn argument(rows: &[u32; 1024], at: usize) -> GateId
+pub fn argument(rows: &[u32; 1024], at: usize) -> GateId
     requires { ⌜ (at < 1024) × (getD (now rows) at 0 < 256) ⌝ }
     ensures { λ r. ⌜ r .0 ≡ getD (now (rows .entry)) at 0 ⌝ }
 {

@@ -82,14 +82,6 @@ fn arity_of(code: u32) -> usize
     }
 }
 
-// The gate whose number stands at a place of the rows, where an argument stands.
-fn argument(rows: &[u32; 1024], at: usize) -> GateId
-    requires { ⌜ (at < 1024) × (getD (now rows) at 0 < 256) ⌝ }
-    ensures { λ r. ⌜ r .0 ≡ getD (now (rows .entry)) at 0 ⌝ }
-{
-    GateId(rows[at] as u16)
-}
-
 // The group of a gate, by its smallest member.
 fn group_of(group: &[u16; 256], g: GateId) -> GateId
     requires { ⌜ g .0 < 256 ⌝ }
@@ -117,7 +109,7 @@ fn wait_arguments(rows: &[u32; 1024], group: &[u16; 256], m: GateId, p: GateId, 
     let n = arity_of(rows[4 * i]);
     let mut k: usize = 0;
     while k < n {
-        let a = argument(rows, 4 * i + 1 + k);
+        let a = needed::argument(rows, 4 * i + 1 + k);
         wait_for(waits, p, group_of(group, a));
         k = k + 1;
     }

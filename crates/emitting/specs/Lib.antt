@@ -1,0 +1,15 @@
+pub mod Emitted
+pub mod FillLaws
+pub mod CodeLaws
+pub mod ByteLaws
+pub mod MemberLaws
+pub mod AloneLaws
+pub mod PutLaws
+pub mod PieceLaws
+pub mod GuardLaws
+pub mod LoopLaws
+pub mod JoinLaws
+pub mod JoinedLaws
+pub mod SizeLaws
+pub mod EmitLaws
+pub mod HeldLaws

@@ -1,0 +1,141 @@
+-- Laws of the loops that write the wires of a guard, the guards of a group and the pairs of a pick: start, room, step, end. Assumes nothing.
+use Prim.Native.Nat.{ℕ, zero, suc, _+_, _-_, _*_, _≤_, _<_}
+use mathlib.Core.Path.{_≡_, refl, sym, ap, _∙_}
+use mathlib.Core.Bool.{true, false}
+use mathlib.Core.List.{List, [], _∷_, _++_, map}
+use native.Mathlib.Omega.{arith}
+use lib.ListN.{length, getD, take, drop}
+use borrow.Rule.Slice.PartMut.{putMid}
+use Rattle.words.specs.Numbers.{bytesOf}
+use Rattle.words.specs.NumberLaws.{length-bytes}
+use Rattle.words.specs.Buffers.{over}
+use Rattle.words.specs.BufferLaws.{length-over}
+use Rattle.settings.specs.Sets.{restsOn, rests}
+use Rattle.gates.specs.Limits.{mostGates, mostConditions}
+use Rattle.plan.specs.PlanFile.{groupAt}
+use Rattle.fused.specs.Records.{pairWires}
+use Rattle.fused.specs.CircuitFile.{wiresBytes, recordBytes, recordsBytes}
+use Rattle.emitting.specs.Emitted.{guardIn, guardsIn, pairsIn, argumentAt, Placed, Lies, Paired}
+use Rattle.emitting.specs.FillLaws.{pieces, Filling, filling-start, filling-room, filling-fits, filling-length, filling-step, filling-pass, filling-end}
+use Rattle.emitting.specs.ByteLaws.{length-wires}
+use Rattle.emitting.specs.MemberLaws.{length-group, member-in}
+use Rattle.emitting.specs.PieceLaws.{restPiece, rest-in, rest-out, rest-pieces, record-pieces, pair-pieces}
+use Rattle.emitting.specs.GuardLaws.{rest-wires, length-map, length-pairs, length-pairWires}
+
+-- a filled buffer has its length
+pub filling-same : (f : ℕ → List ℕ) (out out₀ : List ℕ) (n at i : ℕ) → Filling f out out₀ n at i → n ≤ i → length out ≡ length out₀
+filling-same f out out₀ n at i l h = ap (λ (o : List ℕ). length o) (filling-end f out out₀ n at i l h .1) ∙ length-over (pieces f n) out₀ (l .room)
+
+-- The wires of a guard.
+
+module _ (conds : List ℕ) (wire : ℕ → ℕ) (s : ℕ) where
+  pub rests-start : (out : List ℕ) → 2 * length (rests mostConditions s) ≤ length out → Filling (restPiece conds wire s) out out mostConditions 0 0
+  rests-start out h = filling-start (restPiece conds wire s) out mostConditions (rw (rest-pieces conds wire s, rest-wires conds wire s) h)
+
+  module _ (out out₀ : List ℕ) (at t : ℕ) (l : Filling (restPiece conds wire s) out out₀ mostConditions at t) (h : t < 6) (e : restsOn mostConditions s t ≡ true) where
+    size : length (restPiece conds wire s t) ≡ 2
+    size = ap (λ (b : List ℕ). length b) (rest-in conds wire s t e) ∙ length-bytes 2 (wire (getD conds t 0))
+
+    pub rests-fits : (at + 2 ≤ length out) × (length out ≡ length out₀)
+    rests-fits = (omega (arith, filling-fits (restPiece conds wire s) out out₀ mostConditions at t l h, size), filling-length (restPiece conds wire s) out out₀ mostConditions at t l h)
+
+    pub rests-room : 2 ≤ length (take (length out - at) (drop at out))
+    rests-room = omega (arith, filling-room (restPiece conds wire s) out out₀ mostConditions at t l h, size)
+
+    pub rests-step : (w : ℕ) (ys : List ℕ) → w ≡ wire (getD conds t 0) → ys ≡ over (bytesOf 2 w) (take (length out - at) (drop at out))
+        → Filling (restPiece conds wire s) (putMid at (length out - at) out ys) out₀ mostConditions (at + 2) (t + 1)
+    rests-step w ys q p =
+        filling-step (restPiece conds wire s) out out₀ mostConditions at t l h 2 ys (sym size)
+        (p ∙ ap (λ (b : List ℕ). over b (take (length out - at) (drop at out))) (ap (bytesOf 2) q ∙ sym (rest-in conds wire s t e)))
+
+  pub rests-pass : (out out₀ : List ℕ) (at t : ℕ) → Filling (restPiece conds wire s) out out₀ mostConditions at t → t < 6 → restsOn mostConditions s t ≡ false
+      → Filling (restPiece conds wire s) out out₀ mostConditions at (t + 1)
+  rests-pass out out₀ at t l h e = filling-pass (restPiece conds wire s) out out₀ mostConditions at t l h (rest-out conds wire s t e)
+
+  pub rests-end : (out out₀ : List ℕ) (at t : ℕ) → Filling (restPiece conds wire s) out out₀ mostConditions at t → 6 ≤ t
+      → out ≡ over (wiresBytes (map (λ t. wire (getD conds t 0)) (rests mostConditions s))) out₀
+  rests-end out out₀ at t l h =
+      filling-end (restPiece conds wire s) out out₀ mostConditions at t l h .1 ∙ ap (λ (b : List ℕ). over b out₀) (rest-pieces conds wire s)
+
+-- The members of a group.
+
+-- member i is a gate
+pub member-inside : (p : List ℕ) (at i g : ℕ) → Lies p at → g ≡ getD (groupAt p at) i 0 → i < getD p at 0 → g < mostGates
+member-inside p at i g h e l = rw e (h .inside (getD (groupAt p at) i 0) (member-in p at i l))
+
+-- and its arguments have wires
+pub member-placed : (rows p group : List ℕ) (k at i g : ℕ) → Paired rows p group k at → g ≡ getD (groupAt p at) i 0 → i < getD p at 0 → Placed group (argumentAt rows g k)
+member-placed rows p group k at i g h e l = rw e (h .placed (getD (groupAt p at) i 0) (member-in p at i l))
+
+-- The guards of a group: piece i is that of member i.
+
+abbrev pub guardPiece : List ℕ → (ℕ → ℕ) → List ℕ → List ℕ → ℕ → List ℕ
+guardPiece conds wire sets ms i = recordBytes (guardIn conds wire (getD sets (getD ms i 0) 0))
+
+-- the guards of i members are written
+pub record GuardFilling (conds : List ℕ) (wire : ℕ → ℕ) (sets p : List ℕ) (place : ℕ) (out out₀ : List ℕ) (at i : ℕ) : Type 0 where
+  pub filling : Filling (guardPiece conds wire sets (groupAt p place)) out out₀ (getD p place 0) at i
+
+module _ (conds : List ℕ) (wire : ℕ → ℕ) (sets p : List ℕ) (place : ℕ) where
+  whole : pieces (guardPiece conds wire sets (groupAt p place)) (getD p place 0) ≡ recordsBytes (guardsIn conds wire sets (groupAt p place))
+  whole = ap (pieces (guardPiece conds wire sets (groupAt p place))) (sym (length-group p place)) ∙ record-pieces (λ m. guardIn conds wire (getD sets m 0)) (groupAt p place)
+
+  pub guards-start : (out : List ℕ) → length (recordsBytes (guardsIn conds wire sets (groupAt p place))) ≤ length out → GuardFilling conds wire sets p place out out 0 0
+  guards-start out h = record { filling = filling-start (guardPiece conds wire sets (groupAt p place)) out (getD p place 0) (rw whole h) }
+
+  module _ (out out₀ : List ℕ) (at i g : ℕ) (l : GuardFilling conds wire sets p place out out₀ at i) (h : i < getD p place 0) (e : g ≡ getD (groupAt p place) i 0) where
+    pub guards-fits : (at + length (recordBytes (guardIn conds wire (getD sets g 0))) ≤ length out) × (length out ≡ length out₀)
+    guards-fits = (rw e (filling-fits (guardPiece conds wire sets (groupAt p place)) out out₀ (getD p place 0) at i (l .filling) h), filling-length (guardPiece conds wire sets (groupAt p place)) out out₀ (getD p place 0) at i (l .filling) h)
+
+    pub guards-room : length (recordBytes (guardIn conds wire (getD sets g 0))) ≤ length (take (length out - at) (drop at out))
+    guards-room = rw e (filling-room (guardPiece conds wire sets (groupAt p place)) out out₀ (getD p place 0) at i (l .filling) h)
+
+    pub guards-step : (k : ℕ) (ys : List ℕ) → k ≡ length (recordBytes (guardIn conds wire (getD sets g 0))) → ys ≡ over (recordBytes (guardIn conds wire (getD sets g 0))) (take (length out - at) (drop at out))
+        → GuardFilling conds wire sets p place (putMid at (length out - at) out ys) out₀ (at + k) (i + 1)
+    guards-step k ys q r = record { filling = filling-step (guardPiece conds wire sets (groupAt p place)) out out₀ (getD p place 0) at i (l .filling) h k ys (rw e at q) (rw e at r) }
+
+  pub guards-end : (out out₀ : List ℕ) (at i : ℕ) → GuardFilling conds wire sets p place out out₀ at i → getD p place 0 ≤ i
+      → (at ≡ length (recordsBytes (guardsIn conds wire sets (groupAt p place)))) × (out ≡ over (recordsBytes (guardsIn conds wire sets (groupAt p place))) out₀)
+  guards-end out out₀ at i l h = rw whole at (filling-end (guardPiece conds wire sets (groupAt p place)) out out₀ (getD p place 0) at i (l .filling) h)
+
+-- The pairs of a pick: piece i is the pair of member i.
+
+abbrev pub pairPiece : List ℕ → (ℕ → ℕ) → ℕ → ℕ → List ℕ → ℕ → List ℕ
+pairPiece rows wire n k ms i = wiresBytes ((n + i) ∷ wire (argumentAt rows (getD ms i 0) k) ∷ [])
+
+-- the pairs of i members are written
+pub record PairFilling (rows : List ℕ) (wire : ℕ → ℕ) (n k : ℕ) (p : List ℕ) (place : ℕ) (out out₀ : List ℕ) (at i : ℕ) : Type 0 where
+  pub filling : Filling (pairPiece rows wire n k (groupAt p place)) out out₀ (getD p place 0) at i
+
+module _ (rows : List ℕ) (wire : ℕ → ℕ) (n k : ℕ) (p : List ℕ) (place : ℕ) where
+  pairs-whole : pieces (pairPiece rows wire n k (groupAt p place)) (getD p place 0) ≡ wiresBytes (pairWires (pairsIn rows wire n k (groupAt p place)))
+  pairs-whole = ap (pieces (pairPiece rows wire n k (groupAt p place))) (sym (length-group p place)) ∙ pair-pieces (λ m. wire (argumentAt rows m k)) n (groupAt p place)
+
+  -- a pair for each member
+  pub pairs-count : length (pairsIn rows wire n k (groupAt p place)) ≡ getD p place 0
+  pairs-count = length-pairs n (map (λ m. wire (argumentAt rows m k)) (groupAt p place)) ∙ length-map (λ m. wire (argumentAt rows m k)) (groupAt p place) ∙ length-group p place
+
+  pairs-size : length (wiresBytes (pairWires (pairsIn rows wire n k (groupAt p place)))) ≡ 4 * getD p place 0
+  pairs-size = length-wires (pairWires (pairsIn rows wire n k (groupAt p place))) ∙ omega (arith, length-pairWires (pairsIn rows wire n k (groupAt p place)), pairs-count)
+
+  pub pairs-start : (out : List ℕ) → 4 * getD p place 0 ≤ length out → PairFilling rows wire n k p place out out 0 0
+  pairs-start out h = record { filling = filling-start (pairPiece rows wire n k (groupAt p place)) out (getD p place 0) (rw (pairs-whole, pairs-size) h) }
+
+  module _ (out out₀ : List ℕ) (at i : ℕ) (l : PairFilling rows wire n k p place out out₀ at i) (h : i < getD p place 0) where
+    four : length (pairPiece rows wire n k (groupAt p place) i) ≡ 4
+    four = length-wires ((n + i) ∷ wire (argumentAt rows (getD (groupAt p place) i 0) k) ∷ [])
+
+    pub pairs-fits : (at + 4 ≤ length out) × (length out ≡ length out₀)
+    pairs-fits = (omega (arith, filling-fits (pairPiece rows wire n k (groupAt p place)) out out₀ (getD p place 0) at i (l .filling) h, four), filling-length (pairPiece rows wire n k (groupAt p place)) out out₀ (getD p place 0) at i (l .filling) h)
+
+    pub pairs-room : 4 ≤ length (take (length out - at) (drop at out))
+    pairs-room = omega (arith, filling-room (pairPiece rows wire n k (groupAt p place)) out out₀ (getD p place 0) at i (l .filling) h, four)
+
+    pub pairs-step : (g w : ℕ) (ys : List ℕ) → g ≡ getD (groupAt p place) i 0 → w ≡ wire (argumentAt rows g k)
+        → ys ≡ over (wiresBytes ((n + i) ∷ w ∷ [])) (take (length out - at) (drop at out)) → PairFilling rows wire n k p place (putMid at (length out - at) out ys) out₀ (at + 4) (i + 1)
+    pairs-step g w ys e q r =
+        let v : w ≡ wire (argumentAt rows (getD (groupAt p place) i 0) k) = rw e at q in
+        record { filling = filling-step (pairPiece rows wire n k (groupAt p place)) out out₀ (getD p place 0) at i (l .filling) h 4 ys (sym four) (rw v at r) }
+
+  pub pairs-end : (out out₀ : List ℕ) (at i : ℕ) → PairFilling rows wire n k p place out out₀ at i → getD p place 0 ≤ i → out ≡ over (wiresBytes (pairWires (pairsIn rows wire n k (groupAt p place)))) out₀
+  pairs-end out out₀ at i l h = filling-end (pairPiece rows wire n k (groupAt p place)) out out₀ (getD p place 0) at i (l .filling) h .1 ∙ ap (λ (b : List ℕ). over b out₀) pairs-whole

@@ -1,0 +1,29 @@
+-- Laws of the members of a group of a plan, read one by one. Assumes nothing.
+use Prim.Native.Nat.{ℕ, zero, suc, _+_, _*_, _<_}
+use mathlib.Core.Path.{_≡_, refl, sym, ap, _∙_}
+use mathlib.Core.List.{List, [], _∷_}
+use native.Mathlib.Omega.{arith}
+use lib.ListN.{length, getD}
+use Rattle.words.specs.Lists.{_∈_, getD-in}
+use Rattle.words.specs.Numbers.{numberAt}
+use Rattle.plan.specs.PlanFile.{numbersAt, groupAt}
+
+length-numbers : (n : ℕ) (p : List ℕ) (at : ℕ) → length (numbersAt n p at) ≡ n
+length-numbers zero p at = refl
+length-numbers (suc n) p at = ap suc (length-numbers n p (at + 2))
+
+numbers-at : (n : ℕ) (p : List ℕ) (at i : ℕ) → i < n → numberAt 2 p (at + 2 * i) ≡ getD (numbersAt n p at) i 0
+numbers-at zero p at i h = absurd (omega arith)
+numbers-at (suc n) p at zero h = let e : at + 2 * 0 ≡ at = omega arith in ap (numberAt 2 p) e
+numbers-at (suc n) p at (suc i) h = let e : at + 2 * suc i ≡ at + 2 + 2 * i = omega arith in ap (numberAt 2 p) e ∙ numbers-at n p (at + 2) i (omega arith)
+
+-- as many as the size byte says
+pub length-group : (p : List ℕ) (at : ℕ) → length (groupAt p at) ≡ getD p at 0
+length-group p at = length-numbers (getD p at 0) p (at + 1)
+
+-- member i
+pub member-at : (p : List ℕ) (at i : ℕ) → i < getD p at 0 → numberAt 2 p (at + 1 + 2 * i) ≡ getD (groupAt p at) i 0
+member-at p at i h = numbers-at (getD p at 0) p (at + 1) i h
+
+pub member-in : (p : List ℕ) (at i : ℕ) → i < getD p at 0 → getD (groupAt p at) i 0 ∈ groupAt p at
+member-in p at i h = getD-in (groupAt p at) i (rw (length-group p at) h)

@@ -1,0 +1,1 @@
+// Writes the fused circuit of a rule and a plan.
