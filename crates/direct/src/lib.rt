@@ -167,7 +167,7 @@ fn run_checked(rule: &[u8], inputs: &[u32], results: &mut [u32])
 }
 
 // Rows 40 to 42 of the inputs, the lowest first; 0 when none of them applies. `room` is how many results there is place for.
-fn inputs_refusal(rule: &[u8], inputs: &[u32], room: usize) -> u8
+pub fn inputs_refusal(rule: &[u8], inputs: &[u32], room: usize) -> u8
     requires { ⌜ HasKinds (now rule) ⌝ }
     ensures { λ r. ⌜ r ≡ inputRow (now (rule .entry)) (now (inputs .entry)) room ⌝ }
 {

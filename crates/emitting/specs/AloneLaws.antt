@@ -1,24 +1,22 @@
 -- Laws of the record of a gate alone, by the code of its row: its bytes, its cost, and what its arguments keep to. Assumes nothing.
-use Prim.Native.Nat.{ℕ, zero, suc, _+_, _*_, _≤_, _<_}
+use Prim.Native.Nat.{ℕ, suc, _≤_, _<_}
 use mathlib.Core.Path.{_≡_, refl, sym, ap, subst, _∙_}
 use mathlib.Core.List.{List, [], _∷_, map}
 use mathlib.Core.Logic.{_⊎_, inl, inr}
 use native.Mathlib.Omega.{arith}
-use lib.ListN.{length, getD, take}
-use borrow.Author.Tests.{ne-eqb}
+use lib.ListN.{length, take}
 use Rattle.words.specs.Lists.{_∈_, same?}
 use Rattle.words.specs.Numbers.{bytesOf}
 use Rattle.words.specs.NumberLaws.{length-bytes}
-use Rattle.codes.specs.Codes.{kindOf, rowOf, operationOf, byteOf, codeOf}
+use Rattle.codes.specs.Codes.{kindOf, rowOf, operationOf, codeOf}
 use Rattle.codes.specs.CodeLaws.{kind-bit, kind-word, code-operation}
 use Rattle.codes.specs.declared.Code.{Code}
-use Rattle.gates.specs.Gates.{Gate, start, word, bit, operation, choice, arguments, costOf}
+use Rattle.gates.specs.Gates.{start, word, bit, operation, choice, arguments}
 use Rattle.gates.specs.Rows.{startCode}
-use Rattle.gates.specs.Limits.{mostGates}
-use Rattle.needed.specs.Held.{choiceCode, gateOf, gateIn, codeAt, firstAt, secondAt, thirdAt}
+use Rattle.needed.specs.Held.{choiceCode, gateIn, codeAt, firstAt, secondAt, thirdAt}
 use Rattle.needed.specs.HeldLaws.{gate-choice}
 use Rattle.fused.specs.CircuitFile.{wiresBytes, recordBytes}
-use Rattle.emitting.specs.Emitted.{aloneOf, aloneIn, Placed, FitsGate, Coded, Writable}
+use Rattle.emitting.specs.Emitted.{aloneIn, Placed, FitsGate, Coded, Writable}
 use Rattle.emitting.specs.ByteLaws.{length-wires}
 use Rattle.emitting.specs.CodeLaws.{Applies, Kinds, chooses, is-word, is-bit, applies, starts, kinds, word-gate, bit-gate, small-gate, applies-gate, byte-back, one-or-two}
 

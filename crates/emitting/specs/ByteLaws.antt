@@ -1,5 +1,5 @@
 -- Laws of the bytes and the costs of wires and records. Assumes nothing.
-use Prim.Native.Nat.{ℕ, zero, suc, _+_, _-_, _*_, _≤_}
+use Prim.Native.Nat.{ℕ, suc, _+_, _-_, _*_, _≤_}
 use mathlib.Core.Path.{_≡_, refl, sym, ap, _∙_}
 use mathlib.Core.List.{List, [], _∷_, _++_, append-assoc, append-nil}
 use native.Mathlib.Nat.{zero-add}
@@ -10,7 +10,7 @@ use Rattle.words.specs.Numbers.{bytesOf}
 use Rattle.words.specs.NumberLaws.{length-bytes}
 use Rattle.words.specs.Buffers.{over}
 use Rattle.words.specs.BufferLaws.{over-rest}
-use Rattle.fused.specs.Records.{Record, recordCost, recordsCost}
+use Rattle.fused.specs.Records.{Record, recordsCost}
 use Rattle.fused.specs.CircuitFile.{wiresBytes, recordBytes, recordsBytes}
 
 -- a, and behind it b, are the bytes r

@@ -1,23 +1,20 @@
 -- Laws of the gates of rows, by their codes. Assumes nothing.
-use Prim.Native.Nat.{ℕ, zero, suc, _+_, _*_, _≤_, _<_}
-use mathlib.Core.Path.{_≡_, refl, sym, ap, _∙_}
-use mathlib.Core.List.{List, [], _∷_}
-use mathlib.Core.Bool.{Bool, true, false}
+use Prim.Native.Nat.{ℕ, suc, _≤_, _<_}
+use mathlib.Core.Path.{_≡_, refl, _∙_}
+use mathlib.Core.List.{[], _∷_}
 use mathlib.Core.Logic.{_⊎_, inl, inr}
 use native.Mathlib.Omega.{arith}
 use lib.Dec.{leb}
-use lib.ListN.{length, getD, take}
+use lib.ListN.{take}
 use borrow.Author.Tests.{leb-true, leb-false}
-use Rattle.words.specs.Lists.{_∈_, split, same?}
+use Rattle.words.specs.Lists.{split, same?}
 use Rattle.codes.specs.Codes.{rowOf, operationOf, byteOf, codeOf}
 use Rattle.codes.specs.CodeLaws.{code-operation, code-unknown}
-use Rattle.codes.specs.declared.Code.{Code}
 use Rattle.codes.specs.declared.Operation.{Operation}
 use Rattle.codes.specs.declared.Operation.the-variants.{Sum, Difference, Product, LessThan, Equal, And, Or, Not}
-use Rattle.gates.specs.Gates.{Gate, start, word, bit, operation, choice, arguments}
-use Rattle.needed.specs.Held.{choiceCode, ofForm, argumentsOf, gateOf, gateIn, codeAt, firstAt, secondAt, thirdAt}
-use Rattle.needed.specs.HeldLaws.{gate-choice, gate-other}
-use Rattle.emitting.specs.Emitted.{FitsGate}
+use Rattle.gates.specs.Gates.{start, word, bit, operation}
+use Rattle.needed.specs.Held.{choiceCode, ofForm, argumentsOf, gateOf}
+use Rattle.needed.specs.HeldLaws.{gate-other}
 
 -- a code of the operation range
 abbrev pub Applies : ℕ → Type 0

@@ -1,9 +1,9 @@
 -- What the records of a group of the rows are of a rule: rows that hold a circuit emit what the circuit emits; and a group's records
 -- depend on the wires that they read alone. Assumes nothing.
-use Prim.Native.Nat.{ℕ, zero, suc, _+_, _*_, _≤_, _<_}
+use Prim.Native.Nat.{ℕ, _*_, _≤_, _<_}
 use mathlib.Core.Path.{_≡_, refl, sym, ap, ap₂, _∙_}
 use mathlib.Core.List.{List, [], _∷_, map}
-use mathlib.Core.Logic.{_⊎_, inl, inr}
+use mathlib.Core.Logic.{inl, inr}
 use native.Mathlib.Nat.{add-zero}
 use native.Mathlib.Omega.{arith}
 use lib.ListN.{length, getD, take}
@@ -12,13 +12,12 @@ use Rattle.settings.specs.Guards.{table}
 use Rattle.codes.specs.Codes.{kindOf}
 use Rattle.codes.specs.declared.Kind.{Kind}
 use Rattle.codes.specs.declared.Kind.the-variants as kind
-use Rattle.codes.specs.declared.Operation.{Operation}
 use Rattle.reading.specs.Header.{kindAt}
 use Rattle.gates.specs.Gates.{Gate, Gates, start, word, bit, operation, choice, gateAt, arguments}
 use Rattle.gates.specs.Limits.{mostConditions}
 use Rattle.gates.specs.Rows.{startCode, fourOf, rowsOf}
 use Rattle.gates.specs.EarlierLaws.{Inside}
-use Rattle.needed.specs.Held.{gateIn, gatesIn, codeAt, Shaped}
+use Rattle.needed.specs.Held.{codeAt, Shaped}
 use Rattle.needed.specs.HeldRows.{number-at, gate-held, gates-held}
 use Rattle.plan.specs.Groups.{restsOf}
 use Rattle.fused.specs.Records.{Record}

@@ -1,8 +1,7 @@
 -- What the writers ask holds of rows that hold a circuit whose variables and bit constants are bytes, with at most 256 gates. Assumes nothing.
-use Prim.Native.Nat.{ℕ, zero, suc, _+_, _*_, _≤_, _<_}
-use mathlib.Core.Path.{_≡_, refl, sym, ap, subst, _∙_}
-use mathlib.Core.List.{List, [], _∷_}
-use mathlib.Core.Logic.{_⊎_, inl, inr}
+use Prim.Native.Nat.{ℕ, _*_, _≤_, _<_}
+use mathlib.Core.Path.{_≡_, sym, ap, _∙_}
+use mathlib.Core.List.{List}
 use native.Mathlib.Omega.{arith}
 use lib.Dec.{ltb}
 use lib.ListN.{length, getD, take, List·getD-eq-default}
@@ -16,10 +15,10 @@ use Rattle.gates.specs.ConditionLaws.{condition-below}
 use Rattle.gates.specs.Limits.{mostGates, mostConditions}
 use Rattle.gates.specs.Rows.{startCode, fourOf, rowsOf}
 use Rattle.gates.specs.EarlierLaws.{Inside}
-use Rattle.needed.specs.Held.{gateIn, gatesIn, codeAt, Shaped}
+use Rattle.needed.specs.Held.{gateIn, Shaped}
 use Rattle.needed.specs.HeldRows.{gate-held, gates-held}
 use Rattle.plan.specs.PlanFile.{groupAt, after}
-use Rattle.emitting.specs.Emitted.{Placed, FitsGate, Coded, Writable, Lies, Joinable, Guarded, Joining}
+use Rattle.emitting.specs.Emitted.{Placed, FitsGate, Coded, Writable, Joinable, Joining}
 use Rattle.emitting.specs.MemberLaws.{member-in}
 use Rattle.emitting.specs.EmitLaws.{code-held}
 

@@ -1,20 +1,19 @@
 -- Laws of a joined group: its records as the code writes them, and what the code asks follows from what its caller shows. Assumes nothing.
-use Prim.Native.Nat.{ℕ, zero, suc, _+_, _-_, _*_, _≤_, _<_}
-use mathlib.Core.Path.{_≡_, refl, sym, ap, ap₂, subst, _∙_}
+use Prim.Native.Nat.{ℕ, suc, _+_, _*_, _≤_, _<_}
+use mathlib.Core.Path.{_≡_, refl, sym, ap, ap₂, _∙_}
 use mathlib.Core.List.{List, [], _∷_, _++_, map, append-assoc, append-nil}
 use mathlib.Core.Logic.{_⊎_, inl, inr}
-use native.Mathlib.Nat.{add-zero}
 use native.Mathlib.Omega.{arith}
-use lib.ListN.{length, getD, take, drop, length-append}
-use Rattle.words.specs.Lists.{_∈_, keep, keep-from, from, upto, from-below}
+use lib.ListN.{length, getD}
+use Rattle.words.specs.Lists.{_∈_, keep-from, from, upto, from-below}
 use Rattle.settings.specs.Sets.{restsOn, rests}
 use Rattle.settings.specs.Guards.{table}
-use Rattle.codes.specs.Codes.{rowOf, operationOf, codeOf}
+use Rattle.codes.specs.Codes.{rowOf, operationOf}
 use Rattle.codes.specs.declared.Operation.{Operation}
-use Rattle.gates.specs.Gates.{Gate, Gates, start, word, bit, operation, choice, gateAt, arguments, conditions}
+use Rattle.gates.specs.Gates.{Gate, start, word, bit, operation, choice, gateAt, arguments, conditions}
 use Rattle.gates.specs.EarlierLaws.{Inside}
-use Rattle.gates.specs.Limits.{mostGates, mostConditions}
-use Rattle.needed.specs.Held.{choiceCode, gateIn, gatesIn, codeAt, firstAt, secondAt, thirdAt}
+use Rattle.gates.specs.Limits.{mostConditions}
+use Rattle.needed.specs.Held.{gateIn, gatesIn, codeAt, firstAt, secondAt, thirdAt}
 use Rattle.needed.specs.HeldLaws.{gates-at}
 use Rattle.plan.specs.PlanFile.{groupAt}
 use Rattle.plan.specs.Groups.{restsOf}
@@ -22,11 +21,10 @@ use Rattle.fused.specs.Records.{Record, pick}
 use Rattle.fused.specs.Records as records
 use Rattle.fused.specs.Emission as emission
 use Rattle.fused.specs.CircuitFile.{wiresBytes, recordBytes, recordsBytes}
-use Rattle.emitting.specs.Emitted.{emitIn, guardIn, guardsIn, argumentAt, pairsIn, Placed, Lies, Paired, Joinable, Joining}
+use Rattle.emitting.specs.Emitted.{emitIn, guardIn, guardsIn, argumentAt, pairsIn, Paired}
 use Rattle.emitting.specs.CodeLaws.{Applies, Kinds, chooses, is-word, is-bit, applies, starts, kinds, one-or-two, byte-back}
 use Rattle.emitting.specs.AloneLaws.{choice-in, word-in, bit-in, applied-in}
 use Rattle.emitting.specs.ByteLaws.{records-append}
-use Rattle.emitting.specs.MemberLaws.{length-group, member-in}
 use Rattle.emitting.specs.GuardLaws.{length-map}
 
 -- the bytes of the two picks, and with the operation behind them: it reads the two picks, whose wires follow those of the k guards

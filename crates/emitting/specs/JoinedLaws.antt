@@ -1,9 +1,8 @@
 -- Laws of writing and measuring a joined group: room, bytes, size. Assumes nothing.
-use Prim.Native.Nat.{ℕ, zero, suc, _+_, _-_, _*_, _≤_, _<_}
+use Prim.Native.Nat.{ℕ, suc, _+_, _-_, _*_, _≤_, _<_}
 use mathlib.Core.Path.{_≡_, refl, sym, ap, _∙_}
 use mathlib.Core.List.{List, [], _∷_, _++_, map}
 use mathlib.Core.Logic.{inl, inr}
-use native.Mathlib.Nat.{zero-add}
 use native.Mathlib.Omega.{arith}
 use lib.ListN.{length, getD, take, drop, length-append}
 use borrow.Rule.Slice.PartMut.{putMid}
@@ -14,14 +13,14 @@ use Rattle.settings.specs.Sets.{rests}
 use Rattle.codes.specs.Codes.{rowOf, operationOf, codeOf}
 use Rattle.codes.specs.CodeLaws.{code-operation}
 use Rattle.codes.specs.declared.Code.{Code}
-use Rattle.gates.specs.Gates.{arguments, conditions}
+use Rattle.gates.specs.Gates.{conditions}
 use Rattle.gates.specs.EarlierLaws.{Inside}
 use Rattle.gates.specs.Limits.{mostConditions}
-use Rattle.needed.specs.Held.{gateIn, gatesIn, codeAt}
+use Rattle.needed.specs.Held.{gatesIn, codeAt}
 use Rattle.plan.specs.PlanFile.{groupAt}
-use Rattle.fused.specs.Records.{Record, pick, recordCost, recordsCost}
+use Rattle.fused.specs.Records.{Record, pick, recordsCost}
 use Rattle.fused.specs.CircuitFile.{wiresBytes, recordBytes, recordsBytes}
-use Rattle.emitting.specs.Emitted.{emitIn, guardIn, guardsIn, argumentAt, pairsIn, restedBy, Placed, Lies, Paired, Joinable, Joining, Sized}
+use Rattle.emitting.specs.Emitted.{emitIn, guardIn, guardsIn, argumentAt, pairsIn, restedBy, Joinable, Joining, Sized}
 use Rattle.emitting.specs.CodeLaws.{Applies}
 use Rattle.emitting.specs.ByteLaws.{behind, length-wires, costs-append}
 use Rattle.emitting.specs.MemberLaws.{length-group, member-in}

@@ -8,7 +8,6 @@ use native.Mathlib.Omega.{arith}
 use lib.ListN.{length, getD, length-append}
 use Rattle.words.specs.Lists.{split, keep, from, upto, flat}
 use Rattle.words.specs.Numbers.{bytesOf}
-use Rattle.words.specs.NumberLaws.{length-bytes}
 use Rattle.settings.specs.ListLaws.{length-from, length-keep}
 use Rattle.settings.specs.Sets.{restsOn, rests}
 use Rattle.gates.specs.Limits.{mostConditions}

@@ -3,7 +3,7 @@
 use fused::WireId;
 use gates::GateId;
 ghost use mathlib.Core.Path.{_≡_};
-ghost use mathlib.Core.List.{List, _∷_, [], _++_, map};
+ghost use mathlib.Core.List.{List, _∷_, [], map};
 ghost use Prim.Native.Nat.{ℕ, _+_, _*_, _<_, _≤_};
 ghost use lib.ListN.{length, getD};
 ghost use Rattle.words.specs.Numbers.{bytesOf};
@@ -14,7 +14,7 @@ ghost use Rattle.needed.specs.Held.{codeAt};
 ghost use Rattle.plan.specs.PlanFile.{groupAt, after};
 ghost use Rattle.fused.specs.Records.{pick, pairWires};
 ghost use Rattle.fused.specs.CircuitFile.{wiresBytes, recordBytes, recordsBytes};
-ghost use Rattle.emitting.specs.Emitted.{wireIn, aloneIn, emitIn, guardIn, guardsIn, pairsIn, restedBy, argumentAt, Placed, Coded, Writable, Lies, Joinable, Guarded, Paired, Joining, Sized};
+ghost use Rattle.emitting.specs.Emitted.{wireIn, aloneIn, emitIn, guardIn, guardsIn, pairsIn, restedBy, Placed, Coded, Writable, Lies, Joinable, Guarded, Paired, Joining, Sized};
 ghost use Rattle.emitting.specs.CodeLaws.{Applies};
 ghost use Rattle.emitting.specs.JoinLaws.{Fusing, picksBytes, fusedBytes};
 

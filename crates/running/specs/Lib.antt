@@ -1,2 +1,5 @@
+pub mod FusedRun
+pub mod RunLaws
 pub mod RecordBounds
 pub mod RunnableLaws
+pub mod Demand3Run

@@ -1,1 +1,5 @@
 pub mod Staged
+pub mod ArrayLaws
+pub mod DoneLaws
+pub mod StageLaws
+pub mod TurnLaws

@@ -1,0 +1,168 @@
+-- What the arrays hold after i turns is what is written of the fused circuit after i groups. Assumes nothing.
+use Prim.Native.Nat.{ℕ, zero, suc, _+_, _-_, _≤_, _<_}
+use native.Mathlib.Omega.{arith}
+use mathlib.Core.Path.{_≡_, refl, sym, ap, ap₂, subst, _∙_}
+use mathlib.Core.List.{List, [], _∷_, _++_, map}
+use mathlib.Core.Logic.{inl, inr}
+use borrow.Author.Tests.{le-leb}
+use lib.ListN.{length, getD, set, length-append, length-set, length-replicate}
+use lib.Seq.{getD-set-same, getD-set-other}
+use Rattle.words.specs.Lists.{_∈_, upto, in-append}
+use Rattle.settings.specs.Sets.{rests}
+use Rattle.gates.specs.Gates.{Gates, gateAt, arguments, conditions}
+use Rattle.gates.specs.Limits.{mostGates, mostConditions}
+use Rattle.gates.specs.EarlierLaws.{Inside}
+use Rattle.gates.specs.PlainCircuit.{gatesOf, gateCount}
+use Rattle.needed.specs.Pass.{rulePreconditions}
+use Rattle.circuit.specs.Shown.{shownRows, shownNeeds}
+use Rattle.circuit.specs.ShownParts.{shown-room, shown-earlier, shown-need}
+use Rattle.plan.specs.PlanFile.{groupsIn}
+use Rattle.plan.specs.Groups.{groupOf, groups, members, restsOf, readsOf}
+use Rattle.plan.specs.GroupLaws.{of-member}
+use Rattle.plan.specs.Rows.{planAnswer}
+use Rattle.ordering.specs.WaitsLaws.{reads-inside}
+use Rattle.checking.specs.Checked.{writingOrder, checkedGroups, checkedPlaces, checkedOrder}
+use Rattle.fused.specs.Records.{Record}
+use Rattle.fused.specs.Emission.{operationOf, joined, guardOf, valuesAt, emit}
+use Rattle.fused.specs.FusedCircuit.{Written, groupRecords, written}
+use Rattle.fused.specs.WrittenLaws.{waits-argument, waits-rests, written-none, written-more, wire-last, wire-old}
+use Rattle.emitting.specs.Emitted.{wireIn, emitIn}
+use Rattle.emitting.specs.EmitLaws.{emit-in, emit-same}
+use Rattle.writing.specs.Staged.{Stage, turnRecords, stage}
+use Rattle.writing.specs.ArrayLaws.{rule-taken, gates-shaped, rows-held, group-is, turn-is, members-are, members-two}
+use Rattle.writing.specs.DoneLaws.{doneAt, done-next, next-group, next-waits, next-once}
+
+-- preconditions that two lists give alike emit the same records
+module _ (s : List ℕ) (C : Gates) (sets tabs : List ℕ) (e : (g : ℕ) → getD sets g 0 ≡ getD tabs g 0) (wire : ℕ → ℕ) where
+  rests-alike : (m : ℕ) → restsOf C sets m ≡ restsOf C tabs m
+  unfolding restsOf
+  rests-alike m = ap (λ (k : ℕ). map (λ t. getD (conditions C) t 0) (rests mostConditions k)) (e m)
+
+  guards-alike : (ms : List ℕ) → map (guardOf s C sets wire) ms ≡ map (guardOf s C tabs wire) ms
+  guards-alike [] = refl
+  guards-alike (m ∷ ms) = rw (rests-alike m, e m, guards-alike ms)
+
+  emit-alike : (n : ℕ) (ms : List ℕ) → emit s C sets wire n ms ≡ emit s C tabs wire n ms
+  emit-alike n [] = refl
+  emit-alike n (m ∷ []) = refl
+  emit-alike n (m ∷ k ∷ l) =
+      ap (λ (g : List Record). joined n (operationOf (gateAt C m)) g (map (valuesAt s C sets wire (m ∷ k ∷ l)) (upto (length (arguments (gateAt C m)))))) (guards-alike (m ∷ k ∷ l))
+
+module _ (s p : List ℕ) (h : planAnswer s p .number ≡ 0) where
+  abbrev C : Gates
+  C = gatesOf s
+
+  abbrev sets : List ℕ
+  sets = rulePreconditions s
+
+  abbrev group : ℕ → ℕ
+  group = groupOf (groupsIn p)
+
+  abbrev table : List ℕ
+  table = checkedGroups s p
+
+  abbrev turned : ℕ → Stage
+  turned i = stage p (shownRows s) (gateCount s) (shownNeeds s) (checkedGroups s p) (checkedPlaces s p) (checkedOrder s p) i
+
+  abbrev after : ℕ → Written
+  after i = written s C sets group (doneAt s p i)
+
+  -- what stands in the arrays after i turns
+  pub record Same (i : ℕ) : Type 0 where
+    pub records : turned i .records ≡ after i .records
+    pub size : length (turned i .wires) ≡ mostGates
+    pub wires : (q : ℕ) → q ∈ doneAt s p i → getD (turned i .wires) q 0 ≡ after i .wire q
+
+  -- the table gives the wire of every gate whose group is written
+  wire-same : (i : ℕ) → Same i → (a : ℕ) → a < gateCount s → group a ∈ doneAt s p i → wireIn table (turned i .wires) a ≡ after i .wire (group a)
+  wire-same i m a l d = ap (λ (q : ℕ). getD (turned i .wires) q 0) (group-is s p h a l) ∙ m .wires (group a) d
+
+  members-below : (q : ℕ) → Inside (length C) (members (gateCount s) group q)
+  members-below q m i = of-member (gateCount s) group m q i .0
+
+  -- the records of turn i are the group's
+  turn-same : (i : ℕ) → i < length (writingOrder s p) → Same i
+      → turnRecords p (shownRows s) (gateCount s) (shownNeeds s) table (checkedPlaces s p) (turned i) (getD (checkedOrder s p) i 0)
+      ≡ groupRecords s C sets group (after i) (getD (writingOrder s p) i 0)
+  turn-same i l m =
+      ap (turnRecords p (shownRows s) (gateCount s) (shownNeeds s) table (checkedPlaces s p) (turned i)) (turn-is s p h i)
+      ∙ ap (emitIn (shownRows s) (gateCount s) (shownNeeds s) (wireIn table (turned i .wires)) (length (turned i .records))) (members-are s p h q (g .0) (g .1))
+      ∙ ap (λ (k : ℕ). emitIn (shownRows s) (gateCount s) (shownNeeds s) (wireIn table (turned i .wires)) k ms) (ap length (m .records))
+      ∙ emit-in s (shownRows s) C (gates-shaped s p h) (rows-held s p h) (shownNeeds s) (wireIn table (turned i .wires)) (length (after i .records)) ms (members-below q)
+      ∙ emit-alike s C (shownNeeds s) sets (shown-need s (rule-taken s p h)) (wireIn table (turned i .wires)) (length (after i .records)) ms
+      ∙ emit-same s C sets (wireIn table (turned i .wires)) (λ a. after i .wire (group a)) (length (after i .records)) ms arguing resting (members-two s p h q)
+    where
+      q : ℕ
+      q = getD (writingOrder s p) i 0
+
+      ms : List ℕ
+      ms = members (gateCount s) group q
+
+      g : (q < gateCount s) × (group q ≡ q)
+      g = next-group s p i l
+
+      arguing : (k a : ℕ) → k ∈ ms → a ∈ arguments (gateAt C k) → wireIn table (turned i .wires) a ≡ after i .wire (group a)
+      arguing k a j b =
+          wire-same i m a (omega (arith, shown-earlier s (rule-taken s p h) k a b, members-below q k j)) (next-waits s p i l (group a) (waits-argument C sets group q k a j b))
+
+      resting : 2 ≤ length ms → (k a : ℕ) → k ∈ ms → a ∈ restsOf C sets k → wireIn table (turned i .wires) a ≡ after i .wire (group a)
+      resting many k a j b =
+          wire-same i m a
+          (reads-inside C (shown-earlier s (rule-taken s p h)) sets ms k a (members-below q k j) (read many k a b))
+          (next-waits s p i l (group a) (waits-rests C sets group q k a j many b))
+        where
+          read : 2 ≤ length ms → (k a : ℕ) → a ∈ restsOf C sets k → a ∈ readsOf C sets ms k
+          read many k a b = rw (le-leb 2 (length ms) many) (in-append a (arguments (gateAt C k)) (restsOf C sets k) (inr b))
+
+  same-none : Same 0
+  unfolding stage
+  same-none = record { records = sym (written-none s C sets group); size = length-replicate {A = ℕ} mostGates 0; wires = λ q m. absurd m }
+
+  -- one turn more, the groups done being d
+  Next : ℕ → List ℕ → Type 0
+  Next i d =
+      (turned (suc i) .records ≡ written s C sets group d .records)
+      × ((q : ℕ) → q ∈ d → getD (turned (suc i) .wires) q 0 ≡ written s C sets group d .wire q)
+
+  next-same : (i : ℕ) → i < length (writingOrder s p) → Same i → Next i (getD (writingOrder s p) i 0 ∷ doneAt s p i)
+  unfolding stage Next
+  next-same i l m = (grown, wires)
+    where
+      q : ℕ
+      q = getD (writingOrder s p) i 0
+
+      new : List Record
+      new = turnRecords p (shownRows s) (gateCount s) (shownNeeds s) table (checkedPlaces s p) (turned i) (getD (checkedOrder s p) i 0)
+
+      grown : turned i .records ++ new ≡ written s C sets group (q ∷ doneAt s p i) .records
+      grown = ap₂ (λ (a b : List Record). a ++ b) (m .records) (turn-same i l m) ∙ sym (written-more s C sets group q (doneAt s p i))
+
+      last : length (turned i .records) + length new - 1 ≡ written s C sets group (q ∷ doneAt s p i) .wire q
+      last =
+          ap (λ (k : ℕ). k - 1) (sym (length-append (turned i .records) new) ∙ ap length grown) ∙ sym (wire-last s C sets group q (doneAt s p i))
+
+      room : q < length (turned i .wires)
+      room = omega (arith, next-group s p i l .0, shown-room s (rule-taken s p h), m .size)
+
+      stored : (x : ℕ) → getD (set (turned i .wires) q (length (turned i .records) + length new - 1)) x 0
+          ≡ getD (set (turned i .wires) (getD (checkedOrder s p) i 0) (length (turned i .records) + length new - 1)) x 0
+      stored x = ap (λ (k : ℕ). getD (set (turned i .wires) k (length (turned i .records) + length new - 1)) x 0) (sym (turn-is s p h i))
+
+      wires : (x : ℕ) → x ∈ (q ∷ doneAt s p i)
+          → getD (set (turned i .wires) (getD (checkedOrder s p) i 0) (length (turned i .records) + length new - 1)) x 0 ≡ written s C sets group (q ∷ doneAt s p i) .wire x
+      wires x (inl e) = rw e (sym (stored q) ∙ getD-set-same (turned i .wires) q _ 0 room ∙ last)
+      wires x (inr d) =
+          let o = next-once s p i l in
+          let n : x ≡ q → ⊥ = λ e. o .0 (rw e at d) in
+          sym (stored x) ∙ getD-set-other (turned i .wires) q x _ 0 n ∙ m .wires x d ∙ sym (wire-old s C sets group q (doneAt s p i) o x d)
+
+  same-next : (i : ℕ) → i < length (writingOrder s p) → Same i → Same (suc i)
+  unfolding stage Next
+  same-next i l m =
+      let r : Next i (doneAt s p (suc i)) = subst (Next i) (sym (done-next s p i l)) (next-same i l m) in
+      record { records = r .0; size = length-set (turned i .wires) _ _ ∙ m .size; wires = r .1 }
+
+  -- after every turn
+  pub stage-same : (i : ℕ) → i ≤ length (writingOrder s p) → Same i
+  stage-same zero l = same-none
+  stage-same (suc i) l = same-next i (omega arith) (stage-same i (omega arith))
