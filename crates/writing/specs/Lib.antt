@@ -2,4 +2,4 @@ pub mod Staged
 pub mod ArrayLaws
 pub mod DoneLaws
 pub mod StageLaws
-pub mod TurnLaws
+pub mod TopLaws
