@@ -1,5 +1,10 @@
 pub mod Staged
+pub mod Turns
 pub mod ArrayLaws
 pub mod DoneLaws
 pub mod StageLaws
 pub mod TopLaws
+pub mod WriteLaws
+pub mod TurnLaws
+pub mod LoopLaws
+pub mod OutputLaws

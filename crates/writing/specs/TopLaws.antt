@@ -55,8 +55,8 @@ module _ (s p : List ℕ) (h : planAnswer s p .number ≡ 0) where
   abbrev group : ℕ → ℕ
   group = groupOf (groupsIn p)
 
-  named : (a : ℕ) → a < length (gatesOf s) → getD (checkedGroups s p) a 0 < mostGates
-  named a l =
+  pub table-named : (a : ℕ) → a < length (gatesOf s) → getD (checkedGroups s p) a 0 < mostGates
+  table-named a l =
       let r : (group a ≤ a) × (group (group a) ≡ group a) = planned-named s p h a in
       rw (group-is s p h a l) (omega (arith, r .0, shown-room s (rule-taken s p h)))
 
@@ -69,7 +69,7 @@ module _ (s p : List ℕ) (h : planAnswer s p .number ≡ 0) where
 
     turn-alone : (q : ℕ) → q < gateCount s → Writable (shownRows s) (checkedGroups s p) q
     turn-alone q l =
-        writable-held s (shownRows s) (gatesOf s) (gates-shaped s p h) (rows-held s p h) (shown-room s (rule-taken s p h)) (shown-earlier s (rule-taken s p h)) (checkedGroups s p) named q l (small q)
+        writable-held s (shownRows s) (gatesOf s) (gates-shaped s p h) (rows-held s p h) (shown-room s (rule-taken s p h)) (shown-earlier s (rule-taken s p h)) (checkedGroups s p) table-named q l (small q)
 
   -- a group of two or more, at its place in the plan
   module _ (q : ℕ) (l : q < gateCount s) (e : group q ≡ q) (z : placeOf p q ≡ 0 → ⊥) where
@@ -90,7 +90,7 @@ module _ (s p : List ℕ) (h : planAnswer s p .number ≡ 0) where
 
     turn-joined : Joining (shownRows s) p (shownConditions s) (checkedGroups s p) (gateCount s) (placeOf p q)
     turn-joined =
-        joining-held s (shownRows s) (gatesOf s) (gates-shaped s p h) (rows-held s p h) (shown-room s (rule-taken s p h)) (shown-earlier s (rule-taken s p h)) (checkedGroups s p) named
+        joining-held s (shownRows s) (gatesOf s) (gates-shaped s p h) (rows-held s p h) (shown-room s (rule-taken s p h)) (shown-earlier s (rule-taken s p h)) (checkedGroups s p) table-named
         p (placeOf p q) (shownConditions s) (placed-group p q (a .laid-out .ended) z .lies) (rw (sym (length-group p (placeOf p q))) two) exists
         (λ m i. members-two s p h q (rw listed two) m (rw listed i)) (λ t _. shown-condition s (rule-taken s p h) t)
 

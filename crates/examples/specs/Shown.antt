@@ -1,0 +1,80 @@
+-- Document 01, "Examples": what the list of Starred says in words that are not computed, for any accepted rule and any lent buffer. Assumes nothing.
+use Prim.Native.Nat.{ℕ, _^_, _≤_, _<_}
+use mathlib.Core.Path.{_≡_, refl, subst}
+use mathlib.Core.List.{List, [], append-nil}
+use mathlib.Core.Bool.{true}
+use mathlib.Core.Logic.{_↔_}
+use lib.ListN.{length, getD, drop}
+use lib.Seq.{drop-length}
+use Rattle.words.specs.Lists.{_∈_, elem, elem→∈}
+use Rattle.words.specs.Buffers.{over}
+use Rattle.settings.specs.Settings.{Setting, settingOf}
+use Rattle.settings.specs.Sets.{has}
+use Rattle.answers.specs.Answers.{refusal}
+use Rattle.answers.specs.Parsing.{parsed}
+use Rattle.answers.specs.ParsingLaws.{is-read}
+use Rattle.reading.specs.Tree.{Block}
+use Rattle.reading.specs.Rule.{readRule}
+use Rattle.gates.specs.Gates.{Earlier, conditions}
+use Rattle.gates.specs.Limits.{mostConditions}
+use Rattle.gates.specs.PlainCircuit.{gatesOf}
+use Rattle.needed.specs.Needed.{Needed, wantedOf}
+use Rattle.needed.specs.Pass.{rulePreconditions}
+use Rattle.needed.specs.RulePreconditions.{rule-earlier, wanted-inside, rule-precondition, rule-exclude}
+use Rattle.circuit.specs.Whole.{ruleAnswer}
+use Rattle.circuit.specs.WholeLaws.{accepted}
+use Rattle.plan.specs.Groups.{RestsOn, restsOf, Waits, waitsFor}
+use Rattle.plan.specs.RestLaws.{rests-right}
+use Rattle.plan.specs.WaitLaws.{waits-right}
+use Rattle.fused.specs.CircuitFile.{fusedFile}
+use Rattle.fused.specs.Answers.{writeAnswer, writtenOver}
+
+-- the precondition of gate g of the rule s, held as 64 bits: bit j is 1 exactly when setting j needs the gate
+abbrev pub Precondition : List ℕ → ℕ → ℕ → Type 0
+Precondition s g bits =
+    (getD (rulePreconditions s) g 0 ≡ bits)
+    × ((j : ℕ) → j < 2 ^ mostConditions → (has bits j ≡ true) ↔ Needed (gatesOf s) (wantedOf s) (settingOf (conditions (gatesOf s)) j) g)
+
+-- no setting needs gate g of the rule s
+abbrev pub Unneeded : List ℕ → ℕ → Type 0
+Unneeded s g = (σ : Setting) → Needed (gatesOf s) (wantedOf s) σ g → ⊥
+
+module _ (s : List ℕ) (h : ruleAnswer s .number ≡ 0) where
+  read : (b : Block) × (n : ℕ) × (readRule s ≡ parsed b n)
+  read = is-read (readRule s) (accepted s h .read)
+
+  few : length (conditions (gatesOf s)) ≤ mostConditions
+  few = accepted s h .conds
+
+  earlier : Earlier (gatesOf s)
+  earlier = rule-earlier s (read .0) (read .1) (read .2)
+
+  inside : (g : ℕ) → g ∈ wantedOf s → g < length (gatesOf s)
+  inside = wanted-inside s (read .0) (read .1) (read .2)
+
+  pub precondition : (g bits : ℕ) → getD (rulePreconditions s) g 0 ≡ bits → Precondition s g bits
+  precondition g bits e = (
+    e,
+    λ j l. subst (λ (n : ℕ). (has n j ≡ true) ↔ Needed (gatesOf s) (wantedOf s) (settingOf (conditions (gatesOf s)) j) g) e
+        (rule-precondition s (read .0) (read .1) (read .2) few g j l),
+  )
+
+  pub unneeded : (g : ℕ) → getD (rulePreconditions s) g 0 ≡ 0 → Unneeded s g
+  unneeded g e σ n = rule-exclude s (read .0) (read .1) (read .2) few g g .0 (rw e refl) σ n n
+
+  pub rests-on : (m c : ℕ) → elem c (restsOf (gatesOf s) (rulePreconditions s) m) ≡ true → RestsOn (gatesOf s) (wantedOf s) m c
+  rests-on m c e = rests-right (gatesOf s) (wantedOf s) earlier inside few m c .0 (elem→∈ c (restsOf (gatesOf s) (rulePreconditions s) m) e)
+
+  pub waits-for : (group : ℕ → ℕ) (p q : ℕ) → elem q (waitsFor (gatesOf s) (rulePreconditions s) group p) ≡ true → Waits (gatesOf s) (wantedOf s) group p q
+  waits-for group p q e = waits-right (gatesOf s) (wantedOf s) earlier inside few group p q .0 (elem→∈ q (waitsFor (gatesOf s) (rulePreconditions s) group p) e)
+
+-- a buffer of the file's length holds the file and nothing else; one too short stays as it was
+pub written-whole : (s p file d : List ℕ) → fusedFile s p ≡ file → writeAnswer s p (length file) .number ≡ 0 → length d ≡ length file → writtenOver s p d ≡ file
+unfolding over writtenOver
+written-whole s p file d f w l =
+    let rest : drop (length file) d ≡ [] = subst (λ (n : ℕ). drop n d ≡ []) l (drop-length d) in
+    rw (l, w, f, rest) (append-nil file)
+
+pub written-short : (s p d : List ℕ) (room : ℕ) → writeAnswer s p room ≡ refusal 50 0 → length d ≡ room → writtenOver s p d ≡ d
+unfolding writtenOver
+written-short s p d room w l = rw (l, w)
