@@ -1,12 +1,16 @@
 // Reads a conformance stream on standard input and prints one line a case (shared/CONFORMANCE.md).
-// So far operations 01, 02, 03 and 06; any other ends the stream with `refused`.
+// Operations 01 to 06; any other ends the stream with `refused`.
 use answers::Answer;
 use libc::STDIN_FILENO;
 use libc::STDOUT_FILENO;
-ghost use Prim.Native.Nat.{_≤_, _<_};
+ghost use Prim.Native.Nat.{_*_, _≤_, _<_};
+ghost use lib.ListN.{length};
 
 // What every result place holds before the call, so that an untouched one shows.
 const UNTOUCHED: u32 = 3735928559;
+
+// What every byte of a lent buffer holds before the call.
+const CLEAN: u8 = 0xEE;
 
 fn print(text: &[u8]) {
     io::write_all(STDOUT_FILENO, text);
@@ -165,6 +169,75 @@ fn direct_line(rule: &[u8], inputs: &[u32], results: &mut [u32]) {
     print_words(results);
 }
 
+fn fused_line(rule: &[u8], plan: &[u8], inputs: &[u32], results: &mut [u32]) {
+    let a = running::run(rule, plan, inputs, results);
+    print_answer(a);
+    print_words(results);
+}
+
+// The first or the second digit of a byte.
+fn half(b: u8, first: bool) -> u8 {
+    if first { digit(b / 16) } else { digit(b % 16) }
+}
+
+// The bytes as capital hexadecimal pairs.
+fn spell_bytes(bytes: &[u8], text: &mut [u8])
+    requires { ⌜ 2 * length (now bytes) ≤ length (now text) ⌝ }
+{
+    let n = 2 * bytes.len();
+    let mut k: usize = 0;
+    while k < n {
+        text[k] = half(bytes[k / 2], k % 2 == 0);
+        k += 1;
+    }
+}
+
+fn print_bytes(bytes: &[u8]) {
+    let mut text = [48u8; 131070];
+    let n = bytes.len();
+    if n <= 65535 {
+        spell_bytes(bytes, &mut text);
+        print(&text[0..2 * n]);
+    }
+}
+
+fn one(test: bool) -> usize
+    ensures { λ r. ⌜ r ≤ 1 ⌝ }
+{
+    if test { 1 } else { 0 }
+}
+
+// How many bytes from a place on are as they were.
+fn untouched(out: &[u8], from: usize) -> usize {
+    let mut count: usize = 0;
+    let mut i = from;
+    while i < out.len() {
+        count += one(out[i] == CLEAN);
+        i += 1;
+    }
+    count
+}
+
+// The written bytes, or `-` for none.
+fn print_written(out: &[u8], n: usize) {
+    if n == 0 {
+        print(b"-");
+        return;
+    }
+    if n <= out.len() {
+        print_bytes(&out[0..n]);
+    }
+}
+
+fn write_line(rule: &[u8], plan: &[u8], out: &mut [u8]) {
+    let a = writing::write(rule, plan, out);
+    print_answer(a);
+    print(b" | ");
+    let n = a.bytes;
+    print_written(out, n);
+    spaced(untouched(out, n));
+}
+
 fn circuit_line(rule: &[u8]) {
     let shown = circuit::show(rule);
     let a = shown.answer;
@@ -185,6 +258,14 @@ fn work(operation: u8, room: usize, rule: &[u8], plan: &[u8], inputs: &[u32]) ->
             direct_line(rule, inputs, &mut results[0..room]);
         }
         3 => print_answer(checking::check_plan(rule, plan)),
+        4 => {
+            let mut out = [CLEAN; 65535];
+            write_line(rule, plan, &mut out[0..room]);
+        }
+        5 => {
+            let mut results = [UNTOUCHED; 65535];
+            fused_line(rule, plan, inputs, &mut results[0..room]);
+        }
         6 => circuit_line(rule),
         _ => {
             return false;

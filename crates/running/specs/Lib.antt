@@ -3,3 +3,4 @@ pub mod RunLaws
 pub mod RecordBounds
 pub mod RunnableLaws
 pub mod Demand3Run
+pub mod StepLaws

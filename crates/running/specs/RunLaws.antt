@@ -1,6 +1,5 @@
 -- Laws of the answer of a fused run. Assumes nothing.
 use Prim.Native.Nat.{ℕ}
-use native.Mathlib.Omega.{arith}
 use mathlib.Core.Path.{_≡_, sym, ap, _∙_}
 use mathlib.Core.List.{List}
 use lib.Dec.{eqb}
@@ -13,7 +12,7 @@ use Rattle.plan.specs.Rows.{planAnswer}
 use Rattle.fused.specs.Answers.{fusedCounts, fusedAnswer, writeAnswer}
 use Rattle.fused.specs.SizeBounds.{bytes-bound}
 use Rattle.direct.specs.Inputs.{inputRow}
-use Rattle.direct.specs.InputLaws.{row-count}
+use Rattle.direct.specs.InputLaws.{inputs-count}
 use Rattle.direct.specs.Direct.{runAnswer}
 
 module _ (s p : List ℕ) where
@@ -50,11 +49,6 @@ module _ (s p : List ℕ) where
     taken-inputs h =
         split (eqb (fusedAnswer s p .number) 0)
         (λ t. split (eqb (inputRow s inputs room) 0)
-        (λ u. same (eqb-true _ _ u))
+        (λ u. inputs-count s inputs room (eqb-true _ _ u))
         (λ u. absurd (eqb-false _ _ u (rw (t, u) at h))))
         (λ t. absurd (eqb-false _ _ t (rw t at h)))
-      where
-        same : inputRow s inputs room ≡ 0 → length inputs ≡ variables s
-        same z =
-            split (eqb (length inputs) (variables s)) (λ t. eqb-true _ _ t)
-            (λ t. let e : 40 ≡ 0 = sym (row-count s inputs room (eqb-false _ _ t)) ∙ z in absurd (omega arith))

@@ -24,6 +24,7 @@ pub fn run(rule: &[u8], plan: &[u8], inputs: &[u32], results: &mut [u32]) -> Ans
     if row != 0 {
         return answers::refused(row, 0);
     }
-    figures::run_file(&file[0..a.bytes], inputs, results);
+    let bytes = a.bytes;
+    figures::run_file(&file[0..bytes], inputs, results);
     a
 }

@@ -1,15 +1,14 @@
 -- Laws of a turn: what the code finds in the arrays at turn i, and what the turn adds to the stage. Assumes nothing.
-use Prim.Native.Nat.{ℕ, _+_, _-_, _≤_, _<_}
+use Prim.Native.Nat.{ℕ, _+_, _≤_, _<_}
 use mathlib.Core.Path.{_≡_, refl, sym, ap, _∙_}
 use mathlib.Core.List.{List, [], _∷_, _++_, append-nil}
 use mathlib.Core.Logic.{_⊎_, inl, inr}
 use native.Mathlib.Numerals.{add-one}
 use native.Mathlib.Omega.{arith}
-use lib.ListN.{length, getD, replicate, length-append}
+use lib.ListN.{length, getD, length-append}
 use borrow.Author.Tests.{ne-eqb}
 use Rattle.words.specs.Lists.{same?}
 use Rattle.words.specs.Buffers.{over}
-use Rattle.gates.specs.Limits.{mostGates}
 use Rattle.gates.specs.EarlierLaws.{Inside}
 use Rattle.plan.specs.PlanFile.{groupAt}
 use Rattle.fused.specs.Records.{Record, recordsCost}
@@ -63,10 +62,6 @@ module _ (p rows : List ℕ) (count : ℕ) (needs group joined ord : List ℕ) w
   unfolding stage
   stage-more i = rw (add-one i)
 
-  pub stage-start : stage p rows count needs group joined ord 0 ≡ record { records = []; wires = replicate mostGates 0 }
-  unfolding stage
-  stage-start = refl
-
   -- the records of turn i, as the code has them in hand: the group g, at its place, over the wires w from wire n on
   pub turn-is : (i g at n : ℕ) (w : List ℕ) → g ≡ getD ord i 0 → at ≡ getD joined g 0 → w ≡ stage p rows count needs group joined ord i .wires
       → n ≡ length (stage p rows count needs group joined ord i .records)
@@ -82,9 +77,6 @@ module _ (p rows : List ℕ) (count : ℕ) (needs group joined ord : List ℕ) w
 
     joining : (at ≡ 0 → ⊥) → Joining rows p conds group count at
     joining n = rw place (t .joins i h (λ e. n (place ∙ e)))
-
-    pub turn-inside : g < mostGates
-    turn-inside = rw eg (t .inside i h)
 
     pub turn-measurable : Measurable rows p at (getD ord i 0)
     turn-measurable = record { alone = λ e. writable e .coded; joins = λ n. joining n .joinable }

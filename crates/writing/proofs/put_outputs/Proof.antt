@@ -3,7 +3,7 @@ use Rattle.emitting.specs.FillLaws.{Filling}
 use Rattle.emitting.specs.LoopLaws.{filling-same}
 use Rattle.emitting.specs.Emitted.{wireIn}
 use lib.ListN.{length}
-use Prim.Native.Nat.{_-_, _+_, _*_, _≤_}
+use Prim.Native.Nat.{_-_, _*_, _≤_}
 use native.Mathlib.Omega.{arith}
 use borrow.Author.Needs.{needs}
 use Rattle.writing.proofs.put_outputs.Statement.{statement}

@@ -1,5 +1,5 @@
 use Rattle.writing.specs.LoopLaws.{Putting, putting-start, putting-fits, putting-room, putting-step, putting-same, putting-end}
-use Rattle.writing.specs.TurnLaws.{turn-inside, turn-listed, turn-fits, turn-puttable}
+use Rattle.writing.specs.TurnLaws.{turn-listed, turn-fits, turn-puttable}
 use lib.ListN.{length}
 use Prim.Native.Nat.{_≤_, _+_, _-_}
 use native.Mathlib.Omega.{arith}

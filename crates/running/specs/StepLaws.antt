@@ -1,0 +1,96 @@
+-- Laws of a fused run, step by step as the code takes it: the circuit is written, the inputs are looked at, the file is run. Assumes nothing.
+use Prim.Native.Nat.{ℕ, _-_, _≤_}
+use native.Mathlib.Omega.{arith}
+use mathlib.Core.Path.{_≡_, sym, ap, _∙_}
+use mathlib.Core.List.{List}
+use lib.ListN.{length, take, drop}
+use borrow.Author.Tests.{eq-eqb, ne-eqb}
+use Rattle.words.specs.Buffers.{over}
+use Rattle.words.specs.BufferLaws.{take-over}
+use Rattle.words.specs.Numbers.{Bytes}
+use Rattle.answers.specs.Answers.{refusal}
+use Rattle.answers.specs.declared.Answer.{Answer}
+use Rattle.reading.specs.Header.{variables, HasKinds}
+use Rattle.reading.specs.FirstStatement.{rule-read}
+use Rattle.circuit.specs.WholeLaws.{accepted}
+use Rattle.plan.specs.Rows.{planAnswer}
+use Rattle.plan.specs.AcceptedLaws.{plan-accepted}
+use Rattle.fused.specs.CircuitFile.{fusedFile}
+use Rattle.fused.specs.FileFigures.{fileVariables, fileFigures}
+use Rattle.fused.specs.Answers.{fusedCounts, fusedAnswer, writeAnswer, writtenOver}
+use Rattle.fused.specs.SizeBounds.{bytes-bound}
+use Rattle.fused.specs.FitPlan.{fused-found}
+use Rattle.fused.specs.Demand3.{reads-earlier, output-earlier}
+use Rattle.direct.specs.Inputs.{inputRow}
+use Rattle.direct.specs.InputLaws.{inputs-count, inputs-room}
+use Rattle.direct.specs.Direct.{runAnswer}
+use Rattle.direct.specs.DirectLaws.{rule-answer, inputs-answer, run-answer}
+use Rattle.figures.specs.Runnable.{Runnable}
+use Rattle.writing.specs.WriteLaws.{file-kept}
+use Rattle.running.specs.FusedRun.{fusedResults}
+use Rattle.running.specs.RunLaws.{fused-accepted, fused-plan, room-enough}
+use Rattle.running.specs.RunnableLaws.{fused-runnable}
+
+-- z: the bytes of the circuit before it is written
+module _ (s p : List ℕ) (a : Answer) (z : List ℕ) (room : length z ≡ 16384) (e : a ≡ writeAnswer s p (length z)) where
+  answer-is : a ≡ fusedAnswer s p
+  answer-is = e ∙ ap (writeAnswer s p) room ∙ room-enough s p
+
+  -- a refused rule or plan
+  pub refused-run : (a .number ≡ 0 → ⊥) → (inputs d : List ℕ) → (a ≡ runAnswer (fusedAnswer s p) s inputs (length d)) × (d ≡ fusedResults s p inputs d)
+  unfolding fusedResults
+  refused-run h inputs d =
+      let n : fusedAnswer s p .number ≡ 0 → ⊥ = λ q. h (ap (λ (b : Answer). b .number) answer-is ∙ q) in
+      let r = rule-answer (fusedAnswer s p) s inputs n (length d) in
+      (answer-is ∙ sym r, rw (r, ne-eqb _ _ n))
+
+  module _ (zero : a .number ≡ 0) where
+    fused-zero : fusedAnswer s p .number ≡ 0
+    fused-zero = ap (λ (b : Answer). b .number) (sym answer-is) ∙ zero
+
+    taken : planAnswer s p .number ≡ 0
+    taken = fused-plan s p fused-zero
+
+    pub kinds-there : HasKinds s
+    kinds-there = rule-read s (accepted s (plan-accepted s p .0 taken .0) .read) .header .kinds
+
+    -- refused inputs
+    pub inputs-refused : (inputs d : List ℕ) (row : ℕ) (b : Answer) → row ≡ inputRow s inputs (length d) → (row ≡ 0 → ⊥) → b ≡ refusal row 0
+        → (b ≡ runAnswer (fusedAnswer s p) s inputs (length d)) × (d ≡ fusedResults s p inputs d)
+    unfolding fusedResults
+    inputs-refused inputs d row b q h f =
+        let n : inputRow s inputs (length d) ≡ 0 → ⊥ = λ k. h (q ∙ k) in
+        let r = inputs-answer (fusedAnswer s p) s inputs fused-zero (length d) n in
+        (f ∙ ap (λ (k : ℕ). refusal k 0) q ∙ sym r, rw (r, ne-eqb _ _ n))
+
+    -- the file that was written
+    size-is : a .bytes ≡ length (fusedFile s p)
+    unfolding fusedCounts
+    size-is = ap (λ (b : Answer). b .bytes) (answer-is ∙ fused-accepted s p taken)
+
+    pub size-inside : a .bytes ≤ 16384
+    size-inside = omega (arith, size-is, bytes-bound s p taken)
+
+    module _ (file : List ℕ) (w : file ≡ writtenOver s p z) where
+      pub part-is : take (a .bytes - 0) (drop 0 file) ≡ fusedFile s p
+      part-is =
+          let n : a .bytes - 0 ≡ length (fusedFile s p) = omega (arith, size-is) in
+          let l : length (fusedFile s p) ≤ length z = omega (arith, room, bytes-bound s p taken) in
+          ap (λ (k : ℕ). take k file) n ∙ ap (take (length (fusedFile s p))) (w ∙ file-kept s p taken z l) ∙ take-over (fusedFile s p) z
+
+      -- inputs that no row refuses
+      module _ (bytes : Bytes s) (inputs d : List ℕ) (row : ℕ) (q : row ≡ inputRow s inputs (length d)) (none : row ≡ 0) where
+        inputs-taken : (length inputs ≡ variables s) × (variables s ≤ length d)
+        inputs-taken = (inputs-count s inputs (length d) (sym q ∙ none), inputs-room s inputs (length d) (sym q ∙ none))
+
+        pub part-runnable : Runnable (take (a .bytes - 0) (drop 0 file)) (length inputs) × (fileVariables (take (a .bytes - 0) (drop 0 file)) ≤ length d)
+        part-runnable =
+            let v : fileVariables (fusedFile s p) ≡ variables s = fused-found s p taken bytes (reads-earlier s p taken) (output-earlier s p taken) .2 in
+            rw (part-is, inputs-taken .0) (fused-runnable s p taken bytes, rw v (inputs-taken .1))
+
+        pub run-done : (new : List ℕ) → new ≡ over (fileFigures (take (a .bytes - 0) (drop 0 file)) inputs) d
+            → (a ≡ runAnswer (fusedAnswer s p) s inputs (length d)) × (new ≡ fusedResults s p inputs d)
+        unfolding fusedResults
+        run-done new f =
+            let r = run-answer (fusedAnswer s p) s inputs fused-zero (length d) (sym q ∙ none) in
+            (answer-is ∙ sym r, f ∙ ap (λ (x : List ℕ). over (fileFigures x inputs) d) part-is ∙ rw (r, eq-eqb _ _ fused-zero))
