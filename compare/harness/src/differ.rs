@@ -1,0 +1,109 @@
+//! One case given to two tools: the same answer, and every byte that was lent the same afterwards.
+
+use crate::tool::{Shown, Tool};
+use compare::answer::Answer;
+use compare::stream::{Case, CHECK, DIRECT, FUSED, PLAIN, READ, WRITE};
+use std::fmt::UpperHex;
+
+/// So many elements before and after what is lent belong to nobody, and stay as they are.
+const AROUND: usize = 16;
+
+/// What a call leaves: its answer, all that it was lent with what lies around, a circuit shown.
+#[derive(Clone, Debug, PartialEq, Eq)]
+pub struct Outcome {
+    pub answer: Answer,
+    pub words: Vec<u32>,
+    pub bytes: Vec<u8>,
+    pub shown: Option<Box<Shown>>,
+}
+
+/// Calls the case's operation. Buffers hold a pattern before, so that every change shows.
+pub fn outcome(tool: &dyn Tool, case: &Case) -> Outcome {
+    let (rule, inputs) = (&case.first, &case.inputs);
+    let plan = &case.second;
+    match case.operation {
+        READ => answered(tool.read_rule(rule)),
+        DIRECT => with_words(case, |results| tool.run_rule(rule, inputs, results)),
+        CHECK => answered(tool.check_plan(rule, plan)),
+        WRITE => with_bytes(case, |out| tool.write_fused(rule, plan, out)),
+        FUSED => with_words(case, |results| tool.run_fused(rule, plan, inputs, results)),
+        PLAIN => {
+            let shown = tool.show_plain(rule);
+            Outcome {
+                shown: Some(Box::new(shown.clone())),
+                ..answered(shown.answer)
+            }
+        }
+        operation => unreachable!("operation {operation} is not generated"),
+    }
+}
+
+fn answered(answer: Answer) -> Outcome {
+    Outcome {
+        answer,
+        words: Vec::new(),
+        bytes: Vec::new(),
+        shown: None,
+    }
+}
+
+fn with_words(case: &Case, call: impl Fn(&mut [u32]) -> Answer) -> Outcome {
+    let room = usize::from(case.room);
+    let mut words: Vec<u32> = (0..room + 2 * AROUND)
+        .map(|place| 0xDEAD_0000 + place as u32)
+        .collect();
+    let answer = call(&mut words[AROUND..AROUND + room]);
+    Outcome {
+        words,
+        ..answered(answer)
+    }
+}
+
+fn with_bytes(case: &Case, call: impl Fn(&mut [u8]) -> Answer) -> Outcome {
+    let room = usize::from(case.room);
+    let mut bytes: Vec<u8> = (0..room + 2 * AROUND)
+        .map(|place| 0xC0 + (place % 61) as u8)
+        .collect();
+    let answer = call(&mut bytes[AROUND..AROUND + room]);
+    Outcome {
+        bytes,
+        ..answered(answer)
+    }
+}
+
+/// Where two outcomes differ, in words; none if they are the same.
+pub fn difference(one: &Outcome, other: &Outcome) -> Option<String> {
+    if one == other {
+        return None;
+    }
+    let mut text = format!("{}\n{}\n", one.answer.line(), other.answer.line());
+    text.push_str(&first_place("result", AROUND, &one.words, &other.words));
+    text.push_str(&first_place("byte", AROUND, &one.bytes, &other.bytes));
+    if let (Some(one), Some(other)) = (&one.shown, &other.shown) {
+        text.push_str(&first_place(
+            "number of the rows",
+            0,
+            &one.rows,
+            &other.rows,
+        ));
+        text.push_str(&first_place("precondition", 0, &one.needs, &other.needs));
+    }
+    Some(text)
+}
+
+/// The first place that differs, counted from where the lent part starts.
+fn first_place<T: PartialEq + UpperHex>(
+    what: &str,
+    start: usize,
+    one: &[T],
+    other: &[T],
+) -> String {
+    match (0..one.len()).find(|&place| one[place] != other[place]) {
+        Some(place) => {
+            let (one, other) = (&one[place], &other[place]);
+            let place = place as isize - start as isize;
+            format!("{what} {place}: {one:X} and {other:X}\n")
+        }
+        None => String::new(),
+    }
+}

@@ -1,0 +1,139 @@
+//! The six operations as the harness calls them, of either implementation.
+
+use compare::answer::Answer;
+use compare::circuit::{accept, preconditions, Circuit, Gate, Settings};
+use compare::law::{CONDITIONS_MAX, GATES_MAX};
+
+/// What operation 06 gives: the answer, four numbers a gate, and preconditions; zeros after them.
+#[derive(Clone, Debug, PartialEq, Eq)]
+pub struct Shown {
+    pub answer: Answer,
+    pub rows: [u32; 4 * GATES_MAX],
+    pub needs: [u64; GATES_MAX],
+}
+
+pub trait Tool: Sync {
+    fn read_rule(&self, rule: &[u8]) -> Answer;
+    fn run_rule(&self, rule: &[u8], inputs: &[u32], results: &mut [u32]) -> Answer;
+    fn check_plan(&self, rule: &[u8], plan: &[u8]) -> Answer;
+    fn write_fused(&self, rule: &[u8], plan: &[u8], out: &mut [u8]) -> Answer;
+    fn run_fused(&self, rule: &[u8], plan: &[u8], inputs: &[u32], results: &mut [u32]) -> Answer;
+    fn show_plain(&self, rule: &[u8]) -> Shown;
+}
+
+/// The proved tool, through the library that C and Rust programs link.
+pub struct Proved;
+
+fn of(answer: linnet::Answer) -> Answer {
+    Answer {
+        number: answer.number,
+        place: answer.place,
+        gates: answer.gates,
+        wires: answer.wires,
+        bytes: answer.bytes,
+        before: answer.before,
+        after: answer.after,
+    }
+}
+
+impl Tool for Proved {
+    fn read_rule(&self, rule: &[u8]) -> Answer {
+        of(linnet::read_rule(rule))
+    }
+
+    fn run_rule(&self, rule: &[u8], inputs: &[u32], results: &mut [u32]) -> Answer {
+        of(linnet::run_rule(rule, inputs, results))
+    }
+
+    fn check_plan(&self, rule: &[u8], plan: &[u8]) -> Answer {
+        of(linnet::check_plan(rule, plan))
+    }
+
+    fn write_fused(&self, rule: &[u8], plan: &[u8], out: &mut [u8]) -> Answer {
+        of(linnet::write_fused(rule, plan, out))
+    }
+
+    fn run_fused(&self, rule: &[u8], plan: &[u8], inputs: &[u32], results: &mut [u32]) -> Answer {
+        of(linnet::run_fused(rule, plan, inputs, results))
+    }
+
+    fn show_plain(&self, rule: &[u8]) -> Shown {
+        let shown = linnet::show_plain(rule);
+        Shown {
+            answer: of(shown.answer),
+            rows: shown.rows,
+            needs: shown.needs,
+        }
+    }
+}
+
+/// The second implementation, in plain Rust.
+pub struct Plain;
+
+impl Tool for Plain {
+    fn read_rule(&self, rule: &[u8]) -> Answer {
+        compare::circuit::read_rule(rule)
+    }
+
+    fn run_rule(&self, rule: &[u8], inputs: &[u32], results: &mut [u32]) -> Answer {
+        compare::direct::run(rule, inputs, results)
+    }
+
+    fn check_plan(&self, rule: &[u8], plan: &[u8]) -> Answer {
+        compare::plan::check_plan(rule, plan)
+    }
+
+    fn write_fused(&self, rule: &[u8], plan: &[u8], out: &mut [u8]) -> Answer {
+        compare::write::write(rule, plan, out)
+    }
+
+    fn run_fused(&self, rule: &[u8], plan: &[u8], inputs: &[u32], results: &mut [u32]) -> Answer {
+        compare::run::run(rule, plan, inputs, results)
+    }
+
+    fn show_plain(&self, rule: &[u8]) -> Shown {
+        let mut shown = Shown {
+            answer: compare::circuit::read_rule(rule),
+            rows: [0; 4 * GATES_MAX],
+            needs: [0; GATES_MAX],
+        };
+        if let Some((circuit, needs)) = plain_circuit(rule) {
+            for (gate, needs) in needs.iter().enumerate() {
+                shown.rows[4 * gate..4 * gate + 4].copy_from_slice(&row(&circuit.gates[gate]));
+                shown.needs[gate] = number(needs);
+            }
+        }
+        shown
+    }
+}
+
+/// What the second implementation works out for operation 06, in its own form; none if refused.
+pub fn plain_circuit(rule: &[u8]) -> Option<(Circuit, Vec<Settings>)> {
+    let circuit = accept(rule).ok()?.circuit;
+    let needs = preconditions(&circuit);
+    Some((circuit, needs))
+}
+
+/// A gate's code, then the variable of a starting value, the figure of a constant, or arguments.
+fn row(gate: &Gate) -> [u32; 4] {
+    let mut row = [u32::from(gate.code()), 0, 0, 0];
+    match gate {
+        Gate::Start(variable, _) => row[1] = *variable as u32,
+        Gate::Word(word) => row[1] = *word,
+        Gate::Bit(bit) => row[1] = u32::from(*bit),
+        Gate::Operation(..) | Gate::Choice(..) => {
+            for (place, argument) in gate.arguments().iter().enumerate() {
+                row[place + 1] = argument.0 as u32;
+            }
+        }
+    }
+    row
+}
+
+/// A set of settings as a number: bit j for setting j.
+fn number(settings: &Settings) -> u64 {
+    const { assert!(1 << CONDITIONS_MAX == u64::BITS) };
+    (0..u64::BITS as usize)
+        .map(|j| u64::from(settings.0[j]) << j)
+        .sum()
+}

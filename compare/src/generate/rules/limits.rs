@@ -1,0 +1,200 @@
+//! Rules of just so many gates, conditions, levels or bytes, and rules of many like gates.
+
+use super::{maker, tree, Maker};
+use crate::circuit::make;
+use crate::generate::Random;
+use crate::law::*;
+use crate::rule::{bytes_of, Block, Expression, Rule, Statement};
+
+/// A rule of just so many gates: a random one filled up with constants.
+pub(super) fn at_gates(random: &mut Random, gates: usize) -> Rule {
+    loop {
+        let mut rule = match random.below(4) {
+            0 => wide(random),
+            _ => tree(random),
+        };
+        while make(&rule).gates.len() < gates {
+            let variable = random.below(rule.kinds.len());
+            let value = match rule.kinds[variable] {
+                Kind::Word => Expression::Word(random.word()),
+                Kind::Bit => Expression::Bit(random.chance(50)),
+            };
+            // At the front or the end: either adds the constant's gate alone.
+            let place = random.pick(&[0, rule.block.len()]);
+            rule.block.insert(place, Statement::Assign(variable, value));
+        }
+        if make(&rule).gates.len() == gates {
+            return rule;
+        }
+    }
+}
+
+/// A rule of just so many conditions, its ifs one after the other or nested.
+pub(super) fn at_conditions(random: &mut Random, conditions: usize) -> Rule {
+    loop {
+        let mut maker = maker(random);
+        maker.ifs_left = 0;
+        let mut block = Vec::new();
+        for _ in 0..conditions {
+            let code = maker.random.pick(&[LESS, EQUAL, AND, OR, NOT]);
+            let condition = maker.operation(code, 2);
+            let mut first = vec![maker.assign(2)];
+            let second = maker.mirror(&first);
+            // Nest what there is so far, or go on after it.
+            if maker.random.chance(40) && depth_of(&block) < IF_DEPTH_MAX {
+                first.append(&mut block);
+            }
+            block.push(Statement::If(condition, first, second));
+        }
+        let rule = Rule {
+            kinds: maker.kinds,
+            block,
+        };
+        if make(&rule).conditions.len() == conditions {
+            return rule;
+        }
+    }
+}
+
+fn depth_of(block: &Block) -> usize {
+    block
+        .iter()
+        .map(|statement| match statement {
+            Statement::If(_, first, second) => 1 + depth_of(first).max(depth_of(second)),
+            _ => 0,
+        })
+        .max()
+        .unwrap_or(0)
+}
+
+/// A rule with an expression of just this depth, leaning anywhere.
+pub(super) fn at_depth(random: &mut Random, depth: usize) -> Rule {
+    let mut maker = maker(random);
+    let before = maker.random.below(3);
+    let mut block = maker.block(before, 0);
+    let variable = maker.random.below(maker.kinds.len());
+    let value = maker.just_deep(maker.kinds[variable], depth);
+    block.push(Statement::Assign(variable, value));
+    let after = maker.random.below(2);
+    block.extend(maker.block(after, 0));
+    Rule {
+        kinds: maker.kinds,
+        block,
+    }
+}
+
+impl Maker<'_> {
+    fn just_deep(&mut self, kind: Kind, depth: usize) -> Expression {
+        if depth == 1 {
+            return self.leaf(kind);
+        }
+        let rows: Vec<Operation> = OPERATIONS
+            .iter()
+            .copied()
+            .filter(|row| row.gives == kind)
+            .collect();
+        let row = self.random.pick(&rows);
+        let deep = self.random.below(row.arguments);
+        let arguments = (0..row.arguments)
+            .map(|place| {
+                if place == deep {
+                    self.just_deep(row.takes, depth - 1)
+                } else {
+                    self.expression(row.takes, (depth - 1).min(2))
+                }
+            })
+            .collect();
+        Expression::Operation(row.code, arguments)
+    }
+}
+
+/// A rule with ifs nested just so deep, each in either block of the one before.
+pub(super) fn at_nesting(random: &mut Random, nesting: usize) -> Rule {
+    let mut maker = maker(random);
+    maker.ifs_left = 0;
+    let mut block = maker.block(1, 0);
+    for _ in 0..nesting {
+        let condition = maker.condition();
+        let statements = maker.random.below(3);
+        let other = maker.block(statements, 0);
+        let statement = if maker.random.chance(50) {
+            Statement::If(condition, block, other)
+        } else {
+            Statement::If(condition, other, block)
+        };
+        block = vec![statement];
+        if maker.random.chance(30) {
+            let more = maker.block(1, 0);
+            block.extend(more);
+        }
+    }
+    Rule {
+        kinds: maker.kinds,
+        block,
+    }
+}
+
+/// One if with many operations in both blocks: many pairs to join, up to the greatest wire count.
+pub(super) fn wide(random: &mut Random) -> Rule {
+    let most = random.pick(&[4, 20, 60, 126, 126]);
+    let pairs = random.among(most / 2, most);
+    let code = random.pick(&[PRODUCT, LESS, AND]);
+    let row = operation(code).expect("an operation");
+    let mut kinds = vec![Kind::Bit, row.takes];
+    if row.gives != row.takes {
+        kinds.push(row.gives);
+    }
+    let into = kinds.len() - 1;
+    let one = |_| {
+        let argument = || Expression::Variable(1);
+        let value = Expression::Operation(code, vec![argument(), argument()]);
+        Statement::Assign(into, value)
+    };
+    Rule {
+        kinds,
+        block: vec![Statement::If(
+            Expression::Variable(0),
+            (0..pairs).map(one).collect(),
+            (0..pairs).map(one).collect(),
+        )],
+    }
+}
+
+/// Operations that nothing needs, since they are stored over: they exclude every gate.
+pub(super) fn dead(random: &mut Random) -> Rule {
+    let code = random.pick(&[PRODUCT, SUM, DIFFERENCE, PRODUCT]);
+    let count = random.pick(&[2, 3, 10, 100, 254]);
+    let own = random.chance(30);
+    let statements = (0..count).map(|_| {
+        // From v0 each alone, or in a chain through v1, which makes circles of any two.
+        let first = Expression::Variable(usize::from(own));
+        let code = if random.chance(90) { PRODUCT } else { code };
+        Statement::Assign(
+            1,
+            Expression::Operation(code, vec![first, Expression::Variable(0)]),
+        )
+    });
+    let mut block: Block = statements.collect();
+    if random.chance(50) {
+        block.pop();
+        block.push(Statement::Assign(1, Expression::Word(random.word())));
+    }
+    Rule {
+        kinds: vec![Kind::Word, Kind::Word],
+        block,
+    }
+}
+
+/// A rule filled up with skips to just this size, at the front, at the end or in a block.
+pub(super) fn at_size(random: &mut Random, mut rule: Rule, size: usize) -> Vec<u8> {
+    let now = bytes_of(&rule).len();
+    let skips = vec![Statement::Skip; size.saturating_sub(now)];
+    match rule.block.last_mut() {
+        Some(Statement::If(_, first, _)) if random.chance(50) => first.extend(skips),
+        _ if random.chance(50) => {
+            rule.block.splice(0..0, skips);
+        }
+        _ => rule.block.extend(skips),
+    }
+    bytes_of(&rule)
+}

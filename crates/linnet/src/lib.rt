@@ -1,0 +1,84 @@
+// The tool as C and Rust call it: each operation passed on, with the promise that it has.
+use answers::Answer;
+ghost use mathlib.Core.Path.{_≡_};
+ghost use lib.ListN.{length};
+ghost use Rattle.circuit.specs.Whole.{ruleAnswer};
+ghost use Rattle.circuit.specs.Shown.{shownRows, shownNeeds};
+ghost use Rattle.plan.specs.Rows.{planAnswer};
+ghost use Rattle.fused.specs.Answers.{fusedAnswer, writeAnswer, writtenOver};
+ghost use Rattle.running.specs.FusedRun.{fusedResults};
+ghost use Rattle.direct.specs.Direct.{runAnswer, runResults};
+
+// Reads a rule: its refusal by rows 1 to 11, or its gates and their cost.
+#[no_mangle]
+pub extern "C" fn linnet_read_rule(rule: &[u8]) -> Answer
+    ensures { λ r. ⌜ r ≡ ruleAnswer (now (rule .entry)) ⌝ }
+{
+    circuit::read_rule(rule)
+}
+
+// A direct run of a rule on its inputs: every variable's figure at its end in the first V results. A refusal writes nothing.
+#[no_mangle]
+pub extern "C" fn linnet_run_rule(rule: &[u8], inputs: &[u32], results: &mut [u32]) -> Answer
+    ensures answer { λ r. ⌜ r ≡ runAnswer (ruleAnswer (now (rule .entry))) (now (rule .entry)) (now (inputs .entry)) (length (now (results .entry))) ⌝ }
+    ensures results { λ _. ⌜ now (results .exit) ≡ runResults (ruleAnswer (now (rule .entry))) (now (rule .entry)) (now (inputs .entry)) (now (results .entry)) ⌝ }
+{
+    direct::run(rule, inputs, results)
+}
+
+// A plain circuit shown, laid out as C lays it out: `circuit::Shown`, field by field.
+#[repr(C)]
+pub struct Shown {
+    pub answer: Answer,
+    pub rows: [u32; 1024],
+    pub needs: [u64; 256],
+}
+
+// Shows the plain circuit of a rule: the answer of reading it, four numbers a gate, and each gate's precondition; zeros after the gates.
+#[no_mangle]
+pub extern "C" fn linnet_show_plain(rule: &[u8]) -> Shown
+    ensures answer { λ r. ⌜ r .answer ≡ ruleAnswer (now (rule .entry)) ⌝ }
+    ensures rows { λ r. ⌜ r .rows ≡ shownRows (now (rule .entry)) ⌝ }
+    ensures needs { λ r. ⌜ r .needs ≡ shownNeeds (now (rule .entry)) ⌝ }
+{
+    let shown = circuit::show(rule);
+    let answer = shown.answer;
+    let rows = shown.rows;
+    let needs = shown.needs;
+    Shown {
+        answer,
+        rows,
+        needs,
+    }
+}
+
+// Operation 03: checks a plan for a rule.
+#[no_mangle]
+pub extern "C" fn linnet_check_plan(rule: &[u8], plan: &[u8]) -> Answer
+    ensures { λ r. ⌜ r ≡ planAnswer (now (rule .entry)) (now (plan .entry)) ⌝ }
+{
+    checking::check_plan(rule, plan)
+}
+
+// Operation 04: writes the fused circuit into the buffer.
+#[no_mangle]
+pub extern "C" fn linnet_write_fused(rule: &[u8], plan: &[u8], out: &mut [u8]) -> Answer
+    ensures answer { λ r. ⌜ r ≡ writeAnswer (now (rule .entry)) (now (plan .entry)) (length (now (out .entry))) ⌝ }
+    ensures file { λ _. ⌜ now (out .exit) ≡ writtenOver (now (rule .entry)) (now (plan .entry)) (now (out .entry)) ⌝ }
+{
+    writing::write(rule, plan, out)
+}
+
+// Operation 05: runs the fused circuit on inputs.
+#[no_mangle]
+pub extern "C" fn linnet_run_fused(
+    rule: &[u8],
+    plan: &[u8],
+    inputs: &[u32],
+    results: &mut [u32],
+) -> Answer
+    ensures answer { λ r. ⌜ r ≡ runAnswer (fusedAnswer (now (rule .entry)) (now (plan .entry))) (now (rule .entry)) (now (inputs .entry)) (length (now (results .entry))) ⌝ }
+    ensures results { λ _. ⌜ now (results .exit) ≡ fusedResults (now (rule .entry)) (now (plan .entry)) (now (inputs .entry)) (now (results .entry)) ⌝ }
+{
+    running::run(rule, plan, inputs, results)
+}

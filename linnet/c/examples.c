@@ -1,0 +1,91 @@
+/* Calls every operation of linnet.h on examples of document 01; the exit status is 0 when each
+ * answer, byte and untouched place is as document 01 says. */
+#include <stdio.h>
+#include <string.h>
+
+#include "linnet.h"
+
+static const uint8_t R1[29] = {
+    0x52, 0x55, 0x4C, 0x00, 0x01, 0x03, 0x01, 0x00, 0x00, 0x03, 0x10, 0x00, 0x01, 0x01, 0x22,
+    0x10, 0x01, 0x10, 0x02, 0x00, 0x01, 0x01, 0x22, 0x10, 0x02, 0x10, 0x02, 0x00, 0x00};
+
+static int failures = 0;
+
+static void hold(int holds, const char *what) {
+    if (!holds) {
+        printf("does not hold: %s\n", what);
+        failures++;
+    }
+}
+
+static int is(struct linnet_answer a, uint8_t number, size_t place, size_t gates, size_t wires,
+              size_t bytes, size_t before, size_t after) {
+    return a.number == number && a.place == place && a.gates == gates && a.wires == wires &&
+           a.bytes == bytes && a.before == before && a.after == after;
+}
+
+static void read_rule(void) {
+    hold(is(linnet_read_rule(R1, 29), 0, 0, 6, 0, 0, 33, 0), "R1 is accepted");
+    hold(is(linnet_read_rule(R1, 28), 4, 28, 0, 0, 0, 0, 0), "R1 cut by one byte: 4 at 28");
+    hold(is(linnet_read_rule(R1, 0), 1, 0, 0, 0, 0, 0, 0), "no bytes: 1");
+}
+
+static void run_rule(void) {
+    const uint32_t inputs[3] = {1, 6, 7};
+    const uint32_t wrong[3] = {2, 6, 7};
+    uint32_t results[4] = {9, 9, 9, 9};
+    hold(is(linnet_run_rule(R1, 29, wrong, 3, results, 4), 41, 0, 0, 0, 0, 0, 0), "2 for a bit: 41");
+    hold(is(linnet_run_rule(R1, 29, inputs, 2, results, 4), 40, 0, 0, 0, 0, 0, 0), "two inputs: 40");
+    hold(is(linnet_run_rule(R1, 29, inputs, 3, results, 2), 42, 0, 0, 0, 0, 0, 0), "two places: 42");
+    hold(results[0] == 9 && results[1] == 9 && results[2] == 9, "a refusal writes nothing");
+    hold(is(linnet_run_rule(R1, 29, inputs, 3, results, 4), 0, 0, 6, 0, 0, 33, 0), "R1 runs");
+    hold(results[0] == 1 && results[1] == 42 && results[2] == 7, "R1 gives 1, 42, 7");
+    hold(results[3] == 9, "nothing after the results");
+}
+
+static void show_plain(void) {
+    struct linnet_shown shown = linnet_show_plain(R1, 29);
+    hold(is(shown.answer, 0, 0, 6, 0, 0, 33, 0), "R1 is shown");
+    const uint32_t choice[4] = {0x30, 0, 3, 4};
+    hold(memcmp(&shown.rows[20], choice, sizeof choice) == 0, "gate 5 is the choice");
+    hold(shown.needs[3] == 0xAAAAAAAAAAAAAAAA, "gate 3's precondition");
+    hold(shown.needs[4] == 0x5555555555555555, "gate 4's precondition");
+    hold(shown.rows[24] == 0 && shown.needs[6] == 0, "zeros after the gates");
+}
+
+static const uint8_t P1[14] = {
+    0x50, 0x4C, 0x4E, 0x00, 0x01, 0x00, 0x06, 0x00, 0x01, 0x02, 0x00, 0x03, 0x00, 0x04};
+
+static void check_plan(void) {
+    hold(is(linnet_check_plan(R1, 29, P1, 14), 0, 0, 6, 0, 0, 33, 0), "P1 is accepted");
+    hold(is(linnet_check_plan(R1, 29, P1, 13), 23, 0, 0, 0, 0, 0, 0), "P1 cut by one byte: 23");
+}
+
+static void write_fused(void) {
+    const uint8_t end[6] = {0x00, 0x00, 0x00, 0x08, 0x00, 0x02};
+    uint8_t out[80];
+    memset(out, 0xEE, sizeof out);
+    hold(is(linnet_write_fused(R1, 29, P1, 14, out, 75), 50, 0, 0, 0, 0, 0, 0), "75 bytes: 50");
+    hold(out[0] == 0xEE && out[74] == 0xEE, "a refusal writes nothing");
+    hold(is(linnet_write_fused(R1, 29, P1, 14, out, 80), 0, 0, 6, 9, 76, 33, 28), "76 bytes");
+    hold(memcmp(&out[70], end, sizeof end) == 0, "the file ends with the outputs");
+    hold(out[76] == 0xEE, "nothing after the file");
+}
+
+static void run_fused(void) {
+    const uint32_t inputs[3] = {0, 6, 7};
+    uint32_t results[4] = {9, 9, 9, 9};
+    hold(is(linnet_run_fused(R1, 29, P1, 14, inputs, 3, results, 4), 0, 0, 6, 9, 76, 33, 28), "R1, P1");
+    hold(results[0] == 0 && results[1] == 49 && results[2] == 7, "R1 and P1 give 0, 49, 7");
+    hold(results[3] == 9, "nothing after the results");
+}
+
+int main(void) {
+    read_rule();
+    run_rule();
+    show_plain();
+    check_plan();
+    write_fused();
+    run_fused();
+    return failures != 0;
+}

@@ -1,0 +1,99 @@
+/* Linnetshelf: reads a matching rule, runs it, checks a plan for it and writes the fused circuit,
+ * byte for byte as document 01 fixes it. Every function here is proved to answer and to write what
+ * the definitions of crates/<crate>/specs give, for any bytes at all.
+ *
+ * Link with target/staticlib/liblinnet.a, which `rt staticlib linnet` writes (x86-64).
+ *
+ * What is lent. A pointer and the count after it are one array: so many elements, bytes or words,
+ * not more. No pointer is NULL, also where the count is 0. An array that an operation writes to
+ * overlaps no other array of the call. Nothing is kept after the call, no memory is allocated, and any
+ * number of threads may call at once.
+ *
+ * Refusals. An operation either succeeds, with number 0 and place 0, or refuses, with a number, a
+ * place and every count 0. A refusal writes to no array. Rule comes before plan, plan before inputs
+ * or buffer.
+ *
+ *   rule     1 size (6 to 4,096 bytes)        2 mark or version        3 variables or a kind byte
+ *            4 a byte is wanted past the end  5 unknown code           6 no such variable
+ *            7 wrong kind                     8 too deep               9 bytes after the end
+ *           10 over 256 gates                11 over 6 conditions
+ *   plan    20 size (9 to 1,024 bytes)       21 mark or version       22 gate count differs
+ *           23 groups do not end with the file   24 a group below 2   25 no such gate, or not rising
+ *           26 gate in two groups            27 member not costly     28 operations differ
+ *           29 members do not exclude each other                      30 a group waits in a circle
+ *   inputs  40 not V of them                 41 a bit above 1         42 fewer than V result places
+ *   buffer  50 shorter than the file
+ *
+ * The place is the offending byte for 2, 3 and 5 to 9, the rule's length for 4, 10 and 11, else 0. */
+#ifndef LINNET_H
+#define LINNET_H
+
+#include <stddef.h>
+#include <stdint.h>
+
+#ifdef __cplusplus
+extern "C" {
+#endif
+
+/* The seven numbers that every operation answers with. A count that it does not work out is 0. */
+struct linnet_answer {
+    uint8_t number; /* 0, or the refusal */
+    size_t place;   /* the refusal's place */
+    size_t gates;   /* gates of the plain circuit */
+    size_t wires;   /* wires of the fused circuit */
+    size_t bytes;   /* bytes of the fused circuit's file */
+    size_t before;  /* cost of the plain circuit */
+    size_t after;   /* cost of the fused circuit */
+};
+
+/* A plain circuit. Gate g has rows[4 * g] to rows[4 * g + 3] and needs[g]; zeros after the last
+ * gate, and everywhere for a refused rule. A row is the code that the gate's record of a circuit
+ * file begins with (00, 01 starting values, 11, 12 constants, 20 to 27, 30 a choice), then the
+ * variable of a starting value, the figure of a constant, or the argument gates; 0 where there is
+ * none. needs[g] is the gate's precondition: bit j is 1 when setting j needs the gate. */
+struct linnet_shown {
+    struct linnet_answer answer;
+    uint32_t rows[1024];
+    uint64_t needs[256];
+};
+
+/* 01 Reads a rule. Answers gates and cost before. Writes nothing. */
+struct linnet_answer linnet_read_rule(
+    const uint8_t *rule, size_t rule_count);
+
+/* 02 Runs a rule directly on V inputs. Answers as 01. Writes every variable's figure at the end of
+ * the run to the first V results, and nothing after. */
+struct linnet_answer linnet_run_rule(
+    const uint8_t *rule, size_t rule_count,
+    const uint32_t *inputs, size_t inputs_count,
+    uint32_t *results, size_t results_count);
+
+/* 03 Checks a plan for a rule. Answers gates and cost before. Writes nothing. */
+struct linnet_answer linnet_check_plan(
+    const uint8_t *rule, size_t rule_count,
+    const uint8_t *plan, size_t plan_count);
+
+/* 04 Writes the file of the fused circuit to the start of out, and nothing after. Answers all five
+ * counts. 16,384 bytes always suffice. */
+struct linnet_answer linnet_write_fused(
+    const uint8_t *rule, size_t rule_count,
+    const uint8_t *plan, size_t plan_count,
+    uint8_t *out, size_t out_count);
+
+/* 05 Runs the fused circuit on V inputs. Answers all five counts. Writes as 02. */
+struct linnet_answer linnet_run_fused(
+    const uint8_t *rule, size_t rule_count,
+    const uint8_t *plan, size_t plan_count,
+    const uint32_t *inputs, size_t inputs_count,
+    uint32_t *results, size_t results_count);
+
+/* 06 Shows the plain circuit of a rule, with each gate's precondition. Its answer is that of 01.
+ * Writes nothing. */
+struct linnet_shown linnet_show_plain(
+    const uint8_t *rule, size_t rule_count);
+
+#ifdef __cplusplus
+}
+#endif
+
+#endif

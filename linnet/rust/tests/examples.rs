@@ -1,0 +1,115 @@
+//! Examples of document 01, through the wrapper and, from C, through the header.
+
+use linnet::Answer;
+use std::path::Path;
+use std::process::Command;
+
+const R1: [u8; 29] = [
+    0x52, 0x55, 0x4C, 0x00, 0x01, 0x03, 0x01, 0x00, 0x00, 0x03, 0x10, 0x00, 0x01, 0x01, 0x22, 0x10,
+    0x01, 0x10, 0x02, 0x00, 0x01, 0x01, 0x22, 0x10, 0x02, 0x10, 0x02, 0x00, 0x00,
+];
+
+fn refused(number: u8, place: usize) -> Answer {
+    Answer {
+        number,
+        place,
+        ..Answer::default()
+    }
+}
+
+fn plain(gates: usize, before: usize) -> Answer {
+    Answer {
+        gates,
+        before,
+        ..Answer::default()
+    }
+}
+
+#[test]
+fn rules_are_read() {
+    assert_eq!(linnet::read_rule(&R1), plain(6, 33));
+    assert_eq!(linnet::read_rule(&R1[..28]), refused(4, 28));
+    assert_eq!(linnet::read_rule(&[]), refused(1, 0));
+}
+
+#[test]
+fn rules_run() {
+    let mut results = [9; 4];
+    let answer = linnet::run_rule(&R1, &[2, 6, 7], &mut results);
+    assert_eq!((answer, results), (refused(41, 0), [9; 4]));
+    let answer = linnet::run_rule(&R1, &[1, 6, 7], &mut results);
+    assert_eq!((answer, results), (plain(6, 33), [1, 42, 7, 9]));
+    assert_eq!(linnet::run_rule(&R1, &[], &mut []), refused(40, 0));
+}
+
+#[test]
+fn plain_circuits_are_shown() {
+    let shown = linnet::show_plain(&R1);
+    assert_eq!(shown.answer, plain(6, 33));
+    assert_eq!(
+        shown.rows[12..24],
+        [0x22, 1, 2, 0, 0x22, 2, 2, 0, 0x30, 0, 3, 4]
+    );
+    assert_eq!(
+        shown.needs[3..5],
+        [0xAAAA_AAAA_AAAA_AAAA, 0x5555_5555_5555_5555]
+    );
+    assert_eq!(
+        (
+            shown.rows[24..].iter().sum::<u32>(),
+            shown.needs[6..].iter().sum::<u64>()
+        ),
+        (0, 0)
+    );
+    let shown = linnet::show_plain(&R1[..28]);
+    assert_eq!(shown.answer, refused(4, 28));
+    assert_eq!((shown.rows, shown.needs), ([0; 1024], [0; 256]));
+}
+
+#[test]
+fn plans_are_checked_written_and_run() {
+    let p1 = [0x50, 0x4C, 0x4E, 0, 1, 0, 6, 0, 1, 2, 0, 3, 0, 4];
+    let fused = Answer {
+        wires: 9,
+        bytes: 76,
+        after: 28,
+        ..plain(6, 33)
+    };
+    assert_eq!(linnet::check_plan(&R1, &p1), plain(6, 33));
+    assert_eq!(linnet::check_plan(&R1, &p1[..13]), refused(23, 0));
+    let mut out = [0xEE; 80];
+    assert_eq!(
+        linnet::write_fused(&R1, &p1, &mut out[..75]),
+        refused(50, 0)
+    );
+    assert_eq!(out, [0xEE; 80]);
+    assert_eq!(linnet::write_fused(&R1, &p1, &mut out), fused);
+    assert_eq!((&out[..3], out[75], out[76]), (&b"CIR"[..], 2, 0xEE));
+    let mut results = [9; 4];
+    assert_eq!(linnet::run_fused(&R1, &p1, &[0, 6, 7], &mut results), fused);
+    assert_eq!(results, [0, 49, 7, 9]);
+}
+
+/// `linnet/c/examples.c`, compiled by gcc with every warning an error, and run.
+#[test]
+fn c_programs_call_it() {
+    let root = Path::new(env!("CARGO_MANIFEST_DIR")).join("../..");
+    let program = Path::new(env!("CARGO_TARGET_TMPDIR")).join("examples");
+    let mut gcc = Command::new("gcc");
+    gcc.args([
+        "-std=c99",
+        "-pedantic",
+        "-Wall",
+        "-Wextra",
+        "-Werror",
+        "-O2",
+    ]);
+    gcc.arg("-I").arg(root.join("linnet"));
+    gcc.arg(root.join("linnet/c/examples.c"));
+    gcc.arg(root.join("target/staticlib/liblinnet.a"));
+    gcc.arg("-o").arg(&program);
+    assert!(gcc.status().expect("gcc runs").success(), "{gcc:?}");
+    let ran = Command::new(&program).output().expect("it runs");
+    let said = String::from_utf8_lossy(&ran.stdout);
+    assert!(ran.status.success(), "{said}");
+}
