@@ -10,6 +10,7 @@ ghost use lib.ListN.{length, take, replicate};
 ghost use Rattle.words.specs.Numbers.{bytesOf};
 ghost use Rattle.words.specs.Buffers.{over};
 ghost use Rattle.gates.specs.Limits.{mostGates};
+ghost use Rattle.answers.specs.Answers.{success};
 ghost use Rattle.fused.specs.CircuitFile.{mark, wiresBytes, recordsBytes};
 ghost use Rattle.fused.specs.Answers.{writeAnswer, writtenOver};
 ghost use Rattle.emitting.specs.Emitted.{wireIn, emitIn, Sized};
@@ -235,6 +236,21 @@ fn put_file(
     put_outputs(&mut out[HEAD + n..], outputs, v as usize, group, &wires);
 }
 
+// The answer of a circuit that is written: the rule's counts, and those that were measured.
+fn counted(read: Answer, size: Size, bytes: usize) -> Answer
+    ensures { λ r. ⌜ r ≡ success (read .gates) (size .wires) bytes (read .before) (size .cost) ⌝ }
+{
+    Answer {
+        number: 0,
+        place: 0,
+        gates: read.gates,
+        wires: size.wires,
+        bytes,
+        before: read.before,
+        after: size.cost,
+    }
+}
+
 // Writes the fused circuit of a rule and a plan into the buffer: the file and nothing after it. A refused plan, or a buffer that is
 // shorter than the file, leaves every byte as it was.
 pub fn write(rule: &[u8], plan: &[u8], out: &mut [u8]) -> Answer
@@ -275,13 +291,5 @@ pub fn write(rule: &[u8], plan: &[u8], out: &mut [u8]) -> Answer
         &order,
         groups,
     );
-    Answer {
-        number: 0,
-        place: 0,
-        gates: answer.gates,
-        wires: size.wires,
-        bytes,
-        before: answer.before,
-        after: size.cost,
-    }
+    counted(answer, size, bytes)
 }
