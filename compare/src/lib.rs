@@ -2,11 +2,13 @@
 
 pub mod answer;
 pub mod circuit;
+pub mod counts;
 pub mod direct;
 pub mod examples;
 pub mod generate;
 pub mod good;
 pub mod law;
+pub mod limits;
 pub mod plan;
 pub mod rule;
 pub mod run;

@@ -1,0 +1,241 @@
+//! Fixed cases at the limits of document 01: its examples, every refusal, every limit, for every
+//! operation. Rules and plans are put together from their parts. The number that a case must come to is
+//! written beside it, from document 01, and looked at when the case is added; only the cases of
+//! `reading` and the empty plans of refused rules have none.
+
+mod circles;
+mod examples;
+mod guards;
+mod large;
+mod layout;
+mod order;
+mod parts;
+mod reading;
+mod rows;
+
+use crate::circuit::accept;
+use crate::generate::plans::bytes_of;
+use crate::law::*;
+use crate::stream::{Case, CHECK, DIRECT, FUSED, PLAIN, READ, WRITE};
+use std::collections::HashSet;
+
+/// All fixed cases, each once, in the order of the stored stream.
+pub fn cases() -> Vec<Case> {
+    let mut list = List {
+        cases: reading::cases(),
+    };
+    examples::add(&mut list);
+    layout::add(&mut list);
+    rows::add(&mut list);
+    circles::add(&mut list);
+    guards::add(&mut list);
+    large::add(&mut list);
+    order::add(&mut list);
+    empty_plans(&mut list);
+    let mut seen = HashSet::new();
+    list.cases.retain(|case| {
+        let mut bytes = Vec::new();
+        case.put(&mut bytes);
+        seen.insert(bytes)
+    });
+    list.cases
+}
+
+/// The empty plan for every rule of the list; a refused rule's has gate count 0 and must not matter.
+fn empty_plans(list: &mut List) {
+    let mut seen = HashSet::new();
+    let rules: Vec<Vec<u8>> = list.cases.iter().map(|case| case.first.clone()).collect();
+    for rule in rules {
+        if !seen.insert(rule.clone()) {
+            continue;
+        }
+        match accept(&rule) {
+            Ok(accepted) => {
+                let plan = plan(accepted.circuit.gates.len(), &[]);
+                list.check(&rule, &plan, 0);
+                list.write(&rule, &plan, list.length(&rule, &plan), 0);
+                list.fused(
+                    &rule,
+                    &plan,
+                    &inputs(&rule, 1),
+                    accepted.rule.kinds.len(),
+                    0,
+                );
+            }
+            Err(refusal) => list.with_plan(&rule, &plan(0, &[]), refusal.number),
+        }
+    }
+}
+
+/// The bytes of a plan with these groups, in this order.
+fn plan(gates: usize, groups: &[&[usize]]) -> Vec<u8> {
+    let groups = groups.iter().map(|group| group.to_vec()).collect();
+    bytes_of(gates, &groups)
+}
+
+/// Inputs that an accepted rule takes: bit variables get the bits of `turn`, the first the lowest,
+/// word variables figures that differ. A refused rule gets none.
+fn inputs(rule: &[u8], turn: usize) -> Vec<u32> {
+    let kinds = accept(rule).map_or(Vec::new(), |accepted| accepted.rule.kinds);
+    let mut bits = 0;
+    let one = |(place, kind): (usize, &Kind)| match kind {
+        Kind::Word => 3 + 7 * place as u32 + turn as u32,
+        Kind::Bit => {
+            bits += 1;
+            (turn >> (bits - 1) & 1) as u32
+        }
+    };
+    kinds.iter().enumerate().map(one).collect()
+}
+
+struct List {
+    cases: Vec<Case>,
+}
+
+impl List {
+    #[track_caller]
+    fn add(&mut self, case: Case, wanted: u8) {
+        let (answer, _) = case.work().expect("an operation that is built");
+        let operation = case.operation;
+        assert_eq!(answer.number, wanted, "operation {operation:02X}");
+        self.cases.push(case);
+    }
+
+    #[track_caller]
+    fn read(&mut self, rule: &[u8], wanted: u8) {
+        let first = rule.to_vec();
+        self.add(
+            Case {
+                operation: READ,
+                first,
+                ..Case::default()
+            },
+            wanted,
+        );
+    }
+
+    #[track_caller]
+    fn shown(&mut self, rule: &[u8], wanted: u8) {
+        let first = rule.to_vec();
+        self.add(
+            Case {
+                operation: PLAIN,
+                first,
+                ..Case::default()
+            },
+            wanted,
+        );
+    }
+
+    #[track_caller]
+    fn direct(&mut self, rule: &[u8], inputs: &[u32], room: usize, wanted: u8) {
+        self.add(
+            Case {
+                operation: DIRECT,
+                room: room as u16,
+                first: rule.to_vec(),
+                inputs: inputs.to_vec(),
+                ..Case::default()
+            },
+            wanted,
+        );
+    }
+
+    #[track_caller]
+    fn check(&mut self, rule: &[u8], plan: &[u8], wanted: u8) {
+        self.add(
+            Case {
+                operation: CHECK,
+                first: rule.to_vec(),
+                second: plan.to_vec(),
+                ..Case::default()
+            },
+            wanted,
+        );
+    }
+
+    #[track_caller]
+    fn write(&mut self, rule: &[u8], plan: &[u8], room: usize, wanted: u8) {
+        self.add(
+            Case {
+                operation: WRITE,
+                room: room as u16,
+                first: rule.to_vec(),
+                second: plan.to_vec(),
+                ..Case::default()
+            },
+            wanted,
+        );
+    }
+
+    #[track_caller]
+    fn fused(&mut self, rule: &[u8], plan: &[u8], inputs: &[u32], room: usize, wanted: u8) {
+        self.add(
+            Case {
+                operation: FUSED,
+                room: room as u16,
+                first: rule.to_vec(),
+                second: plan.to_vec(),
+                inputs: inputs.to_vec(),
+                ..Case::default()
+            },
+            wanted,
+        );
+    }
+
+    /// A rule and a plan of which one is refused: checked, written and run.
+    #[track_caller]
+    fn with_plan(&mut self, rule: &[u8], plan: &[u8], wanted: u8) {
+        let inputs = inputs(rule, 1);
+        self.check(rule, plan, wanted);
+        self.write(rule, plan, CIRCUIT_BYTES_MAX, wanted);
+        self.fused(rule, plan, &inputs, inputs.len() + 1, wanted);
+    }
+
+    /// A refused rule by every operation.
+    #[track_caller]
+    fn refused_rule(&mut self, rule: &[u8], plan: &[u8], wanted: u8) {
+        self.read(rule, wanted);
+        self.direct(rule, &[1, 6, 7], 3, wanted);
+        self.with_plan(rule, plan, wanted);
+        self.shown(rule, wanted);
+    }
+
+    /// An accepted rule read, shown and run directly.
+    #[track_caller]
+    fn rule(&mut self, rule: &[u8], turns: &[usize]) {
+        self.read(rule, 0);
+        self.shown(rule, 0);
+        for &turn in turns {
+            let inputs = inputs(rule, turn);
+            self.direct(rule, &inputs, inputs.len(), 0);
+        }
+    }
+
+    /// An accepted plan: checked, written into just enough room, one byte less and one more, and run.
+    #[track_caller]
+    fn accepted(&mut self, rule: &[u8], plan: &[u8], turns: &[usize]) {
+        let length = self.length(rule, plan);
+        self.check(rule, plan, 0);
+        self.write(rule, plan, length, 0);
+        self.write(rule, plan, length - 1, 50);
+        self.write(rule, plan, length + 1, 0);
+        for &turn in turns {
+            let inputs = inputs(rule, turn);
+            self.fused(rule, plan, &inputs, inputs.len() + turn % 2, 0);
+        }
+    }
+
+    /// How long the circuit file is; 0 for a refused one.
+    fn length(&self, rule: &[u8], plan: &[u8]) -> usize {
+        let case = Case {
+            operation: WRITE,
+            room: u16::MAX,
+            first: rule.to_vec(),
+            second: plan.to_vec(),
+            ..Case::default()
+        };
+        let (answer, _) = case.work().expect("an operation that is built");
+        answer.bytes
+    }
+}
