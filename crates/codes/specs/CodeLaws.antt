@@ -1,11 +1,12 @@
 -- Laws of kinds and code bytes. Assumes nothing.
-use Prim.Native.Nat.{ℕ, _<_, _≤_}
+use Prim.Native.Nat.{ℕ, suc, _<_, _≤_}
 use native.Mathlib.Omega.{arith}
 use mathlib.Core.Path.{_≡_, refl, sym, ap, _∙_}
 use mathlib.Core.Logic.{_⊎_, inl, inr}
 use mathlib.Core.Bool.{Bool, true, false, _&&_, false≢true}
 use lib.Dec.{eqb, leb}
 use borrow.Author.Tests.{ne-eqb, le-leb, lt-leb}
+use Rattle.words.specs.Lists.{same?}
 use Rattle.codes.specs.Codes.{pick, kindOf, sameKind, plain, rowOf, operationOf, byteOf, codeOf}
 use Rattle.codes.specs.declared.Kind.{Kind}
 use Rattle.codes.specs.declared.Kind.the-variants as kind
@@ -54,8 +55,32 @@ code-unknown b h0 h1 h2 h3 h4 h5 h6 (inl h) =
 code-unknown b h0 h1 h2 h3 h4 h5 h6 (inr h) =
     simp (ne-eqb b 0x00 h0, ne-eqb b 0x01 h1, ne-eqb b 0x02 h2, ne-eqb b 0x03 h3, ne-eqb b 0x10 h4, ne-eqb b 0x11 h5, ne-eqb b 0x12 h6, le-leb 0x20 b (omega arith), lt-leb _ _ h)
 
--- a code that opens an operation is that operation's row
-row-form : (op : Operation) → rowOf op .form ≡ Apply op
+-- the byte of the operation that a code names is that code
+from-on : {A : Type 0} (code k : ℕ) → k ≤ code → (code ≡ k → A) → (suc k ≤ code → A) → A
+from-on {A = A} code k h f g = go (same? code k)
+  where
+    go : (code ≡ k) ⊎ (code ≡ k → ⊥) → A
+    go (inl e) = f e
+    go (inr n) = g (omega arith)
+
+pub byte-back : (code : ℕ) → 0x20 ≤ code → code ≤ 0x27 → byteOf (operationOf code) ≡ code
+unfolding operationOf
+byte-back code l h =
+    from-on code 0x20 l (λ e. rw e) (λ a. from-on code 0x21 a (λ e. rw e) (λ b. from-on code 0x22 b (λ e. rw e) (λ c. from-on code 0x23 c (λ e. rw e)
+    (λ d. from-on code 0x24 d (λ e. rw e) (λ i. from-on code 0x25 i (λ e. rw e) (λ j. from-on code 0x26 j (λ e. rw e) (λ k. let e : code ≡ 0x27 = omega (arith, h, k) in rw e)))))))
+
+-- an operation has one argument or two, and its row opens it
+pub one-or-two : (op : Operation) → (rowOf op .arity ≡ 1) ⊎ (rowOf op .arity ≡ 2)
+one-or-two Sum = inr refl
+one-or-two Difference = inr refl
+one-or-two Product = inr refl
+one-or-two LessThan = inr refl
+one-or-two Equal = inr refl
+one-or-two And = inr refl
+one-or-two Or = inr refl
+one-or-two Not = inl refl
+
+pub row-form : (op : Operation) → rowOf op .form ≡ Apply op
 row-form Sum = refl
 row-form Difference = refl
 row-form Product = refl
@@ -65,6 +90,7 @@ row-form And = refl
 row-form Or = refl
 row-form Not = refl
 
+-- a code that opens an operation is that operation's row
 IsRow : Operation → Code → Type 0
 IsRow op c = c .form ≡ Apply op → c ≡ rowOf op
 

@@ -9,16 +9,16 @@ use Rattle.words.specs.Lists.{_∈_, same?}
 use Rattle.words.specs.Numbers.{bytesOf}
 use Rattle.words.specs.NumberLaws.{length-bytes}
 use Rattle.codes.specs.Codes.{kindOf, rowOf, operationOf, codeOf}
-use Rattle.codes.specs.CodeLaws.{kind-bit, kind-word, code-operation}
+use Rattle.codes.specs.CodeLaws.{kind-bit, kind-word, code-operation, one-or-two, byte-back}
 use Rattle.codes.specs.declared.Code.{Code}
 use Rattle.gates.specs.Gates.{start, word, bit, operation, choice, arguments}
 use Rattle.gates.specs.Rows.{startCode}
 use Rattle.needed.specs.Held.{choiceCode, gateIn, codeAt, firstAt, secondAt, thirdAt}
 use Rattle.needed.specs.HeldLaws.{gate-choice}
 use Rattle.fused.specs.CircuitFile.{wiresBytes, recordBytes}
+use Rattle.fused.specs.SizeLaws.{wires-size}
 use Rattle.emitting.specs.Emitted.{aloneIn, Placed, FitsGate, Coded, Writable}
-use Rattle.emitting.specs.ByteLaws.{length-wires}
-use Rattle.emitting.specs.CodeLaws.{Applies, Kinds, chooses, is-word, is-bit, applies, starts, kinds, word-gate, bit-gate, small-gate, applies-gate, byte-back, one-or-two}
+use Rattle.emitting.specs.CodeLaws.{Applies, Kinds, chooses, is-word, is-bit, applies, starts, kinds, word-gate, bit-gate, small-gate, applies-gate}
 
 module _ (rows : List ℕ) (g : ℕ) where
   -- the gate, by its code
@@ -128,7 +128,7 @@ module _ (rows : List ℕ) (g : ℕ) where
         → recordBytes (aloneIn rows wire g) ≡ codeAt rows g ∷ wiresBytes (map wire (take k (firstAt rows g ∷ secondAt rows g ∷ [])))
     applied-bytes h k e =
         let a : rowOf (operationOf (codeAt rows g)) .arity ≡ k = ap (λ (c : Code). c .arity) (sym (code-operation (codeAt rows g) (h .0) (h .1))) ∙ e in
-        rw (applied-in h, a, byte-back (codeAt rows g) h)
+        rw (applied-in h, a, byte-back (codeAt rows g) (h .0) (h .1))
 
     pub unary-bytes : Applies (codeAt rows g) → codeOf (codeAt rows g) .arity ≡ 1 → recordBytes (aloneIn rows wire g) ≡ codeAt rows g ∷ wiresBytes (wire (firstAt rows g) ∷ [])
     unary-bytes h e = applied-bytes h 1 e
@@ -145,7 +145,7 @@ module _ (rows : List ℕ) (g : ℕ) where
 
     -- and how many they are
     pub choice-size : codeAt rows g ≡ choiceCode → length (recordBytes (aloneIn rows wire g)) ≡ 7
-    choice-size e = rw (choice-bytes e) (ap suc (length-wires (wire (firstAt rows g) ∷ wire (secondAt rows g) ∷ wire (thirdAt rows g) ∷ [])))
+    choice-size e = rw (choice-bytes e) (ap suc (wires-size (wire (firstAt rows g) ∷ wire (secondAt rows g) ∷ wire (thirdAt rows g) ∷ [])))
 
     pub word-size : codeAt rows g ≡ 0x11 → length (recordBytes (aloneIn rows wire g)) ≡ 5
     word-size e = rw (word-bytes e) (ap suc (length-bytes 4 (firstAt rows g)))
@@ -157,7 +157,7 @@ module _ (rows : List ℕ) (g : ℕ) where
     start-size h = rw (start-bytes h)
 
     pub unary-size : Applies (codeAt rows g) → codeOf (codeAt rows g) .arity ≡ 1 → length (recordBytes (aloneIn rows wire g)) ≡ 3
-    unary-size h e = rw (unary-bytes h e) (ap suc (length-wires (wire (firstAt rows g) ∷ [])))
+    unary-size h e = rw (unary-bytes h e) (ap suc (wires-size (wire (firstAt rows g) ∷ [])))
 
     pub binary-size : Applies (codeAt rows g) → (codeOf (codeAt rows g) .arity ≡ 1 → ⊥) → length (recordBytes (aloneIn rows wire g)) ≡ 5
-    binary-size h n = rw (binary-bytes h n) (ap suc (length-wires (wire (firstAt rows g) ∷ wire (secondAt rows g) ∷ [])))
+    binary-size h n = rw (binary-bytes h n) (ap suc (wires-size (wire (firstAt rows g) ∷ wire (secondAt rows g) ∷ [])))

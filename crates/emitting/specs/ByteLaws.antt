@@ -1,8 +1,7 @@
--- Laws of the bytes and the costs of wires and records. Assumes nothing.
+-- Laws of bytes written one behind another: wires, pairs of wires, a word constant. Assumes nothing.
 use Prim.Native.Nat.{ℕ, suc, _+_, _-_, _*_, _≤_}
 use mathlib.Core.Path.{_≡_, refl, sym, ap, _∙_}
 use mathlib.Core.List.{List, [], _∷_, _++_, append-assoc, append-nil}
-use native.Mathlib.Nat.{zero-add}
 use native.Mathlib.Omega.{arith}
 use lib.ListN.{length, take, drop, length-append}
 use borrow.Rule.Slice.PartMut.{putMid}
@@ -10,8 +9,8 @@ use Rattle.words.specs.Numbers.{bytesOf}
 use Rattle.words.specs.NumberLaws.{length-bytes}
 use Rattle.words.specs.Buffers.{over}
 use Rattle.words.specs.BufferLaws.{over-rest}
-use Rattle.fused.specs.Records.{Record, recordsCost}
-use Rattle.fused.specs.CircuitFile.{wiresBytes, recordBytes, recordsBytes}
+use Rattle.fused.specs.CircuitFile.{wiresBytes}
+use Rattle.fused.specs.SizeLaws.{wires-size, wires-append}
 
 -- a, and behind it b, are the bytes r
 pub behind : (a b r d e ys : List ℕ) (n : ℕ) → n ≡ length a → r ≡ a ++ b → length r ≤ length d → e ≡ over a d → ys ≡ over b (take (length e - n) (drop n e))
@@ -19,15 +18,6 @@ pub behind : (a b r d e ys : List ℕ) (n : ℕ) → n ≡ length a → r ≡ a 
 behind a b r d e ys n q j h p w =
     let l : length r ≡ length a + length b = ap (λ (k : List ℕ). length k) j ∙ length-append a b in
     over-rest a b d e ys n q (omega (arith, l, h)) p w ∙ ap (λ (k : List ℕ). over k d) (sym j)
-
--- two bytes a wire
-pub length-wires : (l : List ℕ) → length (wiresBytes l) ≡ 2 * length l
-length-wires [] = omega arith
-length-wires (w ∷ l) = length-append (bytesOf 2 w) (wiresBytes l) ∙ rw (length-bytes 2 w, length-wires l) (omega arith)
-
-pub wires-append : (l m : List ℕ) → wiresBytes (l ++ m) ≡ wiresBytes l ++ wiresBytes m
-wires-append [] m = refl
-wires-append (w ∷ l) m = rw (wires-append l m) (sym (append-assoc (bytesOf 2 w) (wiresBytes l) (wiresBytes m)))
 
 -- one wire more
 pub wires-more : (l : List ℕ) (w : ℕ) → wiresBytes (l ++ (w ∷ [])) ≡ wiresBytes l ++ bytesOf 2 w
@@ -37,7 +27,7 @@ wires-more l w = wires-append l (w ∷ []) ∙ ap (λ (k : List ℕ). wiresBytes
 pub wire-behind : (h l : List ℕ) (w n : ℕ) (d e ys : List ℕ) → n ≡ length h + 2 * length l → n + 2 ≤ length d → e ≡ over (h ++ wiresBytes l) d
     → ys ≡ over (bytesOf 2 w) (take (length e - n) (drop n e)) → putMid n (length e - n) e ys ≡ over (h ++ wiresBytes (l ++ (w ∷ []))) d
 wire-behind h l w n d e ys q room p r =
-    let a : length (h ++ wiresBytes l) ≡ n = length-append h (wiresBytes l) ∙ rw (length-wires l) (sym q) in
+    let a : length (h ++ wiresBytes l) ≡ n = length-append h (wiresBytes l) ∙ rw (wires-size l) (sym q) in
     let j : h ++ wiresBytes (l ++ (w ∷ [])) ≡ (h ++ wiresBytes l) ++ bytesOf 2 w =
     ap (λ (k : List ℕ). h ++ k) (wires-more l w) ∙ sym (append-assoc h (wiresBytes l) (bytesOf 2 w)) in
     let z : length (h ++ wiresBytes (l ++ (w ∷ []))) ≡ n + 2 = ap (λ (k : List ℕ). length k) j ∙ length-append (h ++ wiresBytes l) (bytesOf 2 w) ∙ rw (a, length-bytes 2 w) in
@@ -55,12 +45,3 @@ pub word-behind : (n : ℕ) (d e ys : List ℕ) → 5 ≤ length d → e ≡ ove
 word-behind n d e ys room p r =
     let z : length (0x11 ∷ bytesOf 4 n) ≡ 5 = ap suc (length-bytes 4 n) in
     behind (0x11 ∷ []) (bytesOf 4 n) (0x11 ∷ bytesOf 4 n) d e ys 1 refl refl (rw z room) p r
-
-pub records-append : (R S : List Record) → recordsBytes (R ++ S) ≡ recordsBytes R ++ recordsBytes S
-records-append [] S = refl
-records-append (r ∷ R) S = rw (records-append R S) (sym (append-assoc (recordBytes r) (recordsBytes R) (recordsBytes S)))
-
-pub costs-append : (R S : List Record) → recordsCost (R ++ S) ≡ recordsCost R + recordsCost S
-unfolding recordsCost
-costs-append [] S = sym (zero-add (recordsCost S))
-costs-append (r ∷ R) S = rw (costs-append R S) (omega arith)

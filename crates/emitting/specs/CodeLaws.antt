@@ -1,5 +1,5 @@
 -- Laws of the gates of rows, by their codes. Assumes nothing.
-use Prim.Native.Nat.{ℕ, suc, _≤_, _<_}
+use Prim.Native.Nat.{ℕ, _≤_, _<_}
 use mathlib.Core.Path.{_≡_, refl, _∙_}
 use mathlib.Core.List.{[], _∷_}
 use mathlib.Core.Logic.{_⊎_, inl, inr}
@@ -8,7 +8,7 @@ use lib.Dec.{leb}
 use lib.ListN.{take}
 use borrow.Author.Tests.{leb-true, leb-false}
 use Rattle.words.specs.Lists.{split, same?}
-use Rattle.codes.specs.Codes.{rowOf, operationOf, byteOf, codeOf}
+use Rattle.codes.specs.Codes.{rowOf, operationOf, codeOf}
 use Rattle.codes.specs.CodeLaws.{code-operation, code-unknown}
 use Rattle.codes.specs.declared.Operation.{Operation}
 use Rattle.codes.specs.declared.Operation.the-variants.{Sum, Difference, Product, LessThan, Equal, And, Or, Not}
@@ -86,28 +86,3 @@ module _ (code a b c : ℕ) where
       each And = refl
       each Or = refl
       each Not = refl
-
--- the byte of an operation's code is that code
-from-on : {A : Type 0} (code k : ℕ) → k ≤ code → (code ≡ k → A) → (suc k ≤ code → A) → A
-from-on {A = A} code k h f g = go (same? code k)
-  where
-    go : (code ≡ k) ⊎ (code ≡ k → ⊥) → A
-    go (inl e) = f e
-    go (inr n) = g (omega arith)
-
-pub byte-back : (code : ℕ) → Applies code → byteOf (operationOf code) ≡ code
-unfolding operationOf
-byte-back code h =
-    from-on code 0x20 (h .0) (λ e. rw e) (λ a. from-on code 0x21 a (λ e. rw e) (λ b. from-on code 0x22 b (λ e. rw e) (λ c. from-on code 0x23 c (λ e. rw e)
-    (λ d. from-on code 0x24 d (λ e. rw e) (λ i. from-on code 0x25 i (λ e. rw e) (λ j. from-on code 0x26 j (λ e. rw e) (λ k. let e : code ≡ 0x27 = omega (arith, h, k) in rw e)))))))
-
--- an operation has one argument or two
-pub one-or-two : (op : Operation) → (rowOf op .arity ≡ 1) ⊎ (rowOf op .arity ≡ 2)
-one-or-two Sum = inr refl
-one-or-two Difference = inr refl
-one-or-two Product = inr refl
-one-or-two LessThan = inr refl
-one-or-two Equal = inr refl
-one-or-two And = inr refl
-one-or-two Or = inr refl
-one-or-two Not = inl refl

@@ -17,6 +17,7 @@ use Rattle.gates.specs.Gates.{Gate, Gates, start, word, bit, operation, choice,
 use Rattle.gates.specs.Limits.{mostConditions}
 use Rattle.gates.specs.Rows.{startCode, fourOf, rowsOf}
 use Rattle.gates.specs.EarlierLaws.{Inside}
+use Rattle.gates.specs.FigureLaws.{map-same}
 use Rattle.needed.specs.Held.{codeAt, Shaped}
 use Rattle.needed.specs.HeldRows.{number-at, gate-held, gates-held}
 use Rattle.plan.specs.Groups.{restsOf}
@@ -24,7 +25,6 @@ use Rattle.fused.specs.Records.{Record}
 use Rattle.fused.specs.Records as records
 use Rattle.fused.specs.Emission.{alone, operationOf, joined, guardOf, valuesAt, emit}
 use Rattle.emitting.specs.Emitted.{aloneOf, aloneIn, emitIn}
-use Rattle.emitting.specs.JoinLaws.{map-same}
 
 -- Rows that hold a circuit.
 

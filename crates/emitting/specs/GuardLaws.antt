@@ -3,7 +3,7 @@ use Prim.Native.Nat.{ℕ, suc, _+_, _-_, _*_, _≤_}
 use mathlib.Core.Path.{_≡_, refl, sym, ap, _∙_}
 use mathlib.Core.List.{List, [], _∷_, _++_, map}
 use native.Mathlib.Omega.{arith}
-use lib.ListN.{length, getD, take, drop, length-append}
+use lib.ListN.{length, getD, take, drop, length-append, length-map}
 use borrow.Rule.Slice.PartMut.{putMid}
 use Rattle.words.specs.Numbers.{bytesOf}
 use Rattle.words.specs.NumberLaws.{length-bytes}
@@ -15,16 +15,13 @@ use Rattle.gates.specs.Limits.{mostConditions}
 use Rattle.fused.specs.Records.{Pair, pick, pairWires}
 use Rattle.fused.specs.Emission.{pairs}
 use Rattle.fused.specs.CircuitFile.{wiresBytes, recordBytes}
+use Rattle.fused.specs.SizeLaws.{wires-size}
 use Rattle.emitting.specs.Emitted.{guardIn}
-use Rattle.emitting.specs.ByteLaws.{behind, length-wires}
-
-pub length-map : {A : Type 0} (h : ℕ → A) (l : List ℕ) → length (map h l) ≡ length l
-length-map h [] = refl
-length-map h (a ∷ l) = ap suc (length-map h l)
+use Rattle.emitting.specs.ByteLaws.{behind}
 
 module _ (conds : List ℕ) (wire : ℕ → ℕ) (s : ℕ) where
   pub rest-wires : length (wiresBytes (map (λ t. wire (getD conds t 0)) (rests mostConditions s))) ≡ 2 * length (rests mostConditions s)
-  rest-wires = length-wires (map (λ t. wire (getD conds t 0)) (rests mostConditions s)) ∙ ap (λ (k : ℕ). 2 * k) (length-map (λ t. wire (getD conds t 0)) (rests mostConditions s))
+  rest-wires = wires-size (map (λ t. wire (getD conds t 0)) (rests mostConditions s)) ∙ ap (λ (k : ℕ). 2 * k) (length-map (rests mostConditions s) (λ t. wire (getD conds t 0)))
 
   pub guard-size : length (recordBytes (guardIn conds wire s)) ≡ 10 + 2 * length (rests mostConditions s)
   guard-size =
@@ -46,7 +43,7 @@ module _ (conds : List ℕ) (wire : ℕ → ℕ) (s : ℕ) where
       let z : length (recordBytes (guardIn conds wire s)) ≡ 10 + 2 * k = guard-size ∙ ap (λ (j : ℕ). 10 + 2 * j) (sym kk) in
       let a : putMid 2 (length e - 2) e ys ≡ over (0x32 ∷ k ∷ W) d =
       behind (0x32 ∷ k ∷ []) W (0x32 ∷ k ∷ W) d e ys 2 refl refl (let y : suc (suc (length W)) ≤ length d = omega (arith, ww, z, room) in y) p q in
-      let m : length (map (λ t. wire (getD conds t 0)) (rests mostConditions s)) ≡ k = length-map (λ t. wire (getD conds t 0)) (rests mostConditions s) ∙ sym kk in
+      let m : length (map (λ t. wire (getD conds t 0)) (rests mostConditions s)) ≡ k = length-map (rests mostConditions s) (λ t. wire (getD conds t 0)) ∙ sym kk in
       let j : recordBytes (guardIn conds wire s) ≡ (0x32 ∷ k ∷ W) ++ bytesOf 8 t =
       ap (λ (i : ℕ). 0x32 ∷ i ∷ (W ++ bytesOf 8 (table mostConditions s))) m ∙ ap (λ (i : ℕ). 0x32 ∷ k ∷ (W ++ bytesOf 8 i)) (sym tt) in
       let l : n ≡ suc (suc (length W)) = omega (arith, nn, ww) in
@@ -88,7 +85,7 @@ length-pairWires (p ∷ P) = let e : length (pairWires P) ≡ 2 * length P = len
 
 pub pick-size : (P : List Pair) → length (recordBytes (pick P)) ≡ 2 + 4 * length P
 pick-size P =
-    let e : length (wiresBytes (pairWires P)) ≡ 4 * length P = length-wires (pairWires P) ∙ omega (arith, length-pairWires P) in
+    let e : length (wiresBytes (pairWires P)) ≡ 4 * length P = wires-size (pairWires P) ∙ omega (arith, length-pairWires P) in
     let z : suc (suc (length (wiresBytes (pairWires P)))) ≡ 2 + 4 * length P = omega (arith, e) in
     z
 

@@ -1,18 +1,20 @@
 -- Laws of a joined group: its records as the code writes them, and what the code asks follows from what its caller shows. Assumes nothing.
 use Prim.Native.Nat.{ℕ, suc, _+_, _*_, _≤_, _<_}
 use mathlib.Core.Path.{_≡_, refl, sym, ap, ap₂, _∙_}
-use mathlib.Core.List.{List, [], _∷_, _++_, map, append-assoc, append-nil}
+use mathlib.Core.List.{List, [], _∷_, _++_, map, append-assoc, append-nil, map-map}
 use mathlib.Core.Logic.{_⊎_, inl, inr}
 use native.Mathlib.Omega.{arith}
-use lib.ListN.{length, getD}
+use lib.ListN.{length, getD, length-map}
 use Rattle.words.specs.Lists.{_∈_, keep-from, from, upto, from-below}
 use Rattle.settings.specs.Sets.{restsOn, rests}
 use Rattle.settings.specs.Guards.{table}
 use Rattle.codes.specs.Codes.{rowOf, operationOf}
 use Rattle.codes.specs.declared.Operation.{Operation}
+use Rattle.codes.specs.CodeLaws.{one-or-two, byte-back}
 use Rattle.gates.specs.Gates.{Gate, start, word, bit, operation, choice, gateAt, arguments, conditions}
 use Rattle.gates.specs.EarlierLaws.{Inside}
 use Rattle.gates.specs.Limits.{mostConditions}
+use Rattle.gates.specs.FigureLaws.{map-same}
 use Rattle.needed.specs.Held.{gateIn, gatesIn, codeAt, firstAt, secondAt, thirdAt}
 use Rattle.needed.specs.HeldLaws.{gates-at}
 use Rattle.plan.specs.PlanFile.{groupAt}
@@ -21,11 +23,10 @@ use Rattle.fused.specs.Records.{Record, pick}
 use Rattle.fused.specs.Records as records
 use Rattle.fused.specs.Emission as emission
 use Rattle.fused.specs.CircuitFile.{wiresBytes, recordBytes, recordsBytes}
+use Rattle.fused.specs.SizeLaws.{bytes-append}
 use Rattle.emitting.specs.Emitted.{emitIn, guardIn, guardsIn, argumentAt, pairsIn, Paired}
-use Rattle.emitting.specs.CodeLaws.{Applies, Kinds, chooses, is-word, is-bit, applies, starts, kinds, one-or-two, byte-back}
+use Rattle.emitting.specs.CodeLaws.{Applies, Kinds, chooses, is-word, is-bit, applies, starts, kinds}
 use Rattle.emitting.specs.AloneLaws.{choice-in, word-in, bit-in, applied-in}
-use Rattle.emitting.specs.ByteLaws.{records-append}
-use Rattle.emitting.specs.GuardLaws.{length-map}
 
 -- the bytes of the two picks, and with the operation behind them: it reads the two picks, whose wires follow those of the k guards
 abbrev pub picksBytes : List ℕ → (ℕ → ℕ) → ℕ → List ℕ → List ℕ
@@ -74,14 +75,6 @@ module _ (rows : List ℕ) (m : ℕ) (two : length (arguments (gateIn rows m)) �
 
 -- The records of a joined group.
 
-pub map-same : {A : Type 0} (f h : ℕ → A) (l : List ℕ) → ((a : ℕ) → a ∈ l → f a ≡ h a) → map f l ≡ map h l
-map-same f h [] e = refl
-map-same f h (a ∷ l) e = ap₂ (λ x y. x ∷ y) (e a (inl refl)) (map-same f h l (λ b m. e b (inr m)))
-
-map-map : (f h : ℕ → ℕ) (l : List ℕ) → map f (map h l) ≡ map (λ a. f (h a)) l
-map-map f h [] = refl
-map-map f h (a ∷ l) = ap (λ (r : List ℕ). f (h a) ∷ r) (map-map f h l)
-
 pub rests-below : (s t : ℕ) → t ∈ rests mostConditions s → t < mostConditions
 unfolding rests
 rests-below s t m =
@@ -128,7 +121,7 @@ module _ (rows : List ℕ) (count : ℕ) (sets conds : List ℕ) (wire : ℕ →
       ap (λ (i : ℕ). map (emission.valuesAt [] (gatesIn rows count) sets wire ms) (upto i)) size ∙ ap₂ (λ (a b : List ℕ). a ∷ b ∷ []) (values-zero ms below two) (values-one ms below two) in
       ap (λ (o : Operation). emission.joined n o (map (emission.guardOf [] (gatesIn rows count) sets wire) ms) (map (emission.valuesAt [] (gatesIn rows count) sets wire ms) (upto (length (arguments (gateAt (gatesIn rows count) m)))))) op
       ∙ ap₂ (λ (gs : List Record) (pl : List (List ℕ)). emission.joined n (operationOf (codeAt rows m)) gs pl) guards places
-      ∙ ap (λ (i : ℕ). guardsIn conds wire sets ms ++ (pick (pairsIn rows wire n 0 ms) ∷ pick (pairsIn rows wire n 1 ms) ∷ records.operation (operationOf (codeAt rows m)) (from (n + i) 2) ∷ [])) (length-map (λ m. guardIn conds wire (getD sets m 0)) ms)
+      ∙ ap (λ (i : ℕ). guardsIn conds wire sets ms ++ (pick (pairsIn rows wire n 0 ms) ∷ pick (pairsIn rows wire n 1 ms) ∷ records.operation (operationOf (codeAt rows m)) (from (n + i) 2) ∷ [])) (length-map ms (λ m. guardIn conds wire (getD sets m 0)))
 
   -- its bytes: those of the guards, and what is behind them
   pub joined-bytes : (ms : List ℕ) → Applies (codeAt rows (getD ms 0 0)) → recordsBytes (joinedIn ms) ≡ recordsBytes (guardsIn conds wire sets ms) ++ fusedBytes rows wire n (length ms) ms
@@ -137,7 +130,7 @@ module _ (rows : List ℕ) (count : ℕ) (sets conds : List ℕ) (wire : ℕ →
       let q : List ℕ = recordBytes (pick (pairsIn rows wire n 1 ms)) in
       let more : suc (n + length ms) ≡ n + length ms + 1 = omega arith in
       let o : recordBytes (records.operation (operationOf (codeAt rows (getD ms 0 0))) ((n + length ms) ∷ suc (n + length ms) ∷ [])) ≡ codeAt rows (getD ms 0 0) ∷ wiresBytes ((n + length ms) ∷ (n + length ms + 1) ∷ []) =
-      ap₂ (λ (b i : ℕ). b ∷ wiresBytes ((n + length ms) ∷ i ∷ [])) (byte-back (codeAt rows (getD ms 0 0)) h) more in
-      records-append (guardsIn conds wire sets ms) _
+      ap₂ (λ (b i : ℕ). b ∷ wiresBytes ((n + length ms) ∷ i ∷ [])) (byte-back (codeAt rows (getD ms 0 0)) (h .0) (h .1)) more in
+      bytes-append (guardsIn conds wire sets ms) _
       ∙ ap (λ (r : List ℕ). recordsBytes (guardsIn conds wire sets ms) ++ r)
       (ap (λ (r : List ℕ). p ++ (q ++ r)) (append-nil _ ∙ o) ∙ sym (append-assoc p q (codeAt rows (getD ms 0 0) ∷ wiresBytes ((n + length ms) ∷ (n + length ms + 1) ∷ []))))

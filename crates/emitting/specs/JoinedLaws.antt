@@ -4,7 +4,7 @@ use mathlib.Core.Path.{_≡_, refl, sym, ap, _∙_}
 use mathlib.Core.List.{List, [], _∷_, _++_, map}
 use mathlib.Core.Logic.{inl, inr}
 use native.Mathlib.Omega.{arith}
-use lib.ListN.{length, getD, take, drop, length-append}
+use lib.ListN.{length, getD, take, drop, length-append, length-map}
 use borrow.Rule.Slice.PartMut.{putMid}
 use Rattle.words.specs.Lists.{_∈_}
 use Rattle.words.specs.Buffers.{over}
@@ -20,11 +20,12 @@ use Rattle.needed.specs.Held.{gatesIn, codeAt}
 use Rattle.plan.specs.PlanFile.{groupAt}
 use Rattle.fused.specs.Records.{Record, pick, recordsCost}
 use Rattle.fused.specs.CircuitFile.{wiresBytes, recordBytes, recordsBytes}
+use Rattle.fused.specs.SizeLaws.{wires-size, cost-append}
 use Rattle.emitting.specs.Emitted.{emitIn, guardIn, guardsIn, argumentAt, pairsIn, restedBy, Joinable, Joining, Sized}
 use Rattle.emitting.specs.CodeLaws.{Applies}
-use Rattle.emitting.specs.ByteLaws.{behind, length-wires, costs-append}
+use Rattle.emitting.specs.ByteLaws.{behind}
 use Rattle.emitting.specs.MemberLaws.{length-group, member-in}
-use Rattle.emitting.specs.GuardLaws.{length-map, length-pairs, guard-size, pick-size}
+use Rattle.emitting.specs.GuardLaws.{length-pairs, guard-size, pick-size}
 use Rattle.emitting.specs.PieceLaws.{few-rests}
 use Rattle.emitting.specs.LoopLaws.{pairs-count}
 use Rattle.emitting.specs.JoinLaws.{Fusing, picksBytes, fusedBytes, two-applies, two-arguments, joinedIn, emit-joined, joined-bytes}
@@ -40,7 +41,7 @@ module _ (rows : List ℕ) (wire : ℕ → ℕ) (n : ℕ) (p : List ℕ) (at : �
 
   fused-long : (k : ℕ) → length (fusedBytes rows wire n k (groupAt p at)) ≡ 9 + 8 * getD p at 0
   fused-long k =
-      let o : length (wiresBytes ((n + k) ∷ (n + k + 1) ∷ [])) ≡ 4 = length-wires ((n + k) ∷ (n + k + 1) ∷ []) in
+      let o : length (wiresBytes ((n + k) ∷ (n + k + 1) ∷ [])) ≡ 4 = wires-size ((n + k) ∷ (n + k + 1) ∷ []) in
       let z : suc (length (wiresBytes ((n + k) ∷ (n + k + 1) ∷ []))) ≡ 5 = omega (arith, o) in
       length-append (picksBytes rows wire n (groupAt p at)) (codeAt rows (getD (groupAt p at) 0 0) ∷ wiresBytes ((n + k) ∷ (n + k + 1) ∷ [])) ∙ omega (arith, picks-long, z)
 
@@ -136,19 +137,18 @@ guards-cost conds wire sets (m ∷ ms) = let e : recordsCost (guardsIn conds wir
 
 module _ (rows : List ℕ) (count : ℕ) (sets conds : List ℕ) (wire : ℕ → ℕ) (n : ℕ) (ms : List ℕ) where
   pair-many : (k : ℕ) → length (pairsIn rows wire n k ms) ≡ length ms
-  pair-many k = length-pairs n (map (λ m. wire (argumentAt rows m k)) ms) ∙ length-map (λ m. wire (argumentAt rows m k)) ms
+  pair-many k = length-pairs n (map (λ m. wire (argumentAt rows m k)) ms) ∙ length-map ms (λ m. wire (argumentAt rows m k))
 
   joined-cost : recordsCost (joinedIn rows count sets conds wire n ms) ≡ 5 * length ms + rowOf (operationOf (codeAt rows (getD ms 0 0))) .cost
   unfolding recordsCost
   joined-cost =
-      costs-append (guardsIn conds wire sets ms) _
-      ∙ (let g : recordsCost (guardsIn conds wire sets ms) ≡ length ms = guards-cost conds wire sets ms in
+      cost-append (guardsIn conds wire sets ms) _ ∙ (let g : recordsCost (guardsIn conds wire sets ms) ≡ length ms = guards-cost conds wire sets ms in
       let z : recordsCost (guardsIn conds wire sets ms) + (2 * length (pairsIn rows wire n 0 ms) + (2 * length (pairsIn rows wire n 1 ms) + (rowOf (operationOf (codeAt rows (getD ms 0 0))) .cost + 0)))
       ≡ 5 * length ms + rowOf (operationOf (codeAt rows (getD ms 0 0))) .cost = omega (arith, g, pair-many 0, pair-many 1) in
       z)
 
   joined-wires : length (joinedIn rows count sets conds wire n ms) ≡ length ms + 3
-  joined-wires = length-append (guardsIn conds wire sets ms) _ ∙ ap (λ (k : ℕ). k + 3) (length-map (λ m. guardIn conds wire (getD sets m 0)) ms)
+  joined-wires = length-append (guardsIn conds wire sets ms) _ ∙ ap (λ (k : ℕ). k + 3) (length-map ms (λ m. guardIn conds wire (getD sets m 0)))
 
 -- the size of a joined group
 pub joined-sized : (rows sets p : List ℕ) (at g k : ℕ) (row : Code) → Joinable rows p at → k ≡ restedBy sets (groupAt p at) → g ≡ getD (groupAt p at) 0 0 → row ≡ codeOf (codeAt rows g)

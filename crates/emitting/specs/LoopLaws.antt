@@ -4,7 +4,7 @@ use mathlib.Core.Path.{_≡_, sym, ap, _∙_}
 use mathlib.Core.Bool.{true, false}
 use mathlib.Core.List.{List, [], _∷_, map}
 use native.Mathlib.Omega.{arith}
-use lib.ListN.{length, getD, take, drop}
+use lib.ListN.{length, getD, take, drop, length-map}
 use borrow.Rule.Slice.PartMut.{putMid}
 use Rattle.words.specs.Numbers.{bytesOf}
 use Rattle.words.specs.NumberLaws.{length-bytes}
@@ -15,12 +15,12 @@ use Rattle.gates.specs.Limits.{mostGates, mostConditions}
 use Rattle.plan.specs.PlanFile.{groupAt}
 use Rattle.fused.specs.Records.{pairWires}
 use Rattle.fused.specs.CircuitFile.{wiresBytes, recordBytes, recordsBytes}
+use Rattle.fused.specs.SizeLaws.{wires-size}
 use Rattle.emitting.specs.Emitted.{guardIn, guardsIn, pairsIn, argumentAt, Placed, Lies, Paired}
 use Rattle.emitting.specs.FillLaws.{pieces, Filling, filling-start, filling-room, filling-fits, filling-length, filling-step, filling-pass, filling-end}
-use Rattle.emitting.specs.ByteLaws.{length-wires}
 use Rattle.emitting.specs.MemberLaws.{length-group, member-in}
 use Rattle.emitting.specs.PieceLaws.{restPiece, rest-in, rest-out, rest-pieces, record-pieces, pair-pieces}
-use Rattle.emitting.specs.GuardLaws.{rest-wires, length-map, length-pairs, length-pairWires}
+use Rattle.emitting.specs.GuardLaws.{rest-wires, length-pairs, length-pairWires}
 
 -- a filled buffer has its length
 pub filling-same : (f : ℕ → List ℕ) (out out₀ : List ℕ) (n at i : ℕ) → Filling f out out₀ n at i → n ≤ i → length out ≡ length out₀
@@ -113,17 +113,17 @@ module _ (rows : List ℕ) (wire : ℕ → ℕ) (n k : ℕ) (p : List ℕ) (plac
 
   -- a pair for each member
   pub pairs-count : length (pairsIn rows wire n k (groupAt p place)) ≡ getD p place 0
-  pairs-count = length-pairs n (map (λ m. wire (argumentAt rows m k)) (groupAt p place)) ∙ length-map (λ m. wire (argumentAt rows m k)) (groupAt p place) ∙ length-group p place
+  pairs-count = length-pairs n (map (λ m. wire (argumentAt rows m k)) (groupAt p place)) ∙ length-map (groupAt p place) (λ m. wire (argumentAt rows m k)) ∙ length-group p place
 
   pairs-size : length (wiresBytes (pairWires (pairsIn rows wire n k (groupAt p place)))) ≡ 4 * getD p place 0
-  pairs-size = length-wires (pairWires (pairsIn rows wire n k (groupAt p place))) ∙ omega (arith, length-pairWires (pairsIn rows wire n k (groupAt p place)), pairs-count)
+  pairs-size = wires-size (pairWires (pairsIn rows wire n k (groupAt p place))) ∙ omega (arith, length-pairWires (pairsIn rows wire n k (groupAt p place)), pairs-count)
 
   pub pairs-start : (out : List ℕ) → 4 * getD p place 0 ≤ length out → PairFilling rows wire n k p place out out 0 0
   pairs-start out h = record { filling = filling-start (pairPiece rows wire n k (groupAt p place)) out (getD p place 0) (rw (pairs-whole, pairs-size) h) }
 
   module _ (out out₀ : List ℕ) (at i : ℕ) (l : PairFilling rows wire n k p place out out₀ at i) (h : i < getD p place 0) where
     four : length (pairPiece rows wire n k (groupAt p place) i) ≡ 4
-    four = length-wires ((n + i) ∷ wire (argumentAt rows (getD (groupAt p place) i 0) k) ∷ [])
+    four = wires-size ((n + i) ∷ wire (argumentAt rows (getD (groupAt p place) i 0) k) ∷ [])
 
     pub pairs-fits : (at + 4 ≤ length out) × (length out ≡ length out₀)
     pairs-fits = (omega (arith, filling-fits (pairPiece rows wire n k (groupAt p place)) out out₀ (getD p place 0) at i (l .filling) h, four), filling-length (pairPiece rows wire n k (groupAt p place)) out out₀ (getD p place 0) at i (l .filling) h)

@@ -1,16 +1,13 @@
 -- Laws of the members of a group of a plan, read one by one. Assumes nothing.
 use Prim.Native.Nat.{ℕ, zero, suc, _+_, _*_, _<_}
-use mathlib.Core.Path.{_≡_, refl, ap, _∙_}
+use mathlib.Core.Path.{_≡_, ap, _∙_}
 use mathlib.Core.List.{List}
 use native.Mathlib.Omega.{arith}
 use lib.ListN.{length, getD}
 use Rattle.words.specs.Lists.{_∈_, getD-in}
 use Rattle.words.specs.Numbers.{numberAt}
 use Rattle.plan.specs.PlanFile.{numbersAt, groupAt}
-
-length-numbers : (n : ℕ) (p : List ℕ) (at : ℕ) → length (numbersAt n p at) ≡ n
-length-numbers zero p at = refl
-length-numbers (suc n) p at = ap suc (length-numbers n p (at + 2))
+use Rattle.plan.specs.LayoutLaws.{length-numbers}
 
 numbers-at : (n : ℕ) (p : List ℕ) (at i : ℕ) → i < n → numberAt 2 p (at + 2 * i) ≡ getD (numbersAt n p at) i 0
 numbers-at zero p at i h = absurd (omega arith)

@@ -6,17 +6,17 @@ use mathlib.Core.List.{List, [], _∷_, _++_, map, append-nil}
 use native.Mathlib.Nat.{add-zero, zero-add}
 use native.Mathlib.Omega.{arith}
 use lib.ListN.{length, getD, length-append}
-use Rattle.words.specs.Lists.{split, keep, from, upto, flat}
+use Rattle.words.specs.Lists.{split, keep, from, upto, flat, length-from}
 use Rattle.words.specs.Numbers.{bytesOf}
-use Rattle.settings.specs.ListLaws.{length-from, length-keep}
+use Rattle.settings.specs.ListLaws.{length-keep}
 use Rattle.settings.specs.Sets.{restsOn, rests}
 use Rattle.gates.specs.Limits.{mostConditions}
 use Rattle.fused.specs.Records.{Record, pairWires}
 use Rattle.fused.specs.Emission.{pairs}
 use Rattle.fused.specs.CircuitFile.{wiresBytes, recordBytes, recordsBytes}
+use Rattle.fused.specs.SizeLaws.{wires-append}
 use Rattle.emitting.specs.Emitted.{restedBy}
 use Rattle.emitting.specs.FillLaws.{pieces, pieces-more, pieces-first, pieces-same}
-use Rattle.emitting.specs.ByteLaws.{wires-append}
 
 -- The members of a run that pass a test.
 

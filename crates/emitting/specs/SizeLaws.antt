@@ -8,14 +8,14 @@ use native.Mathlib.Omega.{arith}
 use lib.ListN.{length}
 use Rattle.words.specs.Lists.{same?}
 use Rattle.codes.specs.Codes.{rowOf, operationOf, codeOf}
-use Rattle.codes.specs.CodeLaws.{code-operation}
+use Rattle.codes.specs.CodeLaws.{code-operation, one-or-two}
 use Rattle.codes.specs.declared.Code.{Code}
 use Rattle.gates.specs.Gates.{Gate, start, word, bit, operation, choice, costOf}
 use Rattle.needed.specs.Held.{choiceCode, gateIn, codeAt, firstAt, secondAt, thirdAt}
 use Rattle.fused.specs.Records.{recordCost, recordsCost}
 use Rattle.fused.specs.CircuitFile.{recordBytes}
 use Rattle.emitting.specs.Emitted.{aloneOf, aloneIn, FitsGate, Coded, Sized}
-use Rattle.emitting.specs.CodeLaws.{Applies, Kinds, chooses, is-word, is-bit, applies, starts, kinds, one-or-two}
+use Rattle.emitting.specs.CodeLaws.{Applies, Kinds, chooses, is-word, is-bit, applies, starts, kinds}
 use Rattle.emitting.specs.AloneLaws.{choice-in, word-in, bit-in, start-in, applied-in, choice-size, word-size, bit-size, start-size, unary-size, binary-size}
 
 cost-same : (code : ℕ) (wire : ℕ → ℕ) (k : Gate) → recordCost (aloneOf code wire k) ≡ costOf k

@@ -7,45 +7,23 @@ use native.Mathlib.Omega.{arith}
 use lib.ListN.{length, getD}
 use Rattle.words.specs.Numbers.{numberAt}
 use Rattle.codes.specs.Codes.{rowOf, operationOf, codeOf}
-use Rattle.codes.specs.CodeLaws.{code-operation}
+use Rattle.codes.specs.CodeLaws.{code-operation, one-or-two, row-form}
 use Rattle.codes.specs.Results.{resultOf}
 use Rattle.codes.specs.declared.Code.{Code}
 use Rattle.codes.specs.declared.Form.the-variants.{Apply}
 use Rattle.codes.specs.declared.Operation.{Operation}
-use Rattle.codes.specs.declared.Operation.the-variants.{Sum, Difference, Product, LessThan, Equal, And, Or, Not}
 use Rattle.gates.specs.Gates.{resultOn}
 use Rattle.gates.specs.EarlierLaws.{Inside}
 use Rattle.fused.specs.FileFigures.{wiresAt}
 use Rattle.figures.specs.Runnable.{mostWires}
 use Rattle.figures.specs.Working.{held}
 
--- an operation has one argument or two, and its row opens it
-one-or-two : (op : Operation) → (rowOf op .arity ≡ 1) ⊎ (rowOf op .arity ≡ 2)
-one-or-two Sum = inr refl
-one-or-two Difference = inr refl
-one-or-two Product = inr refl
-one-or-two LessThan = inr refl
-one-or-two Equal = inr refl
-one-or-two And = inr refl
-one-or-two Or = inr refl
-one-or-two Not = inl refl
-
-opens : (op : Operation) → rowOf op .form ≡ Apply op
-opens Sum = refl
-opens Difference = refl
-opens Product = refl
-opens LessThan = refl
-opens Equal = refl
-opens And = refl
-opens Or = refl
-opens Not = refl
-
 module _ (f figures : List ℕ) (at : ℕ) (l : 0x20 ≤ getD f at 0) (h : getD f at 0 ≤ 0x27) (c : Code) (e : c ≡ codeOf (getD f at 0)) where
   is-row : c ≡ rowOf (operationOf (getD f at 0))
   is-row = e ∙ code-operation _ l h
 
   pub its-form : c .form ≡ Apply (operationOf (getD f at 0))
-  its-form = ap (λ (k : Code). k .form) is-row ∙ opens _
+  its-form = ap (λ (k : Code). k .form) is-row ∙ row-form _
 
   arity-as : c .arity ≡ codeOf (getD f at 0) .arity
   arity-as = ap (λ (k : Code). k .arity) e

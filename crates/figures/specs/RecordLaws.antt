@@ -1,42 +1,21 @@
 -- Document 01, "The fused circuit file": laws of one record, by its first byte: what its figure needs, and that the code's figure is it. Assumes nothing.
 use Prim.Native.Nat.{ℕ, _+_, _*_, _≤_, _<_}
-use mathlib.Core.Path.{_≡_, refl, sym, ap, subst, _∙_}
+use mathlib.Core.Path.{_≡_, sym, ap, subst, _∙_}
 use mathlib.Core.List.{List, [], _∷_}
 use mathlib.Core.Logic.{inl, inr}
 use native.Mathlib.Omega.{arith}
 use lib.ListN.{length, getD}
 use Rattle.words.specs.Lists.{_∈_}
 use Rattle.words.specs.Numbers.{numberAt}
-use Rattle.settings.specs.Settings.{bitOf}
-use Rattle.settings.specs.SettingLaws.{numberOf-agree}
-use Rattle.settings.specs.Sets.{has}
 use Rattle.codes.specs.Codes.{codeOf}
 use Rattle.codes.specs.declared.Code.{Code}
-use Rattle.gates.specs.Running.{isOne}
-use Rattle.gates.specs.Gates.{resultOn}
-use Rattle.gates.specs.FigureLaws.{map-same}
 use Rattle.gates.specs.EarlierLaws.{Inside}
 use Rattle.gates.specs.Limits.{mostConditions}
-use Rattle.fused.specs.Records.{Pair, Record, input, word, bit, operation, choice, pick, guard, pairWires, reads, pickFigure, recordFigure}
+use Rattle.fused.specs.Records.{Record, pairWires, reads, recordFigure}
 use Rattle.fused.specs.FileFigures.{wiresAt, pairsAt, recordAt, sizeAt}
 use Rattle.figures.specs.Runnable.{mostWires, recordCodes}
 use Rattle.figures.specs.Working.{held, Workable}
 use Rattle.figures.specs.ReadingLaws.{Other, choice-at, pick-at, guard-at, operation-at, input-word-size, input-bit-size, word-size, bit-size, choice-size, pick-size, guard-size, operation-size, size-some}
-
--- a record's figure reads only the wires that it names
-pick-same : (v w : ℕ → ℕ) (l : List Pair) → ((a : ℕ) → a ∈ pairWires l → v a ≡ w a) → pickFigure v l ≡ pickFigure w l
-pick-same v w [] h = refl
-pick-same v w (p ∷ l) h = rw (h (p .guarding) (inl refl), h (p .value) (inr (inl refl)), pick-same v w l (λ a m. h a (inr (inr m))))
-
-pub record-same : (inputs : List ℕ) (r : Record) (v w : ℕ → ℕ) → ((a : ℕ) → a ∈ reads r → v a ≡ w a) → recordFigure inputs v r ≡ recordFigure inputs w r
-record-same inputs (input k x) v w h = refl
-record-same inputs (word n) v w h = refl
-record-same inputs (bit b) v w h = refl
-record-same inputs (operation op l) v w h = ap (resultOn op) (map-same v w l h)
-record-same inputs (choice c a b) v w h = rw (h c (inl refl), h a (inr (inl refl)), h b (inr (inr (inl refl))))
-record-same inputs (pick l) v w h = pick-same v w l h
-record-same inputs (guard cs t) v w h =
-    ap (λ (j : ℕ). bitOf (has t j)) (numberOf-agree cs (λ c. isOne (v c)) (λ c. isOne (w c)) (λ c m. ap isOne (h c m)))
 
 -- a byte of a record that is none of the others is an operation's
 pub operation-byte : (b : ℕ) → b ∈ recordCodes → Other b → (0x20 ≤ b) × (b ≤ 0x27)

@@ -15,10 +15,10 @@ use Rattle.gates.specs.FigureLaws.{run-length, run-append, map-same}
 use Rattle.gates.specs.EarlierLaws.{Inside}
 use Rattle.fused.specs.Records.{Record, word, reads, recordFigure, wireFigure}
 use Rattle.fused.specs.FileFigures.{wiresAt, recordAt, sizeAt, recordsFrom, firstRecord, fileVariables, wireCount, fileRecords, fileOutputs, fileFigures}
+use Rattle.fused.specs.RecordLaws.{record-same}
 use Rattle.figures.specs.Runnable.{mostWires, recordPlace, Runnable}
 use Rattle.figures.specs.Working.{held, Workable, figuresOf, Amid}
 use Rattle.figures.specs.ReadingLaws.{wires-more, wires-length, wire-of, records-more, records-length, records-at, place-more}
-use Rattle.figures.specs.RecordLaws.{record-same}
 
 -- the figures of the first wires: so many, and the next one
 pub figures-length : (f inputs : List ℕ) (i : ℕ) → length (figuresOf f inputs i) ≡ i
@@ -82,7 +82,7 @@ module _ (f inputs before figures : List ℕ) (at i : ℕ) (p : Amid f inputs be
     -- the record reads what the run before it gave
     same-figure : recordFigure inputs (held figures) (recordAt f at) ≡ recordFigure inputs (held (figuresOf f inputs i)) (recordAt f (recordPlace f i))
     same-figure =
-        record-same inputs (recordAt f at) (held figures) (held (figuresOf f inputs i))
+        record-same inputs (held figures) (held (figuresOf f inputs i)) (recordAt f at)
         (λ w m. ap (λ (l : List ℕ). held l w) (p .same) ∙ held-over (figuresOf f inputs i) before w (rw (figures-length f inputs i) (here .earlier w m)))
         ∙ ap (λ (q : ℕ). recordFigure inputs (held (figuresOf f inputs i)) (recordAt f q)) (p .place)
 

@@ -2,7 +2,7 @@
 -- circuit reads only earlier wires, and whatever the V inputs, the figures of the file's own bytes are those that the direct run ends with.
 use Prim.Native.Nat.{ℕ, _<_}
 use mathlib.Core.Path.{_≡_, sym, _∙_}
-use mathlib.Core.List.{List, map}
+use mathlib.Core.List.{List, map, map-map}
 use lib.ListN.{length}
 use Rattle.words.specs.Lists.{_∈_, map-in}
 use Rattle.words.specs.Numbers.{Bytes}
@@ -20,7 +20,6 @@ use Rattle.fused.specs.Records.{ReadsEarlier, wireFigure}
 use Rattle.fused.specs.FusedCircuit.{recordsOf, wireOf, outputWires}
 use Rattle.fused.specs.CircuitFile.{fusedFile}
 use Rattle.fused.specs.FileFigures.{fileFigures}
-use Rattle.fused.specs.EmitLaws.{map-map}
 use Rattle.fused.specs.FitPlan.{fused-file-figures}
 use Rattle.fused.specs.PlannedLaws.{planned-read, planned-wanted, planned-earlier, planned-wire, planned-figure}
 

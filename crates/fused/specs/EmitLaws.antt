@@ -1,7 +1,7 @@
 -- Laws of a group's records: there is one at least, and they read only earlier wires when what the group reads is earlier. Assumes nothing.
 use Prim.Native.Nat.{ℕ, suc, _+_, _≤_, _<_}
-use mathlib.Core.Path.{_≡_, refl, sym, ap, _∙_}
-use mathlib.Core.List.{List, [], _∷_, map}
+use mathlib.Core.Path.{_≡_, refl, sym, _∙_}
+use mathlib.Core.List.{List, [], _∷_, map, map-map}
 use mathlib.Core.Logic.{inl, inr}
 use native.Mathlib.Omega.{arith}
 use lib.ListN.{length, getD, length-map}
@@ -13,11 +13,6 @@ use Rattle.plan.specs.Groups.{restsOf}
 use Rattle.fused.specs.Records.{Record, operation, pick, pairWires, reads}
 use Rattle.fused.specs.Emission.{alone, operationOf, pairs, joined, guardOf, valuesAt, emit}
 use Rattle.fused.specs.RecordLaws.{Along, ReadsBefore, Below, along-append, along-map}
-
--- mapped twice is mapped once
-pub map-map : {A B D : Type 0} (v : B → D) (f : A → B) (l : List A) → map v (map f l) ≡ map (λ a. v (f a)) l
-map-map v f [] = refl
-map-map v f (a ∷ l) = ap (λ (r : List _). v (f a) ∷ r) (map-map v f l)
 
 -- a gate alone reads the wires of its arguments
 pub alone-reads : (s : List ℕ) (wire : ℕ → ℕ) (k : Gate) → reads (alone s wire k) ≡ map wire (arguments k)

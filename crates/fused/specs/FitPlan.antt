@@ -6,8 +6,8 @@ use native.Mathlib.Omega.{arith}
 use lib.Dec.{eqb, ltb}
 use borrow.Author.Tests.{eqb-true, ltb-true, ltb-false}
 use lib.ListN.{length, take, drop, length-map, List·getD-eq-default}
-use Rattle.words.specs.Lists.{_∈_, split, upto, map-in}
-use Rattle.settings.specs.ListLaws.{length-from, length-keep}
+use Rattle.words.specs.Lists.{_∈_, split, upto, map-in, length-from}
+use Rattle.settings.specs.ListLaws.{length-keep}
 use Rattle.codes.specs.declared.Operation.{Operation}
 use Rattle.words.specs.Numbers.{Bytes}
 use Rattle.answers.specs.declared.Answer.{Answer}

@@ -5,8 +5,7 @@ use mathlib.Core.Path.{_≡_, ap, _∙_}
 use mathlib.Core.List.{List, [], _∷_, _++_, map}
 use mathlib.Core.Logic.{_⊎_, inl, inr}
 use lib.ListN.{length, getD, length-map, List·getD-append}
-use Rattle.words.specs.Lists.{from, upto}
-use Rattle.settings.specs.ListLaws.{length-from}
+use Rattle.words.specs.Lists.{from, upto, length-from}
 use Rattle.codes.specs.declared.Operation.{Operation}
 use Rattle.answers.specs.Parsing.{parsed}
 use Rattle.reading.specs.Header.{variables}

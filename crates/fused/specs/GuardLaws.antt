@@ -6,13 +6,12 @@ use mathlib.Core.Bool.{Bool, cond}
 use mathlib.Core.List.{List, map}
 use lib.ListN.{length, getD}
 use Rattle.words.specs.Lists.{_∈_, split, keep-in}
-use Rattle.settings.specs.Settings.{Setting, bitOf, numberOf, preRestsOn, preRests}
+use Rattle.settings.specs.Settings.{Setting, bitOf, numberOf, preRestsOn}
 use Rattle.settings.specs.Sets.{has}
 use Rattle.settings.specs.Guards.{table}
 use Rattle.settings.specs.Holding.{Holds}
 use Rattle.settings.specs.SettingLaws.{numberOf-map}
 use Rattle.settings.specs.RestLaws.{pre-rests-right}
-use Rattle.settings.specs.HoldLaws.{rests-places}
 use Rattle.settings.specs.GuardLaws.{guard-holds}
 use Rattle.gates.specs.Running.{isOne}
 use Rattle.gates.specs.Gates.{Gates, Earlier, Condition, conditions}
@@ -22,6 +21,7 @@ use Rattle.needed.specs.Needed.{Needed}
 use Rattle.needed.specs.Pass.{needed, preconditionSets, preconditionOf}
 use Rattle.needed.specs.PreconditionLaws.{needed-agree, needed-over, precondition-holds}
 use Rattle.plan.specs.Groups.{restsOf}
+use Rattle.plan.specs.RestLaws.{rests-list}
 use Rattle.fused.specs.Records.{guardFigure}
 
 module _ (C : Gates) (wanted : List ℕ) (earlier : Earlier C) (inside : (g : ℕ) → g ∈ wanted → g < length C) (few : length (conditions C) ≤ mostConditions) where
@@ -31,17 +31,12 @@ module _ (C : Gates) (wanted : List ℕ) (earlier : Earlier C) (inside : (g : �
   held : (m : ℕ) → Holds mostConditions (preconditionOf mostConditions C wanted m) (conditions C) (needed C wanted m)
   held m = precondition-holds C wanted earlier inside mostConditions few m
 
-  -- the condition gates listed for m are those that its being needed rests on
-  rests-list : (m : ℕ) → restsOf C (preconditionSets mostConditions C wanted) m ≡ preRests (needed C wanted m) (conditions C)
-  unfolding restsOf
-  rests-list m = sym (rests-places mostConditions (preconditionOf mostConditions C wanted m) (conditions C) (needed C wanted m) (held m))
-
   -- a guard's figure: is its member needed under the setting that the wires make?
   pub guard-figure : (W wire : ℕ → ℕ) (m : ℕ)
       → guardFigure W (map wire (restsOf C (preconditionSets mostConditions C wanted) m)) (table mostConditions (preconditionOf mostConditions C wanted m)) ≡ bitOf (needed C wanted m (λ c. isOne (W (wire c))))
   guard-figure W wire m =
       ap (λ (j : ℕ). bitOf (has (table mostConditions (getD sets m 0)) j))
-      (numberOf-map wire (restsOf C sets m) (λ c. isOne (W c)) ∙ ap (λ (l : List ℕ). numberOf l (λ c. isOne (W (wire c)))) (rests-list m))
+      (numberOf-map wire (restsOf C sets m) (λ c. isOne (W c)) ∙ ap (λ (l : List ℕ). numberOf l (λ c. isOne (W (wire c)))) (rests-list C wanted earlier inside few m))
       ∙ ap bitOf (guard-holds mostConditions (getD sets m 0) (conditions C) (needed C wanted m) (held m) (λ c. isOne (W (wire c))))
 
   -- the setting ρ that gives the needed conditions among those that m rests on their actual bits needs m exactly when the actual setting σ does
@@ -65,5 +60,5 @@ module _ (C : Gates) (wanted : List ℕ) (earlier : Earlier C) (inside : (g : �
       agree : (c : ℕ) → Condition C c → Needed C wanted σ c → σ c ≡ mixed c
       agree c k n =
           split (preRestsOn P (conditions C) c)
-          (λ r. rw r (sym (h c (rw (rests-list m) (keep-in (preRestsOn P (conditions C)) (conditions C) c (condition-in C earlier c k) r)) n)))
+          (λ r. rw r (sym (h c (rw (rests-list C wanted earlier inside few m) (keep-in (preRestsOn P (conditions C)) (conditions C) c (condition-in C earlier c k) r)) n)))
           (λ r. rw r)

@@ -2,7 +2,7 @@
 use Prim.Native.Nat.{ℕ, suc, _+_, _-_, _<_}
 use mathlib.Core.Path.{_≡_, refl, sym, ap, _∙_}
 use mathlib.Core.Bool.{Bool, true, false}
-use mathlib.Core.List.{List, [], _∷_, _++_, map}
+use mathlib.Core.List.{List, [], _∷_, _++_, map, map-map}
 use mathlib.Core.Logic.{_⊎_, inl, inr}
 use native.Mathlib.Nat.{add-zero, zero-add}
 use native.Mathlib.Omega.{arith}
@@ -16,7 +16,6 @@ use Rattle.gates.specs.Gates as gate
 use Rattle.fused.specs.Records.{Record, operation, pick, pickFigure, recordFigure}
 use Rattle.fused.specs.Emission.{alone, pairs, joined}
 use Rattle.fused.specs.RecordLaws.{Along, Gives, Figured, along-left, along-right}
-use Rattle.fused.specs.EmitLaws.{map-map}
 
 -- a list by its places
 pub places-map : (f v : ℕ → ℕ) (l : List ℕ) → ((k : ℕ) → k < length l → f k ≡ v (getD l k 0)) → map f (upto (length l)) ≡ map v l

@@ -1,7 +1,7 @@
 -- The fused circuit gives every needed gate its plain figure, group by group in the order of writing. Assumes nothing.
 use Prim.Native.Nat.{ℕ, _+_, _-_, _≤_, _<_}
 use mathlib.Core.Path.{_≡_, refl, sym, ap, _∙_, subst}
-use mathlib.Core.List.{List, [], _∷_, _++_, map}
+use mathlib.Core.List.{List, [], _∷_, _++_, map, map-map}
 use mathlib.Core.Logic.{inl, inr}
 use native.Mathlib.Nat.{zero-add}
 use native.Mathlib.Omega.{arith}
@@ -25,7 +25,6 @@ use Rattle.fused.specs.Emission.{operationOf, pairs, joined, guardOf, va
 use Rattle.fused.specs.FusedCircuit.{Written, groupRecords, written}
 use Rattle.fused.specs.RecordLaws.{Gives, Figured, along-left, along-right}
 use Rattle.fused.specs.PickLaws.{places-map, alone-figure, Guarding, guards-hold, pick-one, joined-guards, joined-figure}
-use Rattle.fused.specs.EmitLaws.{map-map}
 use Rattle.fused.specs.JoinedLaws.{Joined, joined-one}
 use Rattle.fused.specs.GuardLaws.{guard-figure, guard-needed}
 use Rattle.fused.specs.WrittenLaws.{waits-argument, waits-rests, written-more, written-length, wire-last, wire-old}

@@ -5,9 +5,9 @@ use Prim.Native.Nat.{ℕ, suc, _+_, _*_, _≤_}
 use native.Mathlib.Nat.{suc-mul}
 use native.Mathlib.Omega.{arith}
 use lib.ListN.{length, getD, length-append, length-map}
-use Rattle.words.specs.Lists.{from, upto}
+use Rattle.words.specs.Lists.{from, upto, length-from}
 use Rattle.settings.specs.Sets.{restsOn, rests}
-use Rattle.settings.specs.ListLaws.{length-from, length-keep}
+use Rattle.settings.specs.ListLaws.{length-keep}
 use Rattle.codes.specs.Codes.{rowOf}
 use Rattle.codes.specs.declared.Code.{Code}
 use Rattle.codes.specs.declared.Operation.{Operation}

@@ -63,7 +63,7 @@ module _ {K A : Type 0} (d : A) (value : (ℕ → A) → K → A) where
 abbrev pub OnArguments : {A : Type 0} → ((ℕ → A) → Gate → A) → Type 0
 OnArguments {A} value = (k : Gate) (v w : ℕ → A) → ((a : ℕ) → a ∈ arguments k → v a ≡ w a) → value v k ≡ value w k
 
-pub map-same : (v w : ℕ → ℕ) (l : List ℕ) → ((a : ℕ) → a ∈ l → v a ≡ w a) → map v l ≡ map w l
+pub map-same : {A : Type 0} (v w : ℕ → A) (l : List ℕ) → ((a : ℕ) → a ∈ l → v a ≡ w a) → map v l ≡ map w l
 map-same v w [] h = refl
 map-same v w (a ∷ l) h = cc (h a (inl refl), map-same v w l (λ b m. h b (inr m)))
 

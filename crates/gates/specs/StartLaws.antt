@@ -1,11 +1,11 @@
 -- Laws of the starting gates and of the plain circuit of a rule that was read.
 use Prim.Native.Nat.{ℕ, zero, suc, _+_, _<_}
-use mathlib.Core.Path.{_≡_, refl, sym, ap, _∙_}
+use mathlib.Core.Path.{_≡_, sym, ap, _∙_}
 use mathlib.Core.List.{List, map}
 use native.Mathlib.Nat.{add-zero, zero-add}
 use native.Mathlib.Omega.{arith}
-use lib.ListN.{length, getD, length-map}
-use Rattle.words.specs.Lists.{_∈_, from, upto, from-below}
+use lib.ListN.{getD, length-map}
+use Rattle.words.specs.Lists.{_∈_, from, upto, from-below, length-from, getD-from}
 use Rattle.answers.specs.Parsing.{Parsed, parsed}
 use Rattle.reading.specs.Header.{variables, kindAt}
 use Rattle.reading.specs.Tree.{Block}
@@ -29,10 +29,6 @@ starts-earlier i (suc n) (suc j) a m = absurd (nothing (suc i) n j m)
     nothing i (suc n) zero m = m
     nothing i (suc n) (suc j) m = nothing (suc i) n j m
 
-pub length-from : (i n : ℕ) → length (from i n) ≡ n
-length-from i zero = refl
-length-from i (suc n) = ap suc (length-from (suc i) n)
-
 pub starts-sound : (v : ℕ) → Sound v (starts v)
 starts-sound v =
     record {
@@ -40,11 +36,6 @@ starts-sound v =
       inside = λ a m. rw (length-map (upto v) start, length-from 0 v) (omega (arith, from-below 0 v a m));
       earlier = starts-earlier 0 v;
     }
-
-pub from-at : (i n x : ℕ) → x < n → getD (from i n) x 0 ≡ i + x
-from-at i zero x h = absurd (omega arith)
-from-at i (suc n) zero h = sym (add-zero i)
-from-at i (suc n) (suc x) h = from-at (suc i) n x (omega arith) ∙ omega arith
 
 pub start-at : (i n x : ℕ) → x < n → gateAt (map start (from i n)) x ≡ start (i + x)
 start-at i zero x h = absurd (omega arith)
@@ -56,7 +47,7 @@ pub starts-hold : {A : Type 0} (d : A) (value : (ℕ → A) → Gate → A) → 
     → ((g : ℕ → A) (x : ℕ) → value g (start x) ≡ h x) → Holds d value (starts v) h
 starts-hold d value o v h k x l =
     let l′ : x < v = rw (length-from 0 v) at l in
-    let e : getD (upto v) x 0 ≡ x = from-at 0 v x l′ ∙ zero-add x in
+    let e : getD (upto v) x 0 ≡ x = getD-from 0 v x l′ ∙ zero-add x in
     rw e (gates-right d value o (map start (upto v)) (starts-sound v .earlier) x (rw (length-map (upto v) start) l)
     ∙ rw (start-at 0 v x l′, zero-add) (k _ x))
 

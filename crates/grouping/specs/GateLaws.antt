@@ -1,22 +1,21 @@
 -- Document 01, "Refusals by place", rows 27 and 28: what a gate's code says of them. Assumes nothing.
-use Prim.Native.Nat.{ℕ, _+_, _≤_, _<_}
+use Prim.Native.Nat.{ℕ, _≤_, _<_}
 use mathlib.Core.Path.{_≡_, refl, sym, ap, _∙_}
 use mathlib.Core.List.{List, [], _∷_}
-use mathlib.Core.Bool.{Bool, true, false, _&&_}
-use native.Mathlib.Omega.{arith}
+use mathlib.Core.Bool.{Bool, false, _&&_}
 use lib.Dec.{eqb, leb, ltb}
 use borrow.Author.Tests.{eqb-true, eqb-false, eq-eqb, ne-eqb, leb-true, le-leb, lt-leb}
 use Rattle.words.specs.Lists.{split}
-use Rattle.codes.specs.Codes.{pick, rowOf, byteOf, operationOf, codeOf}
-use Rattle.codes.specs.CodeLaws.{code-operation}
+use Rattle.settings.specs.SetLaws.{both}
+use Rattle.codes.specs.Codes.{rowOf, byteOf, operationOf, codeOf}
+use Rattle.codes.specs.CodeLaws.{code-operation, byte-back}
 use Rattle.codes.specs.declared.Code.{Code}
 use Rattle.codes.specs.declared.Operation.{Operation}
 use Rattle.gates.specs.Gates.{Gates, gateAt}
 use Rattle.needed.specs.Held.{choiceCode, ofForm, argumentsOf, codeAt, firstAt, secondAt, thirdAt, gateIn}
-use Rattle.needed.specs.HeldLaws.{EachCode, each-code, each-row, gate-choice, gate-other}
+use Rattle.needed.specs.HeldLaws.{EachCode, each-code, each-row, gate-choice, gate-other, pick-each}
 use Rattle.plan.specs.Groups.{smallest}
 use Rattle.plan.specs.Rows.{every, isCostly, operationByte}
-use Rattle.plan.specs.RowLaws.{both}
 use Rattle.grouping.specs.Tests.{memberTest, membersTest, operationCode}
 
 -- 27: a costly gate is one whose code has a cost above 0 in the table of codes; a choice's code is not in it
@@ -44,31 +43,6 @@ costly-code rows i =
     ∙ other-costly (codeAt rows i) (firstAt rows i) (secondAt rows i))
 
 -- 28: an operation's byte is its code
-pick-each : (Q : Code → Type 0) (t : Bool) (a b : Code) → Q a → Q b → Q (pick t a b)
-pick-each Q true a b p q = p
-pick-each Q false a b p q = q
-
-up : (k b : ℕ) → k ≤ b → (b ≡ k → ⊥) → k + 1 ≤ b
-up k b l f = omega arith
-
-top : (b : ℕ) → 0x27 ≤ b → b ≤ 0x27 → 0x27 ≡ b
-top b l h = omega arith
-
-operation-byte : (b : ℕ) → 0x20 ≤ b → b ≤ 0x27 → byteOf (operationOf b) ≡ b
-unfolding operationOf
-operation-byte b l h =
-    split (eqb b 0x20) (λ e. rw (eqb-true b 0x20 e))
-    (λ e0. split (eqb b 0x21) (λ e. rw (eqb-true b 0x21 e))
-    (λ e1. split (eqb b 0x22) (λ e. rw (eqb-true b 0x22 e))
-    (λ e2. split (eqb b 0x23) (λ e. rw (eqb-true b 0x23 e))
-    (λ e3. split (eqb b 0x24) (λ e. rw (eqb-true b 0x24 e))
-    (λ e4. split (eqb b 0x25) (λ e. rw (eqb-true b 0x25 e))
-    (λ e5. split (eqb b 0x26) (λ e. rw (eqb-true b 0x26 e))
-    (λ e6. rw (e0, e1, e2, e3, e4, e5, e6) (last (eqb-false b 0x20 e0) (eqb-false b 0x21 e1) (eqb-false b 0x22 e2) (eqb-false b 0x23 e3) (eqb-false b 0x24 e4) (eqb-false b 0x25 e5) (eqb-false b 0x26 e6)))))))))
-  where
-    last : (b ≡ 0x20 → ⊥) → (b ≡ 0x21 → ⊥) → (b ≡ 0x22 → ⊥) → (b ≡ 0x23 → ⊥) → (b ≡ 0x24 → ⊥) → (b ≡ 0x25 → ⊥) → (b ≡ 0x26 → ⊥) → 0x27 ≡ b
-    last f0 f1 f2 f3 f4 f5 f6 = top b (up 0x26 b (up 0x25 b (up 0x24 b (up 0x23 b (up 0x22 b (up 0x21 b (up 0x20 b l f0) f1) f2) f3) f4) f5) f6) h
-
 row-byte : (a : ℕ) (l : List ℕ) (op : Operation) → operationByte (ofForm (rowOf op .form) a l) ≡ byteOf op
 row-byte a l op = each-row (λ r o. operationByte (ofForm (r .form) a l) ≡ byteOf o) refl refl refl refl refl refl refl refl op
 
@@ -95,7 +69,7 @@ operation-code rows i =
     (λ e. ap operationByte (gate-other (codeAt rows i) (firstAt rows i) (secondAt rows i) (thirdAt rows i) (eqb-false (codeAt rows i) choiceCode e))
     ∙ split (leb 0x20 (codeAt rows i) && leb (codeAt rows i) 0x27)
     (λ t. let r = both (leb 0x20 (codeAt rows i)) _ t in let lo = leb-true _ _ (r .0) in let hi = leb-true _ _ (r .1) in
-    rw (t, code-operation (codeAt rows i) lo hi) (row-byte _ _ (operationOf (codeAt rows i)) ∙ operation-byte (codeAt rows i) lo hi))
+    rw (t, code-operation (codeAt rows i) lo hi) (row-byte _ _ (operationOf (codeAt rows i)) ∙ byte-back (codeAt rows i) lo hi))
     (λ t. rw t (other-byte (codeAt rows i) _ _ t)))
 
 pub operation-low : (code : ℕ) → code < 0x20 → 0 ≡ operationCode code

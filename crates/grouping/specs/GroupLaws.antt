@@ -9,8 +9,8 @@ use lib.ListN.{length, getD}
 use borrow.Author.Tests.{le-leb, lt-leb}
 use Rattle.plan.specs.PlanFile.{leastBytes, mostBytes, groupsCounted, groupAt, after, groupsFrom, groupsIn, ends}
 use Rattle.plan.specs.Rows.{everyGroup}
+use Rattle.plan.specs.LayoutLaws.{length-numbers}
 use Rattle.grouping.specs.Walks.{Readable, Lie, Ahead, Fits}
-use Rattle.grouping.specs.MemberLaws.{length-numbers}
 
 pred : (n : ℕ) → suc n - 1 ≡ n
 pred n = omega arith

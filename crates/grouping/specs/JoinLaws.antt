@@ -9,6 +9,7 @@ use lib.Dec.{eqb}
 use lib.ListN.{length, getD, replicate, length-replicate}
 use borrow.Author.Tests.{eqb-true, eq-eqb, ne-eqb}
 use Rattle.words.specs.Lists.{_∈_, elem, elem→∈, ∈→elem, split}
+use Rattle.needed.specs.MarkSteps.{getD-zeros}
 use Rattle.plan.specs.PlanFile.{leastBytes, groupsCounted, groupAt, after, groupsFrom, groupsIn, Listed, Apart}
 use Rattle.plan.specs.Groups.{smallest, groupOf}
 use Rattle.plan.specs.Rows.{every, apart}
@@ -17,7 +18,7 @@ use Rattle.grouping.specs.Tables.{placeFrom, placeOf, groupTable, placeT
 use Rattle.grouping.specs.Tests.{putAll}
 use Rattle.grouping.specs.Walks.{Readable, Ahead, Fits}
 use Rattle.grouping.specs.GroupLaws.{ahead-start, ahead-fits, ahead-step}
-use Rattle.grouping.specs.TableLaws.{getD-zeros, alone-length, alone-at, alone-after, group-table, place-table, putAll-length, putAll-at}
+use Rattle.grouping.specs.TableLaws.{alone-length, alone-at, alone-after, group-table, place-table, putAll-length, putAll-at}
 use Rattle.grouping.specs.PutLaws.{free}
 
 -- Every group: the groups from the place at on are left; the gates that have a place already have their group.

@@ -1,10 +1,10 @@
 -- Laws of a walk over the members of a group: what is left of them, and which they are. Assumes nothing.
-use Prim.Native.Nat.{ℕ, zero, suc, _+_, _-_, _*_, _≤_, _<_}
-use mathlib.Core.Path.{_≡_, refl, ap, _∙_}
+use Prim.Native.Nat.{ℕ, suc, _+_, _-_, _*_, _≤_, _<_}
+use mathlib.Core.Path.{_≡_, ap, _∙_}
 use mathlib.Core.List.{List, [], _∷_}
 use mathlib.Core.Logic.{inl, inr}
 use native.Mathlib.Omega.{arith}
-use lib.ListN.{length, getD}
+use lib.ListN.{getD}
 use Rattle.words.specs.Lists.{_∈_}
 use Rattle.words.specs.Numbers.{numberAt}
 use Rattle.plan.specs.PlanFile.{numbersAt, groupAt, after, Rising}
@@ -29,10 +29,6 @@ members-all p at =
     let e : getD p at 0 - 0 ≡ getD p at 0 = omega arith in
     let q : at + 1 + 2 * 0 ≡ at + 1 = omega arith in
     ap (λ (n : ℕ). numbersAt n p (at + 1 + 2 * 0)) e ∙ ap (λ (j : ℕ). numbersAt (getD p at 0) p j) q
-
-pub length-numbers : (n : ℕ) (p : List ℕ) (at : ℕ) → length (numbersAt n p at) ≡ n
-length-numbers zero p at = refl
-length-numbers (suc n) p at = ap suc (length-numbers n p (at + 2))
 
 -- where a walk over the members of a fitting group stands
 pub record Walk (n : ℕ) (p : List ℕ) (at k : ℕ) : Type 0 where

@@ -8,6 +8,7 @@ use lib.Dec.{leb, ltb}
 use lib.ListN.{length, getD, take}
 use borrow.Author.Tests.{eq-eqb, ne-eqb, leb-true, le-leb, lt-leb}
 use Rattle.words.specs.Lists.{split}
+use Rattle.settings.specs.SetLaws.{both}
 use Rattle.answers.specs.Parsing.{stepOf, readMark}
 use Rattle.answers.specs.ParsingLaws.{past-read, not-refused}
 use Rattle.answers.specs.declared.Step.the-variants.{Past, Refused}
@@ -18,12 +19,12 @@ use Rattle.gates.specs.Gates.{Gates}
 use Rattle.needed.specs.HeldLaws.{code-above}
 use Rattle.plan.specs.PlanFile.{mark, leastBytes, mostBytes, gatesCounted, groupsCounted, groupAt, groupsIn, ends}
 use Rattle.plan.specs.Rows.{every, everyGroup, same, rises, apart, parted, Row, layoutRows, joinRows, firstFailing}
-use Rattle.plan.specs.RowLaws.{both, each-right, ends-right, joins-right}
+use Rattle.plan.specs.RowLaws.{each-right, ends-right, joins-right}
 use Rattle.plan.specs.MarkLaws.{mark-right}
 use Rattle.plan.specs.AcceptedLaws.{Hold, none-fails, failing-first, failing-second, rising-exist}
+use Rattle.plan.specs.LayoutLaws.{length-numbers}
 use Rattle.grouping.specs.Tests.{shapeTest, membersTest, joinTest}
 use Rattle.grouping.specs.Walks.{Readable, Lie}
-use Rattle.grouping.specs.MemberLaws.{length-numbers}
 
 -- 20
 pub size-short : (p : List ℕ) → length p < leastBytes → false ≡ (leb leastBytes (length p) && leb (length p) mostBytes)

@@ -1,18 +1,19 @@
 -- Laws of the tables of groups and places: what lies in them, before any group is joined and at the end. Assumes nothing.
-use Prim.Native.Nat.{ℕ, zero, suc, _+_, _-_, _≤_, _<_}
+use Prim.Native.Nat.{ℕ, _+_, _-_, _≤_, _<_}
 use mathlib.Core.Path.{_≡_, refl, sym, ap, _∙_}
 use mathlib.Core.List.{List, [], _∷_, map}
 use mathlib.Core.Bool.{Bool, true, false, cond}
 use mathlib.Core.Logic.{_⊎_, inl, inr}
-use native.Mathlib.Nat.{zero-add, add-zero}
+use native.Mathlib.Nat.{zero-add}
 use native.Mathlib.Omega.{arith}
 use lib.ListN.{length, getD, set, replicate, length-append, length-map, length-replicate, length-set, List·getD-append}
 use lib.Seq.{getD-append-add, getD-set-same, getD-set-other, ext-getD}
 use lib.Dec.{ltb}
 use borrow.Author.Tests.{eq-eqb, ne-eqb, ltb-true, ltb-false}
-use Rattle.words.specs.Lists.{_∈_, elem, split, same?, from, upto}
-use Rattle.settings.specs.ListLaws.{length-from}
+use Rattle.words.specs.Lists.{_∈_, elem, split, same?, upto, length-from}
 use Rattle.gates.specs.Limits.{mostGates}
+use Rattle.needed.specs.MarkSteps.{getD-zeros}
+use Rattle.needed.specs.PlaceLaws.{getD-run}
 use Rattle.circuit.specs.Shown.{padded}
 use Rattle.plan.specs.PlanFile.{groupsIn}
 use Rattle.plan.specs.Groups.{groupOf}
@@ -20,16 +21,6 @@ use Rattle.grouping.specs.Tables.{placeOf, groupTable, placeTable, eachA
 use Rattle.grouping.specs.Tests.{putAll}
 
 -- a run of numbers in a table: its length, what lies in it, and zeros after it
-getD-run : (f : ℕ → ℕ) (i n g : ℕ) → g < n → getD (map f (from i n)) g 0 ≡ f (i + g)
-getD-run f i zero g h = absurd (omega arith)
-getD-run f i (suc n) zero h = ap f (sym (add-zero i))
-getD-run f i (suc n) (suc g) h = getD-run f (suc i) n g (omega arith) ∙ ap f (omega arith)
-
-pub getD-zeros : (n g : ℕ) → _≡_ {A = ℕ} (getD (replicate n 0) g 0) 0
-getD-zeros zero g = refl
-getD-zeros (suc n) zero = refl
-getD-zeros (suc n) (suc g) = getD-zeros n g
-
 module _ (f : ℕ → ℕ) (n : ℕ) where
   run-length : length (map f (upto n)) ≡ n
   run-length = length-map (upto n) f ∙ length-from 0 n

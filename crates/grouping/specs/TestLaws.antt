@@ -2,7 +2,7 @@
 use Prim.Native.Nat.{ℕ, zero, suc, _+_, _^_, _<_}
 use mathlib.Core.Path.{_≡_, refl, sym, ap, _∙_}
 use mathlib.Core.List.{List, [], _∷_}
-use mathlib.Core.Bool.{Bool, true, false, cond, _&&_, _||_, false≢true}
+use mathlib.Core.Bool.{Bool, true, false, cond, _&&_, false≢true}
 use mathlib.Core.Logic.{_⊎_, inl, inr}
 use native.Mathlib.Omega.{arith}
 use lib.Dec.{eqb, leb, ltb}
@@ -11,10 +11,10 @@ use lib.ListN.{getD}
 use borrow.Author.Tests.{eqb-false, ne-eqb, ltb-true, ltb-false, lt-ltb, leb-true, le-leb}
 use Rattle.words.specs.Lists.{_∈_, split, same-test}
 use Rattle.settings.specs.Sets.{has, union, Exclude, excludes}
-use Rattle.settings.specs.SetLaws.{has-union, excludes-right}
+use Rattle.settings.specs.SetLaws.{has-union, excludes-right, both, either, or-left, or-right}
 use Rattle.plan.specs.PlanFile.{Rising}
 use Rattle.plan.specs.Rows.{every, above, rises, parted}
-use Rattle.plan.specs.RowLaws.{both, and, every-right}
+use Rattle.plan.specs.RowLaws.{and, every-right}
 use Rattle.plan.specs.GroupLaws.{rising-first}
 use Rattle.grouping.specs.Tests.{risingFrom, partedFrom}
 
@@ -52,17 +52,6 @@ rising-right n (g ∷ l) = rising-is n 0 (g ∷ l) ∙ rw (le-leb 0 g (omega ari
 below-power : (n : ℕ) → n < 2 ^ n
 below-power zero = omega arith
 below-power (suc n) = let h : n < 2 ^ n = below-power n in omega arith
-
-either : (a b : Bool) → (a || b) ≡ true → (a ≡ true) ⊎ (b ≡ true)
-either true b h = inl refl
-either false b h = inr h
-
-or-left : (a b : Bool) → a ≡ true → (a || b) ≡ true
-or-left a b e = rw e
-
-or-right : (a b : Bool) → b ≡ true → (a || b) ≡ true
-or-right true b e = refl
-or-right false b e = e
 
 pub excludes-union : (s t u : ℕ) → excludes (union s t) u ≡ (excludes s u && excludes t u)
 excludes-union s t u = same-test (excludes (union s t) u) (excludes s u && excludes t u) to back

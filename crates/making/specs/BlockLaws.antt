@@ -7,9 +7,10 @@ use mathlib.Core.List.{List}
 use lib.ListN.{length, getD, take, length-take}
 use lib.Bits.{bitOr}
 use lib.Seq.{ext-getD, getD-take}
+use Rattle.words.specs.Lists.{length-from}
 use Rattle.settings.specs.Sets.{has}
 use Rattle.settings.specs.BitLaws.{bit-or, bit-none}
-use Rattle.settings.specs.ListLaws.{length-from}
+use Rattle.settings.specs.SetLaws.{or-false}
 use Rattle.answers.specs.Parsing.{parsed}
 use Rattle.answers.specs.ParsingLaws.{IsRead, read-is, is-read}
 use Rattle.reading.specs.Limits.{nested}
@@ -61,10 +62,6 @@ module _ (s : List ℕ) (nest at : ℕ) (rows present : List ℕ) (count : ℕ) 
               let q = w .walked m l held in
               subst (λ (k : Making). Held s k rows′ present′ n) (ap (λ (b : Block). makeBlock b (q .now)) (sym r) ∙ q .same) (q .held);
         }
-      where
-        or-false : (b : Bool) → (b || false) ≡ b
-        or-false true = refl
-        or-false false = refl
 
     pub walked-more : (getD s here 0 ≡ 0 → ⊥) → (next more mask′ : ℕ) (rows″ present″ : List ℕ) → here < next
         → Done makeStatement assignsIn s (readStatement s nest here) rows′ present′ n next more mask′ rows″ present″

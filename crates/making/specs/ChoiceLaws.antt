@@ -4,20 +4,18 @@ use native.Mathlib.Omega.{arith}
 use mathlib.Core.Path.{_≡_, refl, sym, ap, subst, subst⁻¹, _∙_}
 use mathlib.Core.Logic.{_⊎_, inl, inr}
 use mathlib.Core.Bool.{Bool, true, false, cond}
-use mathlib.Core.List.{List, [], _∷_, _++_, map}
+use mathlib.Core.List.{List, [], _∷_, _++_, map, map-append}
 use lib.ListN.{length, getD, set, length-set, length-append}
 use lib.Dec.{eqb}
 use borrow.Author.Tests.{eqb-true, eqb-false, eq-eqb, ne-eqb}
 use lib.Seq.{getD-set-same, getD-set-other}
-use Rattle.words.specs.Lists.{keep, from, upto, split, same?}
+use Rattle.words.specs.Lists.{keep, from, upto, split, same?, length-from, getD-from, from-more}
 use Rattle.settings.specs.Settings.{bit}
 use Rattle.settings.specs.Sets.{has}
 use Rattle.settings.specs.BitLaws.{bit-zero, bit-suc, bit-none}
-use Rattle.settings.specs.ListLaws.{length-from}
 use Rattle.reading.specs.Header.{variables, kindAt}
 use Rattle.gates.specs.Gates.{Gate, start, choice, Gates}
 use Rattle.gates.specs.PlainCircuit.{Making, choose, choices, starts}
-use Rattle.gates.specs.StartLaws.{from-at}
 use Rattle.gates.specs.Rows.{startCode, fourOf, rowsOf}
 use Rattle.making.specs.Holding.{Stored, Stands, Held, Pushed, Chose, Chosen, ChosenTo, Started}
 
@@ -128,17 +126,8 @@ module _ (condition : ℕ) (first second : List ℕ) (mask v : ℕ) (rows presen
             subst (λ (w : Making). Held s w rows′ present′ n) (ap (λ (k : ℕ). choices c p q (keep (has mask) (from x k)) (z .now)) (sym e) ∙ z .same) (z .held);
       }
 
--- one number more of a run
-pub from-snoc : (i n : ℕ) → from i (suc n) ≡ from i n ++ ((i + n) ∷ [])
-from-snoc i zero = ap (λ (k : ℕ). k ∷ []) (omega arith)
-from-snoc i (suc n) = ap (λ (l : List ℕ). i ∷ l) (from-snoc (suc i) n ∙ ap (λ (k : ℕ). from (suc i) n ++ (k ∷ [])) (omega arith))
-
-map-snoc : (l : List ℕ) (x : ℕ) → map start (l ++ (x ∷ [])) ≡ map start l ++ (start x ∷ [])
-map-snoc [] x = refl
-map-snoc (y ∷ l) x = ap (λ (k : Gates). start y ∷ k) (map-snoc l x)
-
 starts-more : (x : ℕ) → map start (upto (x + 1)) ≡ map start (upto x) ++ (start x ∷ [])
-starts-more x = let e : x + 1 ≡ suc x = omega arith in ap (λ (k : ℕ). map start (upto k)) e ∙ ap (map start) (from-snoc 0 x) ∙ map-snoc (upto x) (0 + x) ∙ ap (λ (k : ℕ). map start (upto x) ++ (start k ∷ [])) (omega arith)
+starts-more x = let e : x + 1 ≡ suc x = omega arith in ap (λ (k : ℕ). map start (upto k)) e ∙ ap (map start) (from-more 0 x) ∙ map-append start (upto x) ((0 + x) ∷ []) ∙ ap (λ (k : ℕ). map start (upto x) ++ (start k ∷ [])) (omega arith)
 
 -- the starting values, one variable after another
 module _ (s rows present : List ℕ) where
@@ -171,5 +160,5 @@ module _ (s rows present : List ℕ) where
         wide = r .wide;
         stand = λ few y i.
             let j : y < variables s = subst (λ (k : ℕ). y < k) (length-from 0 (variables s)) i in
-            r .stand y (omega arith) ∙ sym (from-at 0 (variables s) y j ∙ omega arith);
+            r .stand y (omega arith) ∙ sym (getD-from 0 (variables s) y j ∙ omega arith);
       }

@@ -22,7 +22,7 @@ use Rattle.gates.specs.CostLaws.{costs-add, costs-most}
 use Rattle.needed.specs.Held.{choiceCode, ofForm, argumentsOf, gateOf, gateIn, gatesIn, codeCost}
 
 -- what holds of every row of the table and of every plain code holds of the code of any number
-pick-each : (Q : Code → Type 0) (t : Bool) (a b : Code) → Q a → Q b → Q (pick t a b)
+pub pick-each : (Q : Code → Type 0) (t : Bool) (a b : Code) → Q a → Q b → Q (pick t a b)
 pick-each Q true a b p q = p
 pick-each Q false a b p q = q
 

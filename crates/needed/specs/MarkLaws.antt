@@ -1,15 +1,17 @@
 -- Laws of one step of the backward pass at one setting: handing a gate's set on gives the setting exactly to what the gate asks for.
 use Prim.Native.Nat.{ℕ, _≤_, _<_}
-use mathlib.Core.Path.{_≡_, refl}
+use mathlib.Core.Path.{_≡_}
 use mathlib.Core.List.{List, [], _∷_}
-use mathlib.Core.Bool.{Bool, true, false, not, _&&_, _||_, false≢true}
+use mathlib.Core.Bool.{Bool, true, false, not}
 use mathlib.Core.Logic.{_⊎_, inl, inr}
 use lib.ListN.{length, getD, length-set}
 use lib.Seq.{getD-set-same, getD-set-other, set-out}
+use borrow.Author.Tests.{not-true}
 use Rattle.words.specs.Lists.{_∈_, split, same?}
 use Rattle.gates.specs.Gates.{Gate, start, word, bit, operation, choice}
 use Rattle.settings.specs.Settings.{Setting}
 use Rattle.settings.specs.Interface.{SetsOf}
+use Rattle.settings.specs.SetLaws.{both, either, or-left, or-right}
 use Rattle.needed.specs.Needed.{asks}
 use Rattle.needed.specs.Pass.{add, addAll, hand}
 use Rattle.needed.specs.HandLaws.{inside-list}
@@ -24,18 +26,6 @@ module _ {J : Type 0} {setting : J → Setting} {S : Type 0} {has : S → J → 
 
     abbrev pub marked : List S → ℕ → Bool
     marked M g = has (getD M g empty) j
-
-    or-left : (a b : Bool) → a ≡ true → (a || b) ≡ true
-    or-left true b h = refl
-    or-left false b h = absurd (false≢true h)
-
-    or-right : (a b : Bool) → b ≡ true → (a || b) ≡ true
-    or-right true b h = refl
-    or-right false b h = h
-
-    or-cases : (a b : Bool) → (a || b) ≡ true → (a ≡ true) ⊎ (b ≡ true)
-    or-cases true b h = inl refl
-    or-cases false b h = inr h
 
     add-all : (a : ℕ) (s : S) (M : List S) → a < length M → has s j ≡ true → marked (add 𝓢 a s M) a ≡ true
     add-all a s M h t = rw (getD-set-same M a (join (getD M a empty) s) empty h, has-join) (or-right (has (getD M a empty) j) (has s j) t)
@@ -55,7 +45,7 @@ module _ {J : Type 0} {setting : J → Setting} {S : Type 0} {has : S → J → 
         go (inr n) z = inl (rw (getD-set-other M a g (join (getD M a empty) s) empty n) at t)
         go (inl e) (inr h) = inl (rw (set-out M a (join (getD M a empty) s) h) at t)
         go (inl e) (inl h) =
-            one-of (or-cases (has (getD M a empty) j) (has s j) (rw (e, getD-set-same M a (join (getD M a empty) s) empty h, has-join) at t))
+            one-of (either (has (getD M a empty) j) (has s j) (rw (e, getD-set-same M a (join (getD M a empty) s) empty h, has-join) at t))
           where
             one-of : (has (getD M a empty) j ≡ true) ⊎ (has s j ≡ true) → (marked M g ≡ true) ⊎ ((g ≡ a) × (has s j ≡ true))
             one-of (inl k) = inl (rw e k)
@@ -88,14 +78,6 @@ module _ {J : Type 0} {setting : J → Setting} {S : Type 0} {has : S → J → 
 
     unpicked : (c : ℕ) (s : S) → has s j ≡ true → σ c ≡ false → has (without c s) j ≡ true
     unpicked c s h t = rw (has-without, h, t)
-
-    both : (a b : Bool) → (a && b) ≡ true → (a ≡ true) × (b ≡ true)
-    both true b h = (refl, h)
-    both false b h = absurd (false≢true h)
-
-    opposite : (b : Bool) → not b ≡ true → b ≡ false
-    opposite true h = absurd (false≢true h)
-    opposite false h = refl
 
     pub hand-grows : (k : Gate) (s : S) (M : List S) (g : ℕ) → marked M g ≡ true → marked (hand 𝓢 k s M) g ≡ true
     hand-grows (start x) s M g t = t
@@ -144,4 +126,4 @@ module _ {J : Type 0} {setting : J → Setting} {S : Type 0} {has : S → J → 
         third : (marked (add 𝓢 a (given c s) (add 𝓢 c s M)) g ≡ true) ⊎ ((g ≡ b) × (has (without c s) j ≡ true))
             → (marked M g ≡ true) ⊎ ((has s j ≡ true) × (g ∈ asks σ (choice c a b)))
         third (inl k) = second (add-only a (given c s) (add 𝓢 c s M) g k)
-        third (inr (e, k)) = let r = both (has s j) (not (σ c)) (rw has-without at k) in inr (r .0, inr (inl (rw (opposite (σ c) (r .1)) e)))
+        third (inr (e, k)) = let r = both (has s j) (not (σ c)) (rw has-without at k) in inr (r .0, inr (inl (rw (not-true (σ c) (r .1)) e)))

@@ -2,7 +2,7 @@
 use Prim.Native.Nat.{ℕ, zero, suc, _+_, _≤_, _<_}
 use mathlib.Core.Path.{_≡_, refl, sym, ap, _∙_}
 use mathlib.Core.List.{List, [], _∷_, _++_, map, append-nil}
-use mathlib.Core.Bool.{Bool, false, not, cond}
+use mathlib.Core.Bool.{false, not, cond}
 use mathlib.Core.Logic.{_⊎_, inl, inr}
 use native.Mathlib.Nat.{zero-add, add-zero}
 use native.Mathlib.Omega.{arith}
@@ -10,8 +10,8 @@ use lib.ListN.{length, getD, set, length-append, length-map, length-set}
 use lib.Seq.{getD-set-same, getD-set-other}
 use lib.Dec.{eqb}
 use borrow.Author.Tests.{eq-eqb, ne-eqb, eqb-true, eqb-false}
-use Rattle.words.specs.Lists.{_∈_, split, same?, keep, keep-from, from, upto, from-below}
-use Rattle.settings.specs.ListLaws.{length-from, length-keep}
+use Rattle.words.specs.Lists.{_∈_, split, same?, keep, keep-from, from, upto, from-below, length-from, from-more, keep-more}
+use Rattle.settings.specs.ListLaws.{length-keep}
 use Rattle.gates.specs.Gates.{Gates, conditions}
 use Rattle.needed.specs.Places.{placeIn, placesOf, markedIn, Numbered}
 
@@ -53,7 +53,7 @@ place-found (c ∷ l) g m = split (eqb g c) (λ e. record { at = 0; place = rw e
 
 -- The numbers of all gates.
 
-getD-run : (f : ℕ → ℕ) (i n g : ℕ) → g < n → getD (map f (from i n)) g 0 ≡ f (i + g)
+pub getD-run : (f : ℕ → ℕ) (i n g : ℕ) → g < n → getD (map f (from i n)) g 0 ≡ f (i + g)
 getD-run f i zero g h = absurd (omega arith)
 getD-run f i (suc n) zero h = ap f (sym (add-zero i))
 getD-run f i (suc n) (suc g) h = getD-run f (suc i) n g (omega arith) ∙ ap f (omega arith)
@@ -67,14 +67,6 @@ unfolding placesOf
 places-length C n = length-map (upto n) (placeIn (conditions C)) ∙ length-from 0 n
 
 -- Marked gates, one after the other.
-
-from-more : (i n : ℕ) → from i (suc n) ≡ from i n ++ ((i + n) ∷ [])
-from-more i zero = ap (λ (k : ℕ). k ∷ []) (sym (add-zero i))
-from-more i (suc n) = ap (λ (l : List ℕ). i ∷ l) (from-more (suc i) n ∙ ap (λ (k : ℕ). from (suc i) n ++ (k ∷ [])) (omega arith))
-
-keep-more : (p : ℕ → Bool) (l : List ℕ) (a : ℕ) → keep p (l ++ (a ∷ [])) ≡ keep p l ++ cond (p a) (a ∷ []) []
-keep-more p [] a = refl
-keep-more p (b ∷ l) a = split (p b) (λ t. rw t (ap (λ (r : List ℕ). b ∷ r) (keep-more p l a))) (λ t. rw t (keep-more p l a))
 
 marked-next : (marks : List ℕ) (n : ℕ) → markedIn marks (suc n) ≡ markedIn marks n ++ cond (not (eqb (getD marks n 0) 0)) (n ∷ []) []
 unfolding markedIn

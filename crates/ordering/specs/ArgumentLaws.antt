@@ -2,7 +2,7 @@
 use Prim.Native.Nat.{ℕ, _+_, _*_, _≤_, _<_}
 use mathlib.Core.Path.{_≡_, refl, sym, ap, _∙_}
 use mathlib.Core.Bool.{true, false}
-use mathlib.Core.List.{List, [], _∷_, _++_, map}
+use mathlib.Core.List.{List, [], _∷_, _++_, map, map-append}
 use native.Mathlib.Omega.{arith}
 use lib.ListN.{length, getD, take, length-set}
 use Rattle.words.specs.Lists.{keep, keep-in, upto, from-in, in-map}
@@ -11,7 +11,7 @@ use Rattle.needed.specs.Held.{codeAt}
 use Rattle.ordering.specs.Tables.{putBit, putAll}
 use Rattle.ordering.specs.Reads.{arityOf, argumentsAt, Into}
 use Rattle.ordering.specs.TableLaws.{puts-more}
-use Rattle.ordering.specs.ReadLaws.{arity-most, argument-in, arguments-more, arguments-all, map-more, keep-yes, keep-no}
+use Rattle.ordering.specs.ReadLaws.{arity-most, argument-in, arguments-more, arguments-all, keep-yes, keep-no}
 
 put-length : (base q : ℕ) (w new : List ℕ) → new ≡ putBit base q w → length new ≡ length w
 unfolding putBit
@@ -27,7 +27,7 @@ one-more : (base a q : ℕ) (group l m w₀ w new : List ℕ) → m ≡ l ++ (a 
 one-more base a q group l m w₀ w new e h f k =
     k ∙ ap (putBit base q) h ∙ puts-more base (map (λ x. getD group x 0) l) w₀ q
     ∙ ap (λ (r : List ℕ). putAll base r w₀)
-    (ap (λ (b : ℕ). map (λ x. getD group x 0) l ++ (b ∷ [])) f ∙ sym (map-more (λ x. getD group x 0) l a) ∙ ap (map (λ x. getD group x 0)) (sym e))
+    (ap (λ (b : ℕ). map (λ x. getD group x 0) l ++ (b ∷ [])) f ∙ sym (map-append (λ x. getD group x 0) l (a ∷ [])) ∙ ap (map (λ x. getD group x 0)) (sym e))
 
 -- The arguments of gate i: those below place k are put.
 pub record Arguing (rows group waits₀ : List ℕ) (i base n : ℕ) (waits : List ℕ) (k : ℕ) : Type 0 where
@@ -101,7 +101,7 @@ module _ (conds group : List ℕ) (s : ℕ) (waits₀ : List ℕ) (base : ℕ) w
         size₀ = g .size₀;
         size = put-length base q waits new k ∙ g .size;
         made = one-more base (getD conds t 0) q group (map (λ u. getD conds u 0) (keep (restsOn 6 s) (upto t))) (map (λ u. getD conds u 0) (keep (restsOn 6 s) (upto (t + 1)))) waits₀ waits new
-            (ap (map (λ u. getD conds u 0)) (keep-yes (restsOn 6 s) t h) ∙ map-more (λ u. getD conds u 0) (keep (restsOn 6 s) (upto t)) t) (g .made) f k;
+            (ap (map (λ u. getD conds u 0)) (keep-yes (restsOn 6 s) t h) ∙ map-append (λ u. getD conds u 0) (keep (restsOn 6 s) (upto t)) (t ∷ [])) (g .made) f k;
       }
 
   pub resting-no : (waits new : List ℕ) (t : ℕ) → Resting conds group s waits₀ base waits t → t < 6 → restsOn 6 s t ≡ false → new ≡ waits

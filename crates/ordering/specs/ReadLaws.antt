@@ -2,7 +2,7 @@
 use Prim.Native.Nat.{ℕ, zero, suc, _+_, _*_, _≤_, _<_}
 use mathlib.Core.Path.{_≡_, refl, sym, ap, _∙_}
 use mathlib.Core.Bool.{Bool, true, false, cond}
-use mathlib.Core.List.{List, [], _∷_, _++_, map, append-assoc, append-nil}
+use mathlib.Core.List.{List, [], _∷_, _++_, append-assoc, append-nil}
 use mathlib.Core.Logic.{_⊎_, inl, inr}
 use native.Mathlib.Nat.{zero-add}
 use native.Mathlib.Omega.{arith}
@@ -10,7 +10,7 @@ use lib.ListN.{length, getD, take}
 use lib.Seq.{take-suc, take-all, getD-take, length-take-le}
 use lib.Dec.{eqb}
 use borrow.Author.Tests.{eq-eqb, ne-eqb}
-use Rattle.words.specs.Lists.{_∈_, elem, split, same?, keep, from, upto, flat, getD-in}
+use Rattle.words.specs.Lists.{_∈_, elem, split, same?, keep, upto, flat, getD-in, from-more, keep-more}
 use Rattle.codes.specs.Codes.{codeOf}
 use Rattle.codes.specs.declared.Code.{Code}
 use Rattle.gates.specs.Gates.{arguments}
@@ -104,29 +104,17 @@ arguments-more rows i k h =
 pub arguments-all : (rows : List ℕ) (i k : ℕ) → arityOf (codeAt rows i) ≤ k → take k (argumentsAt rows i) ≡ argumentsAt rows i
 arguments-all rows i k h = take-all k (argumentsAt rows i) (rw (arguments-length rows i) h)
 
--- one more of a mapped, kept or joined run
-pub map-more : (f : ℕ → ℕ) (l : List ℕ) (a : ℕ) → map f (l ++ (a ∷ [])) ≡ map f l ++ (f a ∷ [])
-map-more f [] a = refl
-map-more f (x ∷ l) a = ap (λ (r : List ℕ). f x ∷ r) (map-more f l a)
-
-from-more : (i n : ℕ) → from i (suc n) ≡ from i n ++ ((i + n) ∷ [])
-from-more i zero = ap (λ (k : ℕ). k ∷ []) (omega arith)
-from-more i (suc n) = ap (λ (l : List ℕ). i ∷ l) (from-more (suc i) n ∙ ap (λ (k : ℕ). from (suc i) n ++ (k ∷ [])) (omega arith))
-
-keep-last : (p : ℕ → Bool) (l : List ℕ) (a : ℕ) → keep p (l ++ (a ∷ [])) ≡ keep p l ++ cond (p a) (a ∷ []) []
-keep-last p [] a = refl
-keep-last p (x ∷ l) a = split (p x) (λ t. rw t (ap (λ (r : List ℕ). x ∷ r) (keep-last p l a))) (λ t. rw t (keep-last p l a))
-
-pub keep-more : (p : ℕ → Bool) (n : ℕ) → keep p (upto (n + 1)) ≡ keep p (upto n) ++ cond (p n) (n ∷ []) []
-keep-more p n =
+-- one more of a kept or joined run
+kept-next : (p : ℕ → Bool) (n : ℕ) → keep p (upto (n + 1)) ≡ keep p (upto n) ++ cond (p n) (n ∷ []) []
+kept-next p n =
     let e : n + 1 ≡ suc n = omega arith in
-    rw e (ap (keep p) (from-more 0 n ∙ ap (λ (k : ℕ). upto n ++ (k ∷ [])) (zero-add n)) ∙ keep-last p (upto n) n)
+    rw e (ap (keep p) (from-more 0 n ∙ ap (λ (k : ℕ). upto n ++ (k ∷ [])) (zero-add n)) ∙ keep-more p (upto n) n)
 
 pub keep-yes : (p : ℕ → Bool) (n : ℕ) → p n ≡ true → keep p (upto (n + 1)) ≡ keep p (upto n) ++ (n ∷ [])
-keep-yes p n h = keep-more p n ∙ rw h
+keep-yes p n h = kept-next p n ∙ rw h
 
 pub keep-no : (p : ℕ → Bool) (n : ℕ) → p n ≡ false → keep p (upto (n + 1)) ≡ keep p (upto n)
-keep-no p n h = keep-more p n ∙ rw h (append-nil (keep p (upto n)))
+keep-no p n h = kept-next p n ∙ rw h (append-nil (keep p (upto n)))
 
 pub elem-last : (q : ℕ) (l : List ℕ) (a : ℕ) → elem q (l ++ (a ∷ [])) ≡ cond (eqb q a) true (elem q l)
 elem-last q [] a = refl

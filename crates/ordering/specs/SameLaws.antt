@@ -70,17 +70,18 @@ module _ (C : Gates) (earlier : Earlier C) (sets : List ℕ) (f h : ℕ → ℕ)
 
 -- Two lists of sets that read alike: an array padded with zeros reads as the list.
 
-module _ (C : Gates) (sets tabs : List ℕ) (e : (m : ℕ) → getD sets m 0 ≡ getD tabs m 0) (group : ℕ → ℕ) where
-  rests-same : (m : ℕ) → restsOf C sets m ≡ restsOf C tabs m
+module _ (C : Gates) (sets tabs : List ℕ) (e : (m : ℕ) → getD sets m 0 ≡ getD tabs m 0) where
+  pub rests-same : (m : ℕ) → restsOf C sets m ≡ restsOf C tabs m
   unfolding restsOf
   rests-same m = ap (λ (s : ℕ). map (λ t. getD (conditions C) t 0) (rests mostConditions s)) (e m)
 
+module _ (C : Gates) (sets tabs : List ℕ) (e : (m : ℕ) → getD sets m 0 ≡ getD tabs m 0) (group : ℕ → ℕ) where
   pub waits-sets-same : (p : ℕ) → waitsFor C sets group p ≡ waitsFor C tabs group p
   unfolding waitsFor
   waits-sets-same p =
       let ms = members (length C) group p in
       ap (map group) (flat-same (readsOf C sets ms) (readsOf C tabs ms) ms
-      (λ m k. ap (λ (l : List ℕ). arguments (gateAt C m) ++ cond (leb 2 (length ms)) l []) (rests-same m)))
+      (λ m k. ap (λ (l : List ℕ). arguments (gateAt C m) ++ cond (leb 2 (length ms)) l []) (rests-same C sets tabs e m)))
 
   pub order-sets-same : order C sets group ≡ order C tabs group
   unfolding order

@@ -15,9 +15,10 @@ use Rattle.words.specs.Lists.{_∈_, elem, split, same?}
 use Rattle.settings.specs.Settings.{bit, unlike}
 use Rattle.settings.specs.Sets.{union, flipBit}
 use Rattle.settings.specs.BitLaws.{bit-zero, bit-suc, bit-pow, bit-none, bit-or, bit-xor}
-use Rattle.settings.specs.SetLaws.{union-below}
+use Rattle.settings.specs.SetLaws.{union-below, or-false}
 use Rattle.settings.specs.FlipLaws.{flip-below}
 use Rattle.needed.specs.HandLaws.{inside-list}
+use Rattle.needed.specs.MarkSteps.{getD-zeros}
 use Rattle.ordering.specs.Tables.{bitIn, putBit, putAll, strikeBit, Words}
 
 -- a power of two has no other bit
@@ -33,26 +34,17 @@ or-true : (b : Bool) → (b || true) ≡ true
 or-true true = refl
 or-true false = refl
 
-or-false : (b : Bool) → (b || false) ≡ b
-or-false true = refl
-or-false false = refl
-
 -- a clear table
-zeros-at : (n i : ℕ) → _≡_ {A = ℕ} (getD (replicate n 0) i 0) 0
-zeros-at zero i = refl
-zeros-at (suc n) zero = refl
-zeros-at (suc n) (suc i) = zeros-at n i
-
 pub clear-words : (n : ℕ) (w : List ℕ) → w ≡ replicate n 0 → Words n w
 clear-words n w e =
     record {
       size = ap length e ∙ length-replicate n 0;
-      fits = λ i. let z : getD w i 0 ≡ 0 = ap (λ (l : List ℕ). getD l i 0) e ∙ zeros-at n i in omega (arith, z, pow-lt {i = 0} {j = 64} (omega arith));
+      fits = λ i. let z : getD w i 0 ≡ 0 = ap (λ (l : List ℕ). getD l i 0) e ∙ getD-zeros n i in omega (arith, z, pow-lt {i = 0} {j = 64} (omega arith));
     }
 
 pub clear-bit : (n base q : ℕ) (w : List ℕ) → w ≡ replicate n 0 → bitIn base w q ≡ false
 unfolding bitIn
-clear-bit n base q w e = ap (λ (l : List ℕ). bit (getD l (base + q / 64) 0) (q % 64)) e ∙ ap (λ (x : ℕ). bit x (q % 64)) (zeros-at n (base + q / 64)) ∙ bit-none (q % 64)
+clear-bit n base q w e = ap (λ (l : List ℕ). bit (getD l (base + q / 64) 0) (q % 64)) e ∙ ap (λ (x : ℕ). bit x (q % 64)) (getD-zeros n (base + q / 64)) ∙ bit-none (q % 64)
 
 -- a store of a number of 64 bits
 set-words : (n i x : ℕ) (w : List ℕ) → Words n w → x < 2 ^ 64 → Words n (set w i x)

@@ -9,6 +9,7 @@ use lib.Dec.{eqb, leb, ltb}
 use borrow.Author.Tests.{eqb-true, eqb-false, eq-eqb, ne-eqb, leb-true, le-leb, ltb-true}
 use lib.ListN.{length, take}
 use Rattle.words.specs.Lists.{split}
+use Rattle.settings.specs.SetLaws.{both}
 use Rattle.answers.specs.declared.Answer.{Answer}
 use Rattle.answers.specs.Answers.{refusal}
 use Rattle.answers.specs.Parsing.{parsed}
@@ -29,7 +30,7 @@ use Rattle.plan.specs.Rows.{every, everyGroup, rises, Row, rows, firstFa
 use Rattle.plan.specs.Accepted.{Exist, Acceptable}
 use Rattle.plan.specs.GroupLaws.{groupOf-named}
 use Rattle.plan.specs.WaitLaws.{placed-right}
-use Rattle.plan.specs.RowLaws.{both, and, each-right, same-right, ends-right, joins-right, rises-right, exist-right, apart-right}
+use Rattle.plan.specs.RowLaws.{and, each-right, same-right, ends-right, joins-right, rises-right, exist-right, apart-right}
 use Rattle.plan.specs.MemberLaws.{costly-right, parted-right}
 
 -- every row of a list holds; every row of a list has a number above 0

@@ -13,7 +13,8 @@ use Rattle.plan.specs.PlanFile.{leastBytes, groupsCounted, numbersAt, gr
 use Rattle.plan.specs.Accepted.{LaidOut}
 use Rattle.plan.specs.Layout.{numbersBytes, groupsBytes, count, planBytes}
 
-length-numbers : (n : ℕ) (p : List ℕ) (at : ℕ) → length (numbersAt n p at) ≡ n
+-- as many as were asked for
+pub length-numbers : (n : ℕ) (p : List ℕ) (at : ℕ) → length (numbersAt n p at) ≡ n
 length-numbers zero p at = refl
 length-numbers (suc n) p at = ap suc (length-numbers n p (at + 2))
 

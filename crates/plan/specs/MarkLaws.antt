@@ -10,11 +10,12 @@ use lib.Dec.{eqb}
 use lib.ListN.{length, getD, take, drop}
 use lib.Seq.{drop-cons}
 use Rattle.words.specs.Lists.{split}
+use Rattle.settings.specs.SetLaws.{both}
 use Rattle.answers.specs.Parsing.{readMark}
 use Rattle.answers.specs.ParsingLaws.{IsRead}
 use Rattle.plan.specs.PlanFile.{mark, leastBytes}
 use Rattle.plan.specs.Rows.{same}
-use Rattle.plan.specs.RowLaws.{both, and}
+use Rattle.plan.specs.RowLaws.{and}
 
 module _ (number : ℕ) (p : List ℕ) where
   mark-to : (m : List ℕ) (at : ℕ) → at + length m ≤ length p → IsRead (readMark number m p at) → same (take (length m) (drop at p)) m ≡ true

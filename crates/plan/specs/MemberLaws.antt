@@ -10,6 +10,7 @@ use borrow.Author.Tests.{eqb-true, eqb-false, eq-eqb, ne-eqb}
 use lib.ListN.{length, getD}
 use Rattle.words.specs.Lists.{_∈_, split}
 use Rattle.settings.specs.Sets.{excludes}
+use Rattle.settings.specs.SetLaws.{both}
 use Rattle.codes.specs.Codes.{costly, byteOf, operationOf}
 use Rattle.codes.specs.CodeLaws.{byte-operation}
 use Rattle.codes.specs.declared.Operation.{Operation}
@@ -18,7 +19,7 @@ use Rattle.needed.specs.Needed.{Exclude}
 use Rattle.plan.specs.PlanFile.{Plan, Each}
 use Rattle.plan.specs.Rows.{every, everyGroup, isCostly, operationByte, alike, parted}
 use Rattle.plan.specs.Accepted.{OneCostly, NoTwoNeeded}
-use Rattle.plan.specs.RowLaws.{both, and, every-right}
+use Rattle.plan.specs.RowLaws.{and, every-right}
 
 -- a costly gate is a costly operation
 costly-gate : (k : Gate) → isCostly k ≡ true → (op : Operation) × (costly op ≡ true) × (l : List ℕ) × (k ≡ operation op l)

@@ -1,14 +1,14 @@
 -- Document 01, "The fused circuit file", Order: it places every group exactly when no group waits for itself by a chain of one or more waits;
 -- what it places is in order, each group once. Over any table of waits.
 use mathlib.Core.Path.{_≡_, refl, sym, ap, _∙_}
-use mathlib.Core.Bool.{Bool, true, false, not, false≢true, true≢false}
+use mathlib.Core.Bool.{true, false, not, false≢true, true≢false}
 use mathlib.Core.List.{List, [], _∷_}
 use mathlib.Core.Option.{Option, none, some}
 use mathlib.Core.Logic.{inl, inr, _↔_}
 use Prim.Native.Nat.{ℕ, zero, suc, _≤_, _<_}
 use native.Mathlib.Omega.{arith}
 use lib.Dec.{eqb}
-use borrow.Author.Tests.{eq-eqb}
+use borrow.Author.Tests.{eq-eqb, not-true}
 use lib.ListN.{length}
 use Rattle.words.specs.Lists.{_∈_, elem, elem→∈, ∈→elem, split, keep, keep-in, keep-from}
 use Rattle.settings.specs.Settings.{Once}
@@ -117,14 +117,10 @@ module _ (waits : ℕ → List ℕ) where
         on : (z : ℕ) → z ∈ gs → (q : ℕ) × (q ∈ waits z) × (elem q done ≡ false) → (q : ℕ) × (q ∈ left gs done) × Chained z q
         on z zm (q, h, f) = (q, keep-in (λ y. not (elem y done)) gs q (closed z q zm h) (rw f), one h)
 
-        unwritten : (b : Bool) → not b ≡ true → b ≡ false
-        unwritten true f = sym f
-        unwritten false f = refl
-
         next : (z : ℕ) → z ∈ left gs done → (q : ℕ) × (q ∈ left gs done) × Chained z q
         next z zm =
             let r = keep-from (λ y. not (elem y done)) gs z zm in
-            on z (r .0) (unready-means done z (unwritten (elem z done) (r .1)) (first-none done gs e z (r .0)))
+            on z (r .0) (unready-means done z (not-true (elem z done) (r .1)) (first-none done gs e z (r .0)))
 
     left-le : (p : ℕ) (done l : List ℕ) → length (left l (p ∷ done)) ≤ length (left l done)
     left-le p done [] = omega arith

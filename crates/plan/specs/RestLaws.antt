@@ -40,7 +40,8 @@ unlike-false true h = refl
 unlike-false false h = h
 
 module _ (C : Gates) (wanted : List ℕ) (earlier : Earlier C) (inside : (g : ℕ) → g ∈ wanted → g < length C) (few : length (conditions C) ≤ mostConditions) where
-  rests-list : (m : ℕ) → restsOf C (preconditionSets mostConditions C wanted) m ≡ preRests (needed C wanted m) (conditions C)
+  -- the condition gates listed for m are those that its being needed rests on
+  pub rests-list : (m : ℕ) → restsOf C (preconditionSets mostConditions C wanted) m ≡ preRests (needed C wanted m) (conditions C)
   unfolding restsOf
   rests-list m = sym (rests-places mostConditions (preconditionOf mostConditions C wanted m) (conditions C) (needed C wanted m) (precondition-holds C wanted earlier inside mostConditions few m))
 

@@ -8,15 +8,12 @@ use lib.Dec.{eqb, leb, ltb}
 use borrow.Author.Tests.{eqb-true, eq-eqb, leb-true, le-leb, ltb-true, lt-ltb}
 use lib.ListN.{length}
 use Rattle.words.specs.Lists.{_∈_, elem, elem→∈, ∈→elem, split}
+use Rattle.settings.specs.SetLaws.{both}
 use Rattle.plan.specs.PlanFile.{Plan, after, Each, Above, Rising, Listed, Apart, Ends, ends}
 use Rattle.plan.specs.Rows.{every, everyGroup, same, above, rises, listed, apart}
 use Rattle.plan.specs.Accepted.{Exist}
 
 -- both tests hold
-pub both : (a b : Bool) → (a && b) ≡ true → (a ≡ true) × (b ≡ true)
-both true b h = (refl, h)
-both false b h = absurd (false≢true h)
-
 pub and : {a b : Bool} → a ≡ true → b ≡ true → (a && b) ≡ true
 and p q = rw (p, q)
 

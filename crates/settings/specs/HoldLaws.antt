@@ -8,12 +8,12 @@ use native.Mathlib.Nat.{lt-of-lt-of-le, add-zero, zero-add}
 use native.Mathlib.Omega.{arith}
 use lib.ListN.{length, getD}
 use lib.Pow.{pow-mono}
-use Rattle.words.specs.Lists.{upto, split, same-test, keep, from, from-below}
+use Rattle.words.specs.Lists.{upto, split, same-test, keep, from, from-below, length-from}
 use Rattle.settings.specs.Settings.{Setting, odd, settingOf, numberOf, Agree, Over, flip, unlike, moves, anyBelow, preRestsOn, preRests}
 use Rattle.settings.specs.Sets.{has, excludes, flipBit, restsOn, rests}
 use Rattle.settings.specs.Holding.{Holds}
 use Rattle.settings.specs.BitLaws.{half, odd-bit}
-use Rattle.settings.specs.ListLaws.{length-from, getD-upto, anyBelow-same, anyBelow-some, anyBelow-has, keep-none}
+use Rattle.settings.specs.ListLaws.{getD-upto, anyBelow-same, anyBelow-some, anyBelow-has, keep-none}
 use Rattle.settings.specs.SettingLaws.{place, settingOf-at, bit-numberOf, put-agree, numberOf-below, settingOf-numberOf}
 use Rattle.settings.specs.FlipLaws.{flip-suc, flip-below, settingOf-flip}
 use Rattle.settings.specs.SetLaws.{restsOn-right, excludes-right}

@@ -1,13 +1,13 @@
 -- Document 01, "Needed gates (000 Def. 4)": laws of searches below a number, of rising lists of conditions, and of lists that hold nothing twice.
-use mathlib.Core.Path.{_≡_, refl, sym, ap, _∙_}
+use mathlib.Core.Path.{_≡_, refl, sym, _∙_}
 use mathlib.Core.Bool.{Bool, true, false, true≢false, false≢true}
 use mathlib.Core.List.{List, [], _∷_}
 use mathlib.Core.Logic.{_⊎_, inl, inr}
 use Prim.Native.Nat.{ℕ, zero, suc, _+_, _≤_, _<_}
-use native.Mathlib.Nat.{zero-add, add-zero}
+use native.Mathlib.Nat.{zero-add}
 use native.Mathlib.Omega.{arith}
 use lib.ListN.{length, getD}
-use Rattle.words.specs.Lists.{_∈_, split, same?, keep, keep-from, from, upto, from-below}
+use Rattle.words.specs.Lists.{_∈_, split, same?, keep, keep-from, from, upto, from-below, getD-from}
 use Rattle.settings.specs.Settings.{Once, anyBelow}
 
 -- a search below n finds nothing, something, the same
@@ -34,16 +34,7 @@ pub anyBelow-same : (p q : ℕ → Bool) (n : ℕ) → ((j : ℕ) → j < n → 
 anyBelow-same p q zero h = refl
 anyBelow-same p q (suc n) h = rw (h n (omega arith), anyBelow-same p q n (λ j l. h j (omega arith)))
 
--- the rising list i, i + 1, ..: n members, the one at place k is i + k, nothing twice
-pub length-from : (i n : ℕ) → length (from i n) ≡ n
-length-from i zero = refl
-length-from i (suc n) = ap suc (length-from (suc i) n)
-
-pub getD-from : (i n k : ℕ) → k < n → getD (from i n) k 0 ≡ i + k
-getD-from i zero k h = absurd (omega arith)
-getD-from i (suc n) zero h = sym (add-zero i)
-getD-from i (suc n) (suc k) h = getD-from (suc i) n k (omega arith) ∙ omega arith
-
+-- the rising list 0, 1, ..: the member at place k is k; nothing twice in a rising list
 pub getD-upto : (n k : ℕ) → k < n → getD (upto n) k 0 ≡ k
 getD-upto n k h = getD-from 0 n k h ∙ zero-add k
 

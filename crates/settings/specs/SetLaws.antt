@@ -1,7 +1,7 @@
 -- Document 01, "Needed gates (000 Def. 4)": laws of sets of settings held as numbers, for any number of settings or conditions.
 use mathlib.Core.Path.{_≡_, refl, sym, ap, ap₂, _∙_}
 use mathlib.Core.Bool.{Bool, true, false, not, _&&_, _||_, true≢false, false≢true}
-use mathlib.Core.Logic.{_↔_}
+use mathlib.Core.Logic.{_⊎_, inl, inr, _↔_}
 use Prim.Native.Nat.{ℕ, _+_, _/_, _^_, _<_}
 use native.Mathlib.Omega.{arith}
 use native.Mathlib.Nat.{add-comm, lt-of-le-of-lt}
@@ -51,10 +51,25 @@ given-below N t s = those-below N (λ j. bit j t) s
 pub without-below : (N t s : ℕ) → without N t s < 2 ^ N
 without-below N t s = those-below N (λ j. not (bit j t)) s
 
--- two bits: both 1, unlike
-both : (a b : Bool) → (a && b) ≡ true → (a ≡ true) × (b ≡ true)
+-- two bits: both 1, one of them 1, unlike
+pub both : (a b : Bool) → (a && b) ≡ true → (a ≡ true) × (b ≡ true)
 both true b h = (refl, h)
 both false b h = absurd (false≢true h)
+
+pub either : (a b : Bool) → (a || b) ≡ true → (a ≡ true) ⊎ (b ≡ true)
+either true b h = inl refl
+either false b h = inr h
+
+pub or-left : (a b : Bool) → a ≡ true → (a || b) ≡ true
+or-left a b h = rw h
+
+pub or-right : (a b : Bool) → b ≡ true → (a || b) ≡ true
+or-right true b h = refl
+or-right false b h = h
+
+pub or-false : (b : Bool) → (b || false) ≡ b
+or-false true = refl
+or-false false = refl
 
 pub unlike-means : (a b : Bool) → unlike a b ≡ true → a ≡ b → ⊥
 unlike-means true true h e = false≢true h

@@ -7,10 +7,10 @@ use Prim.Native.Nat.{ℕ, zero, suc, _+_, _*_, _/_, _^_, _<_}
 use native.Mathlib.Omega.{arith}
 use borrow.Author.Tests.{eq-eqb, ne-eqb}
 use lib.ListN.{length, getD}
-use Rattle.words.specs.Lists.{_∈_, same?, getD-in, upto}
+use Rattle.words.specs.Lists.{_∈_, same?, getD-in, upto, length-from}
 use Rattle.settings.specs.Settings.{Setting, bitOf, bit, settingOf, numberOf, Agree, Once, put}
 use Rattle.settings.specs.BitLaws.{half, odd-bit, bit-zero, bit-suc, same-bits}
-use Rattle.settings.specs.ListLaws.{length-from, getD-upto}
+use Rattle.settings.specs.ListLaws.{getD-upto}
 
 -- a changed setting gives its condition the new bit, and every other what it gave
 pub put-same : (σ : Setting) (c : ℕ) (b : Bool) (d : ℕ) → d ≡ c → put σ c b d ≡ b

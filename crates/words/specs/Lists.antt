@@ -5,6 +5,7 @@ use mathlib.Core.Bool.{Bool, true, false, cond, false≢true}
 use mathlib.Core.List.{List, [], _∷_, _++_, map}
 use mathlib.Core.Logic.{_⊎_, inl, inr}
 use Prim.Native.Nat.{ℕ, zero, suc, _+_, _≤_, _<_}
+use native.Mathlib.Nat.{add-zero}
 use native.Mathlib.Omega.{arith}
 use lib.Dec.{eqb}
 use borrow.Author.Tests.{eqb-true, eqb-false, eq-eqb}
@@ -62,6 +63,11 @@ keep-from p (b ∷ l) a m = split (p b) (λ t. yes-b t (λ k. keep-from p l a k)
     yes-b t ih (inl e) = (inl e, ap p e ∙ t)
     yes-b t ih (inr k) = later (ih k)
 
+-- one more
+pub keep-more : (p : ℕ → Bool) (l : List ℕ) (a : ℕ) → keep p (l ++ (a ∷ [])) ≡ keep p l ++ cond (p a) (a ∷ []) []
+keep-more p [] a = refl
+keep-more p (b ∷ l) a = split (p b) (λ t. rw t (ap (λ (r : List ℕ). b ∷ r) (keep-more p l a))) (λ t. rw t (keep-more p l a))
+
 -- i, i + 1, .., n of them
 abbrev pub from : ℕ → ℕ → List ℕ
 from i zero = []
@@ -84,6 +90,20 @@ pub from-below : (i n a : ℕ) → a ∈ from i n → (i ≤ a) × (a < i + n)
 from-below i zero a m = absurd m
 from-below i (suc n) a (inl e) = omega arith
 from-below i (suc n) a (inr m) = let r : (suc i ≤ a) × (a < suc i + n) = from-below (suc i) n a m in omega arith
+
+-- it has n members, the one at place k is i + k, and one more is i + n
+pub length-from : (i n : ℕ) → length (from i n) ≡ n
+length-from i zero = refl
+length-from i (suc n) = ap suc (length-from (suc i) n)
+
+pub getD-from : (i n k : ℕ) → k < n → getD (from i n) k 0 ≡ i + k
+getD-from i zero k h = absurd (omega arith)
+getD-from i (suc n) zero h = sym (add-zero i)
+getD-from i (suc n) (suc k) h = getD-from (suc i) n k (omega arith) ∙ omega arith
+
+pub from-more : (i n : ℕ) → from i (suc n) ≡ from i n ++ ((i + n) ∷ [])
+from-more i zero = ap (λ (k : ℕ). k ∷ []) (sym (add-zero i))
+from-more i (suc n) = ap (λ (l : List ℕ). i ∷ l) (from-more (suc i) n ∙ ap (λ (k : ℕ). from (suc i) n ++ (k ∷ [])) (omega arith))
 
 -- a member of two joined lists is one of either
 pub in-append : (a : ℕ) (l m : List ℕ) → (a ∈ l) ⊎ (a ∈ m) → a ∈ (l ++ m)

@@ -8,9 +8,8 @@ use borrow.Author.Tests.{le-leb}
 use lib.ListN.{length, getD, set, length-append, length-set, length-replicate}
 use lib.Seq.{getD-set-same, getD-set-other}
 use Rattle.words.specs.Lists.{_∈_, upto, in-append}
-use Rattle.settings.specs.Sets.{rests}
-use Rattle.gates.specs.Gates.{Gates, gateAt, arguments, conditions}
-use Rattle.gates.specs.Limits.{mostGates, mostConditions}
+use Rattle.gates.specs.Gates.{Gates, gateAt, arguments}
+use Rattle.gates.specs.Limits.{mostGates}
 use Rattle.gates.specs.EarlierLaws.{Inside}
 use Rattle.gates.specs.PlainCircuit.{gatesOf, gateCount}
 use Rattle.needed.specs.Pass.{rulePreconditions}
@@ -21,6 +20,7 @@ use Rattle.plan.specs.Groups.{groupOf, groups, members, restsOf, readsOf}
 use Rattle.plan.specs.GroupLaws.{of-member}
 use Rattle.plan.specs.Rows.{planAnswer}
 use Rattle.ordering.specs.WaitsLaws.{reads-inside}
+use Rattle.ordering.specs.SameLaws.{rests-same}
 use Rattle.checking.specs.Checked.{writingOrder, checkedGroups, checkedPlaces, checkedOrder}
 use Rattle.fused.specs.Records.{Record}
 use Rattle.fused.specs.Emission.{operationOf, joined, guardOf, valuesAt, emit}
@@ -34,13 +34,9 @@ use Rattle.writing.specs.DoneLaws.{doneAt, done-next, next-group, next-w
 
 -- preconditions that two lists give alike emit the same records
 module _ (s : List ℕ) (C : Gates) (sets tabs : List ℕ) (e : (g : ℕ) → getD sets g 0 ≡ getD tabs g 0) (wire : ℕ → ℕ) where
-  rests-alike : (m : ℕ) → restsOf C sets m ≡ restsOf C tabs m
-  unfolding restsOf
-  rests-alike m = ap (λ (k : ℕ). map (λ t. getD (conditions C) t 0) (rests mostConditions k)) (e m)
-
   guards-alike : (ms : List ℕ) → map (guardOf s C sets wire) ms ≡ map (guardOf s C tabs wire) ms
   guards-alike [] = refl
-  guards-alike (m ∷ ms) = rw (rests-alike m, e m, guards-alike ms)
+  guards-alike (m ∷ ms) = rw (rests-same C sets tabs e m, e m, guards-alike ms)
 
   emit-alike : (n : ℕ) (ms : List ℕ) → emit s C sets wire n ms ≡ emit s C tabs wire n ms
   emit-alike n [] = refl
