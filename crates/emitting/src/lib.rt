@@ -1,4 +1,4 @@
-// Document 01, "The fused circuit file": the records of one group, measured, and written at the start of a lent buffer.
+// Document 01, "The fused circuit file": the records of one group, written at the start of a lent buffer.
 // The lent arrays hold plain numbers; a gate's number in hand is a `GateId`, a wire's a `WireId`.
 use fused::WireId;
 use gates::GateId;
@@ -14,7 +14,7 @@ ghost use Rattle.needed.specs.Held.{codeAt};
 ghost use Rattle.plan.specs.PlanFile.{groupAt, after};
 ghost use Rattle.fused.specs.Records.{pick, pairWires};
 ghost use Rattle.fused.specs.CircuitFile.{wiresBytes, recordBytes, recordsBytes};
-ghost use Rattle.emitting.specs.Emitted.{wireIn, aloneIn, emitIn, guardIn, guardsIn, pairsIn, restedBy, Placed, Coded, Writable, Lies, Joinable, Guarded, Paired, Joining, Sized};
+ghost use Rattle.emitting.specs.Emitted.{wireIn, aloneIn, emitIn, guardIn, guardsIn, pairsIn, Placed, Writable, Lies, Guarded, Paired, Joining};
 ghost use Rattle.emitting.specs.CodeLaws.{Applies};
 ghost use Rattle.emitting.specs.JoinLaws.{Fusing, picksBytes, fusedBytes};
 
@@ -28,15 +28,6 @@ const CHOICE: u32 = 0x30;
 const PICK: u8 = 0x31;
 
 const GUARD: u8 = 0x32;
-// A choice's cost.
-const CHOICE_COST: usize = 3;
-
-// What the records of a group come to.
-pub struct Size {
-    pub wires: usize,
-    pub bytes: usize,
-    pub cost: usize,
-}
 
 fn wide16(x: u16) -> usize
     ensures { λ r. ⌜ r ≡ x ⌝ }
@@ -174,7 +165,7 @@ pub fn put_alone(
 }
 
 // Member i of the group at the place at of the plan.
-fn member(plan: &[u8], at: usize, i: usize) -> GateId
+pub fn member(plan: &[u8], at: usize, i: usize) -> GateId
     requires { ⌜ (after (now plan) at ≤ length (now plan)) × (i < getD (now plan) at 0) ⌝ }
     ensures { λ r. ⌜ r .0 ≡ getD (groupAt (now (plan .entry)) at) i 0 ⌝ }
 {
@@ -182,7 +173,7 @@ fn member(plan: &[u8], at: usize, i: usize) -> GateId
 }
 
 // How many conditions a precondition rests on.
-fn rested(set: u64) -> u8
+pub fn rested(set: u64) -> u8
     ensures { λ r. ⌜ r ≡ length (rests mostConditions set) ⌝ }
 {
     let mut n: u8 = 0;
@@ -385,74 +376,4 @@ pub fn put_joined(
 {
     let n = put_guards(out, plan, at, needs, conditions, group, wires);
     n + put_fused(&mut out[n..], plan, at, first, rows, group, wires)
-}
-
-// The size of a group alone.
-pub fn size_alone(rows: &[u32; 1024], g: GateId) -> Size
-    requires { ⌜ Coded (now rows) (g .0) ⌝ }
-    ensures { λ r. ⌜ ((sets : List ℕ) → Sized (now (rows .entry)) sets (g .0 ∷ []) (r .wires) (r .bytes) (r .cost)) ⌝ }
-{
-    let i = g.0 as usize;
-    let code = rows[4 * i];
-    if code == CHOICE {
-        return Size {
-            wires: 1,
-            bytes: 7,
-            cost: CHOICE_COST,
-        };
-    }
-    if code == WORD {
-        return Size {
-            wires: 1,
-            bytes: 5,
-            cost: 0,
-        };
-    }
-    let row = codes::code_of(code as u8);
-    if row.arity == 0 {
-        return Size {
-            wires: 1,
-            bytes: 2,
-            cost: 0,
-        };
-    }
-    Size {
-        wires: 1,
-        bytes: 1 + 2 * (row.arity as usize),
-        cost: row.cost as usize,
-    }
-}
-
-// How many wires the guards of a group read.
-fn rested_by(plan: &[u8], at: usize, needs: &[u64; 256]) -> usize
-    requires { ⌜ Lies (now plan) at ⌝ }
-    ensures { λ r. ⌜ r ≡ restedBy (now (needs .entry)) (groupAt (now (plan .entry)) at) ⌝ }
-{
-    let size = plan[at] as usize;
-    let mut n: usize = 0;
-    let mut i: usize = 0;
-    while i < size {
-        let m = member(plan, at, i);
-        let g = m.0 as usize;
-        n = n + (rested(needs[g]) as usize);
-        i = i + 1;
-    }
-    n
-}
-
-// The size of the joined group at the place `at` of the plan: a guard of 10 bytes and its wires for each member, two picks, the operation.
-pub fn size_joined(plan: &[u8], at: usize, rows: &[u32; 1024], needs: &[u64; 256]) -> Size
-    requires { ⌜ Joinable (now rows) (now plan) at ⌝ }
-    ensures { λ r. ⌜ Sized (now (rows .entry)) (now (needs .entry)) (groupAt (now (plan .entry)) at) (r .wires) (r .bytes) (r .cost) ⌝ }
-{
-    let size = plan[at] as usize;
-    let n = rested_by(plan, at, needs);
-    let m = member(plan, at, 0);
-    let i = m.0 as usize;
-    let row = codes::code_of(rows[4 * i] as u8);
-    Size {
-        wires: size + 3,
-        bytes: 18 * size + 2 * n + 9,
-        cost: 5 * size + (row.cost as usize),
-    }
 }

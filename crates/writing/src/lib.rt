@@ -1,8 +1,8 @@
 // Writes the fused circuit of a rule and a plan: the groups in the order of writing, each behind the last record written.
 use answers::Answer;
-use emitting::Size;
 use fused::WireId;
 use gates::GateId;
+use measuring::Size;
 ghost use mathlib.Core.Path.{_≡_};
 ghost use mathlib.Core.List.{List, _∷_, _++_, map};
 ghost use Prim.Native.Nat.{ℕ, _*_, _≤_, _<_};
@@ -32,9 +32,9 @@ fn size_group(plan: &[u8], at: usize, rows: &[u32; 1024], needs: &[u64; 256], q:
     ensures { λ r. ⌜ Sized (now (rows .entry)) (now (needs .entry)) (membersOf (now (plan .entry)) at (q .0)) (r .wires) (r .bytes) (r .cost) ⌝ }
 {
     if at == 0 {
-        return emitting::size_alone(rows, q);
+        return measuring::size_alone(rows, q);
     }
-    emitting::size_joined(plan, at, rows, needs)
+    measuring::size_joined(plan, at, rows, needs)
 }
 
 // The size of the groups in the order of writing; `joined` gives each one's place in the plan.

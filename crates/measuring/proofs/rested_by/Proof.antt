@@ -1,13 +1,13 @@
 use lib.ListN.{getD}
 use Rattle.emitting.specs.LoopLaws.{member-inside}
 use Rattle.emitting.specs.PieceLaws.{Summing, few-rests, summing-start, summing-step, summing-end}
 use Rattle.emitting.specs.MemberLaws.{length-group}
 use Rattle.plan.specs.PlanFile.{groupAt}
 use native.Mathlib.Omega.{arith}
 use Prim.Native.Nat.{_-_}
 use borrow.Author.Needs.{needs}
-use Rattle.emitting.proofs.rested_by.Statement.{statement}
-use Rattle.emitting.proofs.rested_by.Tie as tie
+use Rattle.measuring.proofs.rested_by.Statement.{statement}
+use Rattle.measuring.proofs.rested_by.Tie as tie
 
 abbrev Inv-loop : tie.InvT-loop
 Inv-loop plan at needs size n₀ i₀ n i = Summing needs (groupAt plan at) n i

@@ -1,9 +1,9 @@
 use Rattle.emitting.specs.SizeLaws.{choice-sized, word-sized, short-sized, applied-sized}
 use Rattle.emitting.specs.AloneLaws.{coded-byte}
 use native.Mathlib.Omega.{arith}
 use borrow.Author.Needs.{needs}
-use Rattle.emitting.proofs.size_alone.Statement.{statement}
-use Rattle.emitting.proofs.size_alone.Tie as tie
+use Rattle.measuring.proofs.size_alone.Statement.{statement}
+use Rattle.measuring.proofs.size_alone.Tie as tie
 
 returns : tie.Need-returns
 returns c = choice-sized _ _ (c .if1 .taken)

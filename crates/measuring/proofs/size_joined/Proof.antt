@@ -1,10 +1,10 @@
 use lib.ListN.{getD}
 use Prim.Native.Nat.{_<_}
 use Rattle.emitting.specs.JoinedLaws.{joined-first, rested-few, joined-sized}
 use native.Mathlib.Omega.{arith}
 use borrow.Author.Needs.{needs}
-use Rattle.emitting.proofs.size_joined.Statement.{statement}
-use Rattle.emitting.proofs.size_joined.Tie as tie
+use Rattle.measuring.proofs.size_joined.Statement.{statement}
+use Rattle.measuring.proofs.size_joined.Tie as tie
 
 element-copy-out-code-of : tie.Need-element-copy-out-code-of
 element-copy-out-code-of c = omega (arith, joined-first _ _ _ _ (c .before .before .before .before .before .pre) (c .before .member .ensures) .0)

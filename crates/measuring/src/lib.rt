@@ -1,0 +1,92 @@
+// Document 01, "The fused circuit file": what the records of one group come to, before they are written.
+use gates::GateId;
+ghost use mathlib.Core.Path.{_≡_};
+ghost use mathlib.Core.List.{List, _∷_, []};
+ghost use Prim.Native.Nat.{ℕ};
+ghost use lib.ListN.{getD};
+ghost use Rattle.plan.specs.PlanFile.{groupAt};
+ghost use Rattle.emitting.specs.Emitted.{restedBy, Coded, Lies, Joinable, Sized};
+
+// The codes of a word constant and of a choice.
+const WORD: u32 = 0x11;
+
+const CHOICE: u32 = 0x30;
+// A choice's cost.
+const CHOICE_COST: usize = 3;
+
+// What the records of a group come to.
+pub struct Size {
+    pub wires: usize,
+    pub bytes: usize,
+    pub cost: usize,
+}
+
+// The size of a group alone.
+pub fn size_alone(rows: &[u32; 1024], g: GateId) -> Size
+    requires { ⌜ Coded (now rows) (g .0) ⌝ }
+    ensures { λ r. ⌜ ((sets : List ℕ) → Sized (now (rows .entry)) sets (g .0 ∷ []) (r .wires) (r .bytes) (r .cost)) ⌝ }
+{
+    let i = g.0 as usize;
+    let code = rows[4 * i];
+    if code == CHOICE {
+        return Size {
+            wires: 1,
+            bytes: 7,
+            cost: CHOICE_COST,
+        };
+    }
+    if code == WORD {
+        return Size {
+            wires: 1,
+            bytes: 5,
+            cost: 0,
+        };
+    }
+    let row = codes::code_of(code as u8);
+    if row.arity == 0 {
+        return Size {
+            wires: 1,
+            bytes: 2,
+            cost: 0,
+        };
+    }
+    Size {
+        wires: 1,
+        bytes: 1 + 2 * (row.arity as usize),
+        cost: row.cost as usize,
+    }
+}
+
+// How many wires the guards of a group read.
+fn rested_by(plan: &[u8], at: usize, needs: &[u64; 256]) -> usize
+    requires { ⌜ Lies (now plan) at ⌝ }
+    ensures { λ r. ⌜ r ≡ restedBy (now (needs .entry)) (groupAt (now (plan .entry)) at) ⌝ }
+{
+    let size = plan[at] as usize;
+    let mut n: usize = 0;
+    let mut i: usize = 0;
+    while i < size {
+        let m = emitting::member(plan, at, i);
+        let g = m.0 as usize;
+        n = n + (emitting::rested(needs[g]) as usize);
+        i = i + 1;
+    }
+    n
+}
+
+// The size of the joined group at the place `at` of the plan: a guard of 10 bytes and its wires for each member, two picks, the operation.
+pub fn size_joined(plan: &[u8], at: usize, rows: &[u32; 1024], needs: &[u64; 256]) -> Size
+    requires { ⌜ Joinable (now rows) (now plan) at ⌝ }
+    ensures { λ r. ⌜ Sized (now (rows .entry)) (now (needs .entry)) (groupAt (now (plan .entry)) at) (r .wires) (r .bytes) (r .cost) ⌝ }
+{
+    let size = plan[at] as usize;
+    let n = rested_by(plan, at, needs);
+    let m = emitting::member(plan, at, 0);
+    let i = m.0 as usize;
+    let row = codes::code_of(rows[4 * i] as u8);
+    Size {
+        wires: size + 3,
+        bytes: 18 * size + 2 * n + 9,
+        cost: 5 * size + (row.cost as usize),
+    }
+}
