@@ -50,9 +50,6 @@ module _ (s rows present : List ℕ) (count : ℕ) (read : IsRead (readRule s)) 
   within : count ≤ mostGates → length (gatesOf s) ≤ mostGates
   within h = split (leb (length (gatesOf s)) mostGates) (λ t. leb-true _ _ t) (λ t. absurd (omega (arith, made .many (leb-false _ _ t))))
 
-  pub made-count : count ≤ mostGates → count ≡ length (gatesOf s)
-  made-count h = made .counted (within h)
-
   pub made-gates : count ≤ mostGates → gatesIn rows count ≡ gatesOf s
   made-gates h =
       let e = made .counted (within h) in

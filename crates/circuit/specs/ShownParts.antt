@@ -16,7 +16,6 @@ use Rattle.gates.specs.Limits.{mostGates, mostConditions}
 use Rattle.gates.specs.Gates.{Earlier, conditions}
 use Rattle.gates.specs.PlainCircuit.{plainCircuit, gatesOf, outputsOf, gateCount}
 use Rattle.gates.specs.EarlierLaws.{Inside}
-use Rattle.gates.specs.ConditionLaws.{condition-below}
 use Rattle.gates.specs.SoundLaws.{Sound}
 use Rattle.gates.specs.StartLaws.{plain-sound}
 use Rattle.gates.specs.Rows.{rowsOf}
@@ -59,9 +58,6 @@ module _ (s : List ℕ) (h : ruleAnswer s .number ≡ 0) where
   pub shown-room : gateCount s ≤ mostGates
   shown-room = acc .gates
 
-  pub shown-few : length (conditions (gatesOf s)) ≤ mostConditions
-  shown-few = acc .conds
-
   -- its gates
   pub shown-gates : gatesIn (shownRows s) (gateCount s) ≡ gatesOf s
   shown-gates =
@@ -81,9 +77,6 @@ module _ (s : List ℕ) (h : ruleAnswer s .number ≡ 0) where
   -- condition t's gate
   pub shown-condition : (t : ℕ) → getD (shownConditions s) t 0 ≡ getD (conditions (gatesOf s)) t 0
   shown-condition t = part-at mostConditions (conditions (gatesOf s)) t
-
-  pub shown-condition-inside : (t : ℕ) → t < length (conditions (gatesOf s)) → getD (shownConditions s) t 0 < gateCount s
-  shown-condition-inside t l = rw (shown-condition t) (condition-below (gatesOf s) (getD (conditions (gatesOf s)) t 0) (getD-in (conditions (gatesOf s)) t l))
 
   -- variable x's last gate
   pub shown-output : (x : ℕ) → getD (shownOutputs s) x 0 ≡ getD (outputsOf s) x 0

@@ -23,7 +23,7 @@ use Rattle.needed.specs.HeldRows.{number-at, gate-held, gates-held}
 use Rattle.plan.specs.Groups.{restsOf}
 use Rattle.fused.specs.Records.{Record}
 use Rattle.fused.specs.Records as records
-use Rattle.fused.specs.Emission.{alone, operationOf, joined, guardOf, valuesAt, emit}
+use Rattle.fused.specs.Emission.{alone, gateOperation, joined, guardOf, valuesAt, emit}
 use Rattle.emitting.specs.Emitted.{aloneOf, aloneIn, emitIn}
 
 -- Rows that hold a circuit.
@@ -78,4 +78,4 @@ module _ (s : List ℕ) (C : Gates) (sets : List ℕ) (f h : ℕ → ℕ) where
       map-same (valuesAt s C sets f ms) (valuesAt s C sets h ms) (upto (length (arguments (gateAt C m))))
       (λ p j. map-same (λ g. f (getD (arguments (gateAt C g)) p 0)) (λ g. h (getD (arguments (gateAt C g)) p 0)) ms
       (λ g i. args g (getD (arguments (gateAt C g)) p 0) i (getD-in (arguments (gateAt C g)) p (omega (arith, from-below 0 (length (arguments (gateAt C m))) p j .1, two many m (inl refl), two many g i))))) in
-      ap₂ (λ (gs : List Record) (pl : List (List ℕ)). joined n (operationOf (gateAt C m)) gs pl) guards places
+      ap₂ (λ (gs : List Record) (pl : List (List ℕ)). joined n (gateOperation (gateAt C m)) gs pl) guards places

@@ -114,7 +114,7 @@ module _ (rows : List ℕ) (count : ℕ) (sets conds : List ℕ) (wire : ℕ →
   emit-joined (m ∷ k ∷ l) h below two held =
       let ms : List ℕ = m ∷ k ∷ l in
       let g : gateAt (gatesIn rows count) m ≡ operation (operationOf (codeAt rows m)) (firstAt rows m ∷ secondAt rows m ∷ []) = gates-at rows count m (below m (inl refl)) ∙ two-gate rows m (two m (inl refl)) in
-      let op : emission.operationOf (gateAt (gatesIn rows count) m) ≡ operationOf (codeAt rows m) = ap emission.operationOf g in
+      let op : emission.gateOperation (gateAt (gatesIn rows count) m) ≡ operationOf (codeAt rows m) = ap emission.gateOperation g in
       let size : length (arguments (gateAt (gatesIn rows count) m)) ≡ 2 = ap (λ (i : Gate). length (arguments i)) g in
       let guards : map (emission.guardOf [] (gatesIn rows count) sets wire) ms ≡ guardsIn conds wire sets ms = map-same _ (λ m. guardIn conds wire (getD sets m 0)) ms (λ m i. guard-same held m) in
       let places : map (emission.valuesAt [] (gatesIn rows count) sets wire ms) (upto (length (arguments (gateAt (gatesIn rows count) m)))) ≡ map (λ m. wire (argumentAt rows m 0)) ms ∷ map (λ m. wire (argumentAt rows m 1)) ms ∷ [] =

@@ -3,8 +3,8 @@
 use fused::WireId;
 use gates::GateId;
 ghost use mathlib.Core.Path.{_≡_};
-ghost use mathlib.Core.List.{List, _∷_, [], map};
-ghost use Prim.Native.Nat.{ℕ, _+_, _*_, _<_, _≤_};
+ghost use mathlib.Core.List.{_∷_, [], map};
+ghost use Prim.Native.Nat.{_+_, _*_, _<_, _≤_};
 ghost use lib.ListN.{length, getD};
 ghost use Rattle.words.specs.Numbers.{bytesOf};
 ghost use Rattle.words.specs.Buffers.{over};
@@ -29,19 +29,13 @@ const PICK: u8 = 0x31;
 
 const GUARD: u8 = 0x32;
 
-fn wide16(x: u16) -> usize
-    ensures { λ r. ⌜ r ≡ x ⌝ }
-{
-    x as usize
-}
-
 // The wire that stands for gate g: that of its group.
 pub fn wire_of(group: &[u16; 256], wires: &[u16; 256], g: GateId) -> WireId
     requires { ⌜ Placed (now group) (g .0) ⌝ }
     ensures { λ r. ⌜ r .0 ≡ wireIn (now (group .entry)) (now (wires .entry)) (g .0) ⌝ }
 {
     let i = g.0 as usize;
-    let p = wide16(group[i]);
+    let p = words::wide16(group[i]);
     WireId(wires[p])
 }
 

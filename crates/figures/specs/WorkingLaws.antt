@@ -53,10 +53,6 @@ unfolding figuresOf
 amid-start f inputs before r l = record { runnable = r; room = l; few = omega arith; place = refl; same = sym (over-nil before) }
 
 module _ (f inputs before figures : List ℕ) (at i : ℕ) (p : Amid f inputs before figures at i) where
-  pub amid-length : length figures ≡ mostWires
-  amid-length =
-      ap length (p .same) ∙ length-over (figuresOf f inputs i) before (rw (figures-length f inputs i) (omega (arith, p .few, p .runnable .wires, p .room))) ∙ p .room
-
   pub amid-end : wireCount f ≤ i → (at ≡ recordPlace f (wireCount f)) × (figures ≡ over (figuresOf f inputs (wireCount f)) before)
   amid-end h = let e : i ≡ wireCount f = omega (arith, p .few) in (p .place ∙ ap (recordPlace f) e, p .same ∙ ap (λ (n : ℕ). over (figuresOf f inputs n) before) e)
 

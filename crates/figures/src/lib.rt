@@ -28,12 +28,6 @@ fn wide8(x: u8) -> usize
     x as usize
 }
 
-fn wide16(x: u16) -> usize
-    ensures { λ r. ⌜ (r ≡ x) × (r < 65536) ⌝ }
-{
-    x as usize
-}
-
 // The wire whose number stands at a place.
 fn wire_at(file: &[u8], at: usize) -> WireId
     requires { ⌜ at + 2 ≤ length (now file) ⌝ }
@@ -47,7 +41,7 @@ fn figure_of(figures: &[u32; 640], w: WireId) -> u32
     requires { ⌜ w .0 < mostWires ⌝ }
     ensures { λ r. ⌜ r ≡ held (now (figures .entry)) (w .0) ⌝ }
 {
-    figures[wide16(w.0)]
+    figures[words::wide16(w.0)]
 }
 
 // The figure of the wire whose number stands at a place.
@@ -194,7 +188,7 @@ fn work_out(file: &[u8], inputs: &[u32], figures: &mut [u32; 640]) -> usize
     ensures place { λ r. ⌜ r ≡ recordPlace (now (file .entry)) (wireCount (now (file .entry))) ⌝ }
     ensures figures { λ _. ⌜ now (figures .exit) ≡ over (figuresOf (now (file .entry)) (now (inputs .entry)) (wireCount (now (file .entry)))) (now (figures .entry)) ⌝ }
 {
-    let count = wide16(words::read16(file, 6));
+    let count = words::wide16(words::read16(file, 6));
     let mut at: usize = 8;
     let mut i: usize = 0;
     while i < count {

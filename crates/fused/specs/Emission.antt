@@ -22,13 +22,13 @@ alone s wire (gate.bit b) = bit b
 alone s wire (gate.operation op l) = operation op (map wire l)
 alone s wire (gate.choice c a b) = choice (wire c) (wire a) (wire b)
 
--- the operation of a joined gate
-abbrev pub operationOf : Gate → Operation
-operationOf (gate.start x) = operations.Sum
-operationOf (gate.word n) = operations.Sum
-operationOf (gate.bit b) = operations.Sum
-operationOf (gate.operation op l) = op
-operationOf (gate.choice c a b) = operations.Sum
+-- the operation of a joined gate; a gate that is none is never joined (27)
+abbrev pub gateOperation : Gate → Operation
+gateOperation (gate.start x) = operations.Sum
+gateOperation (gate.word n) = operations.Sum
+gateOperation (gate.bit b) = operations.Sum
+gateOperation (gate.operation op l) = op
+gateOperation (gate.choice c a b) = operations.Sum
 
 -- the pairs of a pick: the guards are the wires from n on, one for each value
 abbrev pub pairs : ℕ → List ℕ → List Pair
@@ -55,4 +55,4 @@ module _ (s : List ℕ) (C : Gates) (sets : List ℕ) (wire : ℕ → ℕ) where
   emit n [] = []
   emit n (m ∷ []) = alone s wire (gateAt C m) ∷ []
   emit n (m ∷ k ∷ l) =
-      joined n (operationOf (gateAt C m)) (map guardOf (m ∷ k ∷ l)) (map (valuesAt (m ∷ k ∷ l)) (upto (length (arguments (gateAt C m)))))
+      joined n (gateOperation (gateAt C m)) (map guardOf (m ∷ k ∷ l)) (map (valuesAt (m ∷ k ∷ l)) (upto (length (arguments (gateAt C m)))))

@@ -11,7 +11,7 @@ use Rattle.gates.specs.Gates.{Gate, Gates, gateAt, arguments}
 use Rattle.gates.specs.Gates as gate
 use Rattle.plan.specs.Groups.{restsOf}
 use Rattle.fused.specs.Records.{Record, operation, pick, pairWires, reads}
-use Rattle.fused.specs.Emission.{alone, operationOf, pairs, joined, guardOf, valuesAt, emit}
+use Rattle.fused.specs.Emission.{alone, gateOperation, pairs, joined, guardOf, valuesAt, emit}
 use Rattle.fused.specs.RecordLaws.{Along, ReadsBefore, Below, along-append, along-map}
 
 -- a gate alone reads the wires of its arguments
@@ -69,7 +69,7 @@ module _ (s : List ℕ) (C : Gates) (sets : List ℕ) (wire : ℕ → ℕ) where
   emit-below n (m ∷ []) level args rests =
       (λ a k. mapped-below wire n (arguments (gateAt C m)) (λ b q. args m b (inl refl) q) a (rw (alone-reads s wire (gateAt C m)) at k), tt)
   emit-below n (m ∷ j ∷ l) level args rests =
-      joined-below n (operationOf (gateAt C m)) (map (guardOf s C sets wire) ms) (valuesAt s C sets wire ms) (upto (length (arguments (gateAt C m))))
+      joined-below n (gateOperation (gateAt C m)) (map (guardOf s C sets wire) ms) (valuesAt s C sets wire ms) (upto (length (arguments (gateAt C m))))
       (along-map ReadsBefore (guardOf s C sets wire) ms n n (omega arith)
       (λ i q j o a k. omega (arith, mapped-below wire n (restsOf C sets i) (λ c r. rests two i c q r) a k)))
       (λ k b. (

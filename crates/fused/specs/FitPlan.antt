@@ -6,7 +6,7 @@ use native.Mathlib.Omega.{arith}
 use lib.Dec.{eqb, ltb}
 use borrow.Author.Tests.{eqb-true, ltb-true, ltb-false}
 use lib.ListN.{length, take, drop, length-map, List·getD-eq-default}
-use Rattle.words.specs.Lists.{_∈_, split, upto, map-in, length-from}
+use Rattle.words.specs.Lists.{_∈_, split, upto, length-from}
 use Rattle.settings.specs.ListLaws.{length-keep}
 use Rattle.codes.specs.declared.Operation.{Operation}
 use Rattle.words.specs.Numbers.{Bytes}
@@ -52,10 +52,6 @@ module _ (s : List ℕ) (C : Gates) (sets : List ℕ) (group : ℕ → ℕ)
 -- a starting value is no operation
 start-apart : (x : ℕ) (op : Operation) (l : List ℕ) → start x ≡ operation op l → ⊥
 start-apart x op l e = let z : _≡_ {A = ℕ} 0 1 = cc in omega arith
-
--- the output wires lie below n when every output's wire does
-pub outputs-below : (s p : List ℕ) (n : ℕ) → ((o : ℕ) → o ∈ outputsOf s → wireOf s p o < n) → (w : ℕ) → w ∈ outputWires s p → w < n
-outputs-below s p n f w m = let (o, k, e) = map-in (wireOf s p) w (outputsOf s) m in rw e (f o k)
 
 module _ (s p : List ℕ) (h : planAnswer s p .number ≡ 0) where
   abbrev group : ℕ → ℕ

@@ -14,12 +14,12 @@ use Rattle.needed.specs.Needed.{Needed, Exclude}
 use Rattle.needed.specs.Pass.{needed}
 use Rattle.needed.specs.PassLaws.{needed-sound}
 use Rattle.plan.specs.Groups.{members}
-use Rattle.fused.specs.Emission.{operationOf}
+use Rattle.fused.specs.Emission.{gateOperation}
 
 -- what the rows 27 to 29 leave: the members of a group of two or more are one operation on equally many arguments, and exclude each other
 pub record Joined (C : Gates) (wanted : List ℕ) (group : ℕ → ℕ) : Type 0 where
   pub alike : (p : ℕ) → 2 ≤ length (members (length C) group p) → (m k : ℕ) → m ∈ members (length C) group p → k ∈ members (length C) group p
-      → (op : Operation) × (l : List ℕ) × (gateAt C k ≡ operation op l) × (operationOf (gateAt C m) ≡ op) × (length (arguments (gateAt C m)) ≡ length l)
+      → (op : Operation) × (l : List ℕ) × (gateAt C k ≡ operation op l) × (gateOperation (gateAt C m) ≡ op) × (length (arguments (gateAt C m)) ≡ length l)
   pub exclude : (p : ℕ) → 2 ≤ length (members (length C) group p) → (m k : ℕ) → m ∈ members (length C) group p → k ∈ members (length C) group p
       → (m ≡ k → ⊥) → Exclude C wanted m k
 

@@ -35,7 +35,7 @@ use Rattle.plan.specs.GroupLaws.{groupOf-named, group-in}
 use Rattle.plan.specs.JoinedLaws.{members-costly, members-exclude}
 use Rattle.plan.specs.WaitLaws.{order-places, order-ordered, order-from, order-once}
 use Rattle.fused.specs.Records.{recordIn, ReadsEarlier, wireFigure}
-use Rattle.fused.specs.Emission.{operationOf}
+use Rattle.fused.specs.Emission.{gateOperation}
 use Rattle.fused.specs.FusedCircuit.{fused, recordsOf, wireOf}
 use Rattle.fused.specs.RecordLaws.{along-each, along-at, run-figured}
 use Rattle.fused.specs.WrittenLaws.{Level, wire-below, written-earlier}
@@ -93,7 +93,7 @@ module _ (s p : List ℕ) (h : planAnswer s p .number ≡ 0) where
               op,
               f k j .0,
               f k j .1,
-              ap operationOf (f m i .1),
+              ap gateOperation (f m i .1),
               ap (λ (g : Gate). length (arguments g)) (f m i .1) ∙ same-arity op (gateAt (gatesOf s) m) (gateAt (gatesOf s) k) (f m i .0) (f k j .0) (shaped m) (shaped k) (f m i .1) (f k j .1),
             );
         exclude = λ q t. members-exclude s p plan q t;

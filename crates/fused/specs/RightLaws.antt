@@ -21,7 +21,7 @@ use Rattle.plan.specs.Groups.{members, waitsFor}
 use Rattle.plan.specs.Order.{Ordered}
 use Rattle.plan.specs.GroupLaws.{member-of}
 use Rattle.fused.specs.Records.{Record, pickFigure}
-use Rattle.fused.specs.Emission.{operationOf, pairs, joined, guardOf, valuesAt, emit}
+use Rattle.fused.specs.Emission.{gateOperation, pairs, joined, guardOf, valuesAt, emit}
 use Rattle.fused.specs.FusedCircuit.{Written, groupRecords, written}
 use Rattle.fused.specs.RecordLaws.{Gives, Figured, along-left, along-right}
 use Rattle.fused.specs.PickLaws.{places-map, alone-figure, Guarding, guards-hold, pick-one, joined-guards, joined-figure}
@@ -96,12 +96,12 @@ module _ (s : List ℕ) (C : Gates) (wanted : List ℕ) (earlier : Earlier C) (i
       places a ms = map (valuesAt s C sets (λ c. wire (group c)) ms) (upto (length (arguments (gateAt C a))))
 
       abbrev larger : ℕ → List ℕ → List Record
-      larger a ms = joined n (operationOf (gateAt C a)) (guards ms) (places a ms)
+      larger a ms = joined n (gateOperation (gateAt C a)) (guards ms) (places a ms)
 
       many-gates : (a : ℕ) → a ∈ of p → (m : ℕ) → m < length C → m ∈ of p → Needed C wanted actual m → Figured inputs W n (larger a (of p))
           → W (n + length (larger a (of p)) - 1) ≡ v m
       many-gates a k m b h d f =
-          let op = operationOf (gateAt C a) in
+          let op = gateOperation (gateAt C a) in
           let r = joins .alike p two a m k h in
           let g = guards-hold W (λ i. needed C wanted i wired) (Gives inputs W) (guardOf s C sets (λ c. wire (group c)))
           (λ i q e. e ∙ guard-figure C wanted earlier inside few W (λ c. wire (group c)) q) (of p) n

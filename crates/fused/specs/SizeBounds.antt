@@ -100,7 +100,3 @@ fused-size s p h =
 -- at most 16,384 bytes
 pub bytes-bound : (s p : List ℕ) → planAnswer s p .number ≡ 0 → length (fusedFile s p) ≤ 16384
 bytes-bound s p h = omega (arith, plan-most s p h .1, fused-size s p h, outputs-count s p h .1)
-
--- a cost of at most 10,240
-pub cost-bound : (s p : List ℕ) → planAnswer s p .number ≡ 0 → costAfter s p ≤ 10240
-cost-bound s p h = plan-most s p h .2

@@ -18,7 +18,7 @@ use Rattle.gates.specs.CostLaws.{cost-most}
 use Rattle.needed.specs.Held.{ShapedGate, Shaped}
 use Rattle.plan.specs.Accepted.{OneCostly}
 use Rattle.fused.specs.Records.{Record, recordCost, recordsCost}
-use Rattle.fused.specs.Emission.{alone, operationOf, joined, guardOf, valuesAt, emit}
+use Rattle.fused.specs.Emission.{alone, gateOperation, joined, guardOf, valuesAt, emit}
 use Rattle.fused.specs.CircuitFile.{recordBytes, recordsBytes}
 use Rattle.fused.specs.SizeLaws.{word-size, operation-size, choice-size, size-one, cost-one}
 use Rattle.fused.specs.SizeJoined.{guards-most, group-count, group-size, group-cost}
@@ -69,7 +69,7 @@ module _ (s : List ℕ) (C : Gates) (sets : List ℕ) (wire : ℕ → ℕ) (n : 
 
     pub emit-joined : emit s C sets wire n (m ∷ k ∷ l) ≡ joined n op (map (guardOf s C sets wire) (m ∷ k ∷ l)) (map (valuesAt s C sets wire (m ∷ k ∷ l)) (upto 2))
     emit-joined =
-        ap (λ (g : Gate). joined n (operationOf g) (map (guardOf s C sets wire) (m ∷ k ∷ l)) (map (valuesAt s C sets wire (m ∷ k ∷ l)) (upto (length (arguments g))))) e
+        ap (λ (g : Gate). joined n (gateOperation g) (map (guardOf s C sets wire) (m ∷ k ∷ l)) (map (valuesAt s C sets wire (m ∷ k ∷ l)) (upto (length (arguments g))))) e
         ∙ ap (λ (a : ℕ). joined n op (map (guardOf s C sets wire) (m ∷ k ∷ l)) (map (valuesAt s C sets wire (m ∷ k ∷ l)) (upto a))) two
 
     pub emit-count : length (emit s C sets wire n (m ∷ k ∷ l)) ≡ length (m ∷ k ∷ l) + 3

@@ -10,7 +10,7 @@ use Rattle.words.specs.Numbers.{bytesOf}
 use Rattle.words.specs.NumberLaws.{length-bytes}
 use Rattle.codes.specs.declared.Kind.{Kind}
 use Rattle.codes.specs.declared.Operation.{Operation}
-use Rattle.fused.specs.Records.{Pair, Record, input, word, bit, operation, choice, pick, guard, pairWires, recordIn, recordCost, recordsCost}
+use Rattle.fused.specs.Records.{Pair, Record, input, word, bit, operation, choice, pick, guard, pairWires, recordCost, recordsCost}
 use Rattle.fused.specs.CircuitFile.{wiresBytes, recordBytes, recordsBytes, fileBytes}
 
 -- two bytes a wire, two wires a pair
@@ -61,11 +61,6 @@ bytes-append (r ∷ A) B = rw (bytes-append A B) (sym (append-assoc (recordBytes
 
 pub size-append : (A B : List Record) → length (recordsBytes (A ++ B)) ≡ length (recordsBytes A) + length (recordsBytes B)
 size-append A B = rw (bytes-append A B, length-append)
-
-pub records-more : (R : List Record) (i : ℕ) → i < length R → recordsBytes (take (i + 1) R) ≡ recordsBytes (take i R) ++ recordBytes (recordIn R i)
-records-more R i h =
-    ap (λ (k : ℕ). recordsBytes (take k R)) (add-one i) ∙ ap recordsBytes (take-suc R i (word 0) h) ∙ bytes-append (take i R) (recordIn R i ∷ [])
-    ∙ ap (λ (r : List ℕ). recordsBytes (take i R) ++ r) (append-nil (recordBytes (recordIn R i)))
 
 pub cost-append : (A B : List Record) → recordsCost (A ++ B) ≡ recordsCost A + recordsCost B
 unfolding recordsCost

@@ -19,7 +19,7 @@ use Rattle.needed.specs.Pass.{needed, preconditionSets}
 use Rattle.needed.specs.PassLaws.{needed-sound}
 use Rattle.plan.specs.Groups.{members}
 use Rattle.fused.specs.Records.{Pair, Record, input, word, bit, operation, choice, pick, guard, recordIn, pickFigure, guardFigure}
-use Rattle.fused.specs.Emission.{alone, operationOf, pairs, guardOf, valuesAt, emit}
+use Rattle.fused.specs.Emission.{alone, gateOperation, pairs, guardOf, valuesAt, emit}
 use Rattle.fused.specs.FusedCircuit.{Written, groupRecords, written}
 use Rattle.fused.specs.Sums.{guardsAtOne, sumFigure}
 use Rattle.fused.specs.RecordLaws.{Along, along-append, along-left, along-right, along-map}
@@ -123,7 +123,7 @@ module _ (W : ℕ → ℕ) where
             ms = a ∷ j ∷ l
 
             op : Operation
-            op = operationOf (gateAt C a)
+            op = gateOperation (gateAt C a)
 
             ks : List ℕ
             ks = upto (length (arguments (gateAt C a)))

@@ -40,12 +40,6 @@ fn wide(x: u8) -> usize
     x as usize
 }
 
-fn wide16(x: u16) -> usize
-    ensures { λ r. ⌜ (r ≡ x) × (r < 65536) ⌝ }
-{
-    x as usize
-}
-
 // The size of the group that begins at a place.
 fn size_at(plan: &[u8], at: usize) -> usize
     requires { ⌜ at < length (now plan) ⌝ }
@@ -75,14 +69,14 @@ fn gates_counted(plan: &[u8]) -> usize
     requires { ⌜ 9 ≤ length (now plan) ⌝ }
     ensures { λ r. ⌜ r ≡ file.gatesCounted (now (plan .entry)) ⌝ }
 {
-    wide16(words::read16(plan, 5))
+    words::wide16(words::read16(plan, 5))
 }
 
 fn groups_counted(plan: &[u8]) -> usize
     requires { ⌜ 9 ≤ length (now plan) ⌝ }
     ensures { λ r. ⌜ r ≡ file.groupsCounted (now (plan .entry)) ⌝ }
 {
-    wide16(words::read16(plan, 7))
+    words::wide16(words::read16(plan, 7))
 }
 
 // 20: the plan's size.

@@ -22,12 +22,6 @@ const CHOICE: u32 = 0x30;
 // A choice's cost.
 const CHOICE_COST: usize = 3;
 
-fn wide16(x: u16) -> usize
-    ensures { λ r. ⌜ r ≡ x ⌝ }
-{
-    x as usize
-}
-
 // The gate whose number stands at a place of the rows, where an argument stands; a figure is never read so.
 pub fn argument(rows: &[u32; 1024], at: usize) -> GateId
     requires { ⌜ (at < 1024) × (getD (now rows) at 0 < 256) ⌝ }
@@ -109,7 +103,7 @@ fn number_marked(count: usize, places: &mut [u16; 256]) -> usize
         }
         g = g + 1;
     }
-    wide16(t)
+    words::wide16(t)
 }
 
 // Numbers the conditions: t + 1 for the gate that is condition t, 0 for every other; gives how many they are.

@@ -12,13 +12,12 @@ use Rattle.codes.specs.Codes.{byteOf}
 use Rattle.codes.specs.declared.Kind.the-variants as kind
 use Rattle.codes.specs.declared.Operation.{Operation}
 use Rattle.codes.specs.declared.Operation.the-variants.{Sum, Difference, Product, LessThan, Equal, And, Or, Not}
-use Rattle.reading.specs.Header.{variables}
 use Rattle.gates.specs.Gates.{Gate, Gates, gateAt, arguments}
 use Rattle.gates.specs.Gates as gate
 use Rattle.gates.specs.Limits.{mostConditions}
 use Rattle.plan.specs.Groups.{restsOf, members}
 use Rattle.fused.specs.Records.{Record, input, word, bit, operation, choice, pick, guard}
-use Rattle.fused.specs.Emission.{alone, operationOf, guardOf, valuesAt, emit}
+use Rattle.fused.specs.Emission.{alone, gateOperation, guardOf, valuesAt, emit}
 use Rattle.fused.specs.FusedCircuit.{groupRecords, written}
 use Rattle.fused.specs.CircuitFile.{recordBytes}
 use Rattle.fused.specs.RecordLaws.{Along, along-append, along-map}
@@ -52,7 +51,7 @@ module _ (v : ℕ) (s : List ℕ) (C : Gates) (sets : List ℕ) (starts : Starti
   emit-bounded wire n [] = tt
   emit-bounded wire n (m ∷ []) = (alone-bounded s wire v (gateAt C m) (starts m), tt)
   emit-bounded wire n (m ∷ k ∷ l) =
-      joined-along Kept n (operationOf (gateAt C m)) (map (guardOf s C sets wire) (m ∷ k ∷ l)) (valuesAt s C sets wire (m ∷ k ∷ l)) (upto (length (arguments (gateAt C m))))
+      joined-along Kept n (gateOperation (gateAt C m)) (map (guardOf s C sets wire) (m ∷ k ∷ l)) (valuesAt s C sets wire (m ∷ k ∷ l)) (upto (length (arguments (gateAt C m))))
       (along-map Kept (guardOf s C sets wire) (m ∷ k ∷ l) n n (omega arith)
       (λ i _ _ _. let few : length (map wire (restsOf C sets i)) ≤ mostConditions = omega (arith, length-map (restsOf C sets i) wire, rests-few s C sets wire i) in few))
       (λ _ _ _ _. tt) tt

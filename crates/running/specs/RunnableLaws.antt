@@ -4,14 +4,12 @@ use mathlib.Core.List.{List}
 use Prim.Native.Nat.{ℕ, _+_, _*_, _≤_, _<_}
 use native.Mathlib.Omega.{arith}
 use native.Mathlib.Nat.{add-zero}
-use lib.ListN.{length, getD, take, drop, length-append, take-append-drop}
+use lib.ListN.{length, getD, take, drop}
 use lib.Seq.{getD-take, getD-drop, take-length}
 use Rattle.words.specs.Numbers.{Bytes}
 use Rattle.answers.specs.ParsingLaws.{is-read}
-use Rattle.codes.specs.declared.Kind.the-variants as kind
 use Rattle.reading.specs.Header.{variables}
 use Rattle.reading.specs.Rule.{readRule}
-use Rattle.gates.specs.Gates as gate
 use Rattle.gates.specs.PlainCircuit.{gatesOf}
 use Rattle.needed.specs.Pass.{rulePreconditions}
 use Rattle.circuit.specs.WholeLaws.{accepted}
@@ -21,13 +19,13 @@ use Rattle.plan.specs.Order.{order}
 use Rattle.plan.specs.Rows.{planAnswer}
 use Rattle.plan.specs.AcceptedLaws.{plan-accepted}
 use Rattle.fused.specs.Records.{Record, recordIn, ReadsEarlier}
-use Rattle.fused.specs.FusedCircuit.{fused, recordsOf}
+use Rattle.fused.specs.FusedCircuit.{fused, recordsOf, outputWires}
 use Rattle.fused.specs.CircuitFile.{recordBytes, recordsBytes, fusedFile}
 use Rattle.fused.specs.FileFigures.{sizeAt}
 use Rattle.fused.specs.RecordLaws.{along-at}
 use Rattle.fused.specs.FitStarts.{rule-starting}
-use Rattle.fused.specs.FitPlan.{fused-place, fused-record, fused-part, fused-found}
-use Rattle.fused.specs.SizeLaws.{size-append, records-more}
+use Rattle.fused.specs.FileLaws.{file-inside}
+use Rattle.fused.specs.FitPlan.{fused-fits, fused-place, fused-record, fused-part, fused-found}
 use Rattle.fused.specs.SizeBounds.{wires-bound, fused-size}
 use Rattle.fused.specs.Demand3.{reads-earlier, output-earlier}
 use Rattle.figures.specs.Runnable.{recordPlace, Runnable}
@@ -69,15 +67,8 @@ module _ (s p : List ℕ) (h : planAnswer s p .number ≡ 0) (bytes : Bytes s) w
       omega (arith, e, t, fused-size s p h)
 
   whole : (i : ℕ) → i < length R → recordPlace f i + sizeAt f (recordPlace f i) ≤ length f
-  whole i l =
-      let e = fused-place s p h bytes earlier i (omega arith) in
-      let m = fused-place s p h bytes earlier (i + 1) (omega arith) in
-      let r : length (recordsBytes (take (i + 1) R)) ≡ length (recordsBytes (take i R)) + length (recordBytes (recordIn R i)) = ap length (records-more R i l) ∙ length-append (recordsBytes (take i R)) (recordBytes (recordIn R i)) in
-      let t : length (recordsBytes R) ≡ length (recordsBytes (take (i + 1) R)) + length (recordsBytes (drop (i + 1) R)) = rest (i + 1) in
-      omega (arith, e, r, t, fused-record s p h bytes earlier i l .1, fused-size s p h)
-    where
-      rest : (k : ℕ) → length (recordsBytes R) ≡ length (recordsBytes (take k R)) + length (recordsBytes (drop k R))
-      rest k = ap (λ (x : List Record). length (recordsBytes x)) (sym (take-append-drop k R)) ∙ size-append (take k R) (drop k R)
+  unfolding fusedFile
+  whole i l = omega (arith, file-inside (variables s) R (outputWires s p) (fused-fits s p h bytes earlier) i l)
 
   pub fused-runnable : Runnable (fusedFile s p) (variables s)
   fused-runnable =

@@ -10,7 +10,7 @@ use Rattle.settings.specs.Settings.{Once}
 use Rattle.gates.specs.PlainCircuit.{gatesOf, gateCount}
 use Rattle.needed.specs.Pass.{rulePreconditions}
 use Rattle.plan.specs.PlanFile.{groupsIn}
-use Rattle.plan.specs.Groups.{groupOf, groups, waitsFor}
+use Rattle.plan.specs.Groups.{groupOf, waitsFor}
 use Rattle.plan.specs.GroupLaws.{group-of}
 use Rattle.plan.specs.Order.{order, Ordered}
 use Rattle.plan.specs.WaitLaws.{order-ordered, order-from, order-once}
@@ -35,9 +35,6 @@ module _ (s p : List ℕ) where
 
   abbrev placed : List ℕ
   placed = order (gatesOf s) (rulePreconditions s) group
-
-  pub done-none : doneAt s p 0 ≡ []
-  done-none = refl
 
   pub done-next : (i : ℕ) → i < length (writingOrder s p) → doneAt s p (suc i) ≡ getD (writingOrder s p) i 0 ∷ doneAt s p i
   done-next i l = ap reverse (take-suc (writingOrder s p) i 0 l) ∙ reverse-append (take i (writingOrder s p)) (getD (writingOrder s p) i 0 ∷ [])

@@ -16,14 +16,14 @@ use Rattle.needed.specs.Pass.{rulePreconditions}
 use Rattle.circuit.specs.Shown.{shownRows, shownNeeds}
 use Rattle.circuit.specs.ShownParts.{shown-room, shown-earlier, shown-need}
 use Rattle.plan.specs.PlanFile.{groupsIn}
-use Rattle.plan.specs.Groups.{groupOf, groups, members, restsOf, readsOf}
+use Rattle.plan.specs.Groups.{groupOf, members, restsOf, readsOf}
 use Rattle.plan.specs.GroupLaws.{of-member}
 use Rattle.plan.specs.Rows.{planAnswer}
 use Rattle.ordering.specs.WaitsLaws.{reads-inside}
 use Rattle.ordering.specs.SameLaws.{rests-same}
 use Rattle.checking.specs.Checked.{writingOrder, checkedGroups, checkedPlaces, checkedOrder}
 use Rattle.fused.specs.Records.{Record}
-use Rattle.fused.specs.Emission.{operationOf, joined, guardOf, valuesAt, emit}
+use Rattle.fused.specs.Emission.{gateOperation, joined, guardOf, valuesAt, emit}
 use Rattle.fused.specs.FusedCircuit.{Written, groupRecords, written}
 use Rattle.fused.specs.WrittenLaws.{waits-argument, waits-rests, written-none, written-more, wire-last, wire-old}
 use Rattle.emitting.specs.Emitted.{wireIn, emitIn}
@@ -42,7 +42,7 @@ module _ (s : List ℕ) (C : Gates) (sets tabs : List ℕ) (e : (g : ℕ) → ge
   emit-alike n [] = refl
   emit-alike n (m ∷ []) = refl
   emit-alike n (m ∷ k ∷ l) =
-      ap (λ (g : List Record). joined n (operationOf (gateAt C m)) g (map (valuesAt s C sets wire (m ∷ k ∷ l)) (upto (length (arguments (gateAt C m)))))) (guards-alike (m ∷ k ∷ l))
+      ap (λ (g : List Record). joined n (gateOperation (gateAt C m)) g (map (valuesAt s C sets wire (m ∷ k ∷ l)) (upto (length (arguments (gateAt C m)))))) (guards-alike (m ∷ k ∷ l))
 
 module _ (s p : List ℕ) (h : planAnswer s p .number ≡ 0) where
   abbrev C : Gates

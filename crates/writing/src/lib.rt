@@ -20,12 +20,6 @@ ghost use Rattle.writing.specs.Turns.{membersOf, wiresOf, Measurable, Pu
 // The bytes before the first record.
 const HEAD: usize = 8;
 
-fn wide16(x: u16) -> usize
-    ensures { λ r. ⌜ r ≡ x ⌝ }
-{
-    x as usize
-}
-
 // The size of group q, listed at the place `at` of the plan, or alone where the place is 0.
 fn size_group(plan: &[u8], at: usize, rows: &[u32; 1024], needs: &[u64; 256], q: GateId) -> Size
     requires { ⌜ Measurable (now rows) (now plan) at (q .0) ⌝ }
@@ -57,7 +51,7 @@ fn measure(
     let mut i: usize = 0;
     while i < groups {
         let q = order[i];
-        let at = wide16(joined[wide16(q)]);
+        let at = words::wide16(joined[words::wide16(q)]);
         let size = size_group(plan, at, rows, needs, GateId(q));
         wires = wires + size.wires;
         bytes = bytes + size.bytes;
@@ -140,8 +134,8 @@ fn put_records(
     let mut i: usize = 0;
     while i < groups {
         let q = order[i];
-        let g = wide16(q);
-        let place = wide16(joined[g]);
+        let g = words::wide16(q);
+        let place = words::wide16(joined[g]);
         let k = put_group(
             &mut out[at..],
             plan,

@@ -3,7 +3,7 @@ use Rattle.emitting.proofs.wire_of.Statement.{statement}
 use Rattle.emitting.proofs.wire_of.Tie as tie
 
 returns : tie.Need-returns
-returns c = rw (c .before .wide16 .ensures)
+returns c = rw (c .before .wide16 .ensures .0)
 
 pub wire-of-spec : {M : Type 1} → statement M
 wire-of-spec =

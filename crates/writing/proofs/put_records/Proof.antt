@@ -23,45 +23,45 @@ element-copy-out-q : tie.Need-element-copy-out-q Inv-loop μ-loop
 element-copy-out-q c = omega (arith, c .loop-test .taken, c .before .before .before .before .pre .1 .0 .few)
 
 mul-wide16 : tie.Need-mul-wide16 Inv-loop μ-loop
-mul-wide16 c = record { fits = omega (arith, c .before .before .before .before .before .before .pre .1 .0 .inside _ (c .before .before .loop-test .taken), c .wide16 .ensures) }
+mul-wide16 c = record { fits = omega (arith, c .before .before .before .before .before .before .pre .1 .0 .inside _ (c .before .before .loop-test .taken), c .wide16 .ensures .0) }
 
 element-copy-out-wide16 : tie.Need-element-copy-out-wide16 Inv-loop μ-loop
-element-copy-out-wide16 c = omega (arith, c .before .before .before .before .before .before .pre .1 .0 .inside _ (c .before .before .loop-test .taken), c .wide16 .ensures)
+element-copy-out-wide16 c = omega (arith, c .before .before .before .before .before .before .pre .1 .0 .inside _ (c .before .before .loop-test .taken), c .wide16 .ensures .0)
 
 sub-put-group : tie.Need-sub-put-group Inv-loop μ-loop
-sub-put-group c = omega (arith, putting-fits _ _ _ _ _ _ _ _ _ _ _ _ _ _ (c .before .before .before .before .before .loop .inv) (c .before .before .before .before .loop-test .taken) _ _ (c .before .before .wide16 .ensures) (c .wide162 .ensures) .0)
+sub-put-group c = omega (arith, putting-fits _ _ _ _ _ _ _ _ _ _ _ _ _ _ (c .before .before .before .before .before .loop .inv) (c .before .before .before .before .loop-test .taken) _ _ (c .before .before .wide16 .ensures .0) (c .wide162 .ensures .0) .0)
 
 part-put-group-start : tie.Need-part-put-group-start Inv-loop μ-loop
-part-put-group-start c = let z : c .before .before .before .before .before .loop .at ≤ length (c .before .before .before .before .before .loop .out) = omega (arith, putting-fits _ _ _ _ _ _ _ _ _ _ _ _ _ _ (c .before .before .before .before .before .loop .inv) (c .before .before .before .before .loop-test .taken) _ _ (c .before .before .wide16 .ensures) (c .wide162 .ensures) .0) in search needs
+part-put-group-start c = let z : c .before .before .before .before .before .loop .at ≤ length (c .before .before .before .before .before .loop .out) = omega (arith, putting-fits _ _ _ _ _ _ _ _ _ _ _ _ _ _ (c .before .before .before .before .before .loop .inv) (c .before .before .before .before .loop-test .taken) _ _ (c .before .before .wide16 .ensures .0) (c .wide162 .ensures .0) .0) in search needs
 
 put-group-requires : tie.Need-put-group-requires Inv-loop μ-loop
 put-group-requires c κs = let l = c .before .before .before .before .before .before .before .loop .inv in let h = c .before .before .before .before .before .before .loop-test .taken in (
-  putting-room _ _ _ _ _ _ _ _ _ _ _ _ _ _ l h _ _ (c .before .before .before .before .wide16 .ensures) (c .before .before .wide162 .ensures),
-  turn-puttable _ _ _ _ _ _ _ _ _ (c .before .before .before .before .before .before .before .before .before .before .pre .1 .0) _ _ _ h (c .before .before .before .before .wide16 .ensures) (c .before .before .wide162 .ensures) _ (l .counted),
+  putting-room _ _ _ _ _ _ _ _ _ _ _ _ _ _ l h _ _ (c .before .before .before .before .wide16 .ensures .0) (c .before .before .wide162 .ensures .0),
+  turn-puttable _ _ _ _ _ _ _ _ _ (c .before .before .before .before .before .before .before .before .before .before .pre .1 .0) _ _ _ h (c .before .before .before .before .wide16 .ensures .0) (c .before .before .wide162 .ensures .0) _ (l .counted),
 )
 
 add-at : tie.Need-add-at Inv-loop μ-loop
-add-at c = let f = putting-fits _ _ _ _ _ _ _ _ _ _ _ _ _ _ (c .before .before .before .before .before .before .before .before .before .before .loop .inv) (c .before .before .before .before .before .before .before .before .before .loop-test .taken) _ _ (c .before .before .before .before .before .before .before .wide16 .ensures) (c .before .before .before .before .before .wide162 .ensures) in
+add-at c = let f = putting-fits _ _ _ _ _ _ _ _ _ _ _ _ _ _ (c .before .before .before .before .before .before .before .before .before .before .loop .inv) (c .before .before .before .before .before .before .before .before .before .loop-test .taken) _ _ (c .before .before .before .before .before .before .before .wide16 .ensures .0) (c .before .before .before .before .before .wide162 .ensures .0) in
     let z : c .before .before .before .before .before .before .before .before .before .before .loop .at + c .before .before .put-group .result ≤ length (c .before .before .before .before .before .before .before .before .before .before .before .before .before .args .out .now) = omega (arith, c .before .before .put-group .ensures .0, f .0, f .1) in
     search needs
 
 wires-of-requires : tie.Need-wires-of-requires Inv-loop μ-loop
-wires-of-requires c κs = turn-listed _ _ _ _ _ _ _ _ _ (c .before .before .before .before .before .before .before .before .before .before .before .before .before .pre .1 .0) _ _ _ (c .before .before .before .before .before .before .before .before .before .loop-test .taken) (c .before .before .before .before .before .before .before .wide16 .ensures) (c .before .before .before .before .before .wide162 .ensures)
+wires-of-requires c κs = turn-listed _ _ _ _ _ _ _ _ _ (c .before .before .before .before .before .before .before .before .before .before .before .before .before .pre .1 .0) _ _ _ (c .before .before .before .before .before .before .before .before .before .loop-test .taken) (c .before .before .before .before .before .before .before .wide16 .ensures .0) (c .before .before .before .before .before .wide162 .ensures .0)
 
 add-n : tie.Need-add-n Inv-loop μ-loop
-add-n c = record { fits = omega (arith, c .wires-of .ensures, turn-fits _ _ _ _ _ _ _ _ _ (c .before .before .before .before .before .before .before .before .before .before .before .before .before .before .pre .1 .0) _ _ _ (c .before .before .before .before .before .before .before .before .before .before .loop-test .taken) (c .before .before .before .before .before .before .before .before .wide16 .ensures) (c .before .before .before .before .before .before .wide162 .ensures) _ (c .before .before .before .before .before .before .before .before .before .before .before .loop .inv .counted) .1) }
+add-n c = record { fits = omega (arith, c .wires-of .ensures, turn-fits _ _ _ _ _ _ _ _ _ (c .before .before .before .before .before .before .before .before .before .before .before .before .before .before .pre .1 .0) _ _ _ (c .before .before .before .before .before .before .before .before .before .before .loop-test .taken) (c .before .before .before .before .before .before .before .before .wide16 .ensures .0) (c .before .before .before .before .before .before .wide162 .ensures .0) _ (c .before .before .before .before .before .before .before .before .before .before .before .loop .inv .counted) .1) }
 
 sub-wires : tie.Need-sub-wires Inv-loop μ-loop
-sub-wires c = omega (arith, c .wires-of .ensures, turn-fits _ _ _ _ _ _ _ _ _ (c .before .before .before .before .before .before .before .before .before .before .before .before .before .before .pre .1 .0) _ _ _ (c .before .before .before .before .before .before .before .before .before .before .loop-test .taken) (c .before .before .before .before .before .before .before .before .wide16 .ensures) (c .before .before .before .before .before .before .wide162 .ensures) _ (c .before .before .before .before .before .before .before .before .before .before .before .loop .inv .counted) .0)
+sub-wires c = omega (arith, c .wires-of .ensures, turn-fits _ _ _ _ _ _ _ _ _ (c .before .before .before .before .before .before .before .before .before .before .before .before .before .before .pre .1 .0) _ _ _ (c .before .before .before .before .before .before .before .before .before .before .loop-test .taken) (c .before .before .before .before .before .before .before .before .wide16 .ensures .0) (c .before .before .before .before .before .before .wide162 .ensures .0) _ (c .before .before .before .before .before .before .before .before .before .before .before .loop .inv .counted) .0)
 
 mul-wires : tie.Need-mul-wires Inv-loop μ-loop
-mul-wires c = record { fits = omega (arith, c .before .before .before .before .before .before .before .before .before .before .before .before .before .before .pre .1 .0 .inside _ (c .before .before .before .before .before .before .before .before .before .before .loop-test .taken), c .before .before .before .before .before .before .before .before .wide16 .ensures) }
+mul-wires c = record { fits = omega (arith, c .before .before .before .before .before .before .before .before .before .before .before .before .before .before .pre .1 .0 .inside _ (c .before .before .before .before .before .before .before .before .before .before .loop-test .taken), c .before .before .before .before .before .before .before .before .wide16 .ensures .0) }
 
 element-write-wires : tie.Need-element-write-wires Inv-loop μ-loop
-element-write-wires c = omega (arith, c .before .before .before .before .before .before .before .before .before .before .before .before .before .before .pre .1 .0 .inside _ (c .before .before .before .before .before .before .before .before .before .before .loop-test .taken), c .before .before .before .before .before .before .before .before .wide16 .ensures)
+element-write-wires c = omega (arith, c .before .before .before .before .before .before .before .before .before .before .before .before .before .before .pre .1 .0 .inside _ (c .before .before .before .before .before .before .before .before .before .before .loop-test .taken), c .before .before .before .before .before .before .before .before .wide16 .ensures .0)
 
 loop-again : tie.Need-loop-again Inv-loop μ-loop
-loop-again c = putting-step _ _ _ _ _ _ _ _ _ _ _ _ _ _ (c .before .before .before .before .before .before .before .before .before .before .before .loop .inv) (c .before .before .before .before .before .before .before .before .before .before .loop-test .taken) _ _ (c .before .before .before .before .before .before .before .before .wide16 .ensures) (c .before .before .before .before .before .before .wide162 .ensures) _ (c .before .before .before .before .before .before .before .before .before .before .before .before .before .before .pre .1 .0) _ _ _ (c .before .before .before .put-group .ensures .0) (c .before .before .before .put-group .ensures .1) (c .wires-of .ensures)
+loop-again c = putting-step _ _ _ _ _ _ _ _ _ _ _ _ _ _ (c .before .before .before .before .before .before .before .before .before .before .before .loop .inv) (c .before .before .before .before .before .before .before .before .before .before .loop-test .taken) _ _ (c .before .before .before .before .before .before .before .before .wide16 .ensures .0) (c .before .before .before .before .before .before .wide162 .ensures .0) _ (c .before .before .before .before .before .before .before .before .before .before .before .before .before .before .pre .1 .0) _ _ _ (c .before .before .before .put-group .ensures .0) (c .before .before .before .put-group .ensures .1) (c .wires-of .ensures)
 
 same-length : tie.Need-same-length Inv-loop μ-loop
 same-length c = putting-same _ _ _ _ _ _ _ _ _ _ _ _ _ _ (c .before .loop .inv) (c .loop-test .left)
