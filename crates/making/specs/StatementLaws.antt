@@ -7,10 +7,9 @@ use mathlib.Core.List.{List}
 use lib.ListN.{length, getD, set, length-set}
 use lib.Dec.{eqb}
 use lib.Bits.{bitOr}
-use Rattle.words.specs.Lists.{keep, upto, from-below}
+use Rattle.words.specs.Lists.{keep, upto, from-below, keep-same}
 use Rattle.settings.specs.Sets.{has}
 use Rattle.settings.specs.BitLaws.{bit-or, bit-none}
-use Rattle.settings.specs.ListLaws.{keep-same}
 use Rattle.codes.specs.Codes.{codeOf}
 use Rattle.codes.specs.declared.Kind.{Kind}
 use Rattle.codes.specs.declared.Kind.the-variants as kind

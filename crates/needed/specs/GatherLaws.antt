@@ -8,10 +8,9 @@ use native.Mathlib.Omega.{arith}
 use lib.ListN.{length, getD, set, replicate, length-append, length-replicate}
 use lib.Dec.{eqb}
 use borrow.Author.Tests.{ne-eqb, eqb-true, eqb-false}
-use Rattle.words.specs.Lists.{_∈_, elem, split, keep-in, keep-from, upto, from-below}
+use Rattle.words.specs.Lists.{_∈_, elem, split, keep-in, keep-from, upto, from-below, keep-same}
 use Rattle.words.specs.Buffers.{over}
 use Rattle.words.specs.BufferLaws.{over-nil, over-snoc}
-use Rattle.settings.specs.ListLaws.{keep-same}
 use Rattle.gates.specs.Gates.{Gates, heads, conditions}
 use Rattle.gates.specs.Limits.{mostGates, mostConditions}
 use Rattle.needed.specs.Held.{gatesIn}

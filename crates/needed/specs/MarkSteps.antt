@@ -9,9 +9,8 @@ use lib.ListN.{length, getD, set, replicate, length-set}
 use lib.Seq.{getD-set-same, getD-set-other, ext-getD}
 use lib.Dec.{eqb}
 use borrow.Author.Tests.{eq-eqb, ne-eqb}
-use Rattle.words.specs.Lists.{elem, split, same?, upto}
+use Rattle.words.specs.Lists.{elem, split, same?, upto, keep-same}
 use Rattle.settings.specs.Settings.{bitOf}
-use Rattle.settings.specs.ListLaws.{keep-same}
 use Rattle.codes.specs.Codes.{codeOf}
 use Rattle.codes.specs.declared.Form.{Form}
 use Rattle.codes.specs.declared.Form.the-variants.{End, Assign, Skip, Branch, Variable, Word, Bit, Apply, Unknown}

@@ -7,9 +7,8 @@ use mathlib.Core.Option.{Option, none, some}
 use native.Mathlib.Omega.{arith}
 use lib.Dec.{eqb, leb}
 use lib.ListN.{length, getD}
-use Rattle.words.specs.Lists.{upto, from-below, flat, flat-in}
+use Rattle.words.specs.Lists.{upto, from-below, flat, flat-in, keep-same}
 use Rattle.settings.specs.Sets.{rests}
-use Rattle.settings.specs.ListLaws.{keep-same}
 use Rattle.gates.specs.Gates.{Gates, gateAt, arguments, Earlier, conditions}
 use Rattle.gates.specs.FigureLaws.{map-same}
 use Rattle.gates.specs.Limits.{mostConditions}

@@ -42,11 +42,6 @@ pub from-once : (i n : ℕ) → Once (from i n)
 from-once i zero = tt
 from-once i (suc n) = (λ m. let r : (suc i ≤ i) × (i < suc i + n) = from-below (suc i) n i m in omega arith, from-once (suc i) n)
 
--- two tests that are the same on a list keep the same members
-pub keep-same : (p q : ℕ → Bool) (l : List ℕ) → ((a : ℕ) → a ∈ l → p a ≡ q a) → keep p l ≡ keep q l
-keep-same p q [] h = refl
-keep-same p q (a ∷ l) h = rw (h a (inl refl), keep-same p q l (λ b m. h b (inr m)))
-
 pub keep-none : (p : ℕ → Bool) (l : List ℕ) → ((a : ℕ) → a ∈ l → p a ≡ false) → keep p l ≡ []
 keep-none p [] h = refl
 keep-none p (a ∷ l) h = rw (h a (inl refl)) (keep-none p l (λ b m. h b (inr m)))

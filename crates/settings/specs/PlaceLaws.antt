@@ -10,12 +10,12 @@ use lib.Dec.{ltb}
 use lib.ListN.{length}
 use lib.Pow.{pow-mono, pow-pos}
 use borrow.Author.Tests.{ltb-true, ltb-false}
-use Rattle.words.specs.Lists.{_∈_, split, keep-in, keep-from, upto, from-in, from-below, length-from}
+use Rattle.words.specs.Lists.{_∈_, split, keep-in, keep-from, upto, from-in, from-below, length-from, keep-same}
 use Rattle.settings.specs.Settings.{Setting, bit, Once, preRestsOn, preRests}
 use Rattle.settings.specs.Sets.{has, restsOn, rests}
 use Rattle.settings.specs.Holding.{Holds, test}
 use Rattle.settings.specs.BitLaws.{bit-mod}
-use Rattle.settings.specs.ListLaws.{getD-upto, from-once, keep-same, keep-once}
+use Rattle.settings.specs.ListLaws.{getD-upto, from-once, keep-once}
 use Rattle.settings.specs.SettingLaws.{numberOf-agree, numberOf-settingOf, numberOf-bit}
 use Rattle.settings.specs.RestLaws.{pre-rests-right}
 use Rattle.settings.specs.HoldLaws.{rests-bits, rests-beyond}

@@ -68,6 +68,11 @@ pub keep-more : (p : ℕ → Bool) (l : List ℕ) (a : ℕ) → keep p (l ++ (a 
 keep-more p [] a = refl
 keep-more p (b ∷ l) a = split (p b) (λ t. rw t (ap (λ (r : List ℕ). b ∷ r) (keep-more p l a))) (λ t. rw t (keep-more p l a))
 
+-- two tests that are the same on a list keep the same members
+pub keep-same : (p q : ℕ → Bool) (l : List ℕ) → ((a : ℕ) → a ∈ l → p a ≡ q a) → keep p l ≡ keep q l
+keep-same p q [] h = refl
+keep-same p q (a ∷ l) h = rw (h a (inl refl), keep-same p q l (λ b m. h b (inr m)))
+
 -- i, i + 1, .., n of them
 abbrev pub from : ℕ → ℕ → List ℕ
 from i zero = []
