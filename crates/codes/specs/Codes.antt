@@ -42,6 +42,17 @@ rowOf Not = row Not kind.Bit kind.Bit 1 0
 abbrev pub costly : Operation → Bool
 costly op = ltb 0 (rowOf op .cost)
 
+-- Document 02, C-12: sum, product, equal, and, or give the same in either order of their arguments (ResultLaws); the others do not.
+abbrev pub commutes : Operation → Bool
+commutes Sum = true
+commutes Difference = false
+commutes Product = true
+commutes LessThan = false
+commutes Equal = true
+commutes And = true
+commutes Or = true
+commutes Not = false
+
 -- the operation of a byte 20 to 27
 unfoldable pub operationOf : ℕ → Operation
 operationOf b =

@@ -4,7 +4,7 @@ ghost use mathlib.Core.Bool.{_&&_, _||_};
 ghost use Prim.Native.Nat.{_≤_};
 ghost use lib.Dec.{eqb};
 ghost use Rattle.codes.specs.Results.{bitOf, resultOf};
-ghost use Rattle.codes.specs.Codes.{kindOf, sameKind, plain, row, rowOf, operationOf, byteOf, codeOf};
+ghost use Rattle.codes.specs.Codes.{kindOf, sameKind, plain, row, rowOf, commutes, operationOf, byteOf, codeOf};
 
 // What a figure is: a word of 32 bits or a bit.
 pub enum Kind {
@@ -107,6 +107,22 @@ pub fn row_of(op: Operation) -> Code
         Operation::And => table_row(Operation::And, Kind::Bit, Kind::Bit, 2, 1),
         Operation::Or => table_row(Operation::Or, Kind::Bit, Kind::Bit, 2, 1),
         Operation::Not => table_row(Operation::Not, Kind::Bit, Kind::Bit, 1, 0),
+    }
+}
+
+// Does the operation give the same in either order of its arguments?
+pub fn commutes(op: Operation) -> bool
+    ensures { λ r. ⌜ r ≡ commutes op ⌝ }
+{
+    match op {
+        Operation::Sum => true,
+        Operation::Difference => false,
+        Operation::Product => true,
+        Operation::LessThan => false,
+        Operation::Equal => true,
+        Operation::And => true,
+        Operation::Or => true,
+        Operation::Not => false,
     }
 }
 

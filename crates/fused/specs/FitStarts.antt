@@ -15,6 +15,7 @@ use Rattle.gates.specs.Gates.{Gate, start, operation, choice, Gates, gateAt}
 use Rattle.gates.specs.Gates as gate
 use Rattle.gates.specs.PlainCircuit.{Making, applyGate, makeExpr, choose, choices, assignedIn, asBefore, makeStatement, makeBlock, conditionMade, firstMade, secondMade, starts, gatesOf}
 use Rattle.gates.specs.PlainLaws.{block-extends}
+use Rattle.gates.specs.ApplyLaws.{apply-cases}
 use Rattle.gates.specs.EarlierLaws.{gate-add}
 use Rattle.gates.specs.StartLaws.{start-at, read-plain}
 
@@ -44,8 +45,7 @@ module _ (v : ℕ) where
   choices-starting c p q (x ∷ l) m h = choices-starting c p q l (choose c p q x m) (starting-add (m .gates) (choice c (getD p x 0) (getD q x 0)) h tt)
 
   apply-starting : (op : Operation) (a b : ℕ) → StartGate (applyGate op a b)
-  unfolding applyGate
-  apply-starting op a b = tt
+  apply-starting op a b = apply-cases StartGate op a b tt (λ c. tt)
 
   expr-starting : (e : Expr) (p : List ℕ) (C : Gates) → Starting C → Starting (makeExpr e p C .gates)
   unfolding makeExpr

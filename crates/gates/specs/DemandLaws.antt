@@ -10,23 +10,18 @@ use lib.Seq.{getD-set-same, getD-set-other}
 use Rattle.words.specs.Lists.{split, same?}
 use Rattle.codes.specs.Results.{resultOf}
 use Rattle.codes.specs.declared.Kind.{Kind}
-use Rattle.codes.specs.declared.Operation.{Operation}
 use Rattle.reading.specs.Tree.{Expr, variable, word, bit, one, two, Statement, assign, skip, branch, Block, end, then}
 use Rattle.gates.specs.Running.{isOne, figureOf, runStatement, runBlock}
 use Rattle.gates.specs.Gates.{Gates, figure, runAt}
 use Rattle.gates.specs.Gates as gate
 use Rattle.gates.specs.Kinds.{Typed, TypedStatement, TypedBlock}
-use Rattle.gates.specs.PlainCircuit.{Making, Made, applyGate, makeExpr, choices, assignedIn, asBefore, makeStatement, makeBlock, conditionMade, firstMade, secondMade}
+use Rattle.gates.specs.PlainCircuit.{Making, Made, makeExpr, choices, assignedIn, asBefore, makeStatement, makeBlock, conditionMade, firstMade, secondMade}
+use Rattle.gates.specs.ApplyLaws.{apply-figure}
 use Rattle.gates.specs.FigureLaws.{figure-same, runAt-last}
 use Rattle.gates.specs.PlainLaws.{extends-trans, expr-extends}
 use Rattle.gates.specs.SoundLaws.{Sound, expr-standing, sound-again, Parts, statement-sound, parts-of}
 use Rattle.gates.specs.RunLaws.{statement-count, block-keeps}
 use Rattle.gates.specs.HoldLaws.{Holds, runAt-extends, holds-extends, condition-stays, first-stays, before-stays, parts-hold}
-
--- an operation's gate gives its result on its arguments' figures
-pub apply-figure : (inputs : List ℕ) (v : ℕ → ℕ) (op : Operation) (a b : ℕ) → figure inputs v (applyGate op a b) ≡ resultOf op (v a) (v b)
-unfolding applyGate
-apply-figure inputs v op a b = refl
 
 module _ (inputs : List ℕ) where
   -- the figure of gate i

@@ -8,10 +8,8 @@ use lib.ListN.{length, getD, set, List·getD-eq-default}
 use lib.Dec.{ltb}
 use borrow.Author.Tests.{ltb-true, ltb-false}
 use Rattle.words.specs.Lists.{_∈_, split, getD-in}
-use Rattle.codes.specs.declared.Operation.{Operation}
 use Rattle.gates.specs.Gates.{Gate, Gates, gateAt, arguments, Earlier}
 use Rattle.gates.specs.Gates as gate
-use Rattle.gates.specs.PlainCircuit.{applyGate}
 
 -- each of these lies below n
 abbrev pub Inside : ℕ → List ℕ → Type 0
@@ -67,10 +65,3 @@ pub argument-inside : (C : Gates) → Earlier C → (j a : ℕ) → a ∈ argume
 argument-inside C e j a m =
     split (ltb j (length C)) (λ t. omega (arith, ltb-true j (length C) t, e j a m))
     (λ t. absurd (rw (List·getD-eq-default C (gate.word 0) {n = j} (ltb-false j (length C) t)) at m))
-
--- an operation's gate has its two arguments
-pub apply-arguments : (op : Operation) (a b x : ℕ) → x ∈ arguments (applyGate op a b) → (x ≡ a) ⊎ (x ≡ b)
-unfolding applyGate
-apply-arguments op a b x (inl e) = inl e
-apply-arguments op a b x (inr (inl e)) = inr e
-apply-arguments op a b x (inr (inr m)) = absurd m

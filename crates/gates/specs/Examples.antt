@@ -83,9 +83,9 @@ pub example-6 : plainCircuit r2 ≡
 unfolding number kindOf operationOf codeOf readMark readCount readKinds readHeader readVariable readWord readBit operationWith exprWith readExpr readAssign branchWith statementWith blockWith blockFuel readBlock readRule applyGate makeExpr assignsIn assigns choices makeStatement makeBlock plainCircuit
 example-6 = refl
 
--- example 7: gates 1 and 2 products, which nothing needs
+-- example 7: gates 1 and 2 products, which nothing needs; gate 2 takes gate 0 first (C-12)
 pub example-7 : plainCircuit r7 ≡
-    record { gates = start 0 ∷ operation Product (0 ∷ 0 ∷ []) ∷ operation Product (1 ∷ 0 ∷ []) ∷ word 7 ∷ []; present = 3 ∷ [] }
+    record { gates = start 0 ∷ operation Product (0 ∷ 0 ∷ []) ∷ operation Product (0 ∷ 1 ∷ []) ∷ word 7 ∷ []; present = 3 ∷ [] }
 unfolding number kindOf operationOf codeOf readMark readCount readKinds readHeader readVariable readWord readBit operationWith exprWith readExpr readAssign branchWith statementWith blockWith blockFuel readBlock readRule applyGate makeExpr assignsIn assigns choices makeStatement makeBlock plainCircuit
 example-7 = refl
 

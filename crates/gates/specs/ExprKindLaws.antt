@@ -19,7 +19,8 @@ use Rattle.gates.specs.GateKinds.{gateKind, GateFits}
 use Rattle.gates.specs.PlainCircuit.{Making, Made, add, applyGate, makeExpr, choose, choices, asBefore}
 use Rattle.gates.specs.FigureLaws.{runAt-append, runAt-last}
 use Rattle.gates.specs.PlainLaws.{extends-length, expr-extends}
-use Rattle.gates.specs.EarlierLaws.{Inside, gate-add, earlier-add, argument-inside, apply-arguments}
+use Rattle.gates.specs.ApplyLaws.{apply-cases, apply-arguments, apply-kind}
+use Rattle.gates.specs.EarlierLaws.{Inside, gate-add, earlier-add, argument-inside}
 use Rattle.gates.specs.SoundLaws.{Sound, expr-standing, sound-again, Ready, ready-next, choice-inside}
 use Rattle.gates.specs.HoldLaws.{Holds, runAt-extends, holds-extends}
 
@@ -33,17 +34,12 @@ fits-same (choice c a b) k j h (f, e) = (sym (h c (inl refl)) ∙ f, sym (h a (i
 
 -- an operation's gate fits if its two arguments are of the kind that it takes
 apply-fits : (op : Operation) (a b : ℕ) (k : ℕ → Kind) → rowOf op .arity ≡ 2 → k a ≡ rowOf op .takes → k b ≡ rowOf op .takes → GateFits k (applyGate op a b)
-unfolding applyGate
-apply-fits op a b k n e f = (sym n, each)
+apply-fits op a b k n e f = apply-cases (GateFits k) op a b (sym n, each a b e f) (λ c. (sym n, each b a f e))
   where
-    each : (x : ℕ) → x ∈ (a ∷ b ∷ []) → k x ≡ rowOf op .takes
-    each x (inl z) = rw z e
-    each x (inr (inl z)) = rw z f
-    each x (inr (inr z)) = absurd z
-
-apply-kind : (kinds k : ℕ → Kind) (op : Operation) (a b : ℕ) → gateKind kinds k (applyGate op a b) ≡ rowOf op .gives
-unfolding applyGate
-apply-kind kinds k op a b = refl
+    each : (a b : ℕ) → k a ≡ rowOf op .takes → k b ≡ rowOf op .takes → (x : ℕ) → x ∈ (a ∷ b ∷ []) → k x ≡ rowOf op .takes
+    each a b e f x (inl z) = rw z e
+    each a b e f x (inr (inl z)) = rw z f
+    each a b e f x (inr (inr z)) = absurd z
 
 one-in : (a : ℕ) (P : ℕ → Type 0) → P a → (x : ℕ) → x ∈ (a ∷ []) → P x
 one-in a P h x (inl e) = rw e h

@@ -16,7 +16,7 @@ pub data Gate : Type 0 where
   start : ℕ → Gate  -- a variable's starting value
   word : ℕ → Gate  -- a written constant, 11
   bit : ℕ → Gate  -- a written constant, 12
-  operation : Operation → List ℕ → Gate  -- 20 to 27 and the arguments, left to right
+  operation : Operation → List ℕ → Gate  -- 20 to 27 and the arguments, in the order in which it takes them
   choice : ℕ → ℕ → ℕ → Gate  -- condition, first value, second value
 
 -- the gates in order of making: gate i is element i

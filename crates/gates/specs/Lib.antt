@@ -2,9 +2,11 @@ pub mod Running
 pub mod Limits
 pub mod Gates
 pub mod PlainCircuit
+pub mod OnlyOrder
 pub mod Rows
 pub mod Kinds
 pub mod GateKinds
+pub mod ApplyLaws
 pub mod FigureLaws
 pub mod CostLaws
 pub mod StepLaws
@@ -22,5 +24,6 @@ pub mod ExprKindLaws
 pub mod StartLaws
 pub mod GateKindLaws
 pub mod OutputLaws
+pub mod OnlyOrderLaws
 pub mod Demand2
 pub mod Examples

@@ -1,10 +1,11 @@
 -- Document 01, "The plain circuit (000 Def. 1 and App. C)": making the gates of a rule.
 use Prim.Native.Nat.{ℕ}
 use mathlib.Core.List.{List, [], _∷_, _++_, map}
-use mathlib.Core.Bool.{Bool, false, _||_}
+use mathlib.Core.Bool.{Bool, false, _&&_, _||_, cond}
 use lib.ListN.{length, getD, set}
-use lib.Dec.{eqb}
+use lib.Dec.{eqb, ltb}
 use Rattle.words.specs.Lists.{keep, upto}
+use Rattle.codes.specs.Codes.{commutes}
 use Rattle.codes.specs.declared.Operation.{Operation}
 use Rattle.answers.specs.Parsing.{Parsed, parsed, refused}
 use Rattle.reading.specs.Header.{variables}
@@ -27,9 +28,14 @@ pub record Made : Type 0 where
 abbrev pub add : Gates → Gate → Made
 add C k = record { gates = C ++ (k ∷ []); place = length C }
 
--- the gate of an operation of two arguments: the one place that says in which order it takes them
+-- the arguments of an operation, gates a and b as written, in the order in which its gate takes them: the one place that says it.
+-- Document 02, C-12: where the operation commutes the lower-numbered comes first
+abbrev pub inOrder : Operation → ℕ → ℕ → List ℕ
+inOrder op a b = cond (commutes op && ltb b a) (b ∷ a ∷ []) (a ∷ b ∷ [])
+
+-- the gate of an operation whose two arguments, as written, are the gates a and b
 unfoldable pub applyGate : Operation → ℕ → ℕ → Gate
-applyGate op a b = operation op (a ∷ b ∷ [])
+applyGate op a b = operation op (inOrder op a b)
 
 -- Arguments are made left to right, then their operation. Each written constant is a gate;
 -- a variable makes none and stands for its present gate.

@@ -15,7 +15,8 @@ use Rattle.gates.specs.Gates as gate
 use Rattle.gates.specs.Kinds.{Typed, TypedStatement, TypedBlock}
 use Rattle.gates.specs.PlainCircuit.{Making, Made, add, applyGate, makeExpr, choose, choices, assignedIn, asBefore, makeStatement, makeBlock, conditionMade, firstMade, secondMade}
 use Rattle.gates.specs.PlainLaws.{Extends, extends-trans, extends-length, expr-extends, block-extends}
-use Rattle.gates.specs.EarlierLaws.{Inside, inside-set, inside-more, inside-at, earlier-add, apply-arguments}
+use Rattle.gates.specs.ApplyLaws.{apply-arguments}
+use Rattle.gates.specs.EarlierLaws.{Inside, inside-set, inside-more, inside-at, earlier-add}
 
 -- what making keeps: V present gates, all of the circuit, and arguments made before their gates
 pub record Sound (v : ℕ) (m : Making) : Type 0 where

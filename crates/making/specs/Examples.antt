@@ -21,6 +21,6 @@ unfolding number kindOf operationOf codeOf readMark readCount readKinds readHead
 rows-r1 = refl
 
 -- example 7's rule: a word, two products and the constant 7
-pub rows-r7 : rowsOf r7 (gatesOf r7) ≡ 0x00 ∷ 0 ∷ 0 ∷ 0 ∷ 0x22 ∷ 0 ∷ 0 ∷ 0 ∷ 0x22 ∷ 1 ∷ 0 ∷ 0 ∷ 0x11 ∷ 7 ∷ 0 ∷ 0 ∷ []
+pub rows-r7 : rowsOf r7 (gatesOf r7) ≡ 0x00 ∷ 0 ∷ 0 ∷ 0 ∷ 0x22 ∷ 0 ∷ 0 ∷ 0 ∷ 0x22 ∷ 0 ∷ 1 ∷ 0 ∷ 0x11 ∷ 7 ∷ 0 ∷ 0 ∷ []
 unfolding number kindOf operationOf codeOf readMark readCount readKinds readHeader readVariable readWord readBit operationWith exprWith readExpr readAssign branchWith statementWith blockWith blockFuel readBlock readRule applyGate makeExpr assignsIn assigns choices makeStatement makeBlock plainCircuit rowsOf
 rows-r7 = refl

@@ -5,9 +5,10 @@ use mathlib.Core.Path.{_≡_, refl, sym, ap, _∙_}
 use mathlib.Core.List.{List, [], _∷_, _++_, append-assoc, append-nil}
 use lib.ListN.{length, set, take, length-set, length-append}
 use lib.Seq.{take-suc-set}
-use Rattle.gates.specs.Gates.{Gate, Gates}
+use Rattle.gates.specs.Gates.{Gate, operation, Gates}
 use Rattle.codes.specs.declared.Operation.{Operation}
-use Rattle.gates.specs.PlainCircuit.{applyGate}
+use Rattle.gates.specs.PlainCircuit.{inOrder, applyGate}
+use Rattle.gates.specs.ApplyLaws.{apply-is}
 use Rattle.codes.specs.Codes.{byteOf}
 use Rattle.gates.specs.Rows.{fourOf, rowsOf}
 use Rattle.making.specs.Holding.{Pushed, Applied}
@@ -75,9 +76,12 @@ push-full four rows count h =
           record { room = held .room; counted = omega (arith, held .counted); lie = λ few. absurd (omega (arith, held .counted)) };
     }
 
--- an operation of two arguments
-pub two-applied : (op : Operation) (a b byte : ℕ) {rows after : List ℕ} {count more : ℕ} → byte ≡ byteOf op
-    → Pushed (byte ∷ a ∷ b ∷ 0 ∷ []) rows count after more → Applied (applyGate op a b) rows count after more
-unfolding applyGate
-two-applied op a b byte e p =
-    record { applied = λ s C wanted right held. p .pushed s C wanted (λ h. ap (fourOf s) (right h) ∙ ap (λ (j : ℕ). j ∷ a ∷ b ∷ 0 ∷ []) (sym e)) held }
+-- an operation of two arguments, pushed in the order in which its gate takes them
+pub two-applied : (op : Operation) (a b first second byte : ℕ) {rows after : List ℕ} {count more : ℕ} → inOrder op a b ≡ first ∷ second ∷ [] → byte ≡ byteOf op
+    → Pushed (byte ∷ first ∷ second ∷ 0 ∷ []) rows count after more → Applied (applyGate op a b) rows count after more
+two-applied op a b first second byte o e p =
+    record {
+      applied = λ s C wanted right held.
+          p .pushed s C wanted
+          (λ h. ap (fourOf s) (right h ∙ apply-is op a b) ∙ ap (λ (l : List ℕ). fourOf s (operation op l)) o ∙ ap (λ (j : ℕ). j ∷ first ∷ second ∷ 0 ∷ []) (sym e)) held;
+    }

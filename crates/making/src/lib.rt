@@ -4,6 +4,8 @@ use codes::Kind;
 use codes::Operation;
 use gates::GateId;
 ghost use mathlib.Core.Path.{_≡_};
+ghost use mathlib.Core.Bool.{_&&_};
+ghost use lib.Dec.{ltb};
 ghost use mathlib.Core.List.{[], _∷_};
 ghost use Prim.Native.Nat.{_+_, _*_, _^_, _≤_, _<_};
 ghost use lib.ListN.{length};
@@ -16,7 +18,7 @@ ghost use Rattle.reading.specs.Rule.{readRule};
 ghost use Rattle.settings.specs.Sets.{has};
 ghost use Rattle.gates.specs.Gates.{choice};
 ghost use Rattle.gates.specs.PlainCircuit.{applyGate, assignsIn, assigns, makeStatement, makeBlock, starts};
-ghost use Rattle.codes.specs.Codes.{byteOf};
+ghost use Rattle.codes.specs.Codes.{commutes, byteOf};
 ghost use Rattle.gates.specs.Rows.{startCode};
 ghost use Rattle.making.specs.RuleMade.{RuleMade};
 ghost use Rattle.making.specs.Holding.{Held, Pushed, Applied, ExprMade, Chose, Chosen, Done};
@@ -77,11 +79,27 @@ fn start_code(kind: Kind) -> u32
     }
 }
 
-// The gate of an operation of two arguments: the one place that says in which order it takes them.
+// Does the operation's gate take its second argument first? The one place that says it: where it commutes the lower-numbered comes first.
+fn turned(op: Operation, a: GateId, b: GateId) -> bool
+    ensures { λ r. ⌜ r ≡ (commutes op && ltb (b .0) (a .0)) ⌝ }
+{
+    if codes::commutes(op) {
+        b.0 < a.0
+    } else {
+        false
+    }
+}
+
+// The gate of an operation whose two arguments, as written, are the gates a and b.
 fn apply_gate(rows: &mut [u32; 1024], count: u16, op: Operation, a: GateId, b: GateId) -> u16
     ensures { λ r. ⌜ Applied (applyGate op (a .0) (b .0)) (now (rows .entry)) count (now (rows .exit)) r ⌝ }
 {
-    push(rows, count, byte_of(op), a.0 as u32, b.0 as u32, 0)
+    let byte = byte_of(op);
+    if turned(op, a, b) {
+        push(rows, count, byte, b.0 as u32, a.0 as u32, 0)
+    } else {
+        push(rows, count, byte, a.0 as u32, b.0 as u32, 0)
+    }
 }
 
 // The expression at `at`, which reading took, from the variables' present gates.

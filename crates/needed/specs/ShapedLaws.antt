@@ -17,6 +17,7 @@ use Rattle.gates.specs.Gates.{Gate, start, operation, choice, Gates, gateAt}
 use Rattle.gates.specs.Gates as gate
 use Rattle.gates.specs.Kinds.{Typed, TypedStatement, TypedBlock}
 use Rattle.gates.specs.PlainCircuit.{Making, applyGate, makeExpr, choose, choices, assignedIn, asBefore, makeStatement, makeBlock, conditionMade, firstMade, secondMade, starts, gatesOf}
+use Rattle.gates.specs.ApplyLaws.{apply-cases}
 use Rattle.gates.specs.EarlierLaws.{gate-add}
 use Rattle.gates.specs.ReadLaws.{read-typed}
 use Rattle.gates.specs.StartLaws.{read-plain}
@@ -30,8 +31,7 @@ shaped-add C k h g i = go (gate-add C k i)
     go (inr (e, f)) = rw f g
 
 apply-shaped : (op : Operation) (a b : ℕ) → rowOf op .arity ≡ 2 → ShapedGate (applyGate op a b)
-unfolding applyGate
-apply-shaped op a b h = sym h
+apply-shaped op a b h = apply-cases ShapedGate op a b (sym h) (λ c. sym h)
 
 choices-shaped : (c : ℕ) (p q l : List ℕ) (m : Making) → Shaped (m .gates) → Shaped (choices c p q l m .gates)
 unfolding choices

@@ -1,15 +1,35 @@
+use mathlib.Core.Path.{_≡_, sym, _∙_}
+use mathlib.Core.Bool.{true, false, _&&_}
+use lib.Dec.{ltb}
+use Rattle.codes.specs.Codes.{commutes}
 use Rattle.making.specs.RowLaws.{two-applied}
 use borrow.Author.Needs.{needs}
 use Rattle.making.proofs.apply_gate.Statement.{statement}
 use Rattle.making.proofs.apply_gate.Tie as tie
 
--- src/lib.rt:76:23
--- src/lib.rt:76:36
--- src/lib.rt:76:48
--- src/lib.rt:76:5
--- src/lib.rt:73:1
 returns : tie.Need-returns
-returns c = let a = c .before .before .before .before .before .args in two-applied (a .op) (a .a .0) (a .b .0) (c .before .before .before .byte-of .result) (c .before .before .before .byte-of .ensures) (c .push .ensures)
+returns c =
+    let a = c .before .before .before .before .before .before .before .args in
+    let t : (commutes (a .op) && ltb (a .b .0) (a .a .0)) ≡ true = sym (c .before .before .before .before .before .turned .ensures) ∙ c .before .before .before .before .if1 .taken in
+    two-applied (a .op) (a .a .0) (a .b .0) (a .b .0) (a .a .0) _ (rw t) (c .before .before .before .before .before .before .byte-of .ensures) (c .push .ensures)
+
+returns-2 : tie.Need-returns-2
+returns-2 c =
+    let a = c .before .before .before .before .before .before .before .args in
+    let t : (commutes (a .op) && ltb (a .b .0) (a .a .0)) ≡ false = sym (c .before .before .before .before .before .turned .ensures) ∙ c .before .before .before .before .if1 .left in
+    two-applied (a .op) (a .a .0) (a .b .0) (a .a .0) (a .b .0) _ (rw t) (c .before .before .before .before .before .before .byte-of .ensures) (c .push2 .ensures)
 
 pub apply-gate-spec : {M : Type 1} → statement M
-apply-gate-spec = tie.close (tie.spec (λ c κs. search needs) (λ c. search needs) (λ c. search needs) (λ c κs. search needs) returns)
+apply-gate-spec =
+    tie.close
+    (tie.spec
+    (λ c κs. search needs)
+    (λ c κs. search needs)
+    (λ c. search needs)
+    (λ c. search needs)
+    (λ c κs. search needs)
+    (λ c. search needs)
+    (λ c. search needs)
+    (λ c κs. search needs)
+    returns
+    returns-2)

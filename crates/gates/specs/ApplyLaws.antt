@@ -1,0 +1,64 @@
+-- Laws of the gate of an operation of two arguments (`applyGate`): other files cite these and never its text.
+use Prim.Native.Nat.{ℕ}
+use mathlib.Core.Path.{_≡_, refl}
+use mathlib.Core.List.{List, [], _∷_}
+use mathlib.Core.Bool.{Bool, true, false, _&&_, cond}
+use mathlib.Core.Logic.{_⊎_, inl, inr}
+use native.Mathlib.Omega.{arith}
+use lib.Dec.{ltb}
+use borrow.Author.Tests.{ltb-true, ltb-false}
+use Rattle.words.specs.Lists.{_∈_, split}
+use Rattle.codes.specs.Codes.{commutes, rowOf}
+use Rattle.codes.specs.Results.{resultOf}
+use Rattle.codes.specs.ResultLaws.{result-commutes}
+use Rattle.codes.specs.declared.Kind.{Kind}
+use Rattle.codes.specs.declared.Operation.{Operation}
+use Rattle.gates.specs.Gates.{Gate, operation, arguments, figure}
+use Rattle.gates.specs.PlainCircuit.{inOrder, applyGate}
+use Rattle.gates.specs.GateKinds.{gateKind}
+
+pub apply-is : (op : Operation) (a b : ℕ) → applyGate op a b ≡ operation op (inOrder op a b)
+unfolding applyGate
+apply-is op a b = refl
+
+-- What holds of the arguments as written, and of the arguments turned where the operation commutes, holds of the gate.
+pub apply-cases : (P : Gate → Type 0) (op : Operation) (a b : ℕ) → P (operation op (a ∷ b ∷ [])) → (commutes op ≡ true → P (operation op (b ∷ a ∷ []))) → P (applyGate op a b)
+apply-cases P op a b h k = rw (apply-is op a b) (go (commutes op && ltb b a) (first-true (commutes op) (ltb b a)))
+  where
+    first-true : (c t : Bool) → (c && t) ≡ true → c ≡ true
+    first-true true t e = refl
+    first-true false t e = e
+
+    go : (t : Bool) → (t ≡ true → commutes op ≡ true) → P (operation op (cond t (b ∷ a ∷ []) (a ∷ b ∷ [])))
+    go true c = k (c refl)
+    go false c = h
+
+-- it has its two arguments
+pub apply-arguments : (op : Operation) (a b x : ℕ) → x ∈ arguments (applyGate op a b) → (x ≡ a) ⊎ (x ≡ b)
+apply-arguments op a b x = apply-cases (λ k. x ∈ arguments k → (x ≡ a) ⊎ (x ≡ b)) op a b written (λ c. turned)
+  where
+    written : x ∈ (a ∷ b ∷ []) → (x ≡ a) ⊎ (x ≡ b)
+    written (inl e) = inl e
+    written (inr (inl e)) = inr e
+    written (inr (inr m)) = absurd m
+
+    turned : x ∈ (b ∷ a ∷ []) → (x ≡ a) ⊎ (x ≡ b)
+    turned (inl e) = inr e
+    turned (inr (inl e)) = inl e
+    turned (inr (inr m)) = absurd m
+
+-- its figure is the operation's result on its arguments' figures, in the order in which they are written
+pub apply-figure : (inputs : List ℕ) (v : ℕ → ℕ) (op : Operation) (a b : ℕ) → figure inputs v (applyGate op a b) ≡ resultOf op (v a) (v b)
+apply-figure inputs v op a b = apply-cases (λ k. figure inputs v k ≡ resultOf op (v a) (v b)) op a b refl (λ c. result-commutes op (v b) (v a) c)
+
+-- its kind is what the operation gives
+pub apply-kind : (kinds k : ℕ → Kind) (op : Operation) (a b : ℕ) → gateKind kinds k (applyGate op a b) ≡ rowOf op .gives
+apply-kind kinds k op a b = apply-cases (λ g. gateKind kinds k g ≡ rowOf op .gives) op a b refl (λ c. refl)
+
+-- two orders, one gate
+pub apply-commutes : (op : Operation) (a b : ℕ) → commutes op ≡ true → applyGate op a b ≡ applyGate op b a
+apply-commutes op a b h =
+    rw (apply-is op a b, apply-is op b a)
+    (split (ltb b a)
+    (λ t. split (ltb a b) (λ u. absurd (omega (arith, ltb-true b a t, ltb-true a b u))) (λ u. rw (h, t, u)))
+    (λ t. split (ltb a b) (λ u. rw (h, t, u)) (λ u. let e : a ≡ b = omega (arith, ltb-false b a t, ltb-false a b u) in rw e)))
