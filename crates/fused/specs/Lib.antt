@@ -30,4 +30,6 @@ pub mod FitStarts
 pub mod FitLaws
 pub mod FitPlan
 pub mod FileBytes
+pub mod OnlyOrderLaws
+pub mod ArgumentOrder
 pub mod Demand3
