@@ -14,6 +14,7 @@ pub enum Gate {
     Start(usize, Kind),
     Word(u32),
     Bit(bool),
+    /// The arguments as the gate takes them: see `in_order`.
     Operation(u8, Vec<GateNumber>),
     /// Condition, first value, second value.
     Choice(GateNumber, GateNumber, GateNumber),
@@ -183,15 +184,24 @@ impl Maker {
             Expression::Variable(variable) => present[*variable],
             Expression::Word(word) => self.add(Gate::Word(*word)),
             Expression::Bit(bit) => self.add(Gate::Bit(*bit)),
-            Expression::Operation(code, arguments) => {
-                let arguments = arguments
+            Expression::Operation(code, written) => {
+                let made = written
                     .iter()
                     .map(|argument| self.expression(argument, present))
                     .collect();
-                self.add(Gate::Operation(*code, arguments))
+                self.add(Gate::Operation(*code, in_order(*code, made)))
             }
         }
     }
+}
+
+/// The arguments as the operation's gate takes them (C-12). They are made by now, left to right as
+/// written, so their numbers do not rest on this order.
+fn in_order(code: u8, mut arguments: Vec<GateNumber>) -> Vec<GateNumber> {
+    if operation(code).is_some_and(|row| row.lower_first) {
+        arguments.sort();
+    }
+    arguments
 }
 
 /// A rule that rows 1 to 11 accept, with its plain circuit.

@@ -82,18 +82,20 @@ pub struct Operation {
     pub takes: Kind,
     pub gives: Kind,
     pub cost: usize,
+    /// Whether its gate takes the lower-numbered argument first, however it was written (C-12).
+    pub lower_first: bool,
 }
 
 #[rustfmt::skip]
 pub const OPERATIONS: [Operation; 8] = [
-    Operation { code: SUM,        arguments: 2, takes: Kind::Word, gives: Kind::Word, cost: 0 },
-    Operation { code: DIFFERENCE, arguments: 2, takes: Kind::Word, gives: Kind::Word, cost: 0 },
-    Operation { code: PRODUCT,    arguments: 2, takes: Kind::Word, gives: Kind::Word, cost: 15 },
-    Operation { code: LESS,       arguments: 2, takes: Kind::Word, gives: Kind::Bit,  cost: 40 },
-    Operation { code: EQUAL,      arguments: 2, takes: Kind::Word, gives: Kind::Bit,  cost: 20 },
-    Operation { code: AND,        arguments: 2, takes: Kind::Bit,  gives: Kind::Bit,  cost: 1 },
-    Operation { code: OR,         arguments: 2, takes: Kind::Bit,  gives: Kind::Bit,  cost: 1 },
-    Operation { code: NOT,        arguments: 1, takes: Kind::Bit,  gives: Kind::Bit,  cost: 0 },
+    Operation { code: SUM,        arguments: 2, takes: Kind::Word, gives: Kind::Word, cost: 0,  lower_first: true },
+    Operation { code: DIFFERENCE, arguments: 2, takes: Kind::Word, gives: Kind::Word, cost: 0,  lower_first: false },
+    Operation { code: PRODUCT,    arguments: 2, takes: Kind::Word, gives: Kind::Word, cost: 15, lower_first: true },
+    Operation { code: LESS,       arguments: 2, takes: Kind::Word, gives: Kind::Bit,  cost: 40, lower_first: false },
+    Operation { code: EQUAL,      arguments: 2, takes: Kind::Word, gives: Kind::Bit,  cost: 20, lower_first: true },
+    Operation { code: AND,        arguments: 2, takes: Kind::Bit,  gives: Kind::Bit,  cost: 1,  lower_first: true },
+    Operation { code: OR,         arguments: 2, takes: Kind::Bit,  gives: Kind::Bit,  cost: 1,  lower_first: true },
+    Operation { code: NOT,        arguments: 1, takes: Kind::Bit,  gives: Kind::Bit,  cost: 0,  lower_first: false },
 ];
 
 /// The row of an operation's code, if it is one.

@@ -1,4 +1,4 @@
-//! Linnetshelf's tool once more, written from document 01 alone, to compare bytes with.
+//! Linnetshelf's tool once more, written from the documents alone, to compare bytes with.
 
 pub mod answer;
 pub mod circuit;

@@ -3,16 +3,18 @@
 //! written beside it, from document 01, and looked at when the case is added; only the cases of
 //! `reading` and the empty plans of refused rules have none.
 
+mod arguments;
 mod circles;
 mod examples;
 mod guards;
 mod large;
 mod layout;
 mod order;
-mod parts;
+pub mod parts;
 mod reading;
 mod rows;
 
+use crate::answer::Answer;
 use crate::circuit::accept;
 use crate::generate::plans::bytes_of;
 use crate::law::*;
@@ -31,6 +33,7 @@ pub fn cases() -> Vec<Case> {
     guards::add(&mut list);
     large::add(&mut list);
     order::add(&mut list);
+    arguments::add(&mut list);
     empty_plans(&mut list);
     let mut seen = HashSet::new();
     list.cases.retain(|case| {
@@ -228,6 +231,11 @@ impl List {
 
     /// How long the circuit file is; 0 for a refused one.
     fn length(&self, rule: &[u8], plan: &[u8]) -> usize {
+        self.written(rule, plan).0.bytes
+    }
+
+    /// What writing answers and prints, with all the room there can be.
+    fn written(&self, rule: &[u8], plan: &[u8]) -> (Answer, String) {
         let case = Case {
             operation: WRITE,
             room: u16::MAX,
@@ -235,7 +243,6 @@ impl List {
             second: plan.to_vec(),
             ..Case::default()
         };
-        let (answer, _) = case.work().expect("an operation that is built");
-        answer.bytes
+        case.work().expect("an operation that is built")
     }
 }

@@ -239,6 +239,8 @@ impl Maker<'_> {
 
     fn operation(&mut self, code: u8, depth: usize) -> Expression {
         let row = operation(code).expect("an operation");
+        // Two leaves more often than depth gives them: two variables in either order (C-12).
+        let depth = if self.random.chance(15) { 2 } else { depth };
         // One argument may go deep, the others stay small.
         let deep = self.random.below(row.arguments);
         let arguments = (0..row.arguments)
@@ -279,10 +281,14 @@ impl Maker<'_> {
             Expression::Word(_) => self.leaf(Kind::Word),
             Expression::Bit(_) => self.leaf(Kind::Bit),
             Expression::Operation(code, arguments) => {
-                let arguments = arguments
+                let mut arguments: Vec<Expression> = arguments
                     .iter()
                     .map(|a| self.mirror_expression(a))
                     .collect();
+                // Gates that can be joined, written in different orders (C-12).
+                if self.random.chance(30) {
+                    arguments.reverse();
+                }
                 Expression::Operation(*code, arguments)
             }
         }

@@ -140,23 +140,22 @@ pub(super) fn wide(random: &mut Random) -> Rule {
     let pairs = random.among(most / 2, most);
     let code = random.pick(&[PRODUCT, LESS, AND]);
     let row = operation(code).expect("an operation");
-    let mut kinds = vec![Kind::Bit, row.takes];
-    if row.gives != row.takes {
-        kinds.push(row.gives);
-    }
-    let into = kinds.len() - 1;
-    let one = |_| {
-        let argument = || Expression::Variable(1);
-        let value = Expression::Operation(code, vec![argument(), argument()]);
-        Statement::Assign(into, value)
+    // The last is assigned, where kinds allow it from what it holds, in either order.
+    let kinds = vec![Kind::Bit, row.takes, row.gives];
+    let orders: &[[usize; 2]] = if row.gives == row.takes {
+        &[[1, 2], [2, 1], [2, 2]]
+    } else {
+        &[[1, 1]]
     };
+    let mut one = |_| {
+        let arguments = random.pick(orders).map(Expression::Variable);
+        Statement::Assign(2, Expression::Operation(code, arguments.to_vec()))
+    };
+    let mut block = || (0..pairs).map(&mut one).collect();
+    let (first, second) = (block(), block());
     Rule {
         kinds,
-        block: vec![Statement::If(
-            Expression::Variable(0),
-            (0..pairs).map(one).collect(),
-            (0..pairs).map(one).collect(),
-        )],
+        block: vec![Statement::If(Expression::Variable(0), first, second)],
     }
 }
 
