@@ -1,6 +1,7 @@
 /* Linnetshelf: reads a matching rule, runs it, checks a plan for it and writes the fused circuit,
- * byte for byte as document 01 fixes it. Every function here is proved to answer and to write what
- * the definitions of crates/<crate>/specs give, for any bytes at all.
+ * byte for byte as document 01, with C-12 of document 02 (argument order), fixes it. Every function
+ * here is proved to answer and to write what the definitions of crates/<crate>/specs give, for any
+ * bytes at all.
  *
  * Link with target/staticlib/liblinnet.a, which `rt staticlib linnet` writes (x86-64).
  *
@@ -49,8 +50,8 @@ struct linnet_answer {
 /* A plain circuit. Gate g has rows[4 * g] to rows[4 * g + 3] and needs[g]; zeros after the last
  * gate, and everywhere for a refused rule. A row is the code that the gate's record of a circuit
  * file begins with (00, 01 starting values, 11, 12 constants, 20 to 27, 30 a choice), then the
- * variable of a starting value, the figure of a constant, or the argument gates; 0 where there is
- * none. needs[g] is the gate's precondition: bit j is 1 when setting j needs the gate. */
+ * variable of a starting value, the figure of a constant, or the argument gates in the order in
+ * which the gate takes them; 0 where there is none. needs[g] is the gate's precondition: bit j is 1 when setting j needs the gate. */
 struct linnet_shown {
     struct linnet_answer answer;
     uint32_t rows[1024];

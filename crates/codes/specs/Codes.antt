@@ -42,7 +42,7 @@ rowOf Not = row Not kind.Bit kind.Bit 1 0
 abbrev pub costly : Operation → Bool
 costly op = ltb 0 (rowOf op .cost)
 
--- Document 02, C-12: sum, product, equal, and, or give the same in either order of their arguments (ResultLaws); the others do not.
+-- Document 02, C-12: sum, product, equal, and, or give the same in either order of their arguments; difference and less-than do not (ResultLaws), and not has one.
 abbrev pub commutes : Operation → Bool
 commutes Sum = true
 commutes Difference = false

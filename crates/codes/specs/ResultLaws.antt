@@ -32,7 +32,7 @@ result-commutes And a b h = ap bitOf (and-comm (eqb a 1) (eqb b 1))
 result-commutes Or a b h = ap bitOf (or-comm (eqb a 1) (eqb b 1))
 result-commutes Not a b h = absurd (false≢true h)
 
--- one of two arguments that does not commute tells 0 and 1 apart from 1 and 0
+-- an operation of two arguments that does not commute gives another result on 0 and 1 than on 1 and 0
 pub result-ordered : (op : Operation) → rowOf op .arity ≡ 2 → commutes op ≡ false → resultOf op 0 1 ≡ resultOf op 1 0 → ⊥
 unfolding resultOf
 result-ordered Sum a h e = false≢true (sym h)

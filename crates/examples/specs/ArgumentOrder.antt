@@ -61,7 +61,7 @@ from-two op k x y =
 abbrev pub no-groups : List ℕ
 no-groups = 0x50 ∷ 0x4C ∷ 0x4E ∷ 0x00 ∷ 0x01 ∷ 0x00 ∷ 0x04 ∷ 0x00 ∷ 0x00 ∷ []
 
--- a difference and a less-than still depend on their order: in either they are accepted, in 25 bytes, and bytes 15 and 16 are the record's first wire
+-- a difference and a less-than still depend on their order: in either the rule is accepted and its file has 25 bytes, of which 15 and 16 are the record's first wire
 pub ordered-accepted : map (λ s. writeAnswer s no-groups 25) (from-two 0x21 0x00 0 1 ∷ from-two 0x21 0x00 1 0 ∷ from-two 0x23 0x01 0 1 ∷ from-two 0x23 0x01 1 0 ∷ [])
     ≡ success 4 4 25 0 0 ∷ success 4 4 25 0 0 ∷ success 4 4 25 40 40 ∷ success 4 4 25 40 40 ∷ []
 unfolding number kindOf operationOf codeOf readMark readCount readKinds readHeader readVariable readWord readBit operationWith exprWith readExpr readAssign branchWith statementWith blockWith blockFuel readBlock readRule applyGate makeExpr assignsIn assigns choices makeStatement makeBlock plainCircuit conditions collect numbers preconditions preconditionSets costs wholeWithin ruleAnswer restsOn rests groupsIn groups restsOf waitsFor order planRow planAnswer bytesOf spread tableOver table written fused fusedFile recordsCost fusedCounts writeAnswer
@@ -76,7 +76,7 @@ unfolding number kindOf operationOf codeOf readMark readCount readKinds readHead
 less-than-ordered e = omega (arith, ap (λ (f : List ℕ). getD f 16 0) e)
 
 -- By gate, not by wire. A bit and two words: if v0 then (v1 := v1 × v2; v2 := v2 + v2; v1 := v2 + v1) else (if v1 < v2 then v1 := v2 × v2).
--- Gates 3 and 7 are products, 4 and 5 sums; joined with 7, gate 3 waits for the condition 6 and is written after gate 4.
+-- Gates 3 and 7 are products, 4 and 5 sums; the group {3, 7} waits for the condition 6, so gate 3 is written after gate 4.
 abbrev pub late : List ℕ
 late =
     0x52 ∷ 0x55 ∷ 0x4C ∷ 0x00 ∷ 0x01 ∷ 0x03 ∷ 0x01 ∷ 0x00 ∷ 0x00

@@ -11,7 +11,7 @@ use Rattle.fused.specs.Answers.{writeAnswer, writtenOver}
 use Rattle.fused.specs.OnlyOrderLaws.{same-rule, same-plan, same-answer, same-file, same-over}
 
 module _ (s t : List ℕ) (o : OnlyOrder s t) (a : ruleAnswer s .number ≡ 0) where
-  -- reading answers the same: if one is accepted, so is the other
+  -- reading answers the same: if the first is accepted, so is the second
   pub one-rule : ruleAnswer s ≡ ruleAnswer t
   one-rule = same-rule s t o a
 

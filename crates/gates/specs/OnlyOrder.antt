@@ -12,7 +12,7 @@ use Rattle.reading.specs.Tree.{Expr, variable, one, two, Statement, Block}
 use Rattle.reading.specs.Tree as tree
 use Rattle.reading.specs.Rule.{readRule}
 
--- two expressions: the same; or x and y against y and x, under an operation that commutes; or so in their arguments
+-- two expressions: the same; or the variables x and y against y and x, under an operation that commutes; or such in their arguments
 pub data ExprUpToOrder : Expr → Expr → Type 0 where
   same : {e : Expr} → ExprUpToOrder e e
   turned : {op : Operation} {x y : ℕ} → commutes op ≡ true → ExprUpToOrder (two op (variable x) (variable y)) (two op (variable y) (variable x))

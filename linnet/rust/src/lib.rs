@@ -17,7 +17,8 @@ pub struct Answer {
 }
 
 /// A plain circuit: the answer of reading its rule, four numbers a gate (code, then variable,
-/// figure or argument gates), and each gate's precondition; zeros after the gates.
+/// figure, or argument gates in the order in which the gate takes them), and each gate's
+/// precondition; zeros after the gates.
 #[repr(C)]
 #[derive(Clone, Copy, Debug, PartialEq, Eq)]
 pub struct Shown {
