@@ -63,6 +63,13 @@ module _ {A : Type 0} where
   pub read-is : (m : Parsed A) {a : A} {n : ℕ} → m ≡ parsed a n → IsRead m
   read-is m e = subst⁻¹ IsRead e tt
 
+  -- what is read twice is the same
+  pub same-what : {a b : A} {n k : ℕ} → parsed a n ≡ parsed b k → a ≡ b
+  same-what h = cc
+
+  pub same-next : {a b : A} {n k : ℕ} → parsed a n ≡ parsed b k → n ≡ k
+  same-next h = cc
+
   pub unless-read : (t : Bool) (k p : ℕ) (m : Parsed A) → IsRead (unless t k p m) → (t ≡ true) × IsRead m
   unless-read true k p m h = (refl, h)
   unless-read false k p m h = absurd h

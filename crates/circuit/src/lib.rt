@@ -10,9 +10,7 @@ ghost use Rattle.circuit.specs.Whole.{ruleAnswer};
 ghost use Rattle.circuit.specs.Shown.{shownRows, shownNeeds, shownOutputs, shownConditions};
 ghost use Rattle.circuit.specs.Making.{wholeIn, Ready};
 
-// The limits of a plain circuit.
-const MOST_GATES: u16 = 256;
-
+// The conditions of a plain circuit, at most.
 const MOST_CONDITIONS: usize = 6;
 
 // Rows 10 and 11, and the counts, of the gates that lie in `rows`; the conditions are numbered in `places`.
@@ -20,7 +18,7 @@ fn whole(size: usize, rows: &[u32; 1024], count: u16, places: &mut [u16; 256]) -
     requires { ⌜ (count ≤ 256 → Earlier (gatesIn (now rows) count)) ⌝ }
     ensures { λ r. ⌜ (r ≡ wholeIn (now (rows .entry)) count size) × (count ≤ 256 → now (places .exit) ≡ placesOf (gatesIn (now (rows .entry)) count) 256) ⌝ }
 {
-    if MOST_GATES < count {
+    if making::MOST_GATES < count {
         return answers::refused(10, size);
     }
     let n = count as usize;

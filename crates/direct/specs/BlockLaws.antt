@@ -11,7 +11,7 @@ use Rattle.codes.specs.declared.Kind.the-variants as kind
 use Rattle.codes.specs.declared.Code.{Code}
 use Rattle.codes.specs.declared.Form.{Form}
 use Rattle.answers.specs.Parsing.{Parsed, parsed, _>>=_}
-use Rattle.answers.specs.ParsingLaws.{IsRead, is-read, read-is}
+use Rattle.answers.specs.ParsingLaws.{IsRead, is-read, read-is, same-what, same-next}
 use Rattle.reading.specs.Limits.{deepest}
 use Rattle.reading.specs.Header.{kindAt}
 use Rattle.reading.specs.Tree.{Expr, Statement, assign, skip, branch, Block}
@@ -22,13 +22,6 @@ use Rattle.reading.specs.FirstStatement.{assign-read, branch-read, block-inside
 use Rattle.gates.specs.Running.{runStatement, runBlock}
 use Rattle.direct.specs.Walking.{WorkedOut, Ran, Passed, Amid}
 use Rattle.direct.specs.declared.Value.{Value}
-
--- what was read twice is the same
-same-what : {A : Type 0} {a b : A} {n k : ℕ} → parsed a n ≡ parsed b k → a ≡ b
-same-what h = cc
-
-same-next : {A : Type 0} {a b : A} {n k : ℕ} → parsed a n ≡ parsed b k → n ≡ k
-same-next h = cc
 
 -- an assignment, its expression read at the kind of its variable
 module _ (s : List ℕ) (at : ℕ) (h : IsRead (readAssign s at)) (want : Kind) (k : want ≡ kindAt s (getD s (at + 1) 0)) where

@@ -10,24 +10,18 @@ use Rattle.codes.specs.Results.{resultOf}
 use Rattle.codes.specs.declared.Kind.{Kind}
 use Rattle.codes.specs.declared.Operation.{Operation}
 use Rattle.codes.specs.declared.Code.{Code}
-use Rattle.codes.specs.declared.Form.{Form}
 use Rattle.codes.specs.declared.Form.the-variants.{Variable, Word, Bit, Apply}
 use Rattle.answers.specs.Parsing.{Parsed, parsed}
 use Rattle.answers.specs.ParsingLaws.{IsRead}
 use Rattle.reading.specs.Tree.{Expr, variable, word, bit, one, two}
-use Rattle.reading.specs.Expressions.{argumentsWith, exprForm, readExpr}
-use Rattle.reading.specs.ExpressionLaws.{below, expr-as}
-use Rattle.reading.specs.FirstByte.{expr-inside, as-variable, as-word, as-bit, as-operation, first-argument, second-argument, arguments-one, arguments-two}
+use Rattle.reading.specs.Expressions.{argumentsWith, readExpr}
+use Rattle.reading.specs.FirstByte.{as-variable, as-word, as-bit, as-operation, first-argument, second-argument, arguments-one, arguments-two}
 use Rattle.gates.specs.Running.{figureOf}
 use Rattle.direct.specs.Walking.{WorkedOut}
 use Rattle.direct.specs.declared.Value.{Value}
 
 -- c is the code of the expression that was read at `at`
 module _ (f : List ℕ) (deep : ℕ) (s : List ℕ) (want : Kind) (at : ℕ) (h : IsRead (readExpr deep s want at)) (c : Code) (e : c ≡ codeOf (getD s at 0)) where
-  -- by its form; of no expression's form it was not read
-  pub form-taken : (g : Form) → c .form ≡ g → IsRead (exprForm g s (below deep s) want deep at)
-  form-taken g q = subst IsRead (expr-as deep s want at c (expr-inside deep s want at h) e g q) h
-
   pub variable-out : c .form ≡ Variable → WorkedOut f (readExpr deep s want at) (record { figure = getD f (getD s (at + 1) 0) 0; next = at + 2 })
   unfolding figureOf
   variable-out q = record { what = variable (getD s (at + 1) 0); read = as-variable deep s want at h c e q .is; is = refl }

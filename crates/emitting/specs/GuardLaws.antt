@@ -13,9 +13,8 @@ use Rattle.settings.specs.Sets.{rests}
 use Rattle.settings.specs.Guards.{table}
 use Rattle.gates.specs.Limits.{mostConditions}
 use Rattle.fused.specs.Records.{Pair, pick, pairWires}
-use Rattle.fused.specs.Emission.{pairs}
 use Rattle.fused.specs.CircuitFile.{wiresBytes, recordBytes}
-use Rattle.fused.specs.SizeLaws.{wires-size}
+use Rattle.fused.specs.SizeLaws.{wires-size, pick-size}
 use Rattle.emitting.specs.Emitted.{guardIn}
 use Rattle.emitting.specs.ByteLaws.{behind}
 
@@ -74,20 +73,6 @@ module _ (conds : List ℕ) (wire : ℕ → ℕ) (s : ℕ) where
   guard-last k d e ys kk room p q = rw (room-rest (putMid 2 (length e - 2) e ys) (2 + 2 * k)) (omega (arith, guard-fits k d e ys kk room p q))
 
 -- Picks.
-
-pub length-pairs : (n : ℕ) (l : List ℕ) → length (pairs n l) ≡ length l
-length-pairs n [] = refl
-length-pairs n (w ∷ l) = ap suc (length-pairs (suc n) l)
-
-pub length-pairWires : (P : List Pair) → length (pairWires P) ≡ 2 * length P
-length-pairWires [] = omega arith
-length-pairWires (p ∷ P) = let e : length (pairWires P) ≡ 2 * length P = length-pairWires P in let z : suc (suc (length (pairWires P))) ≡ 2 * suc (length P) = omega (arith, e) in z
-
-pub pick-size : (P : List Pair) → length (recordBytes (pick P)) ≡ 2 + 4 * length P
-pick-size P =
-    let e : length (wiresBytes (pairWires P)) ≡ 4 * length P = wires-size (pairWires P) ∙ omega (arith, length-pairWires P) in
-    let z : suc (suc (length (wiresBytes (pairWires P)))) ≡ 2 + 4 * length P = omega (arith, e) in
-    z
 
 pub pick-put : (P : List Pair) (k : ℕ) (d e ys : List ℕ) → length P ≡ k → 2 + 4 * k ≤ length d → e ≡ over (0x31 ∷ k ∷ []) d
     → ys ≡ over (wiresBytes (pairWires P)) (take (length e - 2) (drop 2 e)) → putMid 2 (length e - 2) e ys ≡ over (recordBytes (pick P)) d

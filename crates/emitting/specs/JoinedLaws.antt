@@ -20,15 +20,16 @@ use Rattle.needed.specs.Held.{gatesIn, codeAt}
 use Rattle.plan.specs.PlanFile.{groupAt}
 use Rattle.fused.specs.Records.{Record, pick, recordsCost}
 use Rattle.fused.specs.CircuitFile.{wiresBytes, recordBytes, recordsBytes}
-use Rattle.fused.specs.SizeLaws.{wires-size, cost-append}
+use Rattle.fused.specs.SizeLaws.{wires-size, cost-append, pick-size}
 use Rattle.emitting.specs.Emitted.{emitIn, guardIn, guardsIn, argumentAt, pairsIn, restedBy, Joinable, Joining, Sized}
 use Rattle.emitting.specs.CodeLaws.{Applies}
 use Rattle.emitting.specs.ByteLaws.{behind}
 use Rattle.emitting.specs.MemberLaws.{length-group, member-in}
-use Rattle.emitting.specs.GuardLaws.{length-pairs, guard-size, pick-size}
+use Rattle.emitting.specs.GuardLaws.{guard-size}
 use Rattle.emitting.specs.PieceLaws.{few-rests}
 use Rattle.emitting.specs.LoopLaws.{pairs-count}
 use Rattle.emitting.specs.JoinLaws.{Fusing, picksBytes, fusedBytes, two-applies, two-arguments, joinedIn, emit-joined, joined-bytes}
+use Rattle.fused.specs.SizeJoined.{length-pairs}
 
 -- The picks, and the operation behind them.
 

@@ -18,13 +18,7 @@ ghost use Rattle.emitting.specs.Emitted.{wireIn, aloneIn, emitIn, guardI
 ghost use Rattle.emitting.specs.CodeLaws.{Applies};
 ghost use Rattle.emitting.specs.JoinLaws.{Fusing, picksBytes, fusedBytes};
 
-// The codes of records that are no operation.
-const WORD: u32 = 0x11;
-
-const BIT: u32 = 0x12;
-
-const CHOICE: u32 = 0x30;
-
+// The codes of the records that stand for no gate.
 const PICK: u8 = 0x31;
 
 const GUARD: u8 = 0x32;
@@ -68,7 +62,7 @@ fn put_word(out: &mut [u8], n: u32)
     requires { ⌜ 5 ≤ length (now out) ⌝ }
     ensures { λ r. ⌜ now (out .exit) ≡ over (0x11 ∷ bytesOf 4 n) (now (out .entry)) ⌝ }
 {
-    put_byte(out, WORD as u8);
+    put_byte(out, gates::WORD as u8);
     words::put32(&mut out[1..], n);
 }
 
@@ -94,7 +88,7 @@ fn put_choice(out: &mut [u8], c: WireId, a: WireId, b: WireId)
     requires { ⌜ 7 ≤ length (now out) ⌝ }
     ensures { λ r. ⌜ now (out .exit) ≡ over (0x30 ∷ wiresBytes (c .0 ∷ a .0 ∷ b .0 ∷ [])) (now (out .entry)) ⌝ }
 {
-    put_binary(out, CHOICE as u8, c, a);
+    put_binary(out, gates::CHOICE as u8, c, a);
     words::put16(&mut out[5..], b.0);
 }
 
@@ -136,18 +130,18 @@ pub fn put_alone(
 {
     let i = g.0 as usize;
     let code = rows[4 * i];
-    if code == CHOICE {
+    if code == gates::CHOICE {
         let c = wire_at(rows, 4 * i + 1, group, wires);
         let a = wire_at(rows, 4 * i + 2, group, wires);
         let b = wire_at(rows, 4 * i + 3, group, wires);
         put_choice(out, c, a, b);
         return 7;
     }
-    if code == WORD {
+    if code == gates::WORD {
         put_word(out, rows[4 * i + 1]);
         return 5;
     }
-    if code == BIT {
+    if code == gates::BIT {
         put_short(out, code as u8, rows[4 * i + 1] as u8);
         return 2;
     }

@@ -38,14 +38,10 @@ pub wire-of : (k n : ℕ) (f : List ℕ) (at i : ℕ) → Inside k (wiresAt n f 
 wire-of k n f at i w h =
     w _ (subst (λ (a : ℕ). a ∈ wiresAt n f at) (wires-at n f at i h) (getD-in (wiresAt n f at) i (rw (wires-length n f at) h)))
 
--- one record more, and the place after it
+-- one record more
 pub records-more : (n : ℕ) (f : List ℕ) (at : ℕ) → recordsFrom (suc n) f at ≡ recordsFrom n f at ++ (recordAt f (placeAfter n f at) ∷ [])
 records-more zero f at = refl
 records-more (suc n) f at = ap (λ (l : List Record). recordAt f at ∷ l) (records-more n f (at + sizeAt f at))
-
-pub place-more : (n : ℕ) (f : List ℕ) (at : ℕ) → placeAfter (suc n) f at ≡ placeAfter n f at + sizeAt f (placeAfter n f at)
-place-more zero f at = refl
-place-more (suc n) f at = place-more n f (at + sizeAt f at)
 
 -- n records, the one at place k
 pub records-length : (n : ℕ) (f : List ℕ) (at : ℕ) → length (recordsFrom n f at) ≡ n

@@ -18,7 +18,8 @@ use Rattle.fused.specs.FileFigures.{wiresAt, recordAt, sizeAt, recordsFrom, fir
 use Rattle.fused.specs.RecordLaws.{record-same}
 use Rattle.figures.specs.Runnable.{mostWires, recordPlace, Runnable}
 use Rattle.figures.specs.Working.{held, Workable, figuresOf, Amid}
-use Rattle.figures.specs.ReadingLaws.{wires-more, wires-length, wire-of, records-more, records-length, records-at, place-more}
+use Rattle.figures.specs.ReadingLaws.{wires-more, wires-length, wire-of, records-more, records-length, records-at}
+use Rattle.fused.specs.FileLaws.{place-next}
 
 -- the figures of the first wires: so many, and the next one
 pub figures-length : (f inputs : List ℕ) (i : ℕ) → length (figuresOf f inputs i) ≡ i
@@ -87,7 +88,7 @@ module _ (f inputs before figures : List ℕ) (at i : ℕ) (p : Amid f inputs be
       runnable = p .runnable;
       room = p .room;
       few = omega arith;
-      place = rw (add-one i, place-more i f firstRecord, s, p .place);
+      place = rw (add-one i, place-next i f firstRecord, s, p .place);
       same =
           ap (λ (l : List ℕ). set l i g) (p .same)
           ∙ over-snoc (figuresOf f inputs i) before i g (figures-length f inputs i) (omega (arith, amid-below, p .room))

@@ -21,13 +21,6 @@ ghost use Rattle.fused.specs.FileFigures.{wiresAt, pairsAt, recordAt, sizeAt, f
 ghost use Rattle.figures.specs.Runnable.{mostWires, recordPlace, Runnable};
 ghost use Rattle.figures.specs.Working.{held, Workable, figuresOf};
 
-// A byte and a wire's number as wider numbers: the bounds are proved here once.
-fn wide8(x: u8) -> usize
-    ensures { λ r. ⌜ (r ≡ x) × (r < 256) ⌝ }
-{
-    x as usize
-}
-
 // The wire whose number stands at a place.
 fn wire_at(file: &[u8], at: usize) -> WireId
     requires { ⌜ at + 2 ≤ length (now file) ⌝ }
@@ -122,7 +115,7 @@ fn guard_number(file: &[u8], at: usize, count: u8, figures: &[u32; 640]) -> u8
     ensures { λ r. ⌜ (r ≡ numberOf (wiresAt count (now (file .entry)) at) (λ w. isOne (held (now (figures .entry)) w))) × (r < 64) ⌝ }
 {
     let mut j: u8 = 0;
-    let mut t = wide8(count);
+    let mut t = words::wide8(count);
     while 0 < t {
         t = t - 1;
         if figure_at(file, at + 2 * t, figures) == 1 {
@@ -144,7 +137,7 @@ fn guard_figure(file: &[u8], at: usize, count: u8, figures: &[u32; 640]) -> u32
     ensures { λ r. ⌜ r ≡ guardFigure (held (now (figures .entry))) (wiresAt count (now (file .entry)) at) (numberAt 8 (now (file .entry)) (at + 2 * count)) ⌝ }
 {
     let j = guard_number(file, at, count, figures);
-    let table = words::read64(file, at + 2 * wide8(count));
+    let table = words::read64(file, at + 2 * words::wide8(count));
     if settings::has(table, j) { 1 } else { 0 }
 }
 
@@ -154,8 +147,8 @@ fn record_figure(file: &[u8], at: usize, inputs: &[u32], figures: &[u32; 640]) -
     ensures { λ r. ⌜ r ≡ recordFigure (now (inputs .entry)) (held (now (figures .entry))) (recordAt (now (file .entry)) at) ⌝ }
 {
     match file[at] {
-        0x00 => inputs[wide8(file[at + 1])],
-        0x01 => inputs[wide8(file[at + 1])],
+        0x00 => inputs[words::wide8(file[at + 1])],
+        0x01 => inputs[words::wide8(file[at + 1])],
         0x11 => words::read32(file, at + 1),
         0x12 => file[at + 1] as u32,
         0x30 => choice_figure(file, at, figures),
@@ -176,9 +169,9 @@ fn record_size(file: &[u8], at: usize) -> usize
         0x11 => 5,
         0x12 => 2,
         0x30 => 7,
-        0x31 => 2 + 4 * wide8(file[at + 1]),
-        0x32 => 10 + 2 * wide8(file[at + 1]),
-        _ => 1 + 2 * wide8(codes::code_of(file[at]).arity),
+        0x31 => 2 + 4 * words::wide8(file[at + 1]),
+        0x32 => 10 + 2 * words::wide8(file[at + 1]),
+        _ => 1 + 2 * words::wide8(codes::code_of(file[at]).arity),
     }
 }
 
@@ -210,7 +203,7 @@ fn give_outputs(file: &[u8], at: usize, figures: &[u32; 640], results: &mut [u32
         ⌝ }
     ensures { λ _. ⌜ now (results .exit) ≡ over (map (held (now (figures .entry))) (wiresAt (fileVariables (now (file .entry))) (now (file .entry)) at)) (now (results .entry)) ⌝ }
 {
-    let v = wide8(file[5]);
+    let v = words::wide8(file[5]);
     let mut x: usize = 0;
     while x < v {
         let figure = figure_at(file, at + 2 * x, figures);

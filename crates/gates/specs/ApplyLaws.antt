@@ -2,7 +2,7 @@
 use Prim.Native.Nat.{ℕ}
 use mathlib.Core.Path.{_≡_, refl}
 use mathlib.Core.List.{List, [], _∷_}
-use mathlib.Core.Bool.{Bool, true, false, _&&_, cond}
+use mathlib.Core.Bool.{Bool, true, false, cond, and-eq-true-iff}
 use mathlib.Core.Logic.{_⊎_, inl, inr}
 use native.Mathlib.Omega.{arith}
 use lib.Dec.{ltb}
@@ -14,38 +14,35 @@ use Rattle.codes.specs.ResultLaws.{result-commutes}
 use Rattle.codes.specs.declared.Kind.{Kind}
 use Rattle.codes.specs.declared.Operation.{Operation}
 use Rattle.gates.specs.Gates.{Gate, operation, arguments, figure}
-use Rattle.gates.specs.PlainCircuit.{inOrder, applyGate}
+use Rattle.gates.specs.PlainCircuit.{turned, inOrder, applyGate}
 use Rattle.gates.specs.GateKinds.{gateKind}
 
+-- its text, which no other law opens
 pub apply-is : (op : Operation) (a b : ℕ) → applyGate op a b ≡ operation op (inOrder op a b)
 unfolding applyGate
 apply-is op a b = refl
 
 -- What holds of the arguments as written, and of the arguments turned where the operation commutes, holds of the gate.
 pub apply-cases : (P : Gate → Type 0) (op : Operation) (a b : ℕ) → P (operation op (a ∷ b ∷ [])) → (commutes op ≡ true → P (operation op (b ∷ a ∷ []))) → P (applyGate op a b)
-apply-cases P op a b h k = rw (apply-is op a b) (go (commutes op && ltb b a) (first-true (commutes op) (ltb b a)))
+apply-cases P op a b h k = rw (apply-is op a b) (go (turned op a b) (λ e. and-eq-true-iff (commutes op) (ltb b a) .0 e .0))
   where
-    first-true : (c t : Bool) → (c && t) ≡ true → c ≡ true
-    first-true true t e = refl
-    first-true false t e = e
-
     go : (t : Bool) → (t ≡ true → commutes op ≡ true) → P (operation op (cond t (b ∷ a ∷ []) (a ∷ b ∷ [])))
     go true c = k (c refl)
     go false c = h
 
 -- it has its two arguments
 pub apply-arguments : (op : Operation) (a b x : ℕ) → x ∈ arguments (applyGate op a b) → (x ≡ a) ⊎ (x ≡ b)
-apply-arguments op a b x = apply-cases (λ k. x ∈ arguments k → (x ≡ a) ⊎ (x ≡ b)) op a b written (λ c. turned)
+apply-arguments op a b x = apply-cases (λ k. x ∈ arguments k → (x ≡ a) ⊎ (x ≡ b)) op a b as-written (λ c. other-way)
   where
-    written : x ∈ (a ∷ b ∷ []) → (x ≡ a) ⊎ (x ≡ b)
-    written (inl e) = inl e
-    written (inr (inl e)) = inr e
-    written (inr (inr m)) = absurd m
+    as-written : x ∈ (a ∷ b ∷ []) → (x ≡ a) ⊎ (x ≡ b)
+    as-written (inl e) = inl e
+    as-written (inr (inl e)) = inr e
+    as-written (inr (inr m)) = absurd m
 
-    turned : x ∈ (b ∷ a ∷ []) → (x ≡ a) ⊎ (x ≡ b)
-    turned (inl e) = inr e
-    turned (inr (inl e)) = inl e
-    turned (inr (inr m)) = absurd m
+    other-way : x ∈ (b ∷ a ∷ []) → (x ≡ a) ⊎ (x ≡ b)
+    other-way (inl e) = inr e
+    other-way (inr (inl e)) = inl e
+    other-way (inr (inr m)) = absurd m
 
 -- its figure is the operation's result on its arguments' figures, in the order in which they are written
 pub apply-figure : (inputs : List ℕ) (v : ℕ → ℕ) (op : Operation) (a b : ℕ) → figure inputs v (applyGate op a b) ≡ resultOf op (v a) (v b)

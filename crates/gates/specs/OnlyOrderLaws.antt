@@ -70,20 +70,15 @@ module _ (s t : List ℕ) (o : OnlyOrder s t) where
   pub same-kind : (x : ℕ) → x < variables s → kindAt s x ≡ kindAt t x
   same-kind x h = ap kindOf (header-byte (6 + x) (omega arith))
 
+  read-same : (r q : Parsed Block) → ReadUpToOrder r q → IsRead q × (plainRead (variables s) r ≡ plainRead (variables t) q)
+  read-same (parsed b n) (parsed d m) h = (tt, ap (λ (v : ℕ). plainOf v b) same-variables ∙ block-same h (starts (variables t)))
+  read-same (parsed b n) (refused number place) h = absurd h
+  read-same (refused number place) q h = absurd h
+
   pub second-read : IsRead (readRule t)
-  second-read = go (readRule s) (readRule t) (o .blocks)
-    where
-      go : (r q : Parsed Block) → ReadUpToOrder r q → IsRead q
-      go (parsed b n) (parsed d m) h = tt
-      go (parsed b n) (refused number place) h = absurd h
-      go (refused number place) q h = absurd h
+  second-read = read-same (readRule s) (readRule t) (o .blocks) .0
 
   -- one plain circuit: gates and outputs
   pub same-plain : plainCircuit s ≡ plainCircuit t
   unfolding plainCircuit
-  same-plain = go (readRule s) (readRule t) (o .blocks)
-    where
-      go : (r q : Parsed Block) → ReadUpToOrder r q → plainRead (variables s) r ≡ plainRead (variables t) q
-      go (parsed b n) (parsed d m) h = ap (λ (v : ℕ). plainOf v b) same-variables ∙ block-same h (starts (variables t))
-      go (parsed b n) (refused number place) h = absurd h
-      go (refused number place) q h = absurd h
+  same-plain = read-same (readRule s) (readRule t) (o .blocks) .1

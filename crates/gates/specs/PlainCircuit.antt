@@ -28,12 +28,16 @@ pub record Made : Type 0 where
 abbrev pub add : Gates → Gate → Made
 add C k = record { gates = C ++ (k ∷ []); place = length C }
 
--- the arguments of an operation, gates a and b as written, in the order in which its gate takes them: the one place that says it.
--- Document 02, C-12: where the operation commutes the lower-numbered comes first
-abbrev pub inOrder : Operation → ℕ → ℕ → List ℕ
-inOrder op a b = cond (commutes op && ltb b a) (b ∷ a ∷ []) (a ∷ b ∷ [])
+-- Document 02, C-12: of an operation whose arguments, as written, are the gates a and b, does its gate take the second first?
+-- Where it commutes the lower-numbered comes first. The one place that says it
+abbrev pub turned : Operation → ℕ → ℕ → Bool
+turned op a b = commutes op && ltb b a
 
--- the gate of an operation whose two arguments, as written, are the gates a and b
+-- the arguments in the order in which the gate takes them
+abbrev pub inOrder : Operation → ℕ → ℕ → List ℕ
+inOrder op a b = cond (turned op a b) (b ∷ a ∷ []) (a ∷ b ∷ [])
+
+-- the gate of that operation
 unfoldable pub applyGate : Operation → ℕ → ℕ → Gate
 applyGate op a b = operation op (inOrder op a b)
 

@@ -10,7 +10,6 @@ use lib.ListN.{length, getD}
 use Rattle.words.specs.Numbers.{numberAt}
 use Rattle.codes.specs.Codes.{codeOf, rowOf, sameKind}
 use Rattle.codes.specs.CodeLaws.{same-kind}
-use Rattle.codes.specs.declared.Code.{Code}
 use Rattle.codes.specs.declared.Kind.{Kind}
 use Rattle.codes.specs.declared.Kind.the-variants as kind
 use Rattle.codes.specs.declared.Operation.{Operation}
@@ -18,7 +17,7 @@ use Rattle.codes.specs.declared.Operation.the-variants.{Sum, Difference, Produc
 use Rattle.codes.specs.declared.Form.{Form}
 use Rattle.codes.specs.declared.Form.the-variants as form
 use Rattle.answers.specs.Parsing.{Parsed, parsed, refused, unless}
-use Rattle.answers.specs.ParsingLaws.{parts-read}
+use Rattle.answers.specs.ParsingLaws.{parts-read, same-what}
 use Rattle.reading.specs.Header.{variables, kindAt}
 use Rattle.reading.specs.Tree.{Expr, variable, word, bit, one, two}
 use Rattle.reading.specs.Expressions.{readVariable, readWord, readBit, secondWith, operationWith, exprForm, exprWith, readExpr}
@@ -26,9 +25,6 @@ use Rattle.reading.specs.Expressions.{readVariable, readWord, readBit, secondWi
 pub unless-parsed : {A : Type 0} (t : Bool) (k p : ℕ) (m : Parsed A) {a : A} {n : ℕ} → unless t k p m ≡ parsed a n → (t ≡ true) × (m ≡ parsed a n)
 unless-parsed true k p m h = (refl, h)
 unless-parsed false k p m h = let z : _≡_ {A = ℕ} 0 1 = cc in absurd (omega arith)
-
-pub same-parsed : {A : Type 0} {a b : A} {n k : ℕ} → parsed a n ≡ parsed b k → a ≡ b
-same-parsed h = cc
 
 pub never : {A C : Type 0} {k p n : ℕ} {a : A} → refused k p ≡ parsed a n → C
 never h = let z : _≡_ {A = ℕ} 0 1 = cc in absurd (omega arith)
@@ -60,10 +56,10 @@ module _ (s : List ℕ) (P : Expr → Kind → Type 0) (c : Closed s P) where
   of-second : (t : Bool) (argument : Kind → ℕ → Parsed Expr) → Gives argument → (op : Operation) → eqb (rowOf op .arity) 1 ≡ t
       → (x : Expr) → P x (rowOf op .takes) → (at : ℕ) (e : Expr) (n : ℕ) → secondWith t argument op x at ≡ parsed e n → P e (rowOf op .gives)
   of-second true argument g op t x p at e n h =
-      subst (λ (y : Expr). P y (rowOf op .gives)) (same-parsed h) (c .of-one op x (eqb-true _ _ t) p)
+      subst (λ (y : Expr). P y (rowOf op .gives)) (same-what h) (c .of-one op x (eqb-true _ _ t) p)
   of-second false argument g op t x p at e n h =
       let r = parts-read (argument (rowOf op .takes) at) (λ y next. parsed (two op x y) next) h in
-      subst (λ (y : Expr). P y (rowOf op .gives)) (same-parsed (r .3)) (c .of-two op x (r .0) (arity-two op t) p (g _ at (r .0) (r .1) (r .2)))
+      subst (λ (y : Expr). P y (rowOf op .gives)) (same-what (r .3)) (c .of-two op x (r .0) (arity-two op t) p (g _ at (r .0) (r .1) (r .2)))
 
   at-kind : (k want : Kind) (d e : Expr) → sameKind k want ≡ true → d ≡ e → P d k → P e want
   at-kind k want d e h f p = rw (same-kind k want h, f) at p
@@ -80,18 +76,18 @@ module _ (s : List ℕ) (P : Expr → Kind → Type 0) (c : Closed s P) where
       let h₂ = unless-parsed (ltb (at + 1) (length s)) 4 (length s) _ h₁ .1 in
       let h₃ = unless-parsed (ltb (getD s (at + 1) 0) (variables s)) 6 (at + 1) _ h₂ in
       let h₄ = unless-parsed (sameKind (kindAt s (getD s (at + 1) 0)) want) 7 (at + 1) _ (h₃ .1) in
-      at-kind (kindAt s (getD s (at + 1) 0)) want (variable (getD s (at + 1) 0)) e (h₄ .0) (same-parsed (h₄ .1)) (c .of-variable (getD s (at + 1) 0) (ltb-true _ _ (h₃ .0)))
+      at-kind (kindAt s (getD s (at + 1) 0)) want (variable (getD s (at + 1) 0)) e (h₄ .0) (same-what (h₄ .1)) (c .of-variable (getD s (at + 1) 0) (ltb-true _ _ (h₃ .0)))
   of-form form.Word argument g want deep at e n h =
       let h₁ = unless-parsed (sameKind kind.Word want) 7 at _ h in
       let h₂ = unless-parsed (ltb 0 deep) 8 at _ (h₁ .1) .1 in
       let h₃ = unless-parsed (leb 5 (length s - at)) 4 (length s) _ h₂ in
-      at-kind kind.Word want (word (numberAt 4 s (at + 1))) e (h₁ .0) (same-parsed (h₃ .1)) (c .of-word (at + 1) (let z : 5 ≤ length s - at = leb-true _ _ (h₃ .0) in omega arith))
+      at-kind kind.Word want (word (numberAt 4 s (at + 1))) e (h₁ .0) (same-what (h₃ .1)) (c .of-word (at + 1) (let z : 5 ≤ length s - at = leb-true _ _ (h₃ .0) in omega arith))
   of-form form.Bit argument g want deep at e n h =
       let h₁ = unless-parsed (sameKind kind.Bit want) 7 at _ h in
       let h₂ = unless-parsed (ltb 0 deep) 8 at _ (h₁ .1) .1 in
       let h₃ = unless-parsed (ltb (at + 1) (length s)) 4 (length s) _ h₂ .1 in
       let h₄ = unless-parsed (leb (getD s (at + 1) 0) 1) 5 (at + 1) _ h₃ in
-      at-kind kind.Bit want (bit (getD s (at + 1) 0)) e (h₁ .0) (same-parsed (h₄ .1)) (c .of-bit (getD s (at + 1) 0) (leb-true _ _ (h₄ .0)))
+      at-kind kind.Bit want (bit (getD s (at + 1) 0)) e (h₁ .0) (same-what (h₄ .1)) (c .of-bit (getD s (at + 1) 0) (leb-true _ _ (h₄ .0)))
   of-form (form.Apply op) argument g want deep at e n h =
       let h₁ = unless-parsed (sameKind (rowOf op .gives) want) 7 at _ h in
       let h₂ = unless-parsed (ltb 0 deep) 8 at _ (h₁ .1) .1 in

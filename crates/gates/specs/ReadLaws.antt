@@ -17,7 +17,7 @@ use Rattle.codes.specs.declared.Kind.the-variants as kind
 use Rattle.codes.specs.declared.Form.{Form}
 use Rattle.codes.specs.declared.Form.the-variants as form
 use Rattle.answers.specs.Parsing.{Parsed, parsed}
-use Rattle.answers.specs.ParsingLaws.{parts-read}
+use Rattle.answers.specs.ParsingLaws.{parts-read, same-what}
 use Rattle.reading.specs.Header.{variables, kindAt, readHeader}
 use Rattle.reading.specs.Limits.{leastBytes, mostBytes, deepest, nested}
 use Rattle.reading.specs.Tree.{Expr, Statement, assign, Block}
@@ -25,7 +25,7 @@ use Rattle.reading.specs.Expressions.{readExpr}
 use Rattle.reading.specs.Blocks.{readAssign, branchWith, statementForm, statementWith, closedOr, blockWith, blockFuel, readBlock}
 use Rattle.reading.specs.Rule.{readRule}
 use Rattle.gates.specs.Kinds.{Typed, EachIn, Each, TypedBlock, Words, WordsBlock}
-use Rattle.gates.specs.ReadExprLaws.{unless-parsed, same-parsed, never, Closed, expr-each}
+use Rattle.gates.specs.ReadExprLaws.{unless-parsed, never, Closed, expr-each}
 
 module _ (s : List ℕ) (P : Expr → Kind → Type 0) (c : Closed s P) where
   -- what a reader of blocks gives has P throughout
@@ -38,7 +38,7 @@ module _ (s : List ℕ) (P : Expr → Kind → Type 0) (c : Closed s P) where
       let h₁ = unless-parsed (ltb (at + 1) (length s)) 4 (length s) _ h .1 in
       let h₂ = unless-parsed (ltb (getD s (at + 1) 0) (variables s)) 6 (at + 1) _ h₁ in
       let r = parts-read (readExpr deepest s (kindAt s (getD s (at + 1) 0)) (at + 2)) (λ e next. parsed (assign (getD s (at + 1) 0) e) next) (h₂ .1) in
-      subst (EachIn (variables s) (kindAt s) P) (same-parsed (r .3))
+      subst (EachIn (variables s) (kindAt s) P) (same-what (r .3))
       (ltb-true _ _ (h₂ .0), expr-each s P c deepest _ (at + 2) (r .0) (r .1) (r .2))
 
   of-branch : (block : ℕ → ℕ → Parsed Block) → GivesBlock block → (nest at : ℕ) (t : Statement) (n : ℕ)
@@ -49,14 +49,14 @@ module _ (s : List ℕ) (P : Expr → Kind → Type 0) (c : Closed s P) where
       let r = parts-read (readExpr deepest s kind.Bit (at + 1)) _ h₁ in
       let x = parts-read (block (nest - 1) (r .1)) _ (r .3) in
       let y = parts-read (block (nest - 1) (x .1)) _ (x .3) in
-      subst (EachIn (variables s) (kindAt s) P) (same-parsed (y .3))
+      subst (EachIn (variables s) (kindAt s) P) (same-what (y .3))
       (expr-each s P c deepest _ (at + 1) (r .0) (r .1) (r .2), g _ _ (x .0) (x .1) (x .2), g _ _ (y .0) (y .1) (y .2))
 
   of-statement : (f : Form) (block : ℕ → ℕ → Parsed Block) → GivesBlock block → (nest at : ℕ) (t : Statement) (n : ℕ)
       → statementForm f block s nest at ≡ parsed t n → EachIn (variables s) (kindAt s) P t
   of-statement form.End block g nest at t n h = never h
   of-statement form.Assign block g nest at t n h = of-assign at t n h
-  of-statement form.Skip block g nest at t n h = subst (EachIn (variables s) (kindAt s) P) (same-parsed h) tt
+  of-statement form.Skip block g nest at t n h = subst (EachIn (variables s) (kindAt s) P) (same-what h) tt
   of-statement form.Branch block g nest at t n h = of-branch block g nest at t n h
   of-statement form.Variable block g nest at t n h = never h
   of-statement form.Word block g nest at t n h = never h
@@ -67,11 +67,11 @@ module _ (s : List ℕ) (P : Expr → Kind → Type 0) (c : Closed s P) where
   of-closed : (z : Bool) (block : ℕ → ℕ → Parsed Block) → GivesBlock block → (nest at : ℕ) (b : Block) (n : ℕ)
       → closedOr z block s nest at ≡ parsed b n → Each (variables s) (kindAt s) P b
   unfolding statementWith
-  of-closed true block g nest at b n h = subst (Each (variables s) (kindAt s) P) (same-parsed h) tt
+  of-closed true block g nest at b n h = subst (Each (variables s) (kindAt s) P) (same-what h) tt
   of-closed false block g nest at b n h =
       let r = parts-read (statementWith block s nest at) _ h in
       let x = parts-read (block nest (r .1)) _ (r .3) in
-      subst (Each (variables s) (kindAt s) P) (same-parsed (x .3))
+      subst (Each (variables s) (kindAt s) P) (same-what (x .3))
       (of-statement (codeOf (getD s at 0) .form) block g nest at (r .0) (r .1) (r .2), g _ _ (x .0) (x .1) (x .2))
 
   block-each : (fuel : ℕ) → GivesBlock (blockFuel fuel s)
@@ -89,7 +89,7 @@ module _ (s : List ℕ) (P : Expr → Kind → Type 0) (c : Closed s P) where
       let r = parts-read (readHeader s) _ h₂ in
       let x = parts-read (readBlock s nested (r .1)) _ (r .3) in
       let y = unless-parsed (leb (length s) (x .1)) 9 (x .1) _ (x .3) in
-      subst (Each (variables s) (kindAt s) P) (same-parsed (y .1)) (block-each _ nested (r .1) (x .0) (x .1) (x .2))
+      subst (Each (variables s) (kindAt s) P) (same-what (y .1)) (block-each _ nested (r .1) (x .0) (x .1) (x .2))
 
 -- every rule that is read is typed by its kind bytes
 pub read-typed : (s : List ℕ) (b : Block) (n : ℕ) → readRule s ≡ parsed b n → TypedBlock (variables s) (kindAt s) b

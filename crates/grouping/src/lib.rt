@@ -34,18 +34,12 @@ const ALIKE: u8 = 28;
 
 const PARTED: u8 = 29;
 
-fn wide(x: u8) -> usize
-    ensures { λ r. ⌜ (r ≡ x) × (r < 256) ⌝ }
-{
-    x as usize
-}
-
 // The size of the group that begins at a place.
 fn size_at(plan: &[u8], at: usize) -> usize
     requires { ⌜ at < length (now plan) ⌝ }
     ensures { λ r. ⌜ (r ≡ getD (now (plan .entry)) at 0) × (r < 256) ⌝ }
 {
-    wide(plan[at])
+    words::wide8(plan[at])
 }
 
 // The place after that group.

@@ -12,7 +12,7 @@ use Rattle.settings.specs.Sets.{has}
 use Rattle.settings.specs.BitLaws.{bit-or, bit-none}
 use Rattle.settings.specs.SetLaws.{or-false}
 use Rattle.answers.specs.Parsing.{parsed}
-use Rattle.answers.specs.ParsingLaws.{IsRead, read-is, is-read}
+use Rattle.answers.specs.ParsingLaws.{IsRead, read-is, is-read, same-what, same-next}
 use Rattle.reading.specs.Limits.{nested}
 use Rattle.reading.specs.Header.{variables}
 use Rattle.reading.specs.Tree.{Statement, Block, end, then}
@@ -24,7 +24,7 @@ use Rattle.gates.specs.StartLaws.{read-plain, plain-sound}
 use Rattle.gates.specs.Rows.{rowsOf}
 use Rattle.making.specs.RuleMade.{RuleMade}
 use Rattle.making.specs.Holding.{Held, Done, Walked}
-use Rattle.making.specs.StatementLaws.{statement-length, same-what, same-next}
+use Rattle.making.specs.StatementLaws.{statement-length}
 
 -- a block, statement after statement
 module _ (s : List ℕ) (nest at : ℕ) (rows present : List ℕ) (count : ℕ) where
@@ -53,10 +53,10 @@ module _ (s : List ℕ) (nest at : ℕ) (rows present : List ℕ) (count : ℕ) 
     unfolding makeBlock assigns
     walked-all z =
         let e : parsed (w .rest) (w .last) ≡ parsed end (here + 1) = sym (w .left) ∙ read.block-closed s nest here (read.block-inside s nest here rest-taken) z in
-        let r = same-what (w .rest) end (w .last) (here + 1) e in
+        let r = same-what e in
         record {
           what = w .b;
-          read = w .whole ∙ ap (parsed (w .b)) (same-next (w .rest) end (w .last) (here + 1) e);
+          read = w .whole ∙ ap (parsed (w .b)) (same-next e);
           marks = λ x i. sym (or-false (has mask x)) ∙ ap (λ (b : Block). has mask x || assigns b x) (sym r) ∙ w .marks x i;
           done = λ m l held.
               let q = w .walked m l held in
@@ -70,8 +70,8 @@ module _ (s : List ℕ) (nest at : ℕ) (rows present : List ℕ) (count : ℕ) 
     walked-more z next more mask′ rows″ present″ on d =
         let r = read.block-read s nest here (w .rest) (w .last) (w .left) z in
         let e : parsed (d .what) next ≡ parsed (r .x) (r .next) = sym (d .read) ∙ r .statement in
-        let k : next ≡ r .next = same-next (d .what) (r .x) next (r .next) e in
-        let is : w .rest ≡ then (d .what) (r .rest) = r .is ∙ ap (λ (t : Statement). then t (r .rest)) (sym (same-what (d .what) (r .x) next (r .next) e)) in
+        let k : next ≡ r .next = same-next e in
+        let is : w .rest ≡ then (d .what) (r .rest) = r .is ∙ ap (λ (t : Statement). then t (r .rest)) (sym (same-what e)) in
         record {
           b = w .b;
           last = w .last;

@@ -9,14 +9,12 @@ use Rattle.codes.specs.CodeLaws.{code-row}
 use Rattle.codes.specs.declared.Kind.{Kind}
 use Rattle.codes.specs.declared.Operation.{Operation}
 use Rattle.codes.specs.declared.Code.{Code}
-use Rattle.codes.specs.declared.Form.{Form}
 use Rattle.codes.specs.declared.Form.the-variants.{Apply}
 use Rattle.answers.specs.Parsing.{Parsed, parsed}
 use Rattle.answers.specs.ParsingLaws.{IsRead}
 use Rattle.reading.specs.Header.{variables}
 use Rattle.reading.specs.Tree.{Expr, variable, word, bit, one, two}
-use Rattle.reading.specs.Expressions.{argumentsWith, exprForm, readExpr}
-use Rattle.reading.specs.ExpressionLaws.{below, expr-as}
+use Rattle.reading.specs.Expressions.{argumentsWith, readExpr}
 use Rattle.reading.specs.FirstByte as read
 use Rattle.gates.specs.Gates.{Gate, operation, Gates}
 use Rattle.gates.specs.Gates as gate
@@ -157,8 +155,3 @@ module _ (deep : ℕ) (s : List ℕ) (want : Kind) (at : ℕ) (h : IsRead (readE
           (opened .is
           ∙ read.arguments-two (readExpr (deep - 1) s) op (at + 1) (x .what) n first-is not-one (y .what) n′
           (ap (λ (z : Code). readExpr (deep - 1) s (z .takes) n) (sym is-row) ∙ y .read)) p
-
--- no other code is read as an expression
-module _ (deep : ℕ) (s : List ℕ) (want : Kind) (at : ℕ) (h : IsRead (readExpr deep s want at)) (c : Code) (e : c ≡ codeOf (getD s at 0)) where
-  pub read-as : (f : Form) → c .form ≡ f → IsRead (exprForm f s (below deep s) want deep at)
-  read-as f q = subst IsRead (expr-as deep s want at c (read.expr-inside deep s want at h) e f q) h

@@ -17,7 +17,7 @@ use Rattle.codes.specs.declared.Code.{Code}
 use Rattle.codes.specs.declared.Form.{Form}
 use Rattle.codes.specs.declared.Form.the-variants.{Skip}
 use Rattle.answers.specs.Parsing.{Parsed, parsed, _>>=_}
-use Rattle.answers.specs.ParsingLaws.{IsRead, read-is}
+use Rattle.answers.specs.ParsingLaws.{IsRead, read-is, same-what, same-next}
 use Rattle.reading.specs.Limits.{deepest}
 use Rattle.reading.specs.Header.{variables, kindAt}
 use Rattle.reading.specs.Tree.{Expr, Statement, assign, skip, branch, Block, end, then}
@@ -45,14 +45,6 @@ pub block-length : (b : Block) (m : Making) → length (makeBlock b m .present) 
 unfolding makeBlock
 block-length end m = refl
 block-length (then t b) m = block-length b (makeStatement t m) ∙ statement-length t m
-
--- what was read once is the same when read again
-module _ {A : Type 0} (a b : A) (n k : ℕ) (e : parsed a n ≡ parsed b k) where
-  pub same-what : a ≡ b
-  same-what = cc
-
-  pub same-next : n ≡ k
-  same-next = cc
 
 -- the same thing read another way
 pub done-as : {A : Type 0} (make : A → Making → Making) (assigned : A → ℕ → Bool) (s : List ℕ) (m k : Parsed A) {rows present rows′ present′ : List ℕ} {count next more mask : ℕ}
@@ -101,7 +93,7 @@ module _ (s : List ℕ) (nest at : ℕ) (h : IsRead (branchWith (readBlock s) s 
     at-test = sym (t .read) ∙ opened .test
 
     yes : readBlock s (nest - 1) n ≡ parsed (opened .x) (opened .second)
-    yes = ap (readBlock s (nest - 1)) (same-next (t .what) (opened .c) n (opened .first) at-test) ∙ opened .yes
+    yes = ap (readBlock s (nest - 1)) (same-next at-test) ∙ opened .yes
 
     pub first-taken : IsRead (readBlock s (nest - 1) n)
     first-taken = read-is (readBlock s (nest - 1) n) yes
@@ -111,7 +103,7 @@ module _ (s : List ℕ) (nest at : ℕ) (h : IsRead (branchWith (readBlock s) s 
       at-first = sym (x .read) ∙ yes
 
       no : readBlock s (nest - 1) n1 ≡ parsed (opened .y) (opened .next)
-      no = ap (readBlock s (nest - 1)) (same-next (x .what) (opened .x) n1 (opened .second) at-first) ∙ opened .no
+      no = ap (readBlock s (nest - 1)) (same-next at-first) ∙ opened .no
 
       pub second-taken : IsRead (readBlock s (nest - 1) n1)
       second-taken = read-is (readBlock s (nest - 1) n1) no
@@ -123,8 +115,8 @@ module _ (s : List ℕ) (nest at : ℕ) (h : IsRead (branchWith (readBlock s) s 
         parts : branchWith (readBlock s) s nest at ≡ parsed (branch (t .what) (x .what) (y .what)) n2
         parts =
             opened .is
-            ∙ ap (λ (e : Expr). parsed (branch e (opened .x) (opened .y)) (opened .next)) (sym (same-what (t .what) (opened .c) n (opened .first) at-test))
-            ∙ ap (λ (b : Block). parsed (branch (t .what) b (opened .y)) (opened .next)) (sym (same-what (x .what) (opened .x) n1 (opened .second) at-first))
+            ∙ ap (λ (e : Expr). parsed (branch e (opened .x) (opened .y)) (opened .next)) (sym (same-what at-test))
+            ∙ ap (λ (b : Block). parsed (branch (t .what) b (opened .y)) (opened .next)) (sym (same-what at-first))
             ∙ ap (λ (g : Parsed Block). g >>= λ b i. parsed (branch (t .what) (x .what) b) i) (sym at-second)
 
         either : (j : ℕ) → j < 32 → has (bitOr mask1 mask2) j ≡ (assigns (x .what) j || assigns (y .what) j)

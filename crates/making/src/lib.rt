@@ -4,8 +4,6 @@ use codes::Kind;
 use codes::Operation;
 use gates::GateId;
 ghost use mathlib.Core.Path.{_≡_};
-ghost use mathlib.Core.Bool.{_&&_};
-ghost use lib.Dec.{ltb};
 ghost use mathlib.Core.List.{[], _∷_};
 ghost use Prim.Native.Nat.{_+_, _*_, _^_, _≤_, _<_};
 ghost use lib.ListN.{length};
@@ -17,21 +15,14 @@ ghost use Rattle.reading.specs.Blocks.{readAssign, branchWith, readStatement, r
 ghost use Rattle.reading.specs.Rule.{readRule};
 ghost use Rattle.settings.specs.Sets.{has};
 ghost use Rattle.gates.specs.Gates.{choice};
-ghost use Rattle.gates.specs.PlainCircuit.{applyGate, assignsIn, assigns, makeStatement, makeBlock, starts};
-ghost use Rattle.codes.specs.Codes.{commutes, byteOf};
+ghost use Rattle.gates.specs.PlainCircuit.{turned, applyGate, assignsIn, assigns, makeStatement, makeBlock, starts};
+ghost use Rattle.codes.specs.Codes.{byteOf};
 ghost use Rattle.gates.specs.Rows.{startCode};
 ghost use Rattle.making.specs.RuleMade.{RuleMade};
 ghost use Rattle.making.specs.Holding.{Held, Pushed, Applied, ExprMade, Chose, Chosen, Done};
 
 // The gates that are stored, at most; one more says that there are more.
-const MOST_GATES: u16 = 256;
-
-// The codes of constants and choices in their rows; those of starting values and operations have functions below.
-const WORD: u32 = 0x11;
-
-const BIT: u32 = 0x12;
-
-const CHOICE: u32 = 0x30;
+pub const MOST_GATES: u16 = 256;
 
 // What an expression was made into: the place after it, the gates then, and the gate that it stands for.
 struct MadeExpr {
@@ -79,9 +70,9 @@ fn start_code(kind: Kind) -> u32
     }
 }
 
-// Does the operation's gate take its second argument first? The one place that says it: where it commutes the lower-numbered comes first.
+// Does the operation's gate take its second argument first? Where it commutes the lower-numbered comes first.
 fn turned(op: Operation, a: GateId, b: GateId) -> bool
-    ensures { λ r. ⌜ r ≡ (commutes op && ltb (b .0) (a .0)) ⌝ }
+    ensures { λ r. ⌜ r ≡ turned op (a .0) (b .0) ⌝ }
 {
     if codes::commutes(op) {
         b.0 < a.0
@@ -130,7 +121,7 @@ fn make_expr(
             let n = words::read32(s, at + 1);
             MadeExpr {
                 next: at + 5,
-                count: push(rows, count, WORD, n, 0, 0),
+                count: push(rows, count, gates::WORD, n, 0, 0),
                 gate: GateId(count),
             }
         }
@@ -138,7 +129,7 @@ fn make_expr(
             let n = s[at + 1] as u32;
             MadeExpr {
                 next: at + 2,
-                count: push(rows, count, BIT, n, 0, 0),
+                count: push(rows, count, gates::BIT, n, 0, 0),
                 gate: GateId(count),
             }
         }
@@ -209,7 +200,7 @@ fn choose(
     let more = push(
         rows,
         count,
-        CHOICE,
+        gates::CHOICE,
         condition.0 as u32,
         first.0 as u32,
         second.0 as u32,

@@ -7,13 +7,6 @@ ghost use lib.ListN.{getD};
 ghost use Rattle.plan.specs.PlanFile.{groupAt};
 ghost use Rattle.emitting.specs.Emitted.{restedBy, Coded, Lies, Joinable, Sized};
 
-// The codes of a word constant and of a choice.
-const WORD: u32 = 0x11;
-
-const CHOICE: u32 = 0x30;
-// A choice's cost.
-const CHOICE_COST: usize = 3;
-
 // What the records of a group come to.
 pub struct Size {
     pub wires: usize,
@@ -28,14 +21,14 @@ pub fn size_alone(rows: &[u32; 1024], g: GateId) -> Size
 {
     let i = g.0 as usize;
     let code = rows[4 * i];
-    if code == CHOICE {
+    if code == gates::CHOICE {
         return Size {
             wires: 1,
             bytes: 7,
-            cost: CHOICE_COST,
+            cost: needed::CHOICE_COST,
         };
     }
-    if code == WORD {
+    if code == gates::WORD {
         return Size {
             wires: 1,
             bytes: 5,

@@ -9,7 +9,7 @@ use lib.ListN.{length, getD, set, replicate, length-set}
 use lib.Seq.{getD-set-same, getD-set-other, ext-getD}
 use lib.Dec.{eqb}
 use borrow.Author.Tests.{eq-eqb, ne-eqb}
-use Rattle.words.specs.Lists.{elem, split, same?, upto, keep-same}
+use Rattle.words.specs.Lists.{elem, same?, upto, keep-same, elem-more}
 use Rattle.settings.specs.Settings.{bitOf}
 use Rattle.codes.specs.Codes.{codeOf}
 use Rattle.codes.specs.declared.Form.{Form}
@@ -40,10 +40,6 @@ heads-form Word a l = refl
 heads-form Bit a l = refl
 heads-form (Apply op) a l = refl
 heads-form Unknown a l = refl
-
-elem-more : (g : ℕ) (l : List ℕ) (c : ℕ) → elem g (l ++ (c ∷ [])) ≡ cond (eqb g c) true (elem g l)
-elem-more g [] c = refl
-elem-more g (x ∷ l) c = split (eqb g x) (λ t. rw t (split (eqb g c) (λ u. rw u) (λ u. rw u))) (λ t. rw t (elem-more g l c))
 
 module _ (rows : List ℕ) (i : ℕ) where
   heads-choice : codeAt rows i ≡ choiceCode → heads (gatesIn rows (suc i)) ≡ heads (gatesIn rows i) ++ (firstAt rows i ∷ [])

@@ -17,10 +17,8 @@ ghost use Rattle.needed.specs.Pass.{preconditionSets};
 ghost use Rattle.needed.specs.StepLaws.{addNumber};
 ghost use Rattle.needed.specs.Passing.{addNumbers, handGate, passGates, Passable};
 
-// A choice's code.
-const CHOICE: u32 = 0x30;
 // A choice's cost.
-const CHOICE_COST: usize = 3;
+pub const CHOICE_COST: usize = 3;
 
 // The gate whose number stands at a place of the rows, where an argument stands; a figure is never read so.
 pub fn argument(rows: &[u32; 1024], at: usize) -> GateId
@@ -45,7 +43,7 @@ fn row(code: u32) -> codes::Code
 fn cost_of(code: u32) -> usize
     ensures { λ r. ⌜ r ≡ codeCost code ⌝ }
 {
-    if code == CHOICE {
+    if code == gates::CHOICE {
         CHOICE_COST
     } else {
         row(code).cost as usize
@@ -80,7 +78,7 @@ fn mark(rows: &[u32; 1024], count: usize, places: &mut [u16; 256])
     clear_places(places);
     let mut i: usize = 0;
     while i < count {
-        if rows[4 * i] == CHOICE {
+        if rows[4 * i] == gates::CHOICE {
             let c = argument(rows, 4 * i + 1);
             let at = c.0 as usize;
             places[at] = 1;
@@ -199,7 +197,7 @@ fn hand(rows: &[u32; 1024], count: usize, places: &[u16; 256], g: GateId, sets: 
     let i = g.0 as usize;
     let code = rows[4 * i];
     let s = sets[i];
-    if code == CHOICE {
+    if code == gates::CHOICE {
         let c = argument(rows, 4 * i + 1);
         let a = argument(rows, 4 * i + 2);
         let b = argument(rows, 4 * i + 3);

@@ -8,7 +8,7 @@ use native.Mathlib.Omega.{arith}
 use lib.Dec.{eqb}
 use lib.ListN.{length, getD, replicate}
 use borrow.Author.Tests.{eq-eqb, ne-eqb}
-use Rattle.words.specs.Lists.{_∈_, elem, same?, keep, keep-from, upto, from-below, flat, map-in}
+use Rattle.words.specs.Lists.{_∈_, elem, same?, keep, keep-from, upto, from-below, flat, map-in, elem-more}
 use Rattle.settings.specs.Sets.{restsOn, rests}
 use Rattle.gates.specs.Gates.{Gates, gateAt, arguments, conditions}
 use Rattle.gates.specs.FigureLaws.{map-same}
@@ -19,7 +19,7 @@ use Rattle.ordering.specs.Tables.{Words, bitIn, putBit, putAll}
 use Rattle.ordering.specs.Reads.{argumentsAt, Into, Orderable}
 use Rattle.ordering.specs.Gathering.{Waiting, Left}
 use Rattle.ordering.specs.TableLaws.{clear-words, clear-bit, put-words, put-bit, puts-words, puts-bit, puts-append}
-use Rattle.ordering.specs.ReadLaws.{arguments-at, keep-yes, keep-no, elem-last, elem-joined, flat-last}
+use Rattle.ordering.specs.ReadLaws.{arguments-at, keep-yes, keep-no, elem-joined, flat-last}
 use Rattle.ordering.specs.WaitsLaws.{place-inside, reads-inside}
 
 -- The set of groups left: those named by a gate below i.
@@ -39,7 +39,7 @@ module _ (group : List ℕ) (count : ℕ) where
         room = s .room;
         below = omega arith;
         words = rw e (put-words 4 0 i left (s .words));
-        holds = λ q k. rw (e, keep-yes (λ p. eqb (getD group p 0) p) i (eq-eqb (getD group i 0) i h), elem-last q (keep (λ p. eqb (getD group p 0) p) (upto i)) i, ← s .holds q k)
+        holds = λ q k. rw (e, keep-yes (λ p. eqb (getD group p 0) p) i (eq-eqb (getD group i 0) i h), elem-more q (keep (λ p. eqb (getD group p 0) p) (upto i)) i, ← s .holds q k)
             (put-bit 4 0 left (s .words .size) (omega arith) i (omega (arith, s .room)) 0 q k);
       }
 

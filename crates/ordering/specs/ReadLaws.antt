@@ -116,10 +116,6 @@ keep-yes p n h = kept-next p n ∙ rw h
 pub keep-no : (p : ℕ → Bool) (n : ℕ) → p n ≡ false → keep p (upto (n + 1)) ≡ keep p (upto n)
 keep-no p n h = kept-next p n ∙ rw h (append-nil (keep p (upto n)))
 
-pub elem-last : (q : ℕ) (l : List ℕ) (a : ℕ) → elem q (l ++ (a ∷ [])) ≡ cond (eqb q a) true (elem q l)
-elem-last q [] a = refl
-elem-last q (x ∷ l) a = split (eqb q x) (λ t. rw t (split (eqb q a) (λ u. rw u) (λ u. rw u))) (λ t. rw t (elem-last q l a))
-
 pub elem-joined : (q : ℕ) (l m : List ℕ) → elem q (l ++ m) ≡ cond (elem q m) true (elem q l)
 elem-joined q [] m = split (elem q m) (λ t. rw t) (λ t. rw t)
 elem-joined q (x ∷ l) m = split (eqb q x) (λ t. rw t (split (elem q m) (λ u. rw u) (λ u. rw u))) (λ t. rw t (elem-joined q l m))

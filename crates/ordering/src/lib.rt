@@ -14,14 +14,10 @@ ghost use Rattle.ordering.specs.Reads.{arityOf, argumentsAt, Into, Order
 ghost use Rattle.ordering.specs.Search.{nextReady};
 ghost use Rattle.ordering.specs.Gathering.{Waiting, Left};
 
-// A choice's code.
-const CHOICE: u32 = 0x30;
 // A choice has three arguments.
 const CHOICE_ARITY: usize = 3;
 // The words of a set of groups.
 const WORDS: usize = 4;
-// The conditions, at most.
-const CONDITIONS: u8 = 6;
 
 // What a search for a ready group yields: the first one, or that each unwritten group waits for one.
 pub enum Next {
@@ -73,7 +69,7 @@ fn strike(words: &mut [u64], q: GateId)
 fn arity_of(code: u32) -> usize
     ensures { λ r. ⌜ r ≡ arityOf code ⌝ }
 {
-    if code == CHOICE {
+    if code == gates::CHOICE {
         CHOICE_ARITY
     } else if code < 256 {
         codes::code_of(code as u8).arity as usize
@@ -121,7 +117,7 @@ fn wait_conditions(conditions: &[u16; 6], group: &[u16; 256], s: u64, p: GateId,
     ensures { λ r. ⌜ now (waits .exit) ≡ putAll (4 * p .0) (map (λ a. getD (now (group .entry)) a 0) (map (λ t. getD (now (conditions .entry)) t 0) (rests 6 s))) (now (waits .entry)) ⌝ }
 {
     let mut t: u8 = 0;
-    while t < CONDITIONS {
+    while t < settings::CONDITIONS {
         if settings::rests_on(s, t) {
             let i = t as usize;
             let c = GateId(conditions[i]);

@@ -106,27 +106,28 @@ module _ (deep : ℕ) (s : List ℕ) (want : Kind) (at : ℕ) (h : IsRead (readE
   formed : (f : Form) → c .form ≡ f → readExpr deep s want at ≡ exprForm f s (below deep s) want deep at
   formed f q = expr-as deep s want at c (expr-inside deep s want at h) e f q
 
-  taken : (f : Form) → c .form ≡ f → IsRead (exprForm f s (below deep s) want deep at)
-  taken f q = subst IsRead (formed f q) h
+  -- a form that no expression has was not read
+  pub expr-taken : (f : Form) → c .form ≡ f → IsRead (exprForm f s (below deep s) want deep at)
+  expr-taken f q = subst IsRead (formed f q) h
 
   pub as-variable : c .form ≡ Variable → VariableRead s want at (readExpr deep s want at)
   as-variable q =
-      let r = variable-read s want deep at (taken Variable q) in
+      let r = variable-read s want deep at (expr-taken Variable q) in
       record { inside = r .inside; range = r .range; kind = r .kind; is = formed Variable q ∙ r .is }
 
   pub as-word : c .form ≡ Word → WordRead s want at (readExpr deep s want at)
   as-word q =
-      let r = word-read s want deep at (expr-inside deep s want at h) (taken Word q) in
+      let r = word-read s want deep at (expr-inside deep s want at h) (expr-taken Word q) in
       record { inside = r .inside; kind = r .kind; is = formed Word q ∙ r .is }
 
   pub as-bit : c .form ≡ Bit → BitRead s want at (readExpr deep s want at)
   as-bit q =
-      let r = bit-read s want deep at (taken Bit q) in
+      let r = bit-read s want deep at (expr-taken Bit q) in
       record { inside = r .inside; low = r .low; kind = r .kind; is = formed Bit q ∙ r .is }
 
   pub as-operation : (op : Operation) → c .form ≡ Apply op → OperationRead deep s op want at (readExpr deep s want at)
   as-operation op q =
-      let r = operation-read s op want deep at (taken (Apply op) q) in
+      let r = operation-read s op want deep at (expr-taken (Apply op) q) in
       record { level = r .level; kind = r .kind; is = formed (Apply op) q ∙ r .is }
 
 -- the arguments of an operation that was read

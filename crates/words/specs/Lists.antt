@@ -41,6 +41,11 @@ pub ∈→elem : (a : ℕ) (l : List ℕ) → a ∈ l → elem a l ≡ true
 ∈→elem a (x ∷ l) (inl e) = rw (eq-eqb a x e)
 ∈→elem a (x ∷ l) (inr h) = split (eqb a x) (λ e. rw e) (λ e. rw e (∈→elem a l h))
 
+-- one more
+pub elem-more : (a : ℕ) (l : List ℕ) (x : ℕ) → elem a (l ++ (x ∷ [])) ≡ cond (eqb a x) true (elem a l)
+elem-more a [] x = refl
+elem-more a (y ∷ l) x = split (eqb a y) (λ t. rw t (split (eqb a x) (λ u. rw u) (λ u. rw u))) (λ t. rw t (elem-more a l x))
+
 -- the members of a list that pass a test, in order
 abbrev pub keep : (ℕ → Bool) → List ℕ → List ℕ
 keep p [] = []

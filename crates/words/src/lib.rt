@@ -12,7 +12,13 @@ fn wide(x: u8) -> u16
     x as u16
 }
 
-// A 16-bit number as an index, with its bound, for every crate that reads one.
+// A byte and a 16-bit number as an index, with the bound, for every crate that reads one.
+pub fn wide8(x: u8) -> usize
+    ensures { λ r. ⌜ (r ≡ x) × (r < 256) ⌝ }
+{
+    x as usize
+}
+
 pub fn wide16(x: u16) -> usize
     ensures { λ r. ⌜ (r ≡ x) × (r < 65536) ⌝ }
 {

@@ -3,8 +3,8 @@ use denote.Ref.{now}
 use lib.ListN.{length}
 use Rattle.codes.specs.declared.Form.the-variants.{End, Assign, Skip, Branch, Unknown}
 use Rattle.reading.specs.Expressions.{readExpr}
-use Rattle.reading.specs.FirstByte.{VariableRead, WordRead, BitRead, expr-inside, as-variable, as-word, as-bit}
-use Rattle.direct.specs.ExprLaws.{form-taken, variable-out, word-out, bit-out, level, first-taken, one-out, second-taken, two-out}
+use Rattle.reading.specs.FirstByte.{VariableRead, WordRead, BitRead, expr-inside, as-variable, as-word, as-bit, expr-taken}
+use Rattle.direct.specs.ExprLaws.{variable-out, word-out, bit-out, level, first-taken, one-out, second-taken, two-out}
 use borrow.Author.Needs.{needs}
 use Prim.Native.Nat.{ℕ, _<_}
 use borrow.Fn.Kinds.{In}
@@ -129,19 +129,19 @@ run-expr-returns-5 t c =
     two-out (now (a .figures)) (a .deep) (now (a .s)) (a .want) (a .at) (d .pre .1 .1) (c .before .before .before .before .before .before .before .before .code-of .result) (c .before .before .before .before .before .before .before .before .code-of .ensures) (c .before .before .before .before .before .before .form .given .0 .0) (c .before .before .before .before .before .before .form .given .1) (c .before .before .before .before .run-expr .result) (c .before .before .before .before .run-expr .ensures) (c .before .before .if1 .left) (c .before .run-expr2 .result) (c .before .run-expr2 .ensures) (c .apply2 .ensures)
 
 run-expr-returns-6 : (t : ℕ) → run-expr-lts.Need-returns-6 (run-expr-claims t) (run-expr-at t) run-expr.Post
-run-expr-returns-6 t c = let d = c .before .before .before .before .before in let a = d .args in absurd (form-taken (now (a .figures)) (a .deep) (now (a .s)) (a .want) (a .at) (d .pre .1 .1) (c .before .before .code-of .result) (c .before .before .code-of .ensures) End (c .enum-told4 .given .1))
+run-expr-returns-6 t c = let d = c .before .before .before .before .before in let a = d .args in absurd (expr-taken (a .deep) (now (a .s)) (a .want) (a .at) (d .pre .1 .1) (c .before .before .code-of .result) (c .before .before .code-of .ensures) End (c .enum-told4 .given .1))
 
 run-expr-returns-7 : (t : ℕ) → run-expr-lts.Need-returns-7 (run-expr-claims t) (run-expr-at t) run-expr.Post
-run-expr-returns-7 t c = let d = c .before .before .before .before .before in let a = d .args in absurd (form-taken (now (a .figures)) (a .deep) (now (a .s)) (a .want) (a .at) (d .pre .1 .1) (c .before .before .code-of .result) (c .before .before .code-of .ensures) Assign (c .enum-told5 .given .1))
+run-expr-returns-7 t c = let d = c .before .before .before .before .before in let a = d .args in absurd (expr-taken (a .deep) (now (a .s)) (a .want) (a .at) (d .pre .1 .1) (c .before .before .code-of .result) (c .before .before .code-of .ensures) Assign (c .enum-told5 .given .1))
 
 run-expr-returns-8 : (t : ℕ) → run-expr-lts.Need-returns-8 (run-expr-claims t) (run-expr-at t) run-expr.Post
-run-expr-returns-8 t c = let d = c .before .before .before .before .before in let a = d .args in absurd (form-taken (now (a .figures)) (a .deep) (now (a .s)) (a .want) (a .at) (d .pre .1 .1) (c .before .before .code-of .result) (c .before .before .code-of .ensures) Skip (c .enum-told6 .given .1))
+run-expr-returns-8 t c = let d = c .before .before .before .before .before in let a = d .args in absurd (expr-taken (a .deep) (now (a .s)) (a .want) (a .at) (d .pre .1 .1) (c .before .before .code-of .result) (c .before .before .code-of .ensures) Skip (c .enum-told6 .given .1))
 
 run-expr-returns-9 : (t : ℕ) → run-expr-lts.Need-returns-9 (run-expr-claims t) (run-expr-at t) run-expr.Post
-run-expr-returns-9 t c = let d = c .before .before .before .before .before in let a = d .args in absurd (form-taken (now (a .figures)) (a .deep) (now (a .s)) (a .want) (a .at) (d .pre .1 .1) (c .before .before .code-of .result) (c .before .before .code-of .ensures) Branch (c .enum-told7 .given .1))
+run-expr-returns-9 t c = let d = c .before .before .before .before .before in let a = d .args in absurd (expr-taken (a .deep) (now (a .s)) (a .want) (a .at) (d .pre .1 .1) (c .before .before .code-of .result) (c .before .before .code-of .ensures) Branch (c .enum-told7 .given .1))
 
 run-expr-returns-10 : (t : ℕ) → run-expr-lts.Need-returns-10 (run-expr-claims t) (run-expr-at t) run-expr.Post
-run-expr-returns-10 t c = let d = c .before .before .before .before .before in let a = d .args in absurd (form-taken (now (a .figures)) (a .deep) (now (a .s)) (a .want) (a .at) (d .pre .1 .1) (c .before .before .code-of .result) (c .before .before .code-of .ensures) Unknown (c .enum-told8 .given .1))
+run-expr-returns-10 t c = let d = c .before .before .before .before .before in let a = d .args in absurd (expr-taken (a .deep) (now (a .s)) (a .want) (a .at) (d .pre .1 .1) (c .before .before .code-of .result) (c .before .before .code-of .ensures) Unknown (c .enum-told8 .given .1))
 
 pub +run-expr-spec : {M : Type 1} → statement M
 +run-expr-spec = close μ-run-expr λ t. run-expr-lts.spec (run-expr-claims t) (run-expr-at t)

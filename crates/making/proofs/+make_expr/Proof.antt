@@ -7,8 +7,8 @@ use Rattle.codes.specs.declared.Form.the-variants.{End, Assign, Skip, Branch, U
 use Rattle.answers.specs.Parsing.{parsed}
 use Rattle.reading.specs.Tree.{word}
 use Rattle.reading.specs.Expressions.{readExpr}
-use Rattle.reading.specs.FirstByte.{expr-inside, as-variable, as-word, as-bit}
-use Rattle.making.specs.ExprLaws.{level, first-taken, second-taken, made-variable, made-word, made-bit, made-one, made-two, read-as}
+use Rattle.reading.specs.FirstByte.{expr-inside, as-variable, as-word, as-bit, expr-taken}
+use Rattle.making.specs.ExprLaws.{level, first-taken, second-taken, made-variable, made-word, made-bit, made-one, made-two}
 use borrow.Author.Needs.{needs}
 use Prim.Native.Nat.{ℕ, _<_}
 use borrow.Fn.Kinds.{In}
@@ -182,8 +182,8 @@ pub +make-expr-spec : {M : Type 1} → statement M
     (make-expr-returns-3 t)
     (make-expr-returns-4 t)
     (make-expr-returns-5 t)
-    (λ c. let a = c .before .before .before .before .before .before .args in let h = c .before .before .before .before .before .before .pre .1 .1 in let code = c .before .before .before .code-of .result in let is = c .before .before .before .code-of .ensures in absurd (read-as (a .deep) (now (a .s)) (a .want) (a .at) h code is End (c .before .enum-told4 .given .1)))
-    (λ c. let a = c .before .before .before .before .before .before .args in let h = c .before .before .before .before .before .before .pre .1 .1 in let code = c .before .before .before .code-of .result in let is = c .before .before .before .code-of .ensures in absurd (read-as (a .deep) (now (a .s)) (a .want) (a .at) h code is Assign (c .before .enum-told5 .given .1)))
-    (λ c. let a = c .before .before .before .before .before .before .args in let h = c .before .before .before .before .before .before .pre .1 .1 in let code = c .before .before .before .code-of .result in let is = c .before .before .before .code-of .ensures in absurd (read-as (a .deep) (now (a .s)) (a .want) (a .at) h code is Skip (c .before .enum-told6 .given .1)))
-    (λ c. let a = c .before .before .before .before .before .before .args in let h = c .before .before .before .before .before .before .pre .1 .1 in let code = c .before .before .before .code-of .result in let is = c .before .before .before .code-of .ensures in absurd (read-as (a .deep) (now (a .s)) (a .want) (a .at) h code is Branch (c .before .enum-told7 .given .1)))
-    (λ c. let a = c .before .before .before .before .before .before .args in let h = c .before .before .before .before .before .before .pre .1 .1 in let code = c .before .before .before .code-of .result in let is = c .before .before .before .code-of .ensures in absurd (read-as (a .deep) (now (a .s)) (a .want) (a .at) h code is Unknown (c .before .enum-told8 .given .1)))
+    (λ c. let a = c .before .before .before .before .before .before .args in let h = c .before .before .before .before .before .before .pre .1 .1 in let code = c .before .before .before .code-of .result in let is = c .before .before .before .code-of .ensures in absurd (expr-taken (a .deep) (now (a .s)) (a .want) (a .at) h code is End (c .before .enum-told4 .given .1)))
+    (λ c. let a = c .before .before .before .before .before .before .args in let h = c .before .before .before .before .before .before .pre .1 .1 in let code = c .before .before .before .code-of .result in let is = c .before .before .before .code-of .ensures in absurd (expr-taken (a .deep) (now (a .s)) (a .want) (a .at) h code is Assign (c .before .enum-told5 .given .1)))
+    (λ c. let a = c .before .before .before .before .before .before .args in let h = c .before .before .before .before .before .before .pre .1 .1 in let code = c .before .before .before .code-of .result in let is = c .before .before .before .code-of .ensures in absurd (expr-taken (a .deep) (now (a .s)) (a .want) (a .at) h code is Skip (c .before .enum-told6 .given .1)))
+    (λ c. let a = c .before .before .before .before .before .before .args in let h = c .before .before .before .before .before .before .pre .1 .1 in let code = c .before .before .before .code-of .result in let is = c .before .before .before .code-of .ensures in absurd (expr-taken (a .deep) (now (a .s)) (a .want) (a .at) h code is Branch (c .before .enum-told7 .given .1)))
+    (λ c. let a = c .before .before .before .before .before .before .args in let h = c .before .before .before .before .before .before .pre .1 .1 in let code = c .before .before .before .code-of .result in let is = c .before .before .before .code-of .ensures in absurd (expr-taken (a .deep) (now (a .s)) (a .want) (a .at) h code is Unknown (c .before .enum-told8 .given .1)))
