@@ -13,17 +13,17 @@ use Rattle.gates.specs.PlainCircuit.{gatesOf, gateCount}
 use Rattle.needed.specs.Held.{gatesIn}
 use Rattle.needed.specs.Pass.{rulePreconditions}
 use Rattle.circuit.specs.Whole.{ruleAnswer}
-use Rattle.circuit.specs.Shown.{shownRows}
-use Rattle.circuit.specs.ShownParts.{shown-count, shown-room, shown-gates, shown-need}
-use Rattle.circuit.specs.declared.Shown.{Shown}
+use Rattle.circuit.specs.Built.{builtQuads}
+use Rattle.circuit.specs.BuiltParts.{built-count, built-room, built-gates, built-need}
+use Rattle.circuit.specs.declared.Built.{Built}
 use Rattle.plan.specs.PlanFile.{groupsIn}
 use Rattle.plan.specs.Groups.{groupOf}
 use Rattle.plan.specs.Rows.{Row, layoutRows, joinRows, orderRows, firstFailing, placed, planRow, planAnswer}
 use Rattle.plan.specs.AcceptedLaws.{failing-first, failing-second, answer-rule, answer-row, answer-accepted}
 use Rattle.grouping.specs.SameLaws.{joins-same}
-use Rattle.checking.specs.Handed.{Showing}
+use Rattle.checking.specs.Handed.{IsBuilt}
 
-module _ (s p : List ℕ) (c : Shown) (sh : Showing s c) where
+module _ (s p : List ℕ) (c : Built) (sh : IsBuilt s c) where
   -- the rule's refusal is taken over whole
   pub rule-refused : (c .answer .number ≡ 0 → ⊥) → c .answer ≡ planAnswer s p
   rule-refused h = sh .0 ∙ sym (answer-rule s p (λ z. h (ap (λ (a : Answer). a .number) (sh .0) ∙ z)))
@@ -33,17 +33,17 @@ module _ (s p : List ℕ) (c : Shown) (sh : Showing s c) where
     accepted-rule = ap (λ (a : Answer). a .number) (sym (sh .0)) ∙ zero
 
     pub gates-are : c .answer .gates ≡ gateCount s
-    gates-are = ap (λ (a : Answer). a .gates) (sh .0) ∙ shown-count s accepted-rule
+    gates-are = ap (λ (a : Answer). a .gates) (sh .0) ∙ built-count s accepted-rule
 
     pub gates-room : c .answer .gates ≤ mostGates
-    gates-room = subst (λ (n : ℕ). n ≤ mostGates) (sym gates-are) (shown-room s accepted-rule)
+    gates-room = subst (λ (n : ℕ). n ≤ mostGates) (sym gates-are) (built-room s accepted-rule)
 
-    -- the gates in the rows are the rule's
-    pub gates-in : gatesIn (c .rows) (c .answer .gates) ≡ gatesOf s
-    gates-in = ap (λ (r : List ℕ). gatesIn r (c .answer .gates)) (sh .1 .0) ∙ ap (gatesIn (shownRows s)) gates-are ∙ shown-gates s accepted-rule
+    -- the gates in the quads are the rule's
+    pub gates-in : gatesIn (c .quads) (c .answer .gates) ≡ gatesOf s
+    gates-in = ap (λ (r : List ℕ). gatesIn r (c .answer .gates)) (sh .1 .0) ∙ ap (gatesIn (builtQuads s)) gates-are ∙ built-gates s accepted-rule
 
     pub needs-in : (g : ℕ) → getD (c .needs) g 0 ≡ getD (rulePreconditions s) g 0
-    needs-in g = ap (λ (l : List ℕ). getD l g 0) (sh .1 .1 .0) ∙ shown-need s accepted-rule g
+    needs-in g = ap (λ (l : List ℕ). getD l g 0) (sh .1 .1 .0) ∙ built-need s accepted-rule g
 
     abbrev layout : List Row
     layout = layoutRows (gateCount s) p
@@ -68,7 +68,7 @@ module _ (s p : List ℕ) (c : Shown) (sh : Showing s c) where
       layout-refused h = row-refused laid (laid-is ∙ sym (failing-first layout (joins ++ last) (λ z. h (laid-is ∙ z)))) h
 
       -- 27 to 29
-      module _ (none : laid ≡ 0) (join : ℕ) (f : join ≡ firstFailing (joinRows (gatesIn (c .rows) (c .answer .gates)) (c .needs) p)) where
+      module _ (none : laid ≡ 0) (join : ℕ) (f : join ≡ firstFailing (joinRows (gatesIn (c .quads) (c .answer .gates)) (c .needs) p)) where
         join-is : join ≡ firstFailing joins
         join-is =
             f ∙ ap (λ (C : Gates). firstFailing (joinRows C (c .needs) p)) gates-in ∙ joins-same (gatesOf s) (c .needs) (rulePreconditions s) p needs-in

@@ -1,14 +1,14 @@
 -- Document 01, "The plan file and its check (001, section 5.1)": what the check of a plan hands to the layers above it, besides its answer:
 -- each gate's group, where the group stands in the plan, and the order of writing; nothing where it refuses.
+use mathlib.Core.Bool.{cond}
 use Prim.Native.Nat.{ℕ}
 use mathlib.Core.List.{List, [], map, reverse}
 use lib.Dec.{eqb}
 use Rattle.words.specs.Lists.{upto}
-use Rattle.codes.specs.Codes.{pick}
 use Rattle.gates.specs.Limits.{mostGates}
 use Rattle.gates.specs.PlainCircuit.{gatesOf, gateCount}
 use Rattle.needed.specs.Pass.{rulePreconditions}
-use Rattle.circuit.specs.Shown.{padded}
+use Rattle.circuit.specs.Built.{padded}
 use Rattle.plan.specs.PlanFile.{groupsIn}
 use Rattle.plan.specs.Groups.{groupOf}
 use Rattle.plan.specs.Order.{order}
@@ -17,7 +17,7 @@ use Rattle.grouping.specs.Tables.{placeOf}
 
 -- of an accepted plan the list, of a refused one nothing
 unfoldable pub ifChecked : List ℕ → List ℕ → List ℕ → List ℕ
-ifChecked s p l = pick (eqb (planAnswer s p .number) 0) l []
+ifChecked s p l = cond (eqb (planAnswer s p .number) 0) l []
 
 -- the groups in the order of writing, the first first
 abbrev pub writingOrder : List ℕ → List ℕ → List ℕ

@@ -4,28 +4,28 @@ use mathlib.Core.Path.{_≡_}
 use mathlib.Core.List.{List}
 use lib.ListN.{length}
 use Rattle.circuit.specs.Whole.{ruleAnswer}
-use Rattle.circuit.specs.Shown.{shownRows, shownNeeds, shownOutputs, shownConditions}
-use Rattle.circuit.specs.declared.Shown.{Shown}
+use Rattle.circuit.specs.Built.{builtQuads, builtNeeds, builtOutputs, builtConditions}
+use Rattle.circuit.specs.declared.Built.{Built}
 use Rattle.plan.specs.Rows.{planAnswer}
 use Rattle.checking.specs.Checked.{ifChecked, writingOrder, checkedGroups, checkedPlaces, checkedOrder}
 use Rattle.checking.specs.declared.Checked.{Checked}
 
-abbrev pub Showing : List ℕ → Shown → Type 0
-Showing s c =
+abbrev pub IsBuilt : List ℕ → Built → Type 0
+IsBuilt s c =
     (c .answer ≡ ruleAnswer s)
-    × ((c .rows ≡ shownRows s)
-    × ((c .needs ≡ shownNeeds s)
-    × ((c .outputs ≡ shownOutputs s)
-    × (c .conditions ≡ shownConditions s))))
+    × ((c .quads ≡ builtQuads s)
+    × ((c .needs ≡ builtNeeds s)
+    × ((c .outputs ≡ builtOutputs s)
+    × (c .conditions ≡ builtConditions s))))
 
 abbrev pub Handed : List ℕ → List ℕ → Checked → Type 0
 Handed s p r =
     (r .answer ≡ planAnswer s p)
-    × ((r .rows ≡ shownRows s)
-    × ((r .needs ≡ shownNeeds s)
-    × ((r .outputs ≡ shownOutputs s)
-    × ((r .conditions ≡ shownConditions s)
+    × ((r .quads ≡ builtQuads s)
+    × ((r .needs ≡ builtNeeds s)
+    × ((r .outputs ≡ builtOutputs s)
+    × ((r .conditions ≡ builtConditions s)
     × ((r .group ≡ checkedGroups s p)
-    × ((r .joined ≡ checkedPlaces s p)
+    × ((r .places ≡ checkedPlaces s p)
     × ((r .order ≡ checkedOrder s p)
     × (r .groups ≡ length (ifChecked s p (writingOrder s p))))))))))

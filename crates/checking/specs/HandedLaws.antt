@@ -12,8 +12,8 @@ use Rattle.words.specs.Lists.{same?}
 use Rattle.answers.specs.declared.Answer.{Answer}
 use Rattle.gates.specs.Gates.{conditions}
 use Rattle.gates.specs.Limits.{mostGates}
-use Rattle.circuit.specs.Shown.{padded}
-use Rattle.circuit.specs.declared.Shown.{Shown}
+use Rattle.circuit.specs.Built.{padded}
+use Rattle.circuit.specs.declared.Built.{Built}
 use Rattle.plan.specs.PlanFile.{groupsIn, Apart}
 use Rattle.plan.specs.Groups.{groupOf, Named, groups, members}
 use Rattle.plan.specs.Order.{order}
@@ -30,7 +30,7 @@ use Rattle.grouping.specs.PlaceLaws.{unplaced, place-alone, place-members, plac
 use Rattle.ordering.specs.SameLaws.{members-same}
 use Rattle.checking.specs.Checked.{ifChecked}
 use Rattle.checking.specs.Refused.{Ungrouped}
-use Rattle.checking.specs.Handed.{Showing, Handed}
+use Rattle.checking.specs.Handed.{IsBuilt, Handed}
 use Rattle.checking.specs.declared.Checked.{Checked}
 
 pub refused-lists : (s p : List ℕ) → (planAnswer s p .number ≡ 0 → ⊥) → (l : List ℕ) → ifChecked s p l ≡ []
@@ -42,13 +42,13 @@ unfolding ifChecked
 accepted-lists s p h l = rw (eq-eqb _ _ h)
 
 -- a refused plan hands up no groups
-pub refused-handed : (s p : List ℕ) (c : Shown) → Showing s c → (a : Answer) (r : Checked) → Ungrouped c a r → a ≡ planAnswer s p → (a .number ≡ 0 → ⊥) → Handed s p r
+pub refused-handed : (s p : List ℕ) (c : Built) → IsBuilt s c → (a : Answer) (r : Checked) → Ungrouped c a r → a ≡ planAnswer s p → (a .number ≡ 0 → ⊥) → Handed s p r
 refused-handed s p c sh a r u e h =
     let n : planAnswer s p .number ≡ 0 → ⊥ = λ z. h (ap (λ (b : Answer). b .number) e ∙ z) in
     let none = refused-lists s p n in (
       u .answered ∙ e,
       (
-        u .rows ∙ sh .1 .0,
+        u .quads ∙ sh .1 .0,
         (
           u .needs ∙ sh .1 .1 .0,
           (
@@ -58,7 +58,7 @@ refused-handed s p c sh a r u e h =
               (
                 u .group ∙ ap (padded mostGates) (sym (none _)),
                 (
-                  u .joined ∙ ap (padded mostGates) (sym (none _)),
+                  u .places ∙ ap (padded mostGates) (sym (none _)),
                   (
                     u .order ∙ ap (padded mostGates) (sym (none _)),
                     u .groups ∙ ap length (sym (none _)),

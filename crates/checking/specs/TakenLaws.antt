@@ -12,10 +12,10 @@ use Rattle.gates.specs.Limits.{mostGates}
 use Rattle.gates.specs.PlainCircuit.{gatesOf}
 use Rattle.needed.specs.Held.{gatesIn}
 use Rattle.needed.specs.Pass.{rulePreconditions}
-use Rattle.circuit.specs.Shown.{padded, shownRows, shownNeeds, shownOutputs, shownConditions}
-use Rattle.circuit.specs.ShownLaws.{over-zeros}
-use Rattle.circuit.specs.ShownParts.{shown-earlier, shown-condition}
-use Rattle.circuit.specs.declared.Shown.{Shown}
+use Rattle.circuit.specs.Built.{padded, builtQuads, builtNeeds, builtOutputs, builtConditions}
+use Rattle.circuit.specs.BuiltLaws.{over-zeros}
+use Rattle.circuit.specs.BuiltParts.{built-earlier, built-condition}
+use Rattle.circuit.specs.declared.Built.{Built}
 use Rattle.plan.specs.PlanFile.{groupsIn}
 use Rattle.plan.specs.Groups.{groupOf, groups}
 use Rattle.plan.specs.Order.{order}
@@ -27,21 +27,21 @@ use Rattle.ordering.specs.SameLaws.{order-same, placed-same, order-sets-same, p
 use Rattle.ordering.specs.AnswerLaws.{placed-count, answer-placed, answer-circle}
 use Rattle.ordering.specs.declared.Order.the-variants.{Placed, Circle}
 use Rattle.checking.specs.Checked.{ifChecked, writingOrder, checkedGroups, checkedPlaces, checkedOrder}
-use Rattle.checking.specs.Handed.{Showing}
+use Rattle.checking.specs.Handed.{IsBuilt}
 use Rattle.checking.specs.AnswerLaws.{accepted-rule, gates-are, gates-room, gates-in, needs-in, plan-taken}
 use Rattle.checking.specs.HandedLaws.{accepted-lists, table-named, table-many}
 
-module _ (s p : List ℕ) (c : Shown) (sh : Showing s c) (zero : c .answer .number ≡ 0)
-    (laid : ℕ) (e : laid ≡ firstFailing (layoutRows (c .answer .gates) p)) (none : laid ≡ 0) (group joined : List ℕ)
-    (g : group ≡ groupTable (c .answer .gates) (groupsIn p)) (j : joined ≡ placeTable (c .answer .gates) p) where
+module _ (s p : List ℕ) (c : Built) (sh : IsBuilt s c) (zero : c .answer .number ≡ 0)
+    (laid : ℕ) (e : laid ≡ firstFailing (layoutRows (c .answer .gates) p)) (none : laid ≡ 0) (group places : List ℕ)
+    (g : group ≡ groupTable (c .answer .gates) (groupsIn p)) (j : places ≡ placeTable (c .answer .gates) p) where
   abbrev n : ℕ
   n = c .answer .gates
 
   rule : Earlier (gatesOf s)
-  rule = shown-earlier s (accepted-rule s p c sh zero)
+  rule = built-earlier s (accepted-rule s p c sh zero)
 
   -- what the order of the groups is worked out from
-  pub tables-orderable : Orderable (c .rows) (c .answer .gates) (c .conditions) group joined
+  pub tables-orderable : Orderable (c .quads) (c .answer .gates) (c .conditions) group places
   tables-orderable =
       let room = gates-room s p c sh zero in
       let gates = gates-in s p c sh zero in
@@ -50,7 +50,7 @@ module _ (s p : List ℕ) (c : Shown) (sh : Showing s c) (zero : c .answer .numb
         room = room;
         earlier = subst⁻¹ Earlier gates rule;
         listed = λ t l.
-            ap (λ (d : List ℕ). getD d t 0) (sh .1 .1 .1 .1) ∙ shown-condition s (accepted-rule s p c sh zero) t ∙ ap (λ (C : Gates). getD (conditions C) t 0) (sym gates);
+            ap (λ (d : List ℕ). getD d t 0) (sh .1 .1 .1 .1) ∙ built-condition s (accepted-rule s p c sh zero) t ∙ ap (λ (C : Gates). getD (conditions C) t 0) (sym gates);
         named = λ x l. rw g (table-named n p room laid-out x l);
         many = λ m l. rw (g, j) (table-many n p room laid-out m l);
       }
@@ -62,28 +62,28 @@ module _ (s p : List ℕ) (c : Shown) (sh : Showing s c) (zero : c .answer .numb
   as-plan x l = ap (λ (t : List ℕ). getD t x 0) g ∙ group-at n p x (rw (gates-are s p c sh zero) l)
 
   -- the order that is found is the plan's
-  order-is : order (gatesIn (c .rows) n) (c .needs) tabled ≡ order (gatesOf s) (rulePreconditions s) (groupOf (groupsIn p))
+  order-is : order (gatesIn (c .quads) n) (c .needs) tabled ≡ order (gatesOf s) (rulePreconditions s) (groupOf (groupsIn p))
   order-is =
       ap (λ (C : Gates). order C (c .needs) tabled) (gates-in s p c sh zero)
       ∙ order-sets-same (gatesOf s) (c .needs) (rulePreconditions s) (needs-in s p c sh zero) tabled
       ∙ order-same (gatesOf s) rule (rulePreconditions s) tabled (groupOf (groupsIn p)) as-plan
 
-  placed-is : placed (gatesIn (c .rows) n) (c .needs) tabled ≡ placed (gatesOf s) (rulePreconditions s) (groupOf (groupsIn p))
+  placed-is : placed (gatesIn (c .quads) n) (c .needs) tabled ≡ placed (gatesOf s) (rulePreconditions s) (groupOf (groupsIn p))
   placed-is =
       ap (λ (C : Gates). placed C (c .needs) tabled) (gates-in s p c sh zero)
       ∙ placed-sets-same (gatesOf s) (c .needs) (rulePreconditions s) (needs-in s p c sh zero) tabled
       ∙ placed-same (gatesOf s) rule (rulePreconditions s) tabled (groupOf (groupsIn p)) as-plan
 
   -- a circle remains
-  pub circle-is : Circle ≡ orderOf (gatesIn (c .rows) n) (c .needs) tabled → placed (gatesOf s) (rulePreconditions s) (groupOf (groupsIn p)) ≡ false
-  circle-is h = sym placed-is ∙ answer-circle (gatesIn (c .rows) n) (c .needs) tabled h
+  pub circle-is : Circle ≡ orderOf (gatesIn (c .quads) n) (c .needs) tabled → placed (gatesOf s) (rulePreconditions s) (groupOf (groupsIn p)) ≡ false
+  circle-is h = sym placed-is ∙ answer-circle (gatesIn (c .quads) n) (c .needs) tabled h
 
   -- every group is placed
-  module _ (join : ℕ) (f : join ≡ firstFailing (joinRows (gatesIn (c .rows) n) (c .needs) p)) (gone : join ≡ 0)
-      (k : ℕ) (h : Placed k ≡ orderOf (gatesIn (c .rows) n) (c .needs) tabled)
-      (found : List ℕ) (o : found ≡ over (reverse (order (gatesIn (c .rows) n) (c .needs) tabled)) (replicate 256 0)) where
+  module _ (join : ℕ) (f : join ≡ firstFailing (joinRows (gatesIn (c .quads) n) (c .needs) p)) (gone : join ≡ 0)
+      (k : ℕ) (h : Placed k ≡ orderOf (gatesIn (c .quads) n) (c .needs) tabled)
+      (found : List ℕ) (o : found ≡ over (reverse (order (gatesIn (c .quads) n) (c .needs) tabled)) (replicate 256 0)) where
     all : placed (gatesOf s) (rulePreconditions s) (groupOf (groupsIn p)) ≡ true
-    all = sym placed-is ∙ answer-placed (gatesIn (c .rows) n) (c .needs) tabled k h .0
+    all = sym placed-is ∙ answer-placed (gatesIn (c .quads) n) (c .needs) tabled k h .0
 
     taken-answer : c .answer ≡ planAnswer s p
     taken-answer = plan-taken s p c sh zero laid e none join f gone all
@@ -96,30 +96,30 @@ module _ (s p : List ℕ) (c : Shown) (sh : Showing s c) (zero : c .answer .numb
     taken-group =
         g ∙ ap (λ (m : ℕ). padded mostGates (map (groupOf (groupsIn p)) (upto m))) (gates-are s p c sh zero) ∙ ap (padded mostGates) (sym (accepted-lists s p accepted _))
 
-    taken-joined : joined ≡ checkedPlaces s p
+    taken-joined : places ≡ checkedPlaces s p
     unfolding placeTable
     taken-joined =
         j ∙ ap (λ (m : ℕ). padded mostGates (map (placeOf p) (upto m))) (gates-are s p c sh zero) ∙ ap (padded mostGates) (sym (accepted-lists s p accepted _))
 
     taken-order : found ≡ checkedOrder s p
     taken-order =
-        o ∙ over-zeros (reverse (order (gatesIn (c .rows) n) (c .needs) tabled)) mostGates
+        o ∙ over-zeros (reverse (order (gatesIn (c .quads) n) (c .needs) tabled)) mostGates
         ∙ ap (λ (l : List ℕ). padded mostGates (reverse l)) order-is ∙ ap (padded mostGates) (sym (accepted-lists s p accepted _))
 
     taken-groups : k ≡ length (ifChecked s p (writingOrder s p))
     taken-groups =
-        let t = answer-placed (gatesIn (c .rows) n) (c .needs) tabled k h in
-        t .1 ∙ sym (placed-count (gatesIn (c .rows) n) (c .needs) tabled (t .0)) ∙ ap length order-is
+        let t = answer-placed (gatesIn (c .quads) n) (c .needs) tabled k h in
+        t .1 ∙ sym (placed-count (gatesIn (c .quads) n) (c .needs) tabled (t .0)) ∙ ap length order-is
         ∙ sym (length-reverse (order (gatesOf s) (rulePreconditions s) (groupOf (groupsIn p)))) ∙ ap length (sym (accepted-lists s p accepted _))
 
     -- all that is handed up
     pub taken-handed : (c .answer ≡ planAnswer s p)
-        × ((c .rows ≡ shownRows s)
-        × ((c .needs ≡ shownNeeds s)
-        × ((c .outputs ≡ shownOutputs s)
-        × ((c .conditions ≡ shownConditions s)
+        × ((c .quads ≡ builtQuads s)
+        × ((c .needs ≡ builtNeeds s)
+        × ((c .outputs ≡ builtOutputs s)
+        × ((c .conditions ≡ builtConditions s)
         × ((group ≡ checkedGroups s p)
-        × ((joined ≡ checkedPlaces s p)
+        × ((places ≡ checkedPlaces s p)
         × ((found ≡ checkedOrder s p)
         × (k ≡ length (ifChecked s p (writingOrder s p))))))))))
     taken-handed =

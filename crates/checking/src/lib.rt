@@ -1,44 +1,44 @@
 // Checking a plan for a rule, rows 20 to 30 after the rule's own, and what the layers above need of an accepted plan.
 use answers::Answer;
-use circuit::Shown;
+use circuit::Built;
 use ordering::Order;
 ghost use mathlib.Core.Path.{_≡_};
 ghost use lib.ListN.{length};
-ghost use Rattle.circuit.specs.Shown.{shownRows, shownNeeds, shownOutputs, shownConditions};
+ghost use Rattle.circuit.specs.Built.{builtQuads, builtNeeds, builtOutputs, builtConditions};
 ghost use Rattle.plan.specs.Rows.{planAnswer};
 ghost use Rattle.checking.specs.Checked.{ifChecked, writingOrder, checkedGroups, checkedPlaces, checkedOrder};
 ghost use Rattle.checking.specs.Refused.{Ungrouped};
 
-// A plan checked: its answer; the plain circuit of its rule, as `circuit::show` shows it; each gate's group, the place in the plan of each
+// A plan checked: its answer; the plain circuit of its rule, as `circuit::build` gives it; each gate's group, the place in the plan of each
 // gate's group (0 for a group alone), and the groups in the order of writing, so many of them; zeros after them, and where the plan is refused.
 pub struct Checked {
     pub answer: Answer,
-    pub rows: [u32; 1024],
+    pub quads: [u32; 1024],
     pub needs: [u64; 256],
     pub outputs: [u16; 32],
     pub conditions: [u16; 6],
     pub group: [u16; 256],
-    pub joined: [u16; 256],
+    pub places: [u16; 256],
     pub order: [u16; 256],
     pub groups: usize,
 }
 
 // A refused plan has no groups.
-fn refused(circuit: Shown, answer: Answer) -> Checked
+fn refused(circuit: Built, answer: Answer) -> Checked
     ensures { λ r. ⌜ Ungrouped circuit answer r ⌝ }
 {
-    let rows = circuit.rows;
+    let quads = circuit.quads;
     let needs = circuit.needs;
     let outputs = circuit.outputs;
     let conditions = circuit.conditions;
     Checked {
         answer,
-        rows,
+        quads,
         needs,
         outputs,
         conditions,
         group: [0u16; 256],
-        joined: [0u16; 256],
+        places: [0u16; 256],
         order: [0u16; 256],
         groups: 0,
     }
@@ -47,47 +47,55 @@ fn refused(circuit: Shown, answer: Answer) -> Checked
 // Checks a plan for a rule: the rule's refusal first, then the lowest of the rows 20 to 30.
 pub fn check(rule: &[u8], plan: &[u8]) -> Checked
     ensures answer { λ r. ⌜ r .answer ≡ planAnswer (now (rule .entry)) (now (plan .entry)) ⌝ }
-    ensures rows { λ r. ⌜ r .rows ≡ shownRows (now (rule .entry)) ⌝ }
-    ensures needs { λ r. ⌜ r .needs ≡ shownNeeds (now (rule .entry)) ⌝ }
-    ensures outputs { λ r. ⌜ r .outputs ≡ shownOutputs (now (rule .entry)) ⌝ }
-    ensures conditions { λ r. ⌜ r .conditions ≡ shownConditions (now (rule .entry)) ⌝ }
+    ensures quads { λ r. ⌜ r .quads ≡ builtQuads (now (rule .entry)) ⌝ }
+    ensures needs { λ r. ⌜ r .needs ≡ builtNeeds (now (rule .entry)) ⌝ }
+    ensures outputs { λ r. ⌜ r .outputs ≡ builtOutputs (now (rule .entry)) ⌝ }
+    ensures conditions { λ r. ⌜ r .conditions ≡ builtConditions (now (rule .entry)) ⌝ }
     ensures group { λ r. ⌜ r .group ≡ checkedGroups (now (rule .entry)) (now (plan .entry)) ⌝ }
-    ensures joined { λ r. ⌜ r .joined ≡ checkedPlaces (now (rule .entry)) (now (plan .entry)) ⌝ }
+    ensures places { λ r. ⌜ r .places ≡ checkedPlaces (now (rule .entry)) (now (plan .entry)) ⌝ }
     ensures order { λ r. ⌜ r .order ≡ checkedOrder (now (rule .entry)) (now (plan .entry)) ⌝ }
     ensures groups { λ r. ⌜ r .groups ≡ length (ifChecked (now (rule .entry)) (now (plan .entry)) (writingOrder (now (rule .entry)) (now (plan .entry)))) ⌝ }
 {
-    let circuit = circuit::show(rule);
+    let circuit = circuit::build(rule);
     let read = circuit.answer;
     if read.number != 0 {
         return refused(circuit, read);
     }
     let n = read.gates;
-    let rows = circuit.rows;
+    let quads = circuit.quads;
     let needs = circuit.needs;
     let conditions = circuit.conditions;
     let mut group = [0u16; 256];
-    let mut joined = [0u16; 256];
-    let laid = grouping::group_gates(plan, n, &mut group, &mut joined);
+    let mut places = [0u16; 256];
+    let laid = grouping::group_gates(plan, n, &mut group, &mut places);
     if laid != 0 {
         return refused(circuit, answers::refused(laid, 0));
     }
-    let joins = grouping::check_groups(plan, &rows, n, &needs);
+    let joins = grouping::check_groups(plan, &quads, n, &needs);
     if joins != 0 {
         return refused(circuit, answers::refused(joins, 0));
     }
     let mut order = [0u16; 256];
-    let placed = ordering::order_groups(&rows, n, &needs, &conditions, &group, &joined, &mut order);
+    let placed = ordering::order_groups(
+        &quads,
+        n,
+        &needs,
+        &conditions,
+        &group,
+        &places,
+        &mut order,
+    );
     let outputs = circuit.outputs;
     match placed {
         Order::Circle => refused(circuit, answers::refused(30, 0)),
         Order::Placed(groups) => Checked {
             answer: read,
-            rows,
+            quads,
             needs,
             outputs,
             conditions,
             group,
-            joined,
+            places,
             order,
             groups,
         },

@@ -1,8 +1,8 @@
 pub mod Whole
 pub mod Making
-pub mod Shown
+pub mod Built
 pub mod WholeLaws
 pub mod MakingLaws
-pub mod ShownLaws
-pub mod ShownParts
+pub mod BuiltLaws
+pub mod BuiltParts
 pub mod Examples

@@ -1,4 +1,4 @@
--- Laws of a rule's gates in rows, once they are made. Assumes nothing.
+-- Laws of a rule's gates in quads, once they are made. Assumes nothing.
 use Prim.Native.Nat.{ℕ, _*_, _<_, _≤_}
 use native.Mathlib.Omega.{arith}
 use mathlib.Core.Path.{_≡_, sym, ap, subst⁻¹, _∙_}
@@ -17,55 +17,55 @@ use Rattle.gates.specs.StartLaws.{plain-sound}
 use Rattle.making.specs.RuleMade.{RuleMade}
 use Rattle.needed.specs.Held.{gatesIn}
 use Rattle.needed.specs.HeldLaws.{gates-length}
-use Rattle.needed.specs.HeldRows.{rule-held}
+use Rattle.needed.specs.HeldQuads.{rule-held}
 use Rattle.circuit.specs.Whole.{wholeWithin}
 use Rattle.circuit.specs.WholeLaws.{whole-gates, whole-conditions, whole-success}
 use Rattle.circuit.specs.Making.{wholeIn}
 
 -- rows 10 by the count alone
-pub whole-over : (rows : List ℕ) (count size : ℕ) → mostGates < count → wholeIn rows count size ≡ refusal 10 size
+pub whole-over : (quads : List ℕ) (count size : ℕ) → mostGates < count → wholeIn quads count size ≡ refusal 10 size
 unfolding wholeIn
-whole-over rows count size h = rw (lt-leb _ _ h)
+whole-over quads count size h = rw (lt-leb _ _ h)
 
-pub whole-in : (rows : List ℕ) (count size : ℕ) → count ≤ mostGates → wholeIn rows count size ≡ wholeWithin mostGates mostConditions (gatesIn rows count) size
+pub whole-in : (quads : List ℕ) (count size : ℕ) → count ≤ mostGates → wholeIn quads count size ≡ wholeWithin mostGates mostConditions (gatesIn quads count) size
 unfolding wholeIn
-whole-in rows count size h = rw (le-leb _ _ h)
+whole-in quads count size h = rw (le-leb _ _ h)
 
 -- rows 11 and success, by the conditions' count and the cost
-pub whole-eleven : (rows : List ℕ) (count size conds : ℕ) → count ≤ mostGates → conds ≡ length (conditions (gatesIn rows count)) → mostConditions < conds → wholeIn rows count size ≡ refusal 11 size
-whole-eleven rows count size conds h e l =
-    whole-in rows count size h
-    ∙ whole-conditions mostGates mostConditions (gatesIn rows count) size (rw (gates-length rows count) h) (rw e at l)
+pub whole-eleven : (quads : List ℕ) (count size conds : ℕ) → count ≤ mostGates → conds ≡ length (conditions (gatesIn quads count)) → mostConditions < conds → wholeIn quads count size ≡ refusal 11 size
+whole-eleven quads count size conds h e l =
+    whole-in quads count size h
+    ∙ whole-conditions mostGates mostConditions (gatesIn quads count) size (rw (gates-length quads count) h) (rw e at l)
 
-pub whole-taken : (rows : List ℕ) (count size conds cost : ℕ) → count ≤ mostGates → conds ≡ length (conditions (gatesIn rows count)) → conds ≤ mostConditions
-    → cost ≡ costs (gatesIn rows count) → wholeIn rows count size ≡ success count 0 0 cost 0
-whole-taken rows count size conds cost h e l q =
-    whole-in rows count size h
-    ∙ whole-success mostGates mostConditions (gatesIn rows count) size (rw (gates-length rows count) h) (rw e at l)
-    ∙ rw (gates-length rows count, q)
+pub whole-taken : (quads : List ℕ) (count size conds cost : ℕ) → count ≤ mostGates → conds ≡ length (conditions (gatesIn quads count)) → conds ≤ mostConditions
+    → cost ≡ costs (gatesIn quads count) → wholeIn quads count size ≡ success count 0 0 cost 0
+whole-taken quads count size conds cost h e l q =
+    whole-in quads count size h
+    ∙ whole-success mostGates mostConditions (gatesIn quads count) size (rw (gates-length quads count) h) (rw e at l)
+    ∙ rw (gates-length quads count, q)
 
 -- a rule that was read, its gates made
-module _ (s rows present : List ℕ) (count : ℕ) (read : IsRead (readRule s)) (made : RuleMade s rows present count) where
+module _ (s quads present : List ℕ) (count : ℕ) (read : IsRead (readRule s)) (made : RuleMade s quads present count) where
   -- a count within the limit is the rule's
   within : count ≤ mostGates → length (gatesOf s) ≤ mostGates
   within h = split (leb (length (gatesOf s)) mostGates) (λ t. leb-true _ _ t) (λ t. absurd (omega (arith, made .many (leb-false _ _ t))))
 
-  pub made-gates : count ≤ mostGates → gatesIn rows count ≡ gatesOf s
+  pub made-gates : count ≤ mostGates → gatesIn quads count ≡ gatesOf s
   made-gates h =
       let e = made .counted (within h) in
       let r = is-read (readRule s) read in
-      ap (gatesIn rows) e
-      ∙ rule-held s (r .0) (r .1) (r .2) rows (ap (λ (n : ℕ). take (4 * n) rows) (sym e) ∙ made .lie (within h))
+      ap (gatesIn quads) e
+      ∙ rule-held s (r .0) (r .1) (r .2) quads (ap (λ (n : ℕ). take (4 * n) quads) (sym e) ∙ made .lie (within h))
 
-  pub made-earlier : count ≤ mostGates → Earlier (gatesIn rows count)
+  pub made-earlier : count ≤ mostGates → Earlier (gatesIn quads count)
   made-earlier h = let r = is-read (readRule s) read in subst⁻¹ Earlier (made-gates h) (plain-sound s (r .0) (r .1) (r .2) .earlier)
 
   -- so what the code finds is what the rule is, read whole
-  pub made-whole : (size : ℕ) → wholeIn rows count size ≡ wholeWithin mostGates mostConditions (gatesOf s) size
+  pub made-whole : (size : ℕ) → wholeIn quads count size ≡ wholeWithin mostGates mostConditions (gatesOf s) size
   made-whole size =
       split (leb count mostGates)
-      (λ t. whole-in rows count size (leb-true _ _ t) ∙ ap (λ (C : Gates). wholeWithin mostGates mostConditions C size) (made-gates (leb-true _ _ t)))
+      (λ t. whole-in quads count size (leb-true _ _ t) ∙ ap (λ (C : Gates). wholeWithin mostGates mostConditions C size) (made-gates (leb-true _ _ t)))
       (λ t.
       let over : mostGates < count = leb-false _ _ t in
       let many : mostGates < length (gatesOf s) = split (leb (length (gatesOf s)) mostGates) (λ u. let l : length (gatesOf s) ≤ mostGates = leb-true _ _ u in absurd (omega (arith, made .counted l))) (λ u. leb-false _ _ u) in
-      whole-over rows count size over ∙ sym (whole-gates mostGates mostConditions (gatesOf s) size many))
+      whole-over quads count size over ∙ sym (whole-gates mostGates mostConditions (gatesOf s) size many))

@@ -1,4 +1,5 @@
 -- Document 01, "Refusals by place": a rule, read whole; and what reading a rule answers.
+use mathlib.Core.Bool.{cond}
 use Prim.Native.Nat.{ℕ}
 use mathlib.Core.List.{List}
 use lib.ListN.{length}
@@ -8,7 +9,6 @@ use Rattle.answers.specs.Parsing.{stepOf}
 use Rattle.answers.specs.declared.Answer.{Answer}
 use Rattle.answers.specs.declared.Step.{Step}
 use Rattle.answers.specs.declared.Step.the-variants.{Past, Refused}
-use Rattle.codes.specs.Codes.{pick}
 use Rattle.reading.specs.Rule.{readRule}
 use Rattle.gates.specs.Limits.{mostGates, mostConditions}
 use Rattle.gates.specs.Gates.{Gates, costs, conditions}
@@ -17,8 +17,8 @@ use Rattle.gates.specs.PlainCircuit.{gatesOf}
 -- 10: over so many gates; 11: over so many conditions; both lie at the file's length. Success counts gates and cost before
 unfoldable pub wholeWithin : ℕ → ℕ → Gates → ℕ → Answer
 wholeWithin gates conds C size =
-    pick (leb (length C) gates)
-    (pick (leb (length (conditions C)) conds)
+    cond (leb (length C) gates)
+    (cond (leb (length (conditions C)) conds)
     (success (length C) 0 0 (costs C) 0)
     (refusal 11 size))
     (refusal 10 size)

@@ -13,7 +13,7 @@ use Rattle.answers.specs.ParsingLaws.{IsRead}
 use Rattle.answers.specs.declared.Answer.{Answer}
 use Rattle.reading.specs.Tree.{Block}
 use Rattle.reading.specs.Rule.{readRule}
-use Rattle.reading.specs.RowLaws.{Rows, rule-rows}
+use Rattle.reading.specs.RowLaws.{ByteRows, rule-rows}
 use Rattle.gates.specs.Limits.{mostGates, mostConditions}
 use Rattle.gates.specs.Gates.{Gates, costs, conditions}
 use Rattle.gates.specs.PlainCircuit.{gatesOf}
@@ -49,7 +49,7 @@ bytes-refused : (m : Parsed Block) (whole : Answer) → (answerOf (stepOf m) .nu
 bytes-refused (parsed b n) whole h = absurd (h refl)
 bytes-refused (refused k p) whole h = refl
 
-bytes-read : (m : Parsed Block) → Rows m → answerOf (stepOf m) .number ≡ 0 → IsRead m
+bytes-read : (m : Parsed Block) → ByteRows m → answerOf (stepOf m) .number ≡ 0 → IsRead m
 bytes-read (parsed b n) r h = tt
 bytes-read (refused k p) r h = absurd (omega arith)
 
@@ -57,7 +57,7 @@ bytes-whole : (m : Parsed Block) (whole : Answer) → IsRead m → afterBytes (s
 bytes-whole (parsed b n) whole h = refl
 bytes-whole (refused k p) whole h = absurd h
 
-bytes-zero : (m : Parsed Block) (whole : Answer) → Rows m → afterBytes (stepOf m) whole .number ≡ 0 → IsRead m
+bytes-zero : (m : Parsed Block) (whole : Answer) → ByteRows m → afterBytes (stepOf m) whole .number ≡ 0 → IsRead m
 bytes-zero (parsed b n) whole r h = tt
 bytes-zero (refused k p) whole r h = absurd (omega arith)
 

@@ -1,28 +1,28 @@
-// Reading a rule as its caller sees it, rows 1 to 11, and showing its plain circuit.
+// Reading a rule as its caller sees it, rows 1 to 11, and building its plain circuit.
 use answers::Answer;
 ghost use mathlib.Core.Path.{_≡_};
 ghost use Prim.Native.Nat.{_≤_};
 ghost use lib.ListN.{replicate};
 ghost use Rattle.gates.specs.Gates.{Earlier};
 ghost use Rattle.needed.specs.Held.{gatesIn};
-ghost use Rattle.needed.specs.Places.{placesOf};
+ghost use Rattle.needed.specs.Ranks.{ranksOf};
 ghost use Rattle.circuit.specs.Whole.{ruleAnswer};
-ghost use Rattle.circuit.specs.Shown.{shownRows, shownNeeds, shownOutputs, shownConditions};
-ghost use Rattle.circuit.specs.Making.{wholeIn, Ready};
+ghost use Rattle.circuit.specs.Built.{builtQuads, builtNeeds, builtOutputs, builtConditions};
+ghost use Rattle.circuit.specs.Making.{wholeIn, MadeWhole};
 
 // The conditions of a plain circuit, at most.
 const MOST_CONDITIONS: usize = 6;
 
-// Rows 10 and 11, and the counts, of the gates that lie in `rows`; the conditions are numbered in `places`.
-fn whole(size: usize, rows: &[u32; 1024], count: u16, places: &mut [u16; 256]) -> Answer
-    requires { ⌜ (count ≤ 256 → Earlier (gatesIn (now rows) count)) ⌝ }
-    ensures { λ r. ⌜ (r ≡ wholeIn (now (rows .entry)) count size) × (count ≤ 256 → now (places .exit) ≡ placesOf (gatesIn (now (rows .entry)) count) 256) ⌝ }
+// Rows 10 and 11, and the counts, of the gates that lie in `quads`; the conditions are numbered in `ranks`.
+fn whole(size: usize, quads: &[u32; 1024], count: u16, ranks: &mut [u16; 256]) -> Answer
+    requires { ⌜ (count ≤ 256 → Earlier (gatesIn (now quads) count)) ⌝ }
+    ensures { λ r. ⌜ (r ≡ wholeIn (now (quads .entry)) count size) × (count ≤ 256 → now (ranks .exit) ≡ ranksOf (gatesIn (now (quads .entry)) count) 256) ⌝ }
 {
     if making::MOST_GATES < count {
         return answers::refused(10, size);
     }
     let n = count as usize;
-    let conditions = needed::number_conditions(rows, n, places);
+    let conditions = needed::number_conditions(quads, n, ranks);
     if MOST_CONDITIONS < conditions {
         return answers::refused(11, size);
     }
@@ -32,7 +32,7 @@ fn whole(size: usize, rows: &[u32; 1024], count: u16, places: &mut [u16; 256]) -
         gates: n,
         wires: 0,
         bytes: 0,
-        before: needed::cost(rows, n),
+        before: needed::cost(quads, n),
         after: 0,
     }
 }
@@ -45,30 +45,30 @@ pub fn read_rule(rule: &[u8]) -> Answer
     if a.number != 0 {
         return a;
     }
-    let mut rows = [0u32; 1024];
+    let mut quads = [0u32; 1024];
     let mut present = [0u16; 32];
-    let mut places = [0u16; 256];
-    let count = making::make_rule(rule, &mut rows, &mut present);
-    whole(rule.len(), &rows, count, &mut places)
+    let mut ranks = [0u16; 256];
+    let count = making::make_rule(rule, &mut quads, &mut present);
+    whole(rule.len(), &quads, count, &mut ranks)
 }
 
-// A plain circuit shown: the answer of reading its rule, four numbers a gate, each gate's precondition, every variable's last gate,
+// A plain circuit built: the answer of reading its rule, four numbers a gate, each gate's precondition, every variable's last gate,
 // and each condition's gate; zeros after them.
-pub struct Shown {
+pub struct Built {
     pub answer: Answer,
-    pub rows: [u32; 1024],
+    pub quads: [u32; 1024],
     pub needs: [u64; 256],
     pub outputs: [u16; 32],
     pub conditions: [u16; 6],
 }
 
 // A refused rule has no circuit.
-fn nothing(answer: Answer) -> Shown
-    ensures { λ r. ⌜ (r .answer ≡ answer) × ((r .rows ≡ replicate 1024 0) × ((r .needs ≡ replicate 256 0) × ((r .outputs ≡ replicate 32 0) × (r .conditions ≡ replicate 6 0)))) ⌝ }
+fn nothing(answer: Answer) -> Built
+    ensures { λ r. ⌜ (r .answer ≡ answer) × ((r .quads ≡ replicate 1024 0) × ((r .needs ≡ replicate 256 0) × ((r .outputs ≡ replicate 32 0) × (r .conditions ≡ replicate 6 0)))) ⌝ }
 {
-    Shown {
+    Built {
         answer,
-        rows: [0u32; 1024],
+        quads: [0u32; 1024],
         needs: [0u64; 256],
         outputs: [0u16; 32],
         conditions: [0u16; 6],
@@ -81,41 +81,41 @@ fn filled(
     answer: Answer,
     made: &[u32; 1024],
     present: &[u16; 32],
-    places: &[u16; 256],
+    ranks: &[u16; 256],
     count: usize,
-) -> Shown
-    requires { ⌜ Ready (now rule) (now made) (now present) (now places) count ⌝ }
+) -> Built
+    requires { ⌜ MadeWhole (now rule) (now made) (now present) (now ranks) count ⌝ }
     ensures answer { λ r. ⌜ r .answer ≡ answer ⌝ }
-    ensures rows { λ r. ⌜ r .rows ≡ shownRows (now (rule .entry)) ⌝ }
-    ensures needs { λ r. ⌜ r .needs ≡ shownNeeds (now (rule .entry)) ⌝ }
-    ensures outputs { λ r. ⌜ r .outputs ≡ shownOutputs (now (rule .entry)) ⌝ }
-    ensures conditions { λ r. ⌜ r .conditions ≡ shownConditions (now (rule .entry)) ⌝ }
+    ensures quads { λ r. ⌜ r .quads ≡ builtQuads (now (rule .entry)) ⌝ }
+    ensures needs { λ r. ⌜ r .needs ≡ builtNeeds (now (rule .entry)) ⌝ }
+    ensures outputs { λ r. ⌜ r .outputs ≡ builtOutputs (now (rule .entry)) ⌝ }
+    ensures conditions { λ r. ⌜ r .conditions ≡ builtConditions (now (rule .entry)) ⌝ }
 {
     let v = rule[5] as usize;
-    let mut rows = [0u32; 1024];
+    let mut quads = [0u32; 1024];
     let mut needs = [0u64; 256];
     let mut outputs = [0u16; 32];
-    needed::find_needed(made, count, places, present, v, &mut needs);
+    needed::find_needed(made, count, ranks, present, v, &mut needs);
     let gates = &made[..];
-    words::copy32(&gates[0..4 * count], &mut rows);
+    words::copy32(&gates[0..4 * count], &mut quads);
     let last = &present[..];
     words::copy16(&last[0..v], &mut outputs);
-    Shown {
+    Built {
         answer,
-        rows,
+        quads,
         needs,
         outputs,
-        conditions: needed::condition_gates(places, count),
+        conditions: needed::condition_gates(ranks, count),
     }
 }
 
-// Shows the plain circuit of a rule.
-pub fn show(rule: &[u8]) -> Shown
+// Builds the plain circuit of a rule.
+pub fn build(rule: &[u8]) -> Built
     ensures answer { λ r. ⌜ r .answer ≡ ruleAnswer (now (rule .entry)) ⌝ }
-    ensures rows { λ r. ⌜ r .rows ≡ shownRows (now (rule .entry)) ⌝ }
-    ensures needs { λ r. ⌜ r .needs ≡ shownNeeds (now (rule .entry)) ⌝ }
-    ensures outputs { λ r. ⌜ r .outputs ≡ shownOutputs (now (rule .entry)) ⌝ }
-    ensures conditions { λ r. ⌜ r .conditions ≡ shownConditions (now (rule .entry)) ⌝ }
+    ensures quads { λ r. ⌜ r .quads ≡ builtQuads (now (rule .entry)) ⌝ }
+    ensures needs { λ r. ⌜ r .needs ≡ builtNeeds (now (rule .entry)) ⌝ }
+    ensures outputs { λ r. ⌜ r .outputs ≡ builtOutputs (now (rule .entry)) ⌝ }
+    ensures conditions { λ r. ⌜ r .conditions ≡ builtConditions (now (rule .entry)) ⌝ }
 {
     let a = reading::read_rule(rule);
     if a.number != 0 {
@@ -123,11 +123,11 @@ pub fn show(rule: &[u8]) -> Shown
     }
     let mut made = [0u32; 1024];
     let mut present = [0u16; 32];
-    let mut places = [0u16; 256];
+    let mut ranks = [0u16; 256];
     let count = making::make_rule(rule, &mut made, &mut present);
-    let answer = whole(rule.len(), &made, count, &mut places);
+    let answer = whole(rule.len(), &made, count, &mut ranks);
     if answer.number != 0 {
         return nothing(answer);
     }
-    filled(rule, answer, &made, &present, &places, count as usize)
+    filled(rule, answer, &made, &present, &ranks, count as usize)
 }

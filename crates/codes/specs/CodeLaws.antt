@@ -3,11 +3,11 @@ use Prim.Native.Nat.{ℕ, suc, _<_, _≤_}
 use native.Mathlib.Omega.{arith}
 use mathlib.Core.Path.{_≡_, refl, sym, ap, _∙_}
 use mathlib.Core.Logic.{_⊎_, inl, inr}
-use mathlib.Core.Bool.{Bool, true, false, _&&_, false≢true}
+use mathlib.Core.Bool.{Bool, true, false, _&&_, false≢true, cond}
 use lib.Dec.{eqb, leb}
 use borrow.Author.Tests.{ne-eqb, le-leb, lt-leb}
 use Rattle.words.specs.Lists.{same?}
-use Rattle.codes.specs.Codes.{pick, kindOf, sameKind, plain, rowOf, operationOf, byteOf, codeOf}
+use Rattle.codes.specs.Codes.{kindOf, sameKind, plain, entryOf, operationOf, byteOf, codeOf}
 use Rattle.codes.specs.declared.Kind.{Kind}
 use Rattle.codes.specs.declared.Kind.the-variants as kind
 use Rattle.codes.specs.declared.Operation.{Operation}
@@ -31,8 +31,8 @@ pub kind-word : (b : ℕ) → (b ≡ 1 → ⊥) → kindOf b ≡ kind.Word
 unfolding kindOf
 kind-word b h = rw (ne-eqb b 1 h)
 
--- a byte of the operation range is that operation's row
-pub code-operation : (b : ℕ) → 0x20 ≤ b → b ≤ 0x27 → codeOf b ≡ rowOf (operationOf b)
+-- a byte of the operation range is that operation's entry
+pub code-operation : (b : ℕ) → 0x20 ≤ b → b ≤ 0x27 → codeOf b ≡ entryOf (operationOf b)
 unfolding codeOf
 code-operation b l h =
     simp (
@@ -69,8 +69,8 @@ byte-back code l h =
     from-on code 0x20 l (λ e. rw e) (λ a. from-on code 0x21 a (λ e. rw e) (λ b. from-on code 0x22 b (λ e. rw e) (λ c. from-on code 0x23 c (λ e. rw e)
     (λ d. from-on code 0x24 d (λ e. rw e) (λ i. from-on code 0x25 i (λ e. rw e) (λ j. from-on code 0x26 j (λ e. rw e) (λ k. let e : code ≡ 0x27 = omega (arith, h, k) in rw e)))))))
 
--- an operation has one argument or two, and its row opens it
-pub one-or-two : (op : Operation) → (rowOf op .arity ≡ 1) ⊎ (rowOf op .arity ≡ 2)
+-- an operation has one argument or two, and its entry opens it
+pub one-or-two : (op : Operation) → (entryOf op .arity ≡ 1) ⊎ (entryOf op .arity ≡ 2)
 one-or-two Sum = inr refl
 one-or-two Difference = inr refl
 one-or-two Product = inr refl
@@ -80,45 +80,45 @@ one-or-two And = inr refl
 one-or-two Or = inr refl
 one-or-two Not = inl refl
 
-pub row-form : (op : Operation) → rowOf op .form ≡ Apply op
-row-form Sum = refl
-row-form Difference = refl
-row-form Product = refl
-row-form LessThan = refl
-row-form Equal = refl
-row-form And = refl
-row-form Or = refl
-row-form Not = refl
+pub entry-form : (op : Operation) → entryOf op .form ≡ Apply op
+entry-form Sum = refl
+entry-form Difference = refl
+entry-form Product = refl
+entry-form LessThan = refl
+entry-form Equal = refl
+entry-form And = refl
+entry-form Or = refl
+entry-form Not = refl
 
--- a code that opens an operation is that operation's row
-IsRow : Operation → Code → Type 0
-IsRow op c = c .form ≡ Apply op → c ≡ rowOf op
+-- a code that opens an operation is that operation's entry
+IsEntry : Operation → Code → Type 0
+IsEntry op c = c .form ≡ Apply op → c ≡ entryOf op
 
-plain-row : (op : Operation) (t : Bool) (f : Form) (k : Kind) (rest : Code) → (f ≡ Apply op → ⊥) → IsRow op rest → IsRow op (pick t (plain f k) rest)
-unfolding IsRow
-plain-row op true f k rest n h e = absurd (n e)
-plain-row op false f k rest n h e = h e
+plain-entry : (op : Operation) (t : Bool) (f : Form) (k : Kind) (rest : Code) → (f ≡ Apply op → ⊥) → IsEntry op rest → IsEntry op (cond t (plain f k) rest)
+unfolding IsEntry
+plain-entry op true f k rest n h e = absurd (n e)
+plain-entry op false f k rest n h e = h e
 
-table-row : (op o : Operation) (t : Bool) → IsRow op (pick t (rowOf o) (plain Unknown kind.Word))
-unfolding IsRow
-table-row op o true e = let q : Apply o ≡ Apply op = sym (row-form o) ∙ e in let r : o ≡ op = cc in ap rowOf r
-table-row op o false e = let z : _≡_ {A = ℕ} 0 1 = cc in absurd (omega arith)
+table-entry : (op o : Operation) (t : Bool) → IsEntry op (cond t (entryOf o) (plain Unknown kind.Word))
+unfolding IsEntry
+table-entry op o true e = let q : Apply o ≡ Apply op = sym (entry-form o) ∙ e in let r : o ≡ op = cc in ap entryOf r
+table-entry op o false e = let z : _≡_ {A = ℕ} 0 1 = cc in absurd (omega arith)
 
-form-row : (b : ℕ) (op : Operation) → codeOf b .form ≡ Apply op → codeOf b ≡ rowOf op
-unfolding codeOf IsRow
-form-row b op =
-    plain-row op (eqb b 0x00) End kind.Word _ (λ e. let z : _≡_ {A = ℕ} 0 1 = cc in omega arith)
-    (plain-row op (eqb b 0x01) Assign kind.Word _ (λ e. let z : _≡_ {A = ℕ} 0 1 = cc in omega arith)
-    (plain-row op (eqb b 0x02) Skip kind.Word _ (λ e. let z : _≡_ {A = ℕ} 0 1 = cc in omega arith)
-    (plain-row op (eqb b 0x03) Branch kind.Word _ (λ e. let z : _≡_ {A = ℕ} 0 1 = cc in omega arith)
-    (plain-row op (eqb b 0x10) Variable kind.Word _ (λ e. let z : _≡_ {A = ℕ} 0 1 = cc in omega arith)
-    (plain-row op (eqb b 0x11) Word kind.Word _ (λ e. let z : _≡_ {A = ℕ} 0 1 = cc in omega arith)
-    (plain-row op (eqb b 0x12) Bit kind.Bit _ (λ e. let z : _≡_ {A = ℕ} 0 1 = cc in omega arith)
-    (table-row op (operationOf b) (leb 0x20 b && leb b 0x27))))))))
+form-entry : (b : ℕ) (op : Operation) → codeOf b .form ≡ Apply op → codeOf b ≡ entryOf op
+unfolding codeOf IsEntry
+form-entry b op =
+    plain-entry op (eqb b 0x00) End kind.Word _ (λ e. let z : _≡_ {A = ℕ} 0 1 = cc in omega arith)
+    (plain-entry op (eqb b 0x01) Assign kind.Word _ (λ e. let z : _≡_ {A = ℕ} 0 1 = cc in omega arith)
+    (plain-entry op (eqb b 0x02) Skip kind.Word _ (λ e. let z : _≡_ {A = ℕ} 0 1 = cc in omega arith)
+    (plain-entry op (eqb b 0x03) Branch kind.Word _ (λ e. let z : _≡_ {A = ℕ} 0 1 = cc in omega arith)
+    (plain-entry op (eqb b 0x10) Variable kind.Word _ (λ e. let z : _≡_ {A = ℕ} 0 1 = cc in omega arith)
+    (plain-entry op (eqb b 0x11) Word kind.Word _ (λ e. let z : _≡_ {A = ℕ} 0 1 = cc in omega arith)
+    (plain-entry op (eqb b 0x12) Bit kind.Bit _ (λ e. let z : _≡_ {A = ℕ} 0 1 = cc in omega arith)
+    (table-entry op (operationOf b) (leb 0x20 b && leb b 0x27))))))))
 
 -- so is a code that equals it
-pub code-row : (b : ℕ) (c : Code) (op : Operation) → c ≡ codeOf b → c .form ≡ Apply op → c ≡ rowOf op
-code-row b c op e q = e ∙ form-row b op (ap (λ (x : Code). x .form) (sym e) ∙ q)
+pub code-entry : (b : ℕ) (c : Code) (op : Operation) → c ≡ codeOf b → c .form ≡ Apply op → c ≡ entryOf op
+code-entry b c op e q = e ∙ form-entry b op (ap (λ (x : Code). x .form) (sym e) ∙ q)
 
 -- an operation's byte is read as that operation
 pub byte-operation : (op : Operation) → operationOf (byteOf op) ≡ op

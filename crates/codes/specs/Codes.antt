@@ -1,6 +1,6 @@
 -- Document 01, "The rule file": kinds, code bytes and the operation table.
 use Prim.Native.Nat.{ℕ}
-use mathlib.Core.Bool.{Bool, true, false, _&&_}
+use mathlib.Core.Bool.{Bool, true, false, _&&_, cond}
 use lib.Dec.{eqb, leb, ltb}
 use Rattle.codes.specs.declared.Kind.{Kind}
 use Rattle.codes.specs.declared.Kind.the-variants as kind
@@ -10,13 +10,9 @@ use Rattle.codes.specs.declared.Form.{Form}
 use Rattle.codes.specs.declared.Form.the-variants.{End, Assign, Skip, Branch, Variable, Word, Bit, Apply, Unknown}
 use Rattle.codes.specs.declared.Code.{Code}
 
-abbrev pub pick : {A : Type 0} → Bool → A → A → A
-pick true a b = a
-pick false a b = b
-
 -- kind byte 00 word, 01 bit
 unfoldable pub kindOf : ℕ → Kind
-kindOf b = pick (eqb b 0x01) kind.Bit kind.Word
+kindOf b = cond (eqb b 0x01) kind.Bit kind.Word
 
 abbrev pub sameKind : Kind → Kind → Bool
 sameKind kind.Word kind.Word = true
@@ -24,23 +20,23 @@ sameKind kind.Word kind.Bit = false
 sameKind kind.Bit kind.Word = false
 sameKind kind.Bit kind.Bit = true
 
--- a row of the operation table: kind of the arguments, kind of the result, arity, cost
-abbrev pub row : Operation → Kind → Kind → ℕ → ℕ → Code
-row op takes gives arity cost = record { form = Apply op; takes = takes; gives = gives; arity = arity; cost = cost }
+-- an entry of the operation table: kind of the arguments, kind of the result, arity, cost
+abbrev pub tableEntry : Operation → Kind → Kind → ℕ → ℕ → Code
+tableEntry op takes gives arity cost = record { form = Apply op; takes = takes; gives = gives; arity = arity; cost = cost }
 
-abbrev pub rowOf : Operation → Code
-rowOf Sum = row Sum kind.Word kind.Word 2 0
-rowOf Difference = row Difference kind.Word kind.Word 2 0
-rowOf Product = row Product kind.Word kind.Word 2 15
-rowOf LessThan = row LessThan kind.Word kind.Bit 2 40
-rowOf Equal = row Equal kind.Word kind.Bit 2 20
-rowOf And = row And kind.Bit kind.Bit 2 1
-rowOf Or = row Or kind.Bit kind.Bit 2 1
-rowOf Not = row Not kind.Bit kind.Bit 1 0
+abbrev pub entryOf : Operation → Code
+entryOf Sum = tableEntry Sum kind.Word kind.Word 2 0
+entryOf Difference = tableEntry Difference kind.Word kind.Word 2 0
+entryOf Product = tableEntry Product kind.Word kind.Word 2 15
+entryOf LessThan = tableEntry LessThan kind.Word kind.Bit 2 40
+entryOf Equal = tableEntry Equal kind.Word kind.Bit 2 20
+entryOf And = tableEntry And kind.Bit kind.Bit 2 1
+entryOf Or = tableEntry Or kind.Bit kind.Bit 2 1
+entryOf Not = tableEntry Not kind.Bit kind.Bit 1 0
 
 -- An operation of this table with a cost above 0 is costly.
 abbrev pub costly : Operation → Bool
-costly op = ltb 0 (rowOf op .cost)
+costly op = ltb 0 (entryOf op .cost)
 
 -- Document 02, C-12: sum, product, equal, and, or give the same in either order of their arguments; difference and less-than do not (ResultLaws), and not has one.
 abbrev pub commutes : Operation → Bool
@@ -56,13 +52,13 @@ commutes Not = false
 -- the operation of a byte 20 to 27
 unfoldable pub operationOf : ℕ → Operation
 operationOf b =
-    pick (eqb b 0x20) Sum
-    (pick (eqb b 0x21) Difference
-    (pick (eqb b 0x22) Product
-    (pick (eqb b 0x23) LessThan
-    (pick (eqb b 0x24) Equal
-    (pick (eqb b 0x25) And
-    (pick (eqb b 0x26) Or
+    cond (eqb b 0x20) Sum
+    (cond (eqb b 0x21) Difference
+    (cond (eqb b 0x22) Product
+    (cond (eqb b 0x23) LessThan
+    (cond (eqb b 0x24) Equal
+    (cond (eqb b 0x25) And
+    (cond (eqb b 0x26) Or
     Not))))))
 
 -- and back: the byte of an operation
@@ -83,12 +79,12 @@ plain form gives = record { form = form; takes = kind.Word; gives = gives; arity
 -- Statements 00 to 03; expressions 10 variable, 11 word constant, 12 bit constant, else an operation.
 unfoldable pub codeOf : ℕ → Code
 codeOf b =
-    pick (eqb b 0x00) (plain End kind.Word)
-    (pick (eqb b 0x01) (plain Assign kind.Word)
-    (pick (eqb b 0x02) (plain Skip kind.Word)
-    (pick (eqb b 0x03) (plain Branch kind.Word)
-    (pick (eqb b 0x10) (plain Variable kind.Word)
-    (pick (eqb b 0x11) (plain Word kind.Word)
-    (pick (eqb b 0x12) (plain Bit kind.Bit)
-    (pick (leb 0x20 b && leb b 0x27) (rowOf (operationOf b))
+    cond (eqb b 0x00) (plain End kind.Word)
+    (cond (eqb b 0x01) (plain Assign kind.Word)
+    (cond (eqb b 0x02) (plain Skip kind.Word)
+    (cond (eqb b 0x03) (plain Branch kind.Word)
+    (cond (eqb b 0x10) (plain Variable kind.Word)
+    (cond (eqb b 0x11) (plain Word kind.Word)
+    (cond (eqb b 0x12) (plain Bit kind.Bit)
+    (cond (leb 0x20 b && leb b 0x27) (entryOf (operationOf b))
     (plain Unknown kind.Word))))))))

@@ -8,7 +8,7 @@ use borrow.Author.Tests.{ne-eqb}
 use Rattle.words.specs.Lists.{same?}
 use native.Mathlib.Nat.{add-comm, mul-comm}
 use native.Mathlib.Omega.{arith}
-use Rattle.codes.specs.Codes.{commutes, rowOf}
+use Rattle.codes.specs.Codes.{commutes, entryOf}
 use Rattle.codes.specs.Results.{bitOf, resultOf}
 use Rattle.codes.specs.declared.Operation.{Operation}
 use Rattle.codes.specs.declared.Operation.the-variants.{Sum, Difference, Product, LessThan, Equal, And, Or, Not}
@@ -33,7 +33,7 @@ result-commutes Or a b h = ap bitOf (or-comm (eqb a 1) (eqb b 1))
 result-commutes Not a b h = absurd (false≢true h)
 
 -- an operation of two arguments that does not commute gives another result on 0 and 1 than on 1 and 0
-pub result-ordered : (op : Operation) → rowOf op .arity ≡ 2 → commutes op ≡ false → resultOf op 0 1 ≡ resultOf op 1 0 → ⊥
+pub result-ordered : (op : Operation) → entryOf op .arity ≡ 2 → commutes op ≡ false → resultOf op 0 1 ≡ resultOf op 1 0 → ⊥
 unfolding resultOf
 result-ordered Sum a h e = false≢true (sym h)
 result-ordered Difference a h e = omega (arith, e)

@@ -4,7 +4,7 @@ ghost use mathlib.Core.Bool.{_&&_, _||_};
 ghost use Prim.Native.Nat.{_≤_};
 ghost use lib.Dec.{eqb};
 ghost use Rattle.codes.specs.Results.{bitOf, resultOf};
-ghost use Rattle.codes.specs.Codes.{kindOf, sameKind, plain, row, rowOf, commutes, operationOf, byteOf, codeOf};
+ghost use Rattle.codes.specs.Codes.{kindOf, sameKind, plain, tableEntry, entryOf, commutes, operationOf, byteOf, codeOf};
 
 // What a figure is: a word of 32 bits or a bit.
 pub enum Kind {
@@ -81,9 +81,9 @@ fn plain_code(form: Form, gives: Kind) -> Code
     }
 }
 
-// A row of the operation table.
-fn table_row(op: Operation, takes: Kind, gives: Kind, arity: u8, cost: u8) -> Code
-    ensures { λ r. ⌜ r ≡ row op takes gives arity cost ⌝ }
+// An entry of the operation table.
+fn table_entry(op: Operation, takes: Kind, gives: Kind, arity: u8, cost: u8) -> Code
+    ensures { λ r. ⌜ r ≡ tableEntry op takes gives arity cost ⌝ }
 {
     Code {
         form: Form::Apply(op),
@@ -94,19 +94,19 @@ fn table_row(op: Operation, takes: Kind, gives: Kind, arity: u8, cost: u8) -> Co
     }
 }
 
-// The operation's row of the table.
-pub fn row_of(op: Operation) -> Code
-    ensures { λ r. ⌜ r ≡ rowOf op ⌝ }
+// The operation's entry of the table.
+pub fn entry_of(op: Operation) -> Code
+    ensures { λ r. ⌜ r ≡ entryOf op ⌝ }
 {
     match op {
-        Operation::Sum => table_row(Operation::Sum, Kind::Word, Kind::Word, 2, 0),
-        Operation::Difference => table_row(Operation::Difference, Kind::Word, Kind::Word, 2, 0),
-        Operation::Product => table_row(Operation::Product, Kind::Word, Kind::Word, 2, 15),
-        Operation::LessThan => table_row(Operation::LessThan, Kind::Word, Kind::Bit, 2, 40),
-        Operation::Equal => table_row(Operation::Equal, Kind::Word, Kind::Bit, 2, 20),
-        Operation::And => table_row(Operation::And, Kind::Bit, Kind::Bit, 2, 1),
-        Operation::Or => table_row(Operation::Or, Kind::Bit, Kind::Bit, 2, 1),
-        Operation::Not => table_row(Operation::Not, Kind::Bit, Kind::Bit, 1, 0),
+        Operation::Sum => table_entry(Operation::Sum, Kind::Word, Kind::Word, 2, 0),
+        Operation::Difference => table_entry(Operation::Difference, Kind::Word, Kind::Word, 2, 0),
+        Operation::Product => table_entry(Operation::Product, Kind::Word, Kind::Word, 2, 15),
+        Operation::LessThan => table_entry(Operation::LessThan, Kind::Word, Kind::Bit, 2, 40),
+        Operation::Equal => table_entry(Operation::Equal, Kind::Word, Kind::Bit, 2, 20),
+        Operation::And => table_entry(Operation::And, Kind::Bit, Kind::Bit, 2, 1),
+        Operation::Or => table_entry(Operation::Or, Kind::Bit, Kind::Bit, 2, 1),
+        Operation::Not => table_entry(Operation::Not, Kind::Bit, Kind::Bit, 1, 0),
     }
 }
 
@@ -171,7 +171,7 @@ pub fn code_of(b: u8) -> Code
         0x10 => plain_code(Form::Variable, Kind::Word),
         0x11 => plain_code(Form::Word, Kind::Word),
         0x12 => plain_code(Form::Bit, Kind::Bit),
-        0x20..=0x27 => row_of(operation_of(b)),
+        0x20..=0x27 => entry_of(operation_of(b)),
         _ => plain_code(Form::Unknown, Kind::Word),
     }
 }

@@ -137,27 +137,27 @@ fn print_hex(n: u64, width: usize)
 }
 
 // A gate: CODE.A.B.C.NEEDS.
-fn print_gate(rows: &[u32; 1024], needs: &[u64; 256], g: usize)
+fn print_gate(quads: &[u32; 1024], needs: &[u64; 256], g: usize)
     requires { ⌜ g < 256 ⌝ }
 {
     print(b" ");
-    print_hex(wide(rows[4 * g]), 2);
+    print_hex(wide(quads[4 * g]), 2);
     print(b".");
-    number(wide(rows[4 * g + 1]));
+    number(wide(quads[4 * g + 1]));
     print(b".");
-    number(wide(rows[4 * g + 2]));
+    number(wide(quads[4 * g + 2]));
     print(b".");
-    number(wide(rows[4 * g + 3]));
+    number(wide(quads[4 * g + 3]));
     print(b".");
     print_hex(needs[g], 16);
 }
 
-fn print_gates(rows: &[u32; 1024], needs: &[u64; 256], count: usize) {
+fn print_gates(quads: &[u32; 1024], needs: &[u64; 256], count: usize) {
     print(b" |");
     let mut g: usize = 0;
     while g < 256 {
         if g < count {
-            print_gate(rows, needs, g);
+            print_gate(quads, needs, g);
         }
         g += 1;
     }
@@ -239,12 +239,12 @@ fn write_line(rule: &[u8], plan: &[u8], out: &mut [u8]) {
 }
 
 fn circuit_line(rule: &[u8]) {
-    let shown = circuit::show(rule);
+    let shown = circuit::build(rule);
     let a = shown.answer;
-    let rows = shown.rows;
+    let quads = shown.quads;
     let needs = shown.needs;
     print_answer(a);
-    print_gates(&rows, &needs, a.gates);
+    print_gates(&quads, &needs, a.gates);
 }
 
 // The line of a case, but for an operation that is not built.

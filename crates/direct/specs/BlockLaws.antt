@@ -20,7 +20,7 @@ use Rattle.reading.specs.Blocks.{readAssign, branchWith, statementForm, readSta
 use Rattle.reading.specs.BlockLaws.{statement-as}
 use Rattle.reading.specs.FirstStatement.{assign-read, branch-read, block-inside, block-closed, block-read}
 use Rattle.gates.specs.Running.{runStatement, runBlock}
-use Rattle.direct.specs.Walking.{WorkedOut, Ran, Passed, Amid}
+use Rattle.direct.specs.Walking.{WorkedOut, Ran, Passed, AmidBlock}
 use Rattle.direct.specs.declared.Value.{Value}
 
 -- an assignment, its expression read at the kind of its variable
@@ -99,12 +99,12 @@ module _ (s : List ℕ) (nest at : ℕ) (h : IsRead (branchWith (readBlock s) s 
     }
 
 -- a block, statement by statement
-pub amid-start : (s : List ℕ) (nest at : ℕ) (f : List ℕ) → IsRead (readBlock s nest at) → Amid s nest at f at f
+pub amid-start : (s : List ℕ) (nest at : ℕ) (f : List ℕ) → IsRead (readBlock s nest at) → AmidBlock s nest at f at f
 amid-start s nest at f h =
     let b = is-read (readBlock s nest at) h in
     record { whole = b .0; rest = b .0; last = b .1; read = b .2; left = b .2; same = refl }
 
-module _ (s : List ℕ) (nest at : ℕ) (f : List ℕ) (here : ℕ) (g : List ℕ) (a : Amid s nest at f here g) where
+module _ (s : List ℕ) (nest at : ℕ) (f : List ℕ) (here : ℕ) (g : List ℕ) (a : AmidBlock s nest at f here g) where
   pub amid-inside : here < length s
   amid-inside = block-inside s nest here (read-is _ (a .left))
 
@@ -124,7 +124,7 @@ module _ (s : List ℕ) (nest at : ℕ) (f : List ℕ) (here : ℕ) (g : List �
     pub amid-taken : IsRead (readStatement s nest here)
     amid-taken = read-is _ (block-read s nest here (a .rest) (a .last) (a .left) z .statement)
 
-    pub amid-more : {n : ℕ} {k : List ℕ} → Ran runStatement (readStatement s nest here) g n k → Amid s nest at f n k
+    pub amid-more : {n : ℕ} {k : List ℕ} → Ran runStatement (readStatement s nest here) g n k → AmidBlock s nest at f n k
     unfolding runBlock
     amid-more {n} {k} r =
         let b = block-read s nest here (a .rest) (a .last) (a .left) z in

@@ -1,11 +1,11 @@
 -- Document 01, "The rule file": "The run gives every variable's figure at its end. A refused rule or refused inputs have no run."
 -- What a direct run answers and writes, given how its rule was answered.
+use mathlib.Core.Bool.{cond}
 use Prim.Native.Nat.{ℕ}
 use mathlib.Core.List.{List}
 use lib.ListN.{length}
 use lib.Dec.{eqb}
 use Rattle.words.specs.Buffers.{over}
-use Rattle.codes.specs.Codes.{pick}
 use Rattle.answers.specs.Answers.{refusal}
 use Rattle.answers.specs.declared.Answer.{Answer}
 use Rattle.gates.specs.Running.{runRule}
@@ -14,11 +14,11 @@ use Rattle.direct.specs.Inputs.{inputRow}
 -- rule before inputs: a refused rule's answer, else the inputs' row, else the accepted rule's answer with the counts that it has
 unfoldable pub runAnswer : Answer → List ℕ → List ℕ → ℕ → Answer
 runAnswer rule s inputs room =
-    pick (eqb (rule .number) 0)
-    (pick (eqb (inputRow s inputs room) 0) rule (refusal (inputRow s inputs room) 0))
+    cond (eqb (rule .number) 0)
+    (cond (eqb (inputRow s inputs room) 0) rule (refusal (inputRow s inputs room) 0))
     rule
 
 -- the result places after it: a refusal writes to none, success the first V and nothing after
 unfoldable pub runResults : Answer → List ℕ → List ℕ → List ℕ → List ℕ
 runResults rule s inputs results =
-    pick (eqb (runAnswer rule s inputs (length results) .number) 0) (over (runRule s inputs) results) results
+    cond (eqb (runAnswer rule s inputs (length results) .number) 0) (over (runRule s inputs) results) results

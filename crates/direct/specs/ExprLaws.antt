@@ -4,8 +4,8 @@ use mathlib.Core.Path.{_≡_, refl, sym, ap, subst, subst⁻¹, _∙_}
 use mathlib.Core.List.{List}
 use lib.ListN.{getD}
 use Rattle.words.specs.Numbers.{numberAt}
-use Rattle.codes.specs.Codes.{codeOf, rowOf}
-use Rattle.codes.specs.CodeLaws.{code-row}
+use Rattle.codes.specs.Codes.{codeOf, entryOf}
+use Rattle.codes.specs.CodeLaws.{code-entry}
 use Rattle.codes.specs.Results.{resultOf}
 use Rattle.codes.specs.declared.Kind.{Kind}
 use Rattle.codes.specs.declared.Operation.{Operation}
@@ -39,8 +39,8 @@ module _ (f : List ℕ) (deep : ℕ) (s : List ℕ) (want : Kind) (at : ℕ) (h 
     abbrev argument : Kind → ℕ → Parsed Expr
     argument = readExpr (deep - 1) s
 
-    row : c ≡ rowOf op
-    row = code-row (getD s at 0) c op e q
+    is-entry : c ≡ entryOf op
+    is-entry = code-entry (getD s at 0) c op e q
 
     whole : readExpr deep s want at ≡ argumentsWith argument op (at + 1)
     whole = as-operation deep s want at h c e op q .is
@@ -52,27 +52,27 @@ module _ (f : List ℕ) (deep : ℕ) (s : List ℕ) (want : Kind) (at : ℕ) (h 
     level = as-operation deep s want at h c e op q .level
 
     pub first-taken : IsRead (argument (c .takes) (at + 1))
-    first-taken = subst⁻¹ (λ (x : Code). IsRead (argument (x .takes) (at + 1))) row (first-argument argument op (at + 1) taken)
+    first-taken = subst⁻¹ (λ (x : Code). IsRead (argument (x .takes) (at + 1))) is-entry (first-argument argument op (at + 1) taken)
 
     module _ (v : Value) (w : WorkedOut f (argument (c .takes) (at + 1)) v) where
-      first : argument (rowOf op .takes) (at + 1) ≡ parsed (w .what) (v .next)
-      first = ap (λ (x : Code). argument (x .takes) (at + 1)) (sym row) ∙ w .read
+      first : argument (entryOf op .takes) (at + 1) ≡ parsed (w .what) (v .next)
+      first = ap (λ (x : Code). argument (x .takes) (at + 1)) (sym is-entry) ∙ w .read
 
       pub one-out : c .arity ≡ 1 → {n : ℕ} → n ≡ resultOf op (v .figure) 0 → WorkedOut f (readExpr deep s want at) (record { figure = n; next = v .next })
       unfolding figureOf
       one-out a r = record {
         what = one op (w .what);
-        read = whole ∙ arguments-one argument op (at + 1) (w .what) (v .next) first (ap (λ (x : Code). x .arity) (sym row) ∙ a);
+        read = whole ∙ arguments-one argument op (at + 1) (w .what) (v .next) first (ap (λ (x : Code). x .arity) (sym is-entry) ∙ a);
         is = r ∙ ap (λ (k : ℕ). resultOf op k 0) (w .is);
       }
 
       module _ (a : c .arity ≡ 1 → ⊥) where
-        more : rowOf op .arity ≡ 1 → ⊥
-        more z = a (ap (λ (x : Code). x .arity) row ∙ z)
+        more : entryOf op .arity ≡ 1 → ⊥
+        more z = a (ap (λ (x : Code). x .arity) is-entry ∙ z)
 
         pub second-taken : IsRead (argument (c .takes) (v .next))
         second-taken =
-            subst⁻¹ (λ (x : Code). IsRead (argument (x .takes) (v .next))) row
+            subst⁻¹ (λ (x : Code). IsRead (argument (x .takes) (v .next))) is-entry
             (second-argument argument op (at + 1) (w .what) (v .next) first more taken)
 
         pub two-out : (u : Value) (z : WorkedOut f (argument (c .takes) (v .next)) u) {n : ℕ} → n ≡ resultOf op (v .figure) (u .figure)
@@ -83,6 +83,6 @@ module _ (f : List ℕ) (deep : ℕ) (s : List ℕ) (want : Kind) (at : ℕ) (h 
           read =
               whole
               ∙ arguments-two argument op (at + 1) (w .what) (v .next) first more (z .what) (u .next)
-              (ap (λ (x : Code). argument (x .takes) (v .next)) (sym row) ∙ z .read);
+              (ap (λ (x : Code). argument (x .takes) (v .next)) (sym is-entry) ∙ z .read);
           is = r ∙ (ap (λ (k : ℕ). resultOf op k (u .figure)) (w .is) ∙ ap (resultOf op (figureOf f (w .what))) (z .is));
         }

@@ -4,13 +4,13 @@ use native.Mathlib.Numerals.{add-one}
 use native.Mathlib.Omega.{arith}
 use mathlib.Core.Path.{_≡_, refl, sym, ap}
 use mathlib.Core.List.{List, [], _∷_}
-use mathlib.Core.Bool.{Bool, true, false, _&&_, _||_, false≢true}
+use mathlib.Core.Bool.{Bool, true, false, _&&_, _||_, false≢true, cond}
 use mathlib.Core.Logic.{inl, inr}
 use lib.ListN.{length, getD}
 use lib.Dec.{eqb, ltb, leb}
 use borrow.Author.Tests.{eq-eqb, ne-eqb, le-ltb, lt-ltb, le-leb, lt-leb, eqb-true, leb-true, ltb-false}
 use Rattle.words.specs.Lists.{_∈_, split, from, upto, from-in}
-use Rattle.codes.specs.Codes.{pick, sameKind}
+use Rattle.codes.specs.Codes.{sameKind}
 use Rattle.codes.specs.declared.Kind.{Kind}
 use Rattle.codes.specs.declared.Kind.the-variants as kind
 use Rattle.reading.specs.Header.{variables, kindAt}
@@ -73,7 +73,7 @@ fits-kind : (k : Kind) (n : ℕ) → n < 4294967296 → (ltb 1 n && sameKind k k
 fits-kind kind.Word n w h = w
 fits-kind kind.Bit n w h = split (ltb 1 n) (λ t. let z : true ≡ false = rw t at h in absurd (false≢true (sym z))) (λ t. ltb-false 1 n t)
 
-rows : (a b c : Bool) → _≡_ {A = ℕ} (pick a (pick b 41 (pick c 0 42)) 40) 0 → (a ≡ true) × (b ≡ false) × (c ≡ true)
+rows : (a b c : Bool) → _≡_ {A = ℕ} (cond a (cond b 41 (cond c 0 42)) 40) 0 → (a ≡ true) × (b ≡ false) × (c ≡ true)
 rows true true c h = absurd (omega arith)
 rows true false true h = (refl, refl, refl)
 rows true false false h = absurd (omega arith)

@@ -1,11 +1,11 @@
 -- Document 01, "Refusals by place": inputs.
 use Prim.Native.Nat.{ℕ}
 use mathlib.Core.List.{List, [], _∷_}
-use mathlib.Core.Bool.{Bool, false, _&&_, _||_}
+use mathlib.Core.Bool.{Bool, false, _&&_, _||_, cond}
 use lib.ListN.{length, getD}
 use lib.Dec.{eqb, ltb, leb}
 use Rattle.words.specs.Lists.{upto}
-use Rattle.codes.specs.Codes.{pick, sameKind}
+use Rattle.codes.specs.Codes.{sameKind}
 use Rattle.codes.specs.declared.Kind.the-variants as kind
 use Rattle.reading.specs.Header.{variables, kindAt}
 
@@ -21,7 +21,7 @@ someAbove s inputs (x ∷ rest) = aboveBit s inputs x || someAbove s inputs rest
 -- 40: not V of them; 41: a bit variable's above 1; 42: fewer than V result places; else 0. The lowest number decides.
 unfoldable pub inputRow : List ℕ → List ℕ → ℕ → ℕ
 inputRow s inputs room =
-    pick (eqb (length inputs) (variables s))
-    (pick (someAbove s inputs (upto (variables s))) 41
-    (pick (leb (variables s) room) 0 42))
+    cond (eqb (length inputs) (variables s))
+    (cond (someAbove s inputs (upto (variables s))) 41
+    (cond (leb (variables s) room) 0 42))
     40

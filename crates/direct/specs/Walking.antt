@@ -12,8 +12,8 @@ use Rattle.gates.specs.Running.{figureOf, runBlock}
 use Rattle.direct.specs.declared.Value.{Value}
 
 -- what every part rests on: a kind byte for each variable, and no more of them than there are figures
-abbrev pub Headed : List ℕ → Type 0
-Headed s = HasKinds s × (variables s ≤ mostVariables)
+abbrev pub VariablesFit : List ℕ → Type 0
+VariablesFit s = HasKinds s × (variables s ≤ mostVariables)
 
 -- the expression m was read up to the place of v, and on the figures f its figure is that of v
 pub record WorkedOut (f : List ℕ) (m : Parsed Expr) (v : Value) : Type 0 where
@@ -33,7 +33,7 @@ pub record Passed {A : Type 0} (m : Parsed A) (next : ℕ) : Type 0 where
   pub read : m ≡ parsed what next
 
 -- amid a block: what is left of it at `here`, run on the figures g, is what the whole of it from `at` gives on f
-pub record Amid (s : List ℕ) (nest at : ℕ) (f : List ℕ) (here : ℕ) (g : List ℕ) : Type 0 where
+pub record AmidBlock (s : List ℕ) (nest at : ℕ) (f : List ℕ) (here : ℕ) (g : List ℕ) : Type 0 where
   pub whole : Block
   pub rest : Block
   pub last : ℕ

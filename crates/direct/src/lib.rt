@@ -13,7 +13,7 @@ ghost use Rattle.reading.specs.Expressions.{readExpr};
 ghost use Rattle.reading.specs.Blocks.{readAssign, readStatement, readBlock};
 ghost use Rattle.reading.specs.Rule.{readRule};
 ghost use Rattle.gates.specs.Running.{runStatement, runBlock, runRule};
-ghost use Rattle.direct.specs.Walking.{Headed, WorkedOut, Ran, Passed};
+ghost use Rattle.direct.specs.Walking.{VariablesFit, WorkedOut, Ran, Passed};
 ghost use Rattle.circuit.specs.Whole.{ruleAnswer};
 ghost use Rattle.direct.specs.Inputs.{inputRow};
 ghost use Rattle.direct.specs.Direct.{runAnswer, runResults};
@@ -26,7 +26,7 @@ struct Value {
 
 // The figure of the expression at `at`, of the kind wanted, worked out from the variables' figures.
 fn run_expr(s: &[u8], at: usize, want: Kind, deep: u8, figures: &[u32; 32]) -> Value
-    requires { ⌜ Headed (now s) × IsRead (readExpr deep (now s) want at) ⌝ }
+    requires { ⌜ VariablesFit (now s) × IsRead (readExpr deep (now s) want at) ⌝ }
     ensures { λ r. ⌜ WorkedOut (now (figures .entry)) (readExpr deep (now (s .entry)) want at) r ⌝ }
 {
     let c = codes::code_of(s[at]);
@@ -88,7 +88,7 @@ fn run_expr(s: &[u8], at: usize, want: Kind, deep: u8, figures: &[u32; 32]) -> V
 
 // 01 variable expression, its code at `at`: works out, then stores.
 fn run_assign(s: &[u8], at: usize, figures: &mut [u32; 32]) -> usize
-    requires { ⌜ Headed (now s) × IsRead (readAssign (now s) at) ⌝ }
+    requires { ⌜ VariablesFit (now s) × IsRead (readAssign (now s) at) ⌝ }
     ensures { λ r. ⌜ Ran runStatement (readAssign (now (s .entry)) at) (now (figures .entry)) r (now (figures .exit)) ⌝ }
 {
     let x = s[at + 1];
@@ -100,7 +100,7 @@ fn run_assign(s: &[u8], at: usize, figures: &mut [u32; 32]) -> usize
 
 // Past the block at `at`, which does not run.
 fn pass_block(s: &[u8], at: usize, nest: u8) -> usize
-    requires { ⌜ Headed (now s) × IsRead (readBlock (now s) nest at) ⌝ }
+    requires { ⌜ VariablesFit (now s) × IsRead (readBlock (now s) nest at) ⌝ }
     ensures { λ r. ⌜ Passed (readBlock (now (s .entry)) nest at) r ⌝ }
 {
     match reading::read_block(s, at, nest) {
@@ -111,7 +111,7 @@ fn pass_block(s: &[u8], at: usize, nest: u8) -> usize
 
 // The statement at `at`. An if works out its bit once, and only the block that the bit names runs.
 fn run_statement(s: &[u8], at: usize, nest: u8, figures: &mut [u32; 32]) -> usize
-    requires { ⌜ Headed (now s) × (at < length (now s)) × IsRead (readStatement (now s) nest at) ⌝ }
+    requires { ⌜ VariablesFit (now s) × (at < length (now s)) × IsRead (readStatement (now s) nest at) ⌝ }
     ensures { λ r. ⌜ Ran runStatement (readStatement (now (s .entry)) nest at) (now (figures .entry)) r (now (figures .exit)) ⌝ }
 {
     let c = codes::code_of(s[at]);
@@ -140,7 +140,7 @@ fn run_statement(s: &[u8], at: usize, nest: u8, figures: &mut [u32; 32]) -> usiz
 
 // The block at `at`: its statements in file order. A loop over them, so that only nesting takes stack.
 fn run_block(s: &[u8], at: usize, nest: u8, figures: &mut [u32; 32]) -> usize
-    requires { ⌜ Headed (now s) × IsRead (readBlock (now s) nest at) ⌝ }
+    requires { ⌜ VariablesFit (now s) × IsRead (readBlock (now s) nest at) ⌝ }
     ensures { λ r. ⌜ Ran runBlock (readBlock (now (s .entry)) nest at) (now (figures .entry)) r (now (figures .exit)) ⌝ }
 {
     let mut here = at;

@@ -1,4 +1,4 @@
--- Laws of the gates of rows, by their codes. Assumes nothing.
+-- Laws of the gates of quads, by their codes. Assumes nothing.
 use Prim.Native.Nat.{ℕ, _≤_, _<_}
 use mathlib.Core.Path.{_≡_, refl, _∙_}
 use mathlib.Core.List.{[], _∷_}
@@ -8,7 +8,7 @@ use lib.Dec.{leb}
 use lib.ListN.{take}
 use borrow.Author.Tests.{leb-true, leb-false}
 use Rattle.words.specs.Lists.{split, same?}
-use Rattle.codes.specs.Codes.{rowOf, operationOf, codeOf}
+use Rattle.codes.specs.Codes.{entryOf, operationOf, codeOf}
 use Rattle.codes.specs.CodeLaws.{code-operation, code-unknown}
 use Rattle.codes.specs.declared.Operation.{Operation}
 use Rattle.codes.specs.declared.Operation.the-variants.{Sum, Difference, Product, LessThan, Equal, And, Or, Not}
@@ -74,10 +74,10 @@ module _ (code a b c : ℕ) where
       go (inr x) (inr y) (inr z) (inr v) = split (leb 4 code) (λ l. range x y z v (leb-true _ _ l)) (λ l. starts (small-gate (omega (arith, leb-false 4 code l))))
 
   -- an operation's code is its operation's, and its arguments are as many as the table says
-  pub applies-gate : Applies code → gateOf code a b c ≡ operation (operationOf code) (take (rowOf (operationOf code) .arity) (a ∷ b ∷ []))
+  pub applies-gate : Applies code → gateOf code a b c ≡ operation (operationOf code) (take (entryOf (operationOf code) .arity) (a ∷ b ∷ []))
   applies-gate h = gate-other code a b c (λ e. omega (arith, h, e)) ∙ rw (code-operation code (h .0) (h .1)) (each (operationOf code))
     where
-      each : (op : Operation) → ofForm (rowOf op .form) a (argumentsOf (rowOf op) a b) ≡ operation op (take (rowOf op .arity) (a ∷ b ∷ []))
+      each : (op : Operation) → ofForm (entryOf op .form) a (argumentsOf (entryOf op) a b) ≡ operation op (take (entryOf op .arity) (a ∷ b ∷ []))
       each Sum = refl
       each Difference = refl
       each Product = refl

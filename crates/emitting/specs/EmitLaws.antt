@@ -1,4 +1,4 @@
--- What the records of a group of the rows are of a rule: rows that hold a circuit emit what the circuit emits; and a group's records
+-- What the records of a group of the quads are of a rule: quads that hold a circuit emit what the circuit emits; and a group's records
 -- depend on the wires that they read alone. Assumes nothing.
 use Prim.Native.Nat.{ℕ, _*_, _≤_, _<_}
 use mathlib.Core.Path.{_≡_, refl, sym, ap, ap₂, _∙_}
@@ -15,11 +15,11 @@ use Rattle.codes.specs.declared.Kind.the-variants as kind
 use Rattle.reading.specs.Header.{kindAt}
 use Rattle.gates.specs.Gates.{Gate, Gates, start, word, bit, operation, choice, gateAt, arguments}
 use Rattle.gates.specs.Limits.{mostConditions}
-use Rattle.gates.specs.Rows.{startCode, fourOf, rowsOf}
+use Rattle.gates.specs.Quads.{startCode, quadOf, quadsOf}
 use Rattle.gates.specs.EarlierLaws.{Inside}
 use Rattle.gates.specs.FigureLaws.{map-same}
 use Rattle.needed.specs.Held.{codeAt, Shaped}
-use Rattle.needed.specs.HeldRows.{number-at, gate-held, gates-held}
+use Rattle.needed.specs.HeldQuads.{number-at, gate-held, gates-held}
 use Rattle.plan.specs.Groups.{restsOf}
 use Rattle.fused.specs.Records.{Record}
 use Rattle.fused.specs.Records as records
@@ -33,25 +33,25 @@ unfolding kindOf
 kind-back kind.Word = refl
 kind-back kind.Bit = refl
 
-alone-back : (s : List ℕ) (wire : ℕ → ℕ) (k : Gate) → aloneOf (getD (fourOf s k) 0 0) wire k ≡ alone s wire k
+alone-back : (s : List ℕ) (wire : ℕ → ℕ) (k : Gate) → aloneOf (getD (quadOf s k) 0 0) wire k ≡ alone s wire k
 alone-back s wire (start x) = ap (λ (k : Kind). records.input k x) (kind-back (kindAt s x))
 alone-back s wire (word n) = refl
 alone-back s wire (bit b) = refl
 alone-back s wire (operation op l) = refl
 alone-back s wire (choice c a b) = refl
 
-module _ (s rows : List ℕ) (C : Gates) (shaped : Shaped C) (held : take (4 * length C) rows ≡ rowsOf s C) where
-  pub code-held : (i : ℕ) → i < length C → codeAt rows i ≡ getD (fourOf s (gateAt C i)) 0 0
-  code-held i h = ap (λ (k : ℕ). getD rows k 0) (sym (add-zero (4 * i))) ∙ number-at s rows C shaped held i 0 h (omega arith)
+module _ (s quads : List ℕ) (C : Gates) (shaped : Shaped C) (held : take (4 * length C) quads ≡ quadsOf s C) where
+  pub code-held : (i : ℕ) → i < length C → codeAt quads i ≡ getD (quadOf s (gateAt C i)) 0 0
+  code-held i h = ap (λ (k : ℕ). getD quads k 0) (sym (add-zero (4 * i))) ∙ number-at s quads C shaped held i 0 h (omega arith)
 
-  alone-held : (wire : ℕ → ℕ) (i : ℕ) → i < length C → aloneIn rows wire i ≡ alone s wire (gateAt C i)
-  alone-held wire i h = ap₂ (λ (code : ℕ) (k : Gate). aloneOf code wire k) (code-held i h) (gate-held s rows C shaped held i h) ∙ alone-back s wire (gateAt C i)
+  alone-held : (wire : ℕ → ℕ) (i : ℕ) → i < length C → aloneIn quads wire i ≡ alone s wire (gateAt C i)
+  alone-held wire i h = ap₂ (λ (code : ℕ) (k : Gate). aloneOf code wire k) (code-held i h) (gate-held s quads C shaped held i h) ∙ alone-back s wire (gateAt C i)
 
-  -- what the rows emit is what the circuit emits
-  pub emit-in : (sets : List ℕ) (wire : ℕ → ℕ) (n : ℕ) (ms : List ℕ) → Inside (length C) ms → emitIn rows (length C) sets wire n ms ≡ emit s C sets wire n ms
+  -- what the quads emit is what the circuit emits
+  pub emit-in : (sets : List ℕ) (wire : ℕ → ℕ) (n : ℕ) (ms : List ℕ) → Inside (length C) ms → emitIn quads (length C) sets wire n ms ≡ emit s C sets wire n ms
   emit-in sets wire n [] h = refl
   emit-in sets wire n (m ∷ []) h = ap (λ (r : Record). r ∷ []) (alone-held wire m (h m (inl refl)))
-  emit-in sets wire n (m ∷ k ∷ l) h = ap (λ (D : Gates). emit s D sets wire n (m ∷ k ∷ l)) (gates-held s rows C shaped held)
+  emit-in sets wire n (m ∷ k ∷ l) h = ap (λ (D : Gates). emit s D sets wire n (m ∷ k ∷ l)) (gates-held s quads C shaped held)
 
 -- Two maps to wires that agree on what a group reads.
 

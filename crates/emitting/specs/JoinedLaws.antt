@@ -10,7 +10,7 @@ use Rattle.words.specs.Lists.{_∈_}
 use Rattle.words.specs.Buffers.{over}
 use Rattle.words.specs.BufferLaws.{length-over, room-rest}
 use Rattle.settings.specs.Sets.{rests}
-use Rattle.codes.specs.Codes.{rowOf, operationOf, codeOf}
+use Rattle.codes.specs.Codes.{entryOf, operationOf, codeOf}
 use Rattle.codes.specs.CodeLaws.{code-operation}
 use Rattle.codes.specs.declared.Code.{Code}
 use Rattle.gates.specs.Gates.{conditions}
@@ -21,7 +21,7 @@ use Rattle.plan.specs.PlanFile.{groupAt}
 use Rattle.fused.specs.Records.{Record, pick, recordsCost}
 use Rattle.fused.specs.CircuitFile.{wiresBytes, recordBytes, recordsBytes}
 use Rattle.fused.specs.SizeLaws.{wires-size, cost-append, pick-size}
-use Rattle.emitting.specs.Emitted.{emitIn, guardIn, guardsIn, argumentAt, pairsIn, restedBy, Joinable, Joining, Sized}
+use Rattle.emitting.specs.Emitted.{emitIn, guardIn, guardsIn, argumentAt, pairsIn, restedBy, Joinable, JoinWritable, Measured}
 use Rattle.emitting.specs.CodeLaws.{Applies}
 use Rattle.emitting.specs.ByteLaws.{behind}
 use Rattle.emitting.specs.MemberLaws.{length-group, member-in}
@@ -33,77 +33,77 @@ use Rattle.fused.specs.SizeJoined.{length-pairs}
 
 -- The picks, and the operation behind them.
 
-module _ (rows : List ℕ) (wire : ℕ → ℕ) (n : ℕ) (p : List ℕ) (at : ℕ) where
-  pick-long : (k : ℕ) → length (recordBytes (pick (pairsIn rows wire n k (groupAt p at)))) ≡ 2 + 4 * getD p at 0
-  pick-long k = pick-size (pairsIn rows wire n k (groupAt p at)) ∙ ap (λ (i : ℕ). 2 + 4 * i) (pairs-count rows wire n k p at)
+module _ (quads : List ℕ) (wire : ℕ → ℕ) (n : ℕ) (p : List ℕ) (at : ℕ) where
+  pick-long : (k : ℕ) → length (recordBytes (pick (pairsIn quads wire n k (groupAt p at)))) ≡ 2 + 4 * getD p at 0
+  pick-long k = pick-size (pairsIn quads wire n k (groupAt p at)) ∙ ap (λ (i : ℕ). 2 + 4 * i) (pairs-count quads wire n k p at)
 
-  picks-long : length (picksBytes rows wire n (groupAt p at)) ≡ 4 + 8 * getD p at 0
-  picks-long = length-append (recordBytes (pick (pairsIn rows wire n 0 (groupAt p at)))) (recordBytes (pick (pairsIn rows wire n 1 (groupAt p at)))) ∙ omega (arith, pick-long 0, pick-long 1)
+  picks-long : length (picksBytes quads wire n (groupAt p at)) ≡ 4 + 8 * getD p at 0
+  picks-long = length-append (recordBytes (pick (pairsIn quads wire n 0 (groupAt p at)))) (recordBytes (pick (pairsIn quads wire n 1 (groupAt p at)))) ∙ omega (arith, pick-long 0, pick-long 1)
 
-  fused-long : (k : ℕ) → length (fusedBytes rows wire n k (groupAt p at)) ≡ 9 + 8 * getD p at 0
+  fused-long : (k : ℕ) → length (fusedBytes quads wire n k (groupAt p at)) ≡ 9 + 8 * getD p at 0
   fused-long k =
       let o : length (wiresBytes ((n + k) ∷ (n + k + 1) ∷ [])) ≡ 4 = wires-size ((n + k) ∷ (n + k + 1) ∷ []) in
       let z : suc (length (wiresBytes ((n + k) ∷ (n + k + 1) ∷ []))) ≡ 5 = omega (arith, o) in
-      length-append (picksBytes rows wire n (groupAt p at)) (codeAt rows (getD (groupAt p at) 0 0) ∷ wiresBytes ((n + k) ∷ (n + k + 1) ∷ [])) ∙ omega (arith, picks-long, z)
+      length-append (picksBytes quads wire n (groupAt p at)) (codeAt quads (getD (groupAt p at) 0 0) ∷ wiresBytes ((n + k) ∷ (n + k + 1) ∷ [])) ∙ omega (arith, picks-long, z)
 
   pub picks-put : (k r : ℕ) (d e ys : List ℕ) → 4 + 8 * getD p at 0 ≤ length d → k ≡ 2 + 4 * getD p at 0 → r ≡ 2 + 4 * getD p at 0
-      → e ≡ over (recordBytes (pick (pairsIn rows wire n 0 (groupAt p at)))) d
-      → ys ≡ over (recordBytes (pick (pairsIn rows wire n 1 (groupAt p at)))) (take (length e - k) (drop k e))
-      → (k + r ≡ 4 + 8 * getD p at 0) × (putMid k (length e - k) e ys ≡ over (picksBytes rows wire n (groupAt p at)) d)
+      → e ≡ over (recordBytes (pick (pairsIn quads wire n 0 (groupAt p at)))) d
+      → ys ≡ over (recordBytes (pick (pairsIn quads wire n 1 (groupAt p at)))) (take (length e - k) (drop k e))
+      → (k + r ≡ 4 + 8 * getD p at 0) × (putMid k (length e - k) e ys ≡ over (picksBytes quads wire n (groupAt p at)) d)
   picks-put k r d e ys room q z w v = (
     omega (arith, q, z),
-    behind (recordBytes (pick (pairsIn rows wire n 0 (groupAt p at)))) (recordBytes (pick (pairsIn rows wire n 1 (groupAt p at)))) (picksBytes rows wire n (groupAt p at)) d e ys k
+    behind (recordBytes (pick (pairsIn quads wire n 0 (groupAt p at)))) (recordBytes (pick (pairsIn quads wire n 1 (groupAt p at)))) (picksBytes quads wire n (groupAt p at)) d e ys k
         (q ∙ sym (pick-long 0)) refl (omega (arith, picks-long, room)) w v,
   )
 
   pub fused-put : (k g a b : ℕ) (d e ys : List ℕ) → 9 + 8 * getD p at 0 ≤ length d → k ≡ 4 + 8 * getD p at 0 → g ≡ getD (groupAt p at) 0 0
-      → a ≡ n + getD p at 0 → b ≡ n + getD p at 0 + 1 → e ≡ over (picksBytes rows wire n (groupAt p at)) d
-      → ys ≡ over (codeAt rows g ∷ wiresBytes (a ∷ b ∷ [])) (take (length e - k) (drop k e))
-      → (k + 5 ≡ 9 + 8 * getD p at 0) × (putMid k (length e - k) e ys ≡ over (fusedBytes rows wire n (getD p at 0) (groupAt p at)) d)
+      → a ≡ n + getD p at 0 → b ≡ n + getD p at 0 + 1 → e ≡ over (picksBytes quads wire n (groupAt p at)) d
+      → ys ≡ over (codeAt quads g ∷ wiresBytes (a ∷ b ∷ [])) (take (length e - k) (drop k e))
+      → (k + 5 ≡ 9 + 8 * getD p at 0) × (putMid k (length e - k) e ys ≡ over (fusedBytes quads wire n (getD p at 0) (groupAt p at)) d)
   fused-put k g a b d e ys room q m x y w v = (
     omega (arith, q),
-    behind (picksBytes rows wire n (groupAt p at)) (codeAt rows g ∷ wiresBytes (a ∷ b ∷ [])) (fusedBytes rows wire n (getD p at 0) (groupAt p at)) d e ys k
+    behind (picksBytes quads wire n (groupAt p at)) (codeAt quads g ∷ wiresBytes (a ∷ b ∷ [])) (fusedBytes quads wire n (getD p at 0) (groupAt p at)) d e ys k
         (q ∙ sym picks-long) (rw (m, x, y)) (omega (arith, fused-long (getD p at 0), room)) w v,
   )
 
 -- The first member of a group that fuses.
 
-pub first-member : (rows p group : List ℕ) (at g : ℕ) → Fusing rows p group at → g ≡ getD (groupAt p at) 0 0 → (g < 256) × Applies (codeAt rows g)
-first-member rows p group at g f e = rw e (f .zero-paired .lies .inside (getD (groupAt p at) 0 0) (member-in p at 0 (f .some)), f .coded)
+pub first-member : (quads p group : List ℕ) (at g : ℕ) → Fusing quads p group at → g ≡ getD (groupAt p at) 0 0 → (g < 256) × Applies (codeAt quads g)
+first-member quads p group at g f e = rw e (f .zero-paired .lies .inside (getD (groupAt p at) 0 0) (member-in p at 0 (f .some)), f .coded)
 
 -- What the caller shows is what the writers ask.
 
-pub fusing : (rows p conds group : List ℕ) (count at : ℕ) → Joining rows p conds group count at → Fusing rows p group at
-fusing rows p conds group count at j =
+pub fusing : (quads p conds group : List ℕ) (count at : ℕ) → JoinWritable quads p conds group count at → Fusing quads p group at
+fusing quads p conds group count at j =
     record {
-      zero-paired = record { lies = j .joinable .lies; few = omega arith; placed = λ m i. j .placed m (argumentAt rows m 0) i (rw (two-arguments rows m (j .joinable .two m i)) (inl refl)) };
-      one-paired = record { lies = j .joinable .lies; few = omega arith; placed = λ m i. j .placed m (argumentAt rows m 1) i (rw (two-arguments rows m (j .joinable .two m i)) (inr (inl refl))) };
+      zero-paired = record { lies = j .joinable .lies; few = omega arith; placed = λ m i. j .placed m (argumentAt quads m 0) i (rw (two-arguments quads m (j .joinable .two m i)) (inl refl)) };
+      one-paired = record { lies = j .joinable .lies; few = omega arith; placed = λ m i. j .placed m (argumentAt quads m 1) i (rw (two-arguments quads m (j .joinable .two m i)) (inr (inl refl))) };
       some = omega (arith, j .joinable .many);
-      coded = two-applies rows (getD (groupAt p at) 0 0) (j .joinable .two (getD (groupAt p at) 0 0) (member-in p at 0 (omega (arith, j .joinable .many))));
+      coded = two-applies quads (getD (groupAt p at) 0 0) (j .joinable .two (getD (groupAt p at) 0 0) (member-in p at 0 (omega (arith, j .joinable .many))));
     }
 
 -- The whole group.
 
-module _ (rows : List ℕ) (count : ℕ) (sets : List ℕ) (conds group : List ℕ) (wire : ℕ → ℕ) (n : ℕ) (p : List ℕ) (at : ℕ) where
-  pub emit-bytes : Joining rows p conds group count at
-      → recordsBytes (emitIn rows count sets wire n (groupAt p at)) ≡ recordsBytes (guardsIn conds wire sets (groupAt p at)) ++ fusedBytes rows wire n (getD p at 0) (groupAt p at)
+module _ (quads : List ℕ) (count : ℕ) (sets : List ℕ) (conds group : List ℕ) (wire : ℕ → ℕ) (n : ℕ) (p : List ℕ) (at : ℕ) where
+  pub emit-bytes : JoinWritable quads p conds group count at
+      → recordsBytes (emitIn quads count sets wire n (groupAt p at)) ≡ recordsBytes (guardsIn conds wire sets (groupAt p at)) ++ fusedBytes quads wire n (getD p at 0) (groupAt p at)
   emit-bytes j =
-      ap (λ (R : List Record). recordsBytes R) (emit-joined rows count sets conds wire n (groupAt p at) (rw (length-group p at) (j .joinable .many)) (j .below) (j .joinable .two) (j .conditioned))
-      ∙ joined-bytes rows count sets conds wire n (groupAt p at) (fusing rows p conds group count at j .coded)
-      ∙ ap (λ (k : ℕ). recordsBytes (guardsIn conds wire sets (groupAt p at)) ++ fusedBytes rows wire n k (groupAt p at)) (length-group p at)
+      ap (λ (R : List Record). recordsBytes R) (emit-joined quads count sets conds wire n (groupAt p at) (rw (length-group p at) (j .joinable .many)) (j .below) (j .joinable .two) (j .conditioned))
+      ∙ joined-bytes quads count sets conds wire n (groupAt p at) (fusing quads p conds group count at j .coded)
+      ∙ ap (λ (k : ℕ). recordsBytes (guardsIn conds wire sets (groupAt p at)) ++ fusedBytes quads wire n k (groupAt p at)) (length-group p at)
 
-  emit-long : Joining rows p conds group count at
-      → length (recordsBytes (emitIn rows count sets wire n (groupAt p at))) ≡ length (recordsBytes (guardsIn conds wire sets (groupAt p at))) + (9 + 8 * getD p at 0)
+  emit-long : JoinWritable quads p conds group count at
+      → length (recordsBytes (emitIn quads count sets wire n (groupAt p at))) ≡ length (recordsBytes (guardsIn conds wire sets (groupAt p at))) + (9 + 8 * getD p at 0)
   emit-long j =
-      ap (λ (b : List ℕ). length b) (emit-bytes j) ∙ length-append (recordsBytes (guardsIn conds wire sets (groupAt p at))) (fusedBytes rows wire n (getD p at 0) (groupAt p at))
-      ∙ ap (λ (k : ℕ). length (recordsBytes (guardsIn conds wire sets (groupAt p at))) + k) (fused-long rows wire n p at (getD p at 0))
+      ap (λ (b : List ℕ). length b) (emit-bytes j) ∙ length-append (recordsBytes (guardsIn conds wire sets (groupAt p at))) (fusedBytes quads wire n (getD p at 0) (groupAt p at))
+      ∙ ap (λ (k : ℕ). length (recordsBytes (guardsIn conds wire sets (groupAt p at))) + k) (fused-long quads wire n p at (getD p at 0))
 
   -- the guards find room, and the rest behind them
-  pub joined-room : (k : ℕ) → Joining rows p conds group count at → length (recordsBytes (emitIn rows count sets wire n (groupAt p at))) ≤ k
+  pub joined-room : (k : ℕ) → JoinWritable quads p conds group count at → length (recordsBytes (emitIn quads count sets wire n (groupAt p at))) ≤ k
       → length (recordsBytes (guardsIn conds wire sets (groupAt p at))) + (9 + 8 * getD p at 0) ≤ k
   joined-room k j h = rw (emit-long j) at h
 
-  pub fused-room : (k : ℕ) (d e : List ℕ) → Joining rows p conds group count at → length (recordsBytes (emitIn rows count sets wire n (groupAt p at))) ≤ length d
+  pub fused-room : (k : ℕ) (d e : List ℕ) → JoinWritable quads p conds group count at → length (recordsBytes (emitIn quads count sets wire n (groupAt p at))) ≤ length d
       → k ≡ length (recordsBytes (guardsIn conds wire sets (groupAt p at))) → e ≡ over (recordsBytes (guardsIn conds wire sets (groupAt p at))) d
       → (k ≤ length e) × (9 + 8 * getD p at 0 ≤ length (take (length e - k) (drop k e)))
   fused-room k d e j h q w =
@@ -111,13 +111,13 @@ module _ (rows : List ℕ) (count : ℕ) (sets : List ℕ) (conds group : List �
       let l : length e ≡ length d = ap (λ (x : List ℕ). length x) w ∙ length-over (recordsBytes (guardsIn conds wire sets (groupAt p at))) d (omega (arith, r)) in
       (omega (arith, r, l, q), rw (room-rest e k) (omega (arith, r, l, q)))
 
-  pub joined-put : (k r : ℕ) (d e ys : List ℕ) → Joining rows p conds group count at → length (recordsBytes (emitIn rows count sets wire n (groupAt p at))) ≤ length d
+  pub joined-put : (k r : ℕ) (d e ys : List ℕ) → JoinWritable quads p conds group count at → length (recordsBytes (emitIn quads count sets wire n (groupAt p at))) ≤ length d
       → k ≡ length (recordsBytes (guardsIn conds wire sets (groupAt p at))) → r ≡ 9 + 8 * getD p at 0 → e ≡ over (recordsBytes (guardsIn conds wire sets (groupAt p at))) d
-      → ys ≡ over (fusedBytes rows wire n (getD p at 0) (groupAt p at)) (take (length e - k) (drop k e))
-      → (k + r ≡ length (recordsBytes (emitIn rows count sets wire n (groupAt p at)))) × (putMid k (length e - k) e ys ≡ over (recordsBytes (emitIn rows count sets wire n (groupAt p at))) d)
+      → ys ≡ over (fusedBytes quads wire n (getD p at 0) (groupAt p at)) (take (length e - k) (drop k e))
+      → (k + r ≡ length (recordsBytes (emitIn quads count sets wire n (groupAt p at)))) × (putMid k (length e - k) e ys ≡ over (recordsBytes (emitIn quads count sets wire n (groupAt p at))) d)
   joined-put k r d e ys j h q z w v = (
     omega (arith, emit-long j, q, z),
-    behind (recordsBytes (guardsIn conds wire sets (groupAt p at))) (fusedBytes rows wire n (getD p at 0) (groupAt p at)) (recordsBytes (emitIn rows count sets wire n (groupAt p at))) d e ys k q (emit-bytes j) h w v,
+    behind (recordsBytes (guardsIn conds wire sets (groupAt p at))) (fusedBytes quads wire n (getD p at 0) (groupAt p at)) (recordsBytes (emitIn quads count sets wire n (groupAt p at))) d e ys k q (emit-bytes j) h w v,
   )
 
 -- Its size.
@@ -136,58 +136,58 @@ unfolding recordsCost
 guards-cost conds wire sets [] = refl
 guards-cost conds wire sets (m ∷ ms) = let e : recordsCost (guardsIn conds wire sets ms) ≡ length ms = guards-cost conds wire sets ms in let z : 1 + recordsCost (guardsIn conds wire sets ms) ≡ suc (length ms) = omega (arith, e) in z
 
-module _ (rows : List ℕ) (count : ℕ) (sets conds : List ℕ) (wire : ℕ → ℕ) (n : ℕ) (ms : List ℕ) where
-  pair-many : (k : ℕ) → length (pairsIn rows wire n k ms) ≡ length ms
-  pair-many k = length-pairs n (map (λ m. wire (argumentAt rows m k)) ms) ∙ length-map ms (λ m. wire (argumentAt rows m k))
+module _ (quads : List ℕ) (count : ℕ) (sets conds : List ℕ) (wire : ℕ → ℕ) (n : ℕ) (ms : List ℕ) where
+  pair-many : (k : ℕ) → length (pairsIn quads wire n k ms) ≡ length ms
+  pair-many k = length-pairs n (map (λ m. wire (argumentAt quads m k)) ms) ∙ length-map ms (λ m. wire (argumentAt quads m k))
 
-  joined-cost : recordsCost (joinedIn rows count sets conds wire n ms) ≡ 5 * length ms + rowOf (operationOf (codeAt rows (getD ms 0 0))) .cost
+  joined-cost : recordsCost (joinedIn quads count sets conds wire n ms) ≡ 5 * length ms + entryOf (operationOf (codeAt quads (getD ms 0 0))) .cost
   unfolding recordsCost
   joined-cost =
       cost-append (guardsIn conds wire sets ms) _ ∙ (let g : recordsCost (guardsIn conds wire sets ms) ≡ length ms = guards-cost conds wire sets ms in
-      let z : recordsCost (guardsIn conds wire sets ms) + (2 * length (pairsIn rows wire n 0 ms) + (2 * length (pairsIn rows wire n 1 ms) + (rowOf (operationOf (codeAt rows (getD ms 0 0))) .cost + 0)))
-      ≡ 5 * length ms + rowOf (operationOf (codeAt rows (getD ms 0 0))) .cost = omega (arith, g, pair-many 0, pair-many 1) in
+      let z : recordsCost (guardsIn conds wire sets ms) + (2 * length (pairsIn quads wire n 0 ms) + (2 * length (pairsIn quads wire n 1 ms) + (entryOf (operationOf (codeAt quads (getD ms 0 0))) .cost + 0)))
+      ≡ 5 * length ms + entryOf (operationOf (codeAt quads (getD ms 0 0))) .cost = omega (arith, g, pair-many 0, pair-many 1) in
       z)
 
-  joined-wires : length (joinedIn rows count sets conds wire n ms) ≡ length ms + 3
+  joined-wires : length (joinedIn quads count sets conds wire n ms) ≡ length ms + 3
   joined-wires = length-append (guardsIn conds wire sets ms) _ ∙ ap (λ (k : ℕ). k + 3) (length-map ms (λ m. guardIn conds wire (getD sets m 0)))
 
 -- the size of a joined group
-pub joined-sized : (rows sets p : List ℕ) (at g k : ℕ) (row : Code) → Joinable rows p at → k ≡ restedBy sets (groupAt p at) → g ≡ getD (groupAt p at) 0 0 → row ≡ codeOf (codeAt rows g)
-    → Sized rows sets (groupAt p at) (getD p at 0 + 3) (18 * getD p at 0 + 2 * k + 9) (5 * getD p at 0 + row .cost)
-joined-sized rows sets p at g k row j kk gg rr =
+pub joined-sized : (quads sets p : List ℕ) (at g k : ℕ) (means : Code) → Joinable quads p at → k ≡ restedBy sets (groupAt p at) → g ≡ getD (groupAt p at) 0 0 → means ≡ codeOf (codeAt quads g)
+    → Measured quads sets (groupAt p at) (getD p at 0 + 3) (18 * getD p at 0 + 2 * k + 9) (5 * getD p at 0 + means .cost)
+joined-sized quads sets p at g k means j kk gg rr =
     record {
-      wired = λ count wire n below. sym (ap (λ (R : List Record). length R) (same count wire n below) ∙ joined-wires rows count sets (conditions (gatesIn rows count)) wire n (groupAt p at) ∙ ap (λ (i : ℕ). i + 3) (length-group p at));
+      wired = λ count wire n below. sym (ap (λ (R : List Record). length R) (same count wire n below) ∙ joined-wires quads count sets (conditions (gatesIn quads count)) wire n (groupAt p at) ∙ ap (λ (i : ℕ). i + 3) (length-group p at));
       long = λ count wire n below. sym (ap (λ (R : List Record). length (recordsBytes R)) (same count wire n below) ∙ bytes count wire n);
-      costs = λ count wire n below. sym (ap (λ (R : List Record). recordsCost R) (same count wire n below) ∙ joined-cost rows count sets (conditions (gatesIn rows count)) wire n (groupAt p at) ∙ cost);
+      costs = λ count wire n below. sym (ap (λ (R : List Record). recordsCost R) (same count wire n below) ∙ joined-cost quads count sets (conditions (gatesIn quads count)) wire n (groupAt p at) ∙ cost);
     }
   where
     many : 2 ≤ length (groupAt p at)
     many = rw (length-group p at) (j .many)
 
-    code : Applies (codeAt rows (getD (groupAt p at) 0 0))
-    code = two-applies rows (getD (groupAt p at) 0 0) (j .two (getD (groupAt p at) 0 0) (member-in p at 0 (omega (arith, j .many))))
+    code : Applies (codeAt quads (getD (groupAt p at) 0 0))
+    code = two-applies quads (getD (groupAt p at) 0 0) (j .two (getD (groupAt p at) 0 0) (member-in p at 0 (omega (arith, j .many))))
 
-    same : (count : ℕ) (wire : ℕ → ℕ) (n : ℕ) → Inside count (groupAt p at) → emitIn rows count sets wire n (groupAt p at) ≡ joinedIn rows count sets (conditions (gatesIn rows count)) wire n (groupAt p at)
-    same count wire n below = emit-joined rows count sets (conditions (gatesIn rows count)) wire n (groupAt p at) many below (j .two) (λ t l. refl)
+    same : (count : ℕ) (wire : ℕ → ℕ) (n : ℕ) → Inside count (groupAt p at) → emitIn quads count sets wire n (groupAt p at) ≡ joinedIn quads count sets (conditions (gatesIn quads count)) wire n (groupAt p at)
+    same count wire n below = emit-joined quads count sets (conditions (gatesIn quads count)) wire n (groupAt p at) many below (j .two) (λ t l. refl)
 
-    bytes : (count : ℕ) (wire : ℕ → ℕ) (n : ℕ) → length (recordsBytes (joinedIn rows count sets (conditions (gatesIn rows count)) wire n (groupAt p at))) ≡ 18 * getD p at 0 + 2 * k + 9
+    bytes : (count : ℕ) (wire : ℕ → ℕ) (n : ℕ) → length (recordsBytes (joinedIn quads count sets (conditions (gatesIn quads count)) wire n (groupAt p at))) ≡ 18 * getD p at 0 + 2 * k + 9
     bytes count wire n =
-        let G : List ℕ = recordsBytes (guardsIn (conditions (gatesIn rows count)) wire sets (groupAt p at)) in
-        ap (λ (b : List ℕ). length b) (joined-bytes rows count sets (conditions (gatesIn rows count)) wire n (groupAt p at) code)
-        ∙ length-append G (fusedBytes rows wire n (length (groupAt p at)) (groupAt p at))
-        ∙ omega (arith, guards-long (conditions (gatesIn rows count)) wire sets (groupAt p at), fused-long rows wire n p at (length (groupAt p at)), length-group p at, kk)
+        let G : List ℕ = recordsBytes (guardsIn (conditions (gatesIn quads count)) wire sets (groupAt p at)) in
+        ap (λ (b : List ℕ). length b) (joined-bytes quads count sets (conditions (gatesIn quads count)) wire n (groupAt p at) code)
+        ∙ length-append G (fusedBytes quads wire n (length (groupAt p at)) (groupAt p at))
+        ∙ omega (arith, guards-long (conditions (gatesIn quads count)) wire sets (groupAt p at), fused-long quads wire n p at (length (groupAt p at)), length-group p at, kk)
 
-    cost : 5 * length (groupAt p at) + rowOf (operationOf (codeAt rows (getD (groupAt p at) 0 0))) .cost ≡ 5 * getD p at 0 + row .cost
+    cost : 5 * length (groupAt p at) + entryOf (operationOf (codeAt quads (getD (groupAt p at) 0 0))) .cost ≡ 5 * getD p at 0 + means .cost
     cost =
-        let e : row ≡ rowOf (operationOf (codeAt rows (getD (groupAt p at) 0 0))) = rr ∙ ap (λ (i : ℕ). codeOf (codeAt rows i)) gg ∙ code-operation (codeAt rows (getD (groupAt p at) 0 0)) (code .0) (code .1) in
-        let c : row .cost ≡ rowOf (operationOf (codeAt rows (getD (groupAt p at) 0 0))) .cost = ap (λ (i : Code). i .cost) e in
+        let e : means ≡ entryOf (operationOf (codeAt quads (getD (groupAt p at) 0 0))) = rr ∙ ap (λ (i : ℕ). codeOf (codeAt quads i)) gg ∙ code-operation (codeAt quads (getD (groupAt p at) 0 0)) (code .0) (code .1) in
+        let c : means .cost ≡ entryOf (operationOf (codeAt quads (getD (groupAt p at) 0 0))) .cost = ap (λ (i : Code). i .cost) e in
         omega (arith, c, length-group p at)
 
 -- the first member's code is a byte, and few conditions are rested on
-pub joined-first : (rows p : List ℕ) (at g : ℕ) → Joinable rows p at → g ≡ getD (groupAt p at) 0 0 → (g < 256) × (codeAt rows g < 256)
-joined-first rows p at g j e =
+pub joined-first : (quads p : List ℕ) (at g : ℕ) → Joinable quads p at → g ≡ getD (groupAt p at) 0 0 → (g < 256) × (codeAt quads g < 256)
+joined-first quads p at g j e =
     let i : getD (groupAt p at) 0 0 ∈ groupAt p at = member-in p at 0 (omega (arith, j .many)) in
-    let a = two-applies rows (getD (groupAt p at) 0 0) (j .two (getD (groupAt p at) 0 0) i) in
+    let a = two-applies quads (getD (groupAt p at) 0 0) (j .two (getD (groupAt p at) 0 0) i) in
     rw e (j .lies .inside (getD (groupAt p at) 0 0) i, omega (arith, a .1))
 
 rested-most : (sets ms : List ℕ) → restedBy sets ms ≤ 6 * length ms

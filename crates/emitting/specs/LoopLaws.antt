@@ -16,7 +16,7 @@ use Rattle.plan.specs.PlanFile.{groupAt}
 use Rattle.fused.specs.Records.{pairWires}
 use Rattle.fused.specs.CircuitFile.{wiresBytes, recordBytes, recordsBytes}
 use Rattle.fused.specs.SizeLaws.{wires-size, pairs-size}
-use Rattle.emitting.specs.Emitted.{guardIn, guardsIn, pairsIn, argumentAt, Placed, Lies, Paired}
+use Rattle.emitting.specs.Emitted.{guardIn, guardsIn, pairsIn, argumentAt, Grouped, Lies, Paired}
 use Rattle.emitting.specs.FillLaws.{pieces, Filling, filling-start, filling-room, filling-fits, filling-length, filling-step, filling-pass, filling-end}
 use Rattle.emitting.specs.MemberLaws.{length-group, member-in}
 use Rattle.emitting.specs.PieceLaws.{restPiece, rest-in, rest-out, rest-pieces, record-pieces, pair-pieces}
@@ -65,8 +65,8 @@ pub member-inside : (p : List ℕ) (at i g : ℕ) → Lies p at → g ≡ getD (
 member-inside p at i g h e l = rw e (h .inside (getD (groupAt p at) i 0) (member-in p at i l))
 
 -- and its arguments have wires
-pub member-placed : (rows p group : List ℕ) (k at i g : ℕ) → Paired rows p group k at → g ≡ getD (groupAt p at) i 0 → i < getD p at 0 → Placed group (argumentAt rows g k)
-member-placed rows p group k at i g h e l = rw e (h .placed (getD (groupAt p at) i 0) (member-in p at i l))
+pub member-placed : (quads p group : List ℕ) (k at i g : ℕ) → Paired quads p group k at → g ≡ getD (groupAt p at) i 0 → i < getD p at 0 → Grouped group (argumentAt quads g k)
+member-placed quads p group k at i g h e l = rw e (h .placed (getD (groupAt p at) i 0) (member-in p at i l))
 
 -- The guards of a group: piece i is that of member i.
 
@@ -102,41 +102,41 @@ module _ (conds : List ℕ) (wire : ℕ → ℕ) (sets p : List ℕ) (place : �
 -- The pairs of a pick: piece i is the pair of member i.
 
 abbrev pub pairPiece : List ℕ → (ℕ → ℕ) → ℕ → ℕ → List ℕ → ℕ → List ℕ
-pairPiece rows wire n k ms i = wiresBytes ((n + i) ∷ wire (argumentAt rows (getD ms i 0) k) ∷ [])
+pairPiece quads wire n k ms i = wiresBytes ((n + i) ∷ wire (argumentAt quads (getD ms i 0) k) ∷ [])
 
 -- the pairs of i members are written
-pub record PairFilling (rows : List ℕ) (wire : ℕ → ℕ) (n k : ℕ) (p : List ℕ) (place : ℕ) (out out₀ : List ℕ) (at i : ℕ) : Type 0 where
-  pub filling : Filling (pairPiece rows wire n k (groupAt p place)) out out₀ (getD p place 0) at i
+pub record PairFilling (quads : List ℕ) (wire : ℕ → ℕ) (n k : ℕ) (p : List ℕ) (place : ℕ) (out out₀ : List ℕ) (at i : ℕ) : Type 0 where
+  pub filling : Filling (pairPiece quads wire n k (groupAt p place)) out out₀ (getD p place 0) at i
 
-module _ (rows : List ℕ) (wire : ℕ → ℕ) (n k : ℕ) (p : List ℕ) (place : ℕ) where
-  pairs-whole : pieces (pairPiece rows wire n k (groupAt p place)) (getD p place 0) ≡ wiresBytes (pairWires (pairsIn rows wire n k (groupAt p place)))
-  pairs-whole = ap (pieces (pairPiece rows wire n k (groupAt p place))) (sym (length-group p place)) ∙ pair-pieces (λ m. wire (argumentAt rows m k)) n (groupAt p place)
+module _ (quads : List ℕ) (wire : ℕ → ℕ) (n k : ℕ) (p : List ℕ) (place : ℕ) where
+  pairs-whole : pieces (pairPiece quads wire n k (groupAt p place)) (getD p place 0) ≡ wiresBytes (pairWires (pairsIn quads wire n k (groupAt p place)))
+  pairs-whole = ap (pieces (pairPiece quads wire n k (groupAt p place))) (sym (length-group p place)) ∙ pair-pieces (λ m. wire (argumentAt quads m k)) n (groupAt p place)
 
   -- a pair for each member
-  pub pairs-count : length (pairsIn rows wire n k (groupAt p place)) ≡ getD p place 0
-  pairs-count = length-pairs n (map (λ m. wire (argumentAt rows m k)) (groupAt p place)) ∙ length-map (groupAt p place) (λ m. wire (argumentAt rows m k)) ∙ length-group p place
+  pub pairs-count : length (pairsIn quads wire n k (groupAt p place)) ≡ getD p place 0
+  pairs-count = length-pairs n (map (λ m. wire (argumentAt quads m k)) (groupAt p place)) ∙ length-map (groupAt p place) (λ m. wire (argumentAt quads m k)) ∙ length-group p place
 
-  pair-bytes : length (wiresBytes (pairWires (pairsIn rows wire n k (groupAt p place)))) ≡ 4 * getD p place 0
-  pair-bytes = wires-size (pairWires (pairsIn rows wire n k (groupAt p place))) ∙ omega (arith, pairs-size (pairsIn rows wire n k (groupAt p place)), pairs-count)
+  pair-bytes : length (wiresBytes (pairWires (pairsIn quads wire n k (groupAt p place)))) ≡ 4 * getD p place 0
+  pair-bytes = wires-size (pairWires (pairsIn quads wire n k (groupAt p place))) ∙ omega (arith, pairs-size (pairsIn quads wire n k (groupAt p place)), pairs-count)
 
-  pub pairs-start : (out : List ℕ) → 4 * getD p place 0 ≤ length out → PairFilling rows wire n k p place out out 0 0
-  pairs-start out h = record { filling = filling-start (pairPiece rows wire n k (groupAt p place)) out (getD p place 0) (rw (pairs-whole, pair-bytes) h) }
+  pub pairs-start : (out : List ℕ) → 4 * getD p place 0 ≤ length out → PairFilling quads wire n k p place out out 0 0
+  pairs-start out h = record { filling = filling-start (pairPiece quads wire n k (groupAt p place)) out (getD p place 0) (rw (pairs-whole, pair-bytes) h) }
 
-  module _ (out out₀ : List ℕ) (at i : ℕ) (l : PairFilling rows wire n k p place out out₀ at i) (h : i < getD p place 0) where
-    four : length (pairPiece rows wire n k (groupAt p place) i) ≡ 4
-    four = wires-size ((n + i) ∷ wire (argumentAt rows (getD (groupAt p place) i 0) k) ∷ [])
+  module _ (out out₀ : List ℕ) (at i : ℕ) (l : PairFilling quads wire n k p place out out₀ at i) (h : i < getD p place 0) where
+    four : length (pairPiece quads wire n k (groupAt p place) i) ≡ 4
+    four = wires-size ((n + i) ∷ wire (argumentAt quads (getD (groupAt p place) i 0) k) ∷ [])
 
     pub pairs-fits : (at + 4 ≤ length out) × (length out ≡ length out₀)
-    pairs-fits = (omega (arith, filling-fits (pairPiece rows wire n k (groupAt p place)) out out₀ (getD p place 0) at i (l .filling) h, four), filling-length (pairPiece rows wire n k (groupAt p place)) out out₀ (getD p place 0) at i (l .filling) h)
+    pairs-fits = (omega (arith, filling-fits (pairPiece quads wire n k (groupAt p place)) out out₀ (getD p place 0) at i (l .filling) h, four), filling-length (pairPiece quads wire n k (groupAt p place)) out out₀ (getD p place 0) at i (l .filling) h)
 
     pub pairs-room : 4 ≤ length (take (length out - at) (drop at out))
-    pairs-room = omega (arith, filling-room (pairPiece rows wire n k (groupAt p place)) out out₀ (getD p place 0) at i (l .filling) h, four)
+    pairs-room = omega (arith, filling-room (pairPiece quads wire n k (groupAt p place)) out out₀ (getD p place 0) at i (l .filling) h, four)
 
-    pub pairs-step : (g w : ℕ) (ys : List ℕ) → g ≡ getD (groupAt p place) i 0 → w ≡ wire (argumentAt rows g k)
-        → ys ≡ over (wiresBytes ((n + i) ∷ w ∷ [])) (take (length out - at) (drop at out)) → PairFilling rows wire n k p place (putMid at (length out - at) out ys) out₀ (at + 4) (i + 1)
+    pub pairs-step : (g w : ℕ) (ys : List ℕ) → g ≡ getD (groupAt p place) i 0 → w ≡ wire (argumentAt quads g k)
+        → ys ≡ over (wiresBytes ((n + i) ∷ w ∷ [])) (take (length out - at) (drop at out)) → PairFilling quads wire n k p place (putMid at (length out - at) out ys) out₀ (at + 4) (i + 1)
     pairs-step g w ys e q r =
-        let v : w ≡ wire (argumentAt rows (getD (groupAt p place) i 0) k) = rw e at q in
-        record { filling = filling-step (pairPiece rows wire n k (groupAt p place)) out out₀ (getD p place 0) at i (l .filling) h 4 ys (sym four) (rw v at r) }
+        let v : w ≡ wire (argumentAt quads (getD (groupAt p place) i 0) k) = rw e at q in
+        record { filling = filling-step (pairPiece quads wire n k (groupAt p place)) out out₀ (getD p place 0) at i (l .filling) h 4 ys (sym four) (rw v at r) }
 
-  pub pairs-end : (out out₀ : List ℕ) (at i : ℕ) → PairFilling rows wire n k p place out out₀ at i → getD p place 0 ≤ i → out ≡ over (wiresBytes (pairWires (pairsIn rows wire n k (groupAt p place)))) out₀
-  pairs-end out out₀ at i l h = filling-end (pairPiece rows wire n k (groupAt p place)) out out₀ (getD p place 0) at i (l .filling) h .1 ∙ ap (λ (b : List ℕ). over b out₀) pairs-whole
+  pub pairs-end : (out out₀ : List ℕ) (at i : ℕ) → PairFilling quads wire n k p place out out₀ at i → getD p place 0 ≤ i → out ≡ over (wiresBytes (pairWires (pairsIn quads wire n k (groupAt p place)))) out₀
+  pairs-end out out₀ at i l h = filling-end (pairPiece quads wire n k (groupAt p place)) out out₀ (getD p place 0) at i (l .filling) h .1 ∙ ap (λ (b : List ℕ). over b out₀) pairs-whole

@@ -52,29 +52,29 @@ pub few-rests : (s : ℕ) → length (rests mostConditions s) ≤ 6
 unfolding rests
 few-rests s = let e : length (upto mostConditions) ≡ 6 = length-from 0 mostConditions in omega (arith, length-keep (restsOn mostConditions s) (upto mostConditions), e)
 
-pub record Counting (s n t : ℕ) : Type 0 where
+pub record CountingRests (s n t : ℕ) : Type 0 where
   pub below : t ≤ 6
   pub few : n ≤ t
   pub counted : n ≡ length (pieces (restOne s) t)
 
-pub counting-start : (s : ℕ) → Counting s 0 0
+pub counting-start : (s : ℕ) → CountingRests s 0 0
 unfolding pieces
 counting-start s = record { below = omega arith; few = omega arith; counted = refl }
 
-pub counting-in : (s n t : ℕ) → Counting s n t → t < 6 → restsOn mostConditions s t ≡ true → Counting s (n + 1) (t + 1)
+pub counting-in : (s n t : ℕ) → CountingRests s n t → t < 6 → restsOn mostConditions s t ≡ true → CountingRests s (n + 1) (t + 1)
 unfolding restOne
 counting-in s n t l h e =
     let m : length (pieces (restOne s) (t + 1)) ≡ length (pieces (restOne s) t) + 1 =
     rw (pieces-more (restOne s) t, length-append (pieces (restOne s) t) (restOne s t), e) in
     record { below = omega arith; few = omega (arith, l .few); counted = omega (arith, m, l .counted) }
 
-pub counting-out : (s n t : ℕ) → Counting s n t → t < 6 → restsOn mostConditions s t ≡ false → Counting s n (t + 1)
+pub counting-out : (s n t : ℕ) → CountingRests s n t → t < 6 → restsOn mostConditions s t ≡ false → CountingRests s n (t + 1)
 unfolding restOne
 counting-out s n t l h e =
     let m : pieces (restOne s) (t + 1) ≡ pieces (restOne s) t = pieces-more (restOne s) t ∙ rw e (append-nil (pieces (restOne s) t)) in
     record { below = omega arith; few = omega (arith, l .few); counted = rw m (l .counted) }
 
-pub counting-end : (s n t : ℕ) → Counting s n t → 6 ≤ t → n ≡ length (rests mostConditions s)
+pub counting-end : (s n t : ℕ) → CountingRests s n t → 6 ≤ t → n ≡ length (rests mostConditions s)
 unfolding restOne rests
 counting-end s n t l h =
     let e : t ≡ mostConditions = omega (arith, l .below) in

@@ -14,62 +14,62 @@ use Rattle.emitting.specs.Emitted.{aloneIn}
 use Rattle.emitting.specs.CodeLaws.{Applies}
 use Rattle.emitting.specs.AloneLaws.{choice-bytes, choice-size, word-bytes, word-size, bit-bytes, bit-size, start-bytes, start-size, unary-bytes, unary-size, binary-bytes, binary-size}
 
--- a row of the table of codes has an arity
-arity-is : (code k : ℕ) (row : Code) → row ≡ codeOf code → row .arity ≡ k → codeOf code .arity ≡ k
-arity-is code k row e q = ap (λ (r : Code). r .arity) (sym e) ∙ q
+-- a code of the table has an arity
+arity-is : (code k : ℕ) (means : Code) → means ≡ codeOf code → means .arity ≡ k → codeOf code .arity ≡ k
+arity-is code k means e q = ap (λ (r : Code). r .arity) (sym e) ∙ q
 
-pub arity-not : (code k : ℕ) (row : Code) → row ≡ codeOf code → (row .arity ≡ k → ⊥) → codeOf code .arity ≡ k → ⊥
-arity-not code k row e n q = n (ap (λ (r : Code). r .arity) e ∙ q)
+pub arity-not : (code k : ℕ) (means : Code) → means ≡ codeOf code → (means .arity ≡ k → ⊥) → codeOf code .arity ≡ k → ⊥
+arity-not code k means e n q = n (ap (λ (r : Code). r .arity) e ∙ q)
 
-module _ (rows : List ℕ) (wire : ℕ → ℕ) (g : ℕ) where
+module _ (quads : List ℕ) (wire : ℕ → ℕ) (g : ℕ) where
   abbrev pub Put : ℕ → List ℕ → List ℕ → Type 0
-  Put n ys d = (n ≡ length (recordBytes (aloneIn rows wire g))) × (ys ≡ over (recordBytes (aloneIn rows wire g)) d)
+  Put n ys d = (n ≡ length (recordBytes (aloneIn quads wire g))) × (ys ≡ over (recordBytes (aloneIn quads wire g)) d)
 
-  put-as : (b d ys : List ℕ) (n : ℕ) → recordBytes (aloneIn rows wire g) ≡ b → length (recordBytes (aloneIn rows wire g)) ≡ n → ys ≡ over b d → Put n ys d
+  put-as : (b d ys : List ℕ) (n : ℕ) → recordBytes (aloneIn quads wire g) ≡ b → length (recordBytes (aloneIn quads wire g)) ≡ n → ys ≡ over b d → Put n ys d
   put-as b d ys n e l w = (sym l, w ∙ ap (λ (k : List ℕ). over k d) (sym e))
 
-  room-for : (n k : ℕ) → length (recordBytes (aloneIn rows wire g)) ≡ n → length (recordBytes (aloneIn rows wire g)) ≤ k → n ≤ k
+  room-for : (n k : ℕ) → length (recordBytes (aloneIn quads wire g)) ≡ n → length (recordBytes (aloneIn quads wire g)) ≤ k → n ≤ k
   room-for n k e h = rw e at h
 
-  pub choice-room : (k : ℕ) → codeAt rows g ≡ choiceCode → length (recordBytes (aloneIn rows wire g)) ≤ k → 7 ≤ k
-  choice-room k e h = room-for 7 k (choice-size rows g wire e) h
+  pub choice-room : (k : ℕ) → codeAt quads g ≡ choiceCode → length (recordBytes (aloneIn quads wire g)) ≤ k → 7 ≤ k
+  choice-room k e h = room-for 7 k (choice-size quads g wire e) h
 
-  pub choice-put : (x y z : ℕ) (d ys : List ℕ) → codeAt rows g ≡ choiceCode → x ≡ wire (firstAt rows g) → y ≡ wire (secondAt rows g) → z ≡ wire (thirdAt rows g)
+  pub choice-put : (x y z : ℕ) (d ys : List ℕ) → codeAt quads g ≡ choiceCode → x ≡ wire (firstAt quads g) → y ≡ wire (secondAt quads g) → z ≡ wire (thirdAt quads g)
       → ys ≡ over (0x30 ∷ wiresBytes (x ∷ y ∷ z ∷ [])) d → Put 7 ys d
-  choice-put x y z d ys e p q r w = put-as _ d ys 7 (rw (p, q, r) (choice-bytes rows g wire e)) (choice-size rows g wire e) w
+  choice-put x y z d ys e p q r w = put-as _ d ys 7 (rw (p, q, r) (choice-bytes quads g wire e)) (choice-size quads g wire e) w
 
-  pub word-room : (k : ℕ) → codeAt rows g ≡ 0x11 → length (recordBytes (aloneIn rows wire g)) ≤ k → 5 ≤ k
-  word-room k e h = room-for 5 k (word-size rows g wire e) h
+  pub word-room : (k : ℕ) → codeAt quads g ≡ 0x11 → length (recordBytes (aloneIn quads wire g)) ≤ k → 5 ≤ k
+  word-room k e h = room-for 5 k (word-size quads g wire e) h
 
-  pub word-put : (d ys : List ℕ) → codeAt rows g ≡ 0x11 → ys ≡ over (0x11 ∷ bytesOf 4 (firstAt rows g)) d → Put 5 ys d
-  word-put d ys e w = put-as _ d ys 5 (word-bytes rows g wire e) (word-size rows g wire e) w
+  pub word-put : (d ys : List ℕ) → codeAt quads g ≡ 0x11 → ys ≡ over (0x11 ∷ bytesOf 4 (firstAt quads g)) d → Put 5 ys d
+  word-put d ys e w = put-as _ d ys 5 (word-bytes quads g wire e) (word-size quads g wire e) w
 
-  pub bit-room : (k : ℕ) → codeAt rows g ≡ 0x12 → length (recordBytes (aloneIn rows wire g)) ≤ k → 2 ≤ k
-  bit-room k e h = room-for 2 k (bit-size rows g wire e) h
+  pub bit-room : (k : ℕ) → codeAt quads g ≡ 0x12 → length (recordBytes (aloneIn quads wire g)) ≤ k → 2 ≤ k
+  bit-room k e h = room-for 2 k (bit-size quads g wire e) h
 
-  pub bit-put : (d ys : List ℕ) → codeAt rows g ≡ 0x12 → ys ≡ over (codeAt rows g ∷ firstAt rows g ∷ []) d → Put 2 ys d
-  bit-put d ys e w = put-as _ d ys 2 (bit-bytes rows g wire e) (bit-size rows g wire e) w
+  pub bit-put : (d ys : List ℕ) → codeAt quads g ≡ 0x12 → ys ≡ over (codeAt quads g ∷ firstAt quads g ∷ []) d → Put 2 ys d
+  bit-put d ys e w = put-as _ d ys 2 (bit-bytes quads g wire e) (bit-size quads g wire e) w
 
-  pub start-room : (k : ℕ) → codeAt rows g < 2 → length (recordBytes (aloneIn rows wire g)) ≤ k → 2 ≤ k
-  start-room k e h = room-for 2 k (start-size rows g wire (omega (arith, e))) h
+  pub start-room : (k : ℕ) → codeAt quads g < 2 → length (recordBytes (aloneIn quads wire g)) ≤ k → 2 ≤ k
+  start-room k e h = room-for 2 k (start-size quads g wire (omega (arith, e))) h
 
-  pub start-put : (d ys : List ℕ) → codeAt rows g < 2 → ys ≡ over (codeAt rows g ∷ firstAt rows g ∷ []) d → Put 2 ys d
-  start-put d ys e w = put-as _ d ys 2 (start-bytes rows g wire (omega (arith, e))) (start-size rows g wire (omega (arith, e))) w
+  pub start-put : (d ys : List ℕ) → codeAt quads g < 2 → ys ≡ over (codeAt quads g ∷ firstAt quads g ∷ []) d → Put 2 ys d
+  start-put d ys e w = put-as _ d ys 2 (start-bytes quads g wire (omega (arith, e))) (start-size quads g wire (omega (arith, e))) w
 
-  module _ (h : Applies (codeAt rows g)) (row : Code) (is : row ≡ codeOf (codeAt rows g)) where
-    pub unary-room : (k : ℕ) → row .arity ≡ 1 → length (recordBytes (aloneIn rows wire g)) ≤ k → 3 ≤ k
-    unary-room k e l = room-for 3 k (unary-size rows g wire h (arity-is (codeAt rows g) 1 row is e)) l
+  module _ (h : Applies (codeAt quads g)) (means : Code) (is : means ≡ codeOf (codeAt quads g)) where
+    pub unary-room : (k : ℕ) → means .arity ≡ 1 → length (recordBytes (aloneIn quads wire g)) ≤ k → 3 ≤ k
+    unary-room k e l = room-for 3 k (unary-size quads g wire h (arity-is (codeAt quads g) 1 means is e)) l
 
-    pub unary-put : (x : ℕ) (d ys : List ℕ) → row .arity ≡ 1 → x ≡ wire (firstAt rows g) → ys ≡ over (codeAt rows g ∷ wiresBytes (x ∷ [])) d → Put 3 ys d
+    pub unary-put : (x : ℕ) (d ys : List ℕ) → means .arity ≡ 1 → x ≡ wire (firstAt quads g) → ys ≡ over (codeAt quads g ∷ wiresBytes (x ∷ [])) d → Put 3 ys d
     unary-put x d ys e p w =
-        let a : codeOf (codeAt rows g) .arity ≡ 1 = arity-is (codeAt rows g) 1 row is e in
-        put-as _ d ys 3 (rw p (unary-bytes rows g wire h a)) (unary-size rows g wire h a) w
+        let a : codeOf (codeAt quads g) .arity ≡ 1 = arity-is (codeAt quads g) 1 means is e in
+        put-as _ d ys 3 (rw p (unary-bytes quads g wire h a)) (unary-size quads g wire h a) w
 
-    pub binary-room : (k : ℕ) → (row .arity ≡ 1 → ⊥) → length (recordBytes (aloneIn rows wire g)) ≤ k → 5 ≤ k
-    binary-room k e l = room-for 5 k (binary-size rows g wire h (arity-not (codeAt rows g) 1 row is e)) l
+    pub binary-room : (k : ℕ) → (means .arity ≡ 1 → ⊥) → length (recordBytes (aloneIn quads wire g)) ≤ k → 5 ≤ k
+    binary-room k e l = room-for 5 k (binary-size quads g wire h (arity-not (codeAt quads g) 1 means is e)) l
 
-    pub binary-put : (x y : ℕ) (d ys : List ℕ) → (row .arity ≡ 1 → ⊥) → x ≡ wire (firstAt rows g) → y ≡ wire (secondAt rows g)
-        → ys ≡ over (codeAt rows g ∷ wiresBytes (x ∷ y ∷ [])) d → Put 5 ys d
+    pub binary-put : (x y : ℕ) (d ys : List ℕ) → (means .arity ≡ 1 → ⊥) → x ≡ wire (firstAt quads g) → y ≡ wire (secondAt quads g)
+        → ys ≡ over (codeAt quads g ∷ wiresBytes (x ∷ y ∷ [])) d → Put 5 ys d
     binary-put x y d ys e p q w =
-        let a : codeOf (codeAt rows g) .arity ≡ 1 → ⊥ = arity-not (codeAt rows g) 1 row is e in
-        put-as _ d ys 5 (rw (p, q) (binary-bytes rows g wire h a)) (binary-size rows g wire h a) w
+        let a : codeOf (codeAt quads g) .arity ≡ 1 → ⊥ = arity-not (codeAt quads g) 1 means is e in
+        put-as _ d ys 5 (rw (p, q) (binary-bytes quads g wire h a)) (binary-size quads g wire h a) w

@@ -14,7 +14,7 @@ ghost use Rattle.needed.specs.Held.{codeAt};
 ghost use Rattle.plan.specs.PlanFile.{groupAt, after};
 ghost use Rattle.fused.specs.Records.{pick, pairWires};
 ghost use Rattle.fused.specs.CircuitFile.{wiresBytes, recordBytes, recordsBytes};
-ghost use Rattle.emitting.specs.Emitted.{wireIn, aloneIn, emitIn, guardIn, guardsIn, pairsIn, Placed, Writable, Lies, Guarded, Paired, Joining};
+ghost use Rattle.emitting.specs.Emitted.{wireIn, aloneIn, emitIn, guardIn, guardsIn, pairsIn, Grouped, Writable, Lies, Guarded, Paired, JoinWritable};
 ghost use Rattle.emitting.specs.CodeLaws.{Applies};
 ghost use Rattle.emitting.specs.JoinLaws.{Fusing, picksBytes, fusedBytes};
 
@@ -25,7 +25,7 @@ const GUARD: u8 = 0x32;
 
 // The wire that stands for gate g: that of its group.
 pub fn wire_of(group: &[u16; 256], wires: &[u16; 256], g: GateId) -> WireId
-    requires { ⌜ Placed (now group) (g .0) ⌝ }
+    requires { ⌜ Grouped (now group) (g .0) ⌝ }
     ensures { λ r. ⌜ r .0 ≡ wireIn (now (group .entry)) (now (wires .entry)) (g .0) ⌝ }
 {
     let i = g.0 as usize;
@@ -33,12 +33,12 @@ pub fn wire_of(group: &[u16; 256], wires: &[u16; 256], g: GateId) -> WireId
     WireId(wires[p])
 }
 
-// The wire that stands for the gate whose number stands at a place of the rows.
-fn wire_at(rows: &[u32; 1024], at: usize, group: &[u16; 256], wires: &[u16; 256]) -> WireId
-    requires { ⌜ (at < 1024) × Placed (now group) (getD (now rows) at 0) ⌝ }
-    ensures { λ r. ⌜ r .0 ≡ wireIn (now (group .entry)) (now (wires .entry)) (getD (now (rows .entry)) at 0) ⌝ }
+// The wire that stands for the gate whose number stands at a place of the quads.
+fn wire_at(quads: &[u32; 1024], at: usize, group: &[u16; 256], wires: &[u16; 256]) -> WireId
+    requires { ⌜ (at < 1024) × Grouped (now group) (getD (now quads) at 0) ⌝ }
+    ensures { λ r. ⌜ r .0 ≡ wireIn (now (group .entry)) (now (wires .entry)) (getD (now (quads .entry)) at 0) ⌝ }
 {
-    let a = needed::argument(rows, at);
+    let a = needed::argument(quads, at);
     wire_of(group, wires, a)
 }
 
@@ -95,23 +95,23 @@ fn put_choice(out: &mut [u8], c: WireId, a: WireId, b: WireId)
 // An operation alone: one argument or two, as the table says.
 fn put_applied(
     out: &mut [u8],
-    rows: &[u32; 1024],
+    quads: &[u32; 1024],
     group: &[u16; 256],
     wires: &[u16; 256],
     g: GateId,
 ) -> usize
-    requires { ⌜ (length (recordBytes (aloneIn (now rows) (wireIn (now group) (now wires)) (g .0))) ≤ length (now out)) × (Writable (now rows) (now group) (g .0) × Applies (codeAt (now rows) (g .0))) ⌝ }
-    ensures counted { λ r. ⌜ r ≡ length (recordBytes (aloneIn (now (rows .entry)) (wireIn (now (group .entry)) (now (wires .entry))) (g .0))) ⌝ }
-    ensures written { λ r. ⌜ now (out .exit) ≡ over (recordBytes (aloneIn (now (rows .entry)) (wireIn (now (group .entry)) (now (wires .entry))) (g .0))) (now (out .entry)) ⌝ }
+    requires { ⌜ (length (recordBytes (aloneIn (now quads) (wireIn (now group) (now wires)) (g .0))) ≤ length (now out)) × (Writable (now quads) (now group) (g .0) × Applies (codeAt (now quads) (g .0))) ⌝ }
+    ensures counted { λ r. ⌜ r ≡ length (recordBytes (aloneIn (now (quads .entry)) (wireIn (now (group .entry)) (now (wires .entry))) (g .0))) ⌝ }
+    ensures written { λ r. ⌜ now (out .exit) ≡ over (recordBytes (aloneIn (now (quads .entry)) (wireIn (now (group .entry)) (now (wires .entry))) (g .0))) (now (out .entry)) ⌝ }
 {
     let i = g.0 as usize;
-    let code = rows[4 * i] as u8;
-    let a = wire_at(rows, 4 * i + 1, group, wires);
+    let code = quads[4 * i] as u8;
+    let a = wire_at(quads, 4 * i + 1, group, wires);
     if codes::code_of(code).arity == 1 {
         put_unary(out, code, a);
         return 3;
     }
-    let b = wire_at(rows, 4 * i + 2, group, wires);
+    let b = wire_at(quads, 4 * i + 2, group, wires);
     put_binary(out, code, a, b);
     5
 }
@@ -119,37 +119,37 @@ fn put_applied(
 // The record of gate g, a group alone; gives its bytes.
 pub fn put_alone(
     out: &mut [u8],
-    rows: &[u32; 1024],
+    quads: &[u32; 1024],
     group: &[u16; 256],
     wires: &[u16; 256],
     g: GateId,
 ) -> usize
-    requires { ⌜ (length (recordBytes (aloneIn (now rows) (wireIn (now group) (now wires)) (g .0))) ≤ length (now out)) × Writable (now rows) (now group) (g .0) ⌝ }
-    ensures counted { λ r. ⌜ r ≡ length (recordBytes (aloneIn (now (rows .entry)) (wireIn (now (group .entry)) (now (wires .entry))) (g .0))) ⌝ }
-    ensures written { λ r. ⌜ now (out .exit) ≡ over (recordBytes (aloneIn (now (rows .entry)) (wireIn (now (group .entry)) (now (wires .entry))) (g .0))) (now (out .entry)) ⌝ }
+    requires { ⌜ (length (recordBytes (aloneIn (now quads) (wireIn (now group) (now wires)) (g .0))) ≤ length (now out)) × Writable (now quads) (now group) (g .0) ⌝ }
+    ensures counted { λ r. ⌜ r ≡ length (recordBytes (aloneIn (now (quads .entry)) (wireIn (now (group .entry)) (now (wires .entry))) (g .0))) ⌝ }
+    ensures written { λ r. ⌜ now (out .exit) ≡ over (recordBytes (aloneIn (now (quads .entry)) (wireIn (now (group .entry)) (now (wires .entry))) (g .0))) (now (out .entry)) ⌝ }
 {
     let i = g.0 as usize;
-    let code = rows[4 * i];
+    let code = quads[4 * i];
     if code == gates::CHOICE {
-        let c = wire_at(rows, 4 * i + 1, group, wires);
-        let a = wire_at(rows, 4 * i + 2, group, wires);
-        let b = wire_at(rows, 4 * i + 3, group, wires);
+        let c = wire_at(quads, 4 * i + 1, group, wires);
+        let a = wire_at(quads, 4 * i + 2, group, wires);
+        let b = wire_at(quads, 4 * i + 3, group, wires);
         put_choice(out, c, a, b);
         return 7;
     }
     if code == gates::WORD {
-        put_word(out, rows[4 * i + 1]);
+        put_word(out, quads[4 * i + 1]);
         return 5;
     }
     if code == gates::BIT {
-        put_short(out, code as u8, rows[4 * i + 1] as u8);
+        put_short(out, code as u8, quads[4 * i + 1] as u8);
         return 2;
     }
     if code < 2 {
-        put_short(out, code as u8, rows[4 * i + 1] as u8);
+        put_short(out, code as u8, quads[4 * i + 1] as u8);
         return 2;
     }
-    put_applied(out, rows, group, wires, g)
+    put_applied(out, quads, group, wires, g)
 }
 
 // Member i of the group at the place at of the plan.
@@ -257,13 +257,13 @@ fn put_pairs(
     plan: &[u8],
     at: usize,
     first: WireId,
-    rows: &[u32; 1024],
+    quads: &[u32; 1024],
     k: usize,
     group: &[u16; 256],
     wires: &[u16; 256],
 )
-    requires { ⌜ (4 * getD (now plan) at 0 ≤ length (now out)) × (Paired (now rows) (now plan) (now group) k at × (first .0 + getD (now plan) at 0 < 65536)) ⌝ }
-    ensures { λ r. ⌜ now (out .exit) ≡ over (wiresBytes (pairWires (pairsIn (now (rows .entry)) (wireIn (now (group .entry)) (now (wires .entry))) (first .0) k (groupAt (now (plan .entry)) at)))) (now (out .entry)) ⌝ }
+    requires { ⌜ (4 * getD (now plan) at 0 ≤ length (now out)) × (Paired (now quads) (now plan) (now group) k at × (first .0 + getD (now plan) at 0 < 65536)) ⌝ }
+    ensures { λ r. ⌜ now (out .exit) ≡ over (wiresBytes (pairWires (pairsIn (now (quads .entry)) (wireIn (now (group .entry)) (now (wires .entry))) (first .0) k (groupAt (now (plan .entry)) at)))) (now (out .entry)) ⌝ }
 {
     let size = plan[at] as usize;
     let mut n: usize = 0;
@@ -271,7 +271,7 @@ fn put_pairs(
     while i < size {
         let reader = member(plan, at, i);
         let g = reader.0 as usize;
-        let w = wire_at(rows, 4 * g + 1 + k, group, wires);
+        let w = wire_at(quads, 4 * g + 1 + k, group, wires);
         put_pair(&mut out[n..], WireId(first.0 + (i as u16)), w);
         n = n + 4;
         i = i + 1;
@@ -284,17 +284,17 @@ fn put_pick(
     plan: &[u8],
     at: usize,
     first: WireId,
-    rows: &[u32; 1024],
+    quads: &[u32; 1024],
     k: usize,
     group: &[u16; 256],
     wires: &[u16; 256],
 ) -> usize
-    requires { ⌜ (2 + 4 * getD (now plan) at 0 ≤ length (now out)) × (Paired (now rows) (now plan) (now group) k at × (first .0 + getD (now plan) at 0 < 65536)) ⌝ }
+    requires { ⌜ (2 + 4 * getD (now plan) at 0 ≤ length (now out)) × (Paired (now quads) (now plan) (now group) k at × (first .0 + getD (now plan) at 0 < 65536)) ⌝ }
     ensures counted { λ r. ⌜ r ≡ 2 + 4 * getD (now (plan .entry)) at 0 ⌝ }
-    ensures written { λ r. ⌜ now (out .exit) ≡ over (recordBytes (pick (pairsIn (now (rows .entry)) (wireIn (now (group .entry)) (now (wires .entry))) (first .0) k (groupAt (now (plan .entry)) at)))) (now (out .entry)) ⌝ }
+    ensures written { λ r. ⌜ now (out .exit) ≡ over (recordBytes (pick (pairsIn (now (quads .entry)) (wireIn (now (group .entry)) (now (wires .entry))) (first .0) k (groupAt (now (plan .entry)) at)))) (now (out .entry)) ⌝ }
 {
     put_short(out, PICK, plan[at]);
-    put_pairs(&mut out[2..], plan, at, first, rows, k, group, wires);
+    put_pairs(&mut out[2..], plan, at, first, quads, k, group, wires);
     2 + 4 * (plan[at] as usize)
 }
 
@@ -304,16 +304,16 @@ fn put_picks(
     plan: &[u8],
     at: usize,
     first: WireId,
-    rows: &[u32; 1024],
+    quads: &[u32; 1024],
     group: &[u16; 256],
     wires: &[u16; 256],
 ) -> usize
-    requires { ⌜ (4 + 8 * getD (now plan) at 0 ≤ length (now out)) × (Fusing (now rows) (now plan) (now group) at × (first .0 + getD (now plan) at 0 < 65536)) ⌝ }
+    requires { ⌜ (4 + 8 * getD (now plan) at 0 ≤ length (now out)) × (Fusing (now quads) (now plan) (now group) at × (first .0 + getD (now plan) at 0 < 65536)) ⌝ }
     ensures counted { λ r. ⌜ r ≡ 4 + 8 * getD (now (plan .entry)) at 0 ⌝ }
-    ensures written { λ r. ⌜ now (out .exit) ≡ over (picksBytes (now (rows .entry)) (wireIn (now (group .entry)) (now (wires .entry))) (first .0) (groupAt (now (plan .entry)) at)) (now (out .entry)) ⌝ }
+    ensures written { λ r. ⌜ now (out .exit) ≡ over (picksBytes (now (quads .entry)) (wireIn (now (group .entry)) (now (wires .entry))) (first .0) (groupAt (now (plan .entry)) at)) (now (out .entry)) ⌝ }
 {
-    let n = put_pick(out, plan, at, first, rows, 0, group, wires);
-    n + put_pick(&mut out[n..], plan, at, first, rows, 1, group, wires)
+    let n = put_pick(out, plan, at, first, quads, 0, group, wires);
+    n + put_pick(&mut out[n..], plan, at, first, quads, 1, group, wires)
 }
 
 // The picks of a joined group and the operation, whose wire stands for every member: it reads the picks, which follow the guards.
@@ -322,21 +322,21 @@ fn put_fused(
     plan: &[u8],
     at: usize,
     first: WireId,
-    rows: &[u32; 1024],
+    quads: &[u32; 1024],
     group: &[u16; 256],
     wires: &[u16; 256],
 ) -> usize
-    requires { ⌜ (9 + 8 * getD (now plan) at 0 ≤ length (now out)) × (Fusing (now rows) (now plan) (now group) at × (first .0 + getD (now plan) at 0 + 1 < 65536)) ⌝ }
+    requires { ⌜ (9 + 8 * getD (now plan) at 0 ≤ length (now out)) × (Fusing (now quads) (now plan) (now group) at × (first .0 + getD (now plan) at 0 + 1 < 65536)) ⌝ }
     ensures counted { λ r. ⌜ r ≡ 9 + 8 * getD (now (plan .entry)) at 0 ⌝ }
-    ensures written { λ r. ⌜ now (out .exit) ≡ over (fusedBytes (now (rows .entry)) (wireIn (now (group .entry)) (now (wires .entry))) (first .0) (getD (now (plan .entry)) at 0) (groupAt (now (plan .entry)) at)) (now (out .entry)) ⌝ }
+    ensures written { λ r. ⌜ now (out .exit) ≡ over (fusedBytes (now (quads .entry)) (wireIn (now (group .entry)) (now (wires .entry))) (first .0) (getD (now (plan .entry)) at 0) (groupAt (now (plan .entry)) at)) (now (out .entry)) ⌝ }
 {
-    let n = put_picks(out, plan, at, first, rows, group, wires);
+    let n = put_picks(out, plan, at, first, quads, group, wires);
     let m = member(plan, at, 0);
     let i = m.0 as usize;
     let picked = first.0 + (plan[at] as u16);
     put_binary(
         &mut out[n..],
-        rows[4 * i] as u8,
+        quads[4 * i] as u8,
         WireId(picked),
         WireId(picked + 1),
     );
@@ -344,24 +344,24 @@ fn put_fused(
 }
 
 // The records of the joined group at the place `at` of the plan, the first of them being wire `first`: its guards, a pick for each of the
-// two argument places, the operation. Gives their bytes. `count` gates lie in the rows.
+// two argument places, the operation. Gives their bytes. `count` gates lie in the quads.
 pub fn put_joined(
     out: &mut [u8],
     plan: &[u8],
     at: usize,
     first: WireId,
-    rows: &[u32; 1024],
+    quads: &[u32; 1024],
     count: usize,
     needs: &[u64; 256],
     conditions: &[u16; 6],
     group: &[u16; 256],
     wires: &[u16; 256],
 ) -> usize
-    requires { ⌜ (length (recordsBytes (emitIn (now rows) count (now needs) (wireIn (now group) (now wires)) (first .0) (groupAt (now plan) at))) ≤ length (now out))
-        × (Joining (now rows) (now plan) (now conditions) (now group) count at × (first .0 + getD (now plan) at 0 + 1 < 65536)) ⌝ }
-    ensures counted { λ r. ⌜ r ≡ length (recordsBytes (emitIn (now (rows .entry)) count (now (needs .entry)) (wireIn (now (group .entry)) (now (wires .entry))) (first .0) (groupAt (now (plan .entry)) at))) ⌝ }
-    ensures written { λ r. ⌜ now (out .exit) ≡ over (recordsBytes (emitIn (now (rows .entry)) count (now (needs .entry)) (wireIn (now (group .entry)) (now (wires .entry))) (first .0) (groupAt (now (plan .entry)) at))) (now (out .entry)) ⌝ }
+    requires { ⌜ (length (recordsBytes (emitIn (now quads) count (now needs) (wireIn (now group) (now wires)) (first .0) (groupAt (now plan) at))) ≤ length (now out))
+        × (JoinWritable (now quads) (now plan) (now conditions) (now group) count at × (first .0 + getD (now plan) at 0 + 1 < 65536)) ⌝ }
+    ensures counted { λ r. ⌜ r ≡ length (recordsBytes (emitIn (now (quads .entry)) count (now (needs .entry)) (wireIn (now (group .entry)) (now (wires .entry))) (first .0) (groupAt (now (plan .entry)) at))) ⌝ }
+    ensures written { λ r. ⌜ now (out .exit) ≡ over (recordsBytes (emitIn (now (quads .entry)) count (now (needs .entry)) (wireIn (now (group .entry)) (now (wires .entry))) (first .0) (groupAt (now (plan .entry)) at))) (now (out .entry)) ⌝ }
 {
     let n = put_guards(out, plan, at, needs, conditions, group, wires);
-    n + put_fused(&mut out[n..], plan, at, first, rows, group, wires)
+    n + put_fused(&mut out[n..], plan, at, first, quads, group, wires)
 }

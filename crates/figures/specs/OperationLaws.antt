@@ -6,8 +6,8 @@ use mathlib.Core.Logic.{_⊎_, inl, inr}
 use native.Mathlib.Omega.{arith}
 use lib.ListN.{length, getD}
 use Rattle.words.specs.Numbers.{numberAt}
-use Rattle.codes.specs.Codes.{rowOf, operationOf, codeOf}
-use Rattle.codes.specs.CodeLaws.{code-operation, one-or-two, row-form}
+use Rattle.codes.specs.Codes.{entryOf, operationOf, codeOf}
+use Rattle.codes.specs.CodeLaws.{code-operation, one-or-two, entry-form}
 use Rattle.codes.specs.Results.{resultOf}
 use Rattle.codes.specs.declared.Code.{Code}
 use Rattle.codes.specs.declared.Form.the-variants.{Apply}
@@ -19,11 +19,11 @@ use Rattle.figures.specs.Runnable.{mostWires}
 use Rattle.figures.specs.Working.{held}
 
 module _ (f figures : List ℕ) (at : ℕ) (l : 0x20 ≤ getD f at 0) (h : getD f at 0 ≤ 0x27) (c : Code) (e : c ≡ codeOf (getD f at 0)) where
-  is-row : c ≡ rowOf (operationOf (getD f at 0))
-  is-row = e ∙ code-operation _ l h
+  is-entry : c ≡ entryOf (operationOf (getD f at 0))
+  is-entry = e ∙ code-operation _ l h
 
   pub its-form : c .form ≡ Apply (operationOf (getD f at 0))
-  its-form = ap (λ (k : Code). k .form) is-row ∙ row-form _
+  its-form = ap (λ (k : Code). k .form) is-entry ∙ entry-form _
 
   arity-as : c .arity ≡ codeOf (getD f at 0) .arity
   arity-as = ap (λ (k : Code). k .arity) e
@@ -31,9 +31,9 @@ module _ (f figures : List ℕ) (at : ℕ) (l : 0x20 ≤ getD f at 0) (h : getD 
   its-arity : (c .arity ≡ 1) ⊎ (c .arity ≡ 2)
   its-arity = go (one-or-two (operationOf (getD f at 0)))
     where
-      go : (rowOf (operationOf (getD f at 0)) .arity ≡ 1) ⊎ (rowOf (operationOf (getD f at 0)) .arity ≡ 2) → (c .arity ≡ 1) ⊎ (c .arity ≡ 2)
-      go (inl q) = inl (ap (λ (k : Code). k .arity) is-row ∙ q)
-      go (inr q) = inr (ap (λ (k : Code). k .arity) is-row ∙ q)
+      go : (entryOf (operationOf (getD f at 0)) .arity ≡ 1) ⊎ (entryOf (operationOf (getD f at 0)) .arity ≡ 2) → (c .arity ≡ 1) ⊎ (c .arity ≡ 2)
+      go (inl q) = inl (ap (λ (k : Code). k .arity) is-entry ∙ q)
+      go (inr q) = inr (ap (λ (k : Code). k .arity) is-entry ∙ q)
 
   module _ (inside : at + (1 + 2 * codeOf (getD f at 0) .arity) ≤ length f) (wires : Inside mostWires (wiresAt (codeOf (getD f at 0) .arity) f (at + 1))) where
     wires-of : (n : ℕ) → c .arity ≡ n → (at + (1 + 2 * n) ≤ length f) × Inside mostWires (wiresAt n f (at + 1))

@@ -71,7 +71,7 @@ pub none-picked : (f figures : List ℕ) (at count here left : ℕ) → Picking 
 none-picked f figures at count here left p h = let e : left ≡ 0 = omega arith in sym (p .same ∙ ap (λ (n : ℕ). pickFigure (held figures) (pairsAt n f here)) e)
 
 -- amid the wires of a guard: j is the number of the wires from t on
-pub record Counting (f figures : List ℕ) (at count t j : ℕ) : Type 0 where
+pub record CountingWires (f figures : List ℕ) (at count t j : ℕ) : Type 0 where
   pub few : count ≤ mostConditions
   pub below : t ≤ count
   pub inside : at + 2 * count ≤ length f
@@ -79,7 +79,7 @@ pub record Counting (f figures : List ℕ) (at count t j : ℕ) : Type 0 where
   pub same : j ≡ numberOf (wiresAt (count - t) f (at + 2 * t)) (λ w. isOne (held figures w))
 
 pub counting-start : (f figures : List ℕ) (at count t : ℕ) → count ≤ mostConditions → at + 2 * count ≤ length f → Inside mostWires (wiresAt count f at)
-    → t ≡ count → Counting f figures at count t 0
+    → t ≡ count → CountingWires f figures at count t 0
 counting-start f figures at count t few h w e =
     let z : count - t ≡ 0 = omega arith in
     record { few = few; below = omega arith; inside = h; wires = w; same = sym (ap (λ (n : ℕ). numberOf (wiresAt n f (at + 2 * t)) (λ w. isOne (held figures w))) z) }
@@ -90,7 +90,7 @@ number-few f at n σ h =
     let l : numberOf (wiresAt n f at) σ < 2 ^ n = rw (wires-length n f at) at (numberOf-below (wiresAt n f at) σ) in
     let k : 2 ^ n ≤ 2 ^ 6 = pow-mono h in omega (arith, l, k)
 
-module _ (f figures : List ℕ) (at count t j : ℕ) (p : Counting f figures at count t j) where
+module _ (f figures : List ℕ) (at count t j : ℕ) (p : CountingWires f figures at count t j) where
   pub counting-few : j < 64
   counting-few = rw (p .same) (number-few f (at + 2 * t) (count - t) _ (omega (arith, p .few)))
 
@@ -111,7 +111,7 @@ module _ (f figures : List ℕ) (at count t j : ℕ) (p : Counting f figures at 
         ap (λ (n : ℕ). numberOf (wiresAt n f (at + 2 * (t - 1))) (λ w. isOne (held figures w))) a
         ∙ rw (b, p .same)
 
-    counting-next : (g k : ℕ) → g ≡ held figures (numberAt 2 f (at + 2 * (t - 1))) → k ≡ bitOf (isOne g) + 2 * j → Counting f figures at count (t - 1) k
+    counting-next : (g k : ℕ) → g ≡ held figures (numberAt 2 f (at + 2 * (t - 1))) → k ≡ bitOf (isOne g) + 2 * j → CountingWires f figures at count (t - 1) k
     counting-next g k e q = record {
       few = p .few;
       below = omega (arith, p .below);
@@ -120,10 +120,10 @@ module _ (f figures : List ℕ) (at count t j : ℕ) (p : Counting f figures at 
       same = q ∙ rw e (sym before);
     }
 
-    pub counting-one : (g : ℕ) → g ≡ held figures (numberAt 2 f (at + 2 * (t - 1))) → g ≡ 1 → Counting f figures at count (t - 1) (2 * j + 1)
+    pub counting-one : (g : ℕ) → g ≡ held figures (numberAt 2 f (at + 2 * (t - 1))) → g ≡ 1 → CountingWires f figures at count (t - 1) (2 * j + 1)
     counting-one g e one = counting-next g (2 * j + 1) e (rw one (omega arith))
 
-    pub counting-none : (g : ℕ) → g ≡ held figures (numberAt 2 f (at + 2 * (t - 1))) → (g ≡ 1 → ⊥) → Counting f figures at count (t - 1) (2 * j)
+    pub counting-none : (g : ℕ) → g ≡ held figures (numberAt 2 f (at + 2 * (t - 1))) → (g ≡ 1 → ⊥) → CountingWires f figures at count (t - 1) (2 * j)
     counting-none g e none = counting-next g (2 * j) e (rw (ne-eqb g 1 none) (omega arith))
 
 -- a guard: bit j of its table, where j and the table were read

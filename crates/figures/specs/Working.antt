@@ -29,7 +29,7 @@ unfoldable pub figuresOf : List ℕ → List ℕ → ℕ → List ℕ
 figuresOf f inputs i = run 0 (recordFigure inputs) (recordsFrom i f firstRecord) []
 
 -- amid the records: the first i are worked out over the figures that were there before, the next begins at `at`
-pub record Amid (f inputs before figures : List ℕ) (at i : ℕ) : Type 0 where
+pub record AmidRecords (f inputs before figures : List ℕ) (at i : ℕ) : Type 0 where
   pub runnable : Runnable f (length inputs)
   pub room : length before ≡ mostWires
   pub few : i ≤ wireCount f

@@ -17,7 +17,7 @@ use Rattle.fused.specs.Records.{Record, word, reads, recordFigure, wireFigure}
 use Rattle.fused.specs.FileFigures.{wiresAt, recordAt, sizeAt, recordsFrom, firstRecord, fileVariables, wireCount, fileRecords, fileOutputs, fileFigures}
 use Rattle.fused.specs.RecordLaws.{record-same}
 use Rattle.figures.specs.Runnable.{mostWires, recordPlace, Runnable}
-use Rattle.figures.specs.Working.{held, Workable, figuresOf, Amid}
+use Rattle.figures.specs.Working.{held, Workable, figuresOf, AmidRecords}
 use Rattle.figures.specs.ReadingLaws.{wires-more, wires-length, wire-of, records-more, records-length, records-at}
 use Rattle.fused.specs.FileLaws.{place-next}
 
@@ -49,11 +49,11 @@ record-workable f v i r h = record {
   earlier = λ w m. r .earlier i w (subst (λ (q : Record). w ∈ reads q) (sym (records-at (wireCount f) f firstRecord i (word 0) h)) m);
 }
 
-pub amid-start : (f inputs before : List ℕ) → Runnable f (length inputs) → length before ≡ mostWires → Amid f inputs before before 8 0
+pub amid-start : (f inputs before : List ℕ) → Runnable f (length inputs) → length before ≡ mostWires → AmidRecords f inputs before before 8 0
 unfolding figuresOf
 amid-start f inputs before r l = record { runnable = r; room = l; few = omega arith; place = refl; same = sym (over-nil before) }
 
-module _ (f inputs before figures : List ℕ) (at i : ℕ) (p : Amid f inputs before figures at i) where
+module _ (f inputs before figures : List ℕ) (at i : ℕ) (p : AmidRecords f inputs before figures at i) where
   pub amid-end : wireCount f ≤ i → (at ≡ recordPlace f (wireCount f)) × (figures ≡ over (figuresOf f inputs (wireCount f)) before)
   amid-end h = let e : i ≡ wireCount f = omega (arith, p .few) in (p .place ∙ ap (recordPlace f) e, p .same ∙ ap (λ (n : ℕ). over (figuresOf f inputs n) before) e)
 
@@ -83,7 +83,7 @@ module _ (f inputs before figures : List ℕ) (at i : ℕ) (p : Amid f inputs be
         (λ w m. ap (λ (l : List ℕ). held l w) (p .same) ∙ held-over (figuresOf f inputs i) before w (rw (figures-length f inputs i) (here .earlier w m)))
         ∙ ap (λ (q : ℕ). recordFigure inputs (held (figuresOf f inputs i)) (recordAt f q)) (p .place)
 
-    pub amid-more : (g n : ℕ) → g ≡ recordFigure inputs (held figures) (recordAt f at) → n ≡ sizeAt f at → Amid f inputs before (set figures i g) (at + n) (i + 1)
+    pub amid-more : (g n : ℕ) → g ≡ recordFigure inputs (held figures) (recordAt f at) → n ≡ sizeAt f at → AmidRecords f inputs before (set figures i g) (at + n) (i + 1)
     amid-more g n e s = record {
       runnable = p .runnable;
       room = p .room;

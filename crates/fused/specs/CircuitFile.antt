@@ -5,7 +5,7 @@ use lib.ListN.{length}
 use Rattle.words.specs.Numbers.{bytesOf}
 use Rattle.codes.specs.Codes.{byteOf}
 use Rattle.reading.specs.Header.{variables}
-use Rattle.gates.specs.Rows.{startCode}
+use Rattle.gates.specs.Quads.{startCode}
 use Rattle.fused.specs.Records.{Record, input, word, bit, operation, choice, pick, guard, pairWires}
 use Rattle.fused.specs.FusedCircuit.{recordsOf, outputWires}
 

@@ -13,12 +13,12 @@ use Rattle.codes.specs.declared.Operation.{Operation}
 use Rattle.codes.specs.declared.Operation.the-variants.{Sum, Difference, Product, LessThan, Equal, And, Or, Not}
 use Rattle.answers.specs.declared.Answer.{Answer}
 use Rattle.reading.specs.Header.{variables}
-use Rattle.gates.specs.Rows.{startCode}
+use Rattle.gates.specs.Quads.{startCode}
 use Rattle.plan.specs.Rows.{planAnswer}
 use Rattle.fused.specs.Records.{Record, input, word, bit, operation, choice, pick, guard, pairWires, ReadsEarlier}
 use Rattle.fused.specs.FusedCircuit.{recordsOf, outputWires}
 use Rattle.fused.specs.CircuitFile.{mark, wiresBytes, recordBytes, recordsBytes, fileBytes, fusedFile}
-use Rattle.fused.specs.FitRecords.{Fits, AllFit}
+use Rattle.fused.specs.FitRecords.{ReadsBack, AllReadBack}
 use Rattle.fused.specs.FitPlan.{fused-fits}
 use Rattle.fused.specs.SizeBounds.{outputs-count}
 
@@ -52,7 +52,7 @@ start-small : (k : Kind) → startCode k < 256
 start-small kind.Word = omega arith
 start-small kind.Bit = omega arith
 
-pub record-bytes : (r : Record) → Fits r → Bytes (recordBytes r)
+pub record-bytes : (r : Record) → ReadsBack r → Bytes (recordBytes r)
 record-bytes (input k x) h = bytes-cons (startCode k) (x ∷ []) (start-small k) (bytes-cons x [] h nothing)
 record-bytes (word n) h = bytes-cons 0x11 (bytesOf 4 n) (omega arith) (bytes-below 4 n)
 record-bytes (bit b) h = bytes-cons 0x12 (b ∷ []) (omega arith) (bytes-cons b [] h nothing)
@@ -64,11 +64,11 @@ record-bytes (guard cs t) (h, w, u) =
     bytes-cons 0x32 (length cs ∷ (wiresBytes cs ++ bytesOf 8 t)) (omega arith)
     (bytes-cons (length cs) (wiresBytes cs ++ bytesOf 8 t) h (bytes-join (wiresBytes cs) (bytesOf 8 t) (wires-bytes cs) (bytes-below 8 t)))
 
-pub records-bytes : (R : List Record) → AllFit R → Bytes (recordsBytes R)
+pub records-bytes : (R : List Record) → AllReadBack R → Bytes (recordsBytes R)
 records-bytes [] f = nothing
 records-bytes (r ∷ R) (h, f) = bytes-join (recordBytes r) (recordsBytes R) (record-bytes r h) (records-bytes R f)
 
-pub file-bytes : (v : ℕ) (R : List Record) (outputs : List ℕ) → v < 256 → AllFit R → Bytes (fileBytes v R outputs)
+pub file-bytes : (v : ℕ) (R : List Record) (outputs : List ℕ) → v < 256 → AllReadBack R → Bytes (fileBytes v R outputs)
 file-bytes v R outputs h f =
     bytes-join mark (v ∷ (bytesOf 2 (length R) ++ (recordsBytes R ++ wiresBytes outputs))) five
     (bytes-cons v (bytesOf 2 (length R) ++ (recordsBytes R ++ wiresBytes outputs)) h

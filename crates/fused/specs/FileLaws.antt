@@ -11,7 +11,7 @@ use Rattle.words.specs.NumberLaws.{length-bytes, number-found}
 use Rattle.fused.specs.Records.{Record, recordIn}
 use Rattle.fused.specs.CircuitFile.{mark, wiresBytes, recordBytes, recordsBytes, fileBytes}
 use Rattle.fused.specs.FileFigures.{wiresAt, recordAt, sizeAt, recordsFrom, placeAfter, firstRecord, fileVariables, wireCount, fileRecords, fileOutputs}
-use Rattle.fused.specs.FitRecords.{Wires, AllFit}
+use Rattle.fused.specs.FitRecords.{Wires, AllReadBack}
 use Rattle.fused.specs.SizeLaws.{size-append, file-size}
 use Rattle.fused.specs.FoundWires.{wires-found}
 use Rattle.fused.specs.FoundRecords.{record-found}
@@ -19,7 +19,7 @@ use Rattle.fused.specs.FoundRecords.{record-found}
 -- records from the place at of a file x on: before them a, behind them b
 module _ (x : List ℕ) where
   Lie : ℕ → List ℕ → List ℕ → List Record → Type 0
-  Lie at a b R = AllFit R × (at ≡ length a) × (x ≡ a ++ (recordsBytes R ++ b))
+  Lie at a b R = AllReadBack R × (at ≡ length a) × (x ≡ a ++ (recordsBytes R ++ b))
 
   -- the rest lies behind the first, which is found
   first-found : (at : ℕ) (a b : List ℕ) (r : Record) (R : List Record) → Lie at a b (r ∷ R)
@@ -85,7 +85,7 @@ module _ (v : ℕ) (R : List Record) (outputs : List ℕ) where
   pub count-found : length R < 256 ^ 2 → wireCount (fileBytes v R outputs) ≡ length R
   count-found h = number-found 2 (length R) (mark ++ (v ∷ [])) (recordsBytes R ++ wiresBytes outputs) h
 
-  module _ (fit : AllFit R) where
+  module _ (fit : AllReadBack R) where
     lie : Lie (fileBytes v R outputs) firstRecord head (wiresBytes outputs) R
     unfolding Lie
     lie = (fit, head-size, refl)
@@ -130,7 +130,7 @@ module _ (v : ℕ) (R : List Record) (outputs : List ℕ) where
           (rw append-nil (sym (append-assoc head (recordsBytes R) (wiresBytes outputs))))
 
 -- a file put together and taken apart again
-pub file-found : (v : ℕ) (R : List Record) (outputs : List ℕ) → length R < 256 ^ 2 → AllFit R → Wires outputs → length outputs ≡ v
+pub file-found : (v : ℕ) (R : List Record) (outputs : List ℕ) → length R < 256 ^ 2 → AllReadBack R → Wires outputs → length outputs ≡ v
     → (fileRecords (fileBytes v R outputs) ≡ R) × (fileOutputs (fileBytes v R outputs) ≡ outputs)
     × (fileVariables (fileBytes v R outputs) ≡ v) × (wireCount (fileBytes v R outputs) ≡ length R)
 file-found v R outputs few fit w e =

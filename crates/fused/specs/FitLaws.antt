@@ -14,7 +14,7 @@ use Rattle.settings.specs.Sets.{has, restsOn, rests}
 use Rattle.settings.specs.Guards.{spread, tableOver, table}
 use Rattle.settings.specs.BitLaws.{collect-below}
 use Rattle.settings.specs.ListLaws.{length-keep}
-use Rattle.codes.specs.Codes.{rowOf}
+use Rattle.codes.specs.Codes.{entryOf}
 use Rattle.codes.specs.declared.Code.{Code}
 use Rattle.codes.specs.declared.Kind.{Kind}
 use Rattle.codes.specs.declared.Operation.{Operation}
@@ -22,31 +22,31 @@ use Rattle.gates.specs.Gates.{Gate, Gates, gateAt}
 use Rattle.gates.specs.Gates as gate
 use Rattle.gates.specs.Limits.{mostConditions}
 use Rattle.gates.specs.GateKinds.{GateFits}
-use Rattle.plan.specs.PlanFile.{Each}
+use Rattle.plan.specs.PlanFile.{EachGroup}
 use Rattle.plan.specs.Groups.{members, restsOf}
 use Rattle.plan.specs.Accepted.{OneCostly}
 use Rattle.fused.specs.Records.{Record, input, word, bit, operation, choice, pick, guard, reads, recordIn}
 use Rattle.fused.specs.Emission.{alone, joined, guardOf, valuesAt, emit}
-use Rattle.fused.specs.FitRecords.{Wires, Fits, AllFit}
+use Rattle.fused.specs.FitRecords.{Wires, ReadsBack, AllReadBack}
 use Rattle.fused.specs.FitStarts.{StartGate}
 use Rattle.fused.specs.SizeJoined.{length-pairs, picks, rests-few, values-each}
 
 -- what a record needs besides the wires that it reads
-abbrev pub Sized : Record → Type 0
-Sized (input k x) = x < 256
-Sized (word n) = n < 256 ^ 4
-Sized (bit b) = b < 256
-Sized (operation op l) = length l ≡ rowOf op .arity
-Sized (choice c a b) = Unit {0}
-Sized (pick l) = length l < 256
-Sized (guard cs t) = (length cs < 256) × (t < 256 ^ 8)
+abbrev pub FieldsFit : Record → Type 0
+FieldsFit (input k x) = x < 256
+FieldsFit (word n) = n < 256 ^ 4
+FieldsFit (bit b) = b < 256
+FieldsFit (operation op l) = length l ≡ entryOf op .arity
+FieldsFit (choice c a b) = Unit {0}
+FieldsFit (pick l) = length l < 256
+FieldsFit (guard cs t) = (length cs < 256) × (t < 256 ^ 8)
 
-abbrev pub AllSized : List Record → Type 0
-AllSized [] = Unit {0}
-AllSized (r ∷ R) = Sized r × AllSized R
+abbrev pub AllFieldsFit : List Record → Type 0
+AllFieldsFit [] = Unit {0}
+AllFieldsFit (r ∷ R) = FieldsFit r × AllFieldsFit R
 
 -- with wires of two bytes it fits
-sized-fits : (r : Record) → Sized r → Wires (reads r) → Fits r
+sized-fits : (r : Record) → FieldsFit r → Wires (reads r) → ReadsBack r
 sized-fits (input k x) h w = h
 sized-fits (word n) h w = h
 sized-fits (bit b) h w = h
@@ -55,11 +55,11 @@ sized-fits (choice c a b) h w = w
 sized-fits (pick l) h w = (h, w)
 sized-fits (guard cs t) (h, k) w = (h, w, k)
 
-pub all-fit : (R : List Record) → AllSized R → ((i : ℕ) → Wires (reads (recordIn R i))) → AllFit R
+pub all-fit : (R : List Record) → AllFieldsFit R → ((i : ℕ) → Wires (reads (recordIn R i))) → AllReadBack R
 all-fit [] h w = tt
 all-fit (r ∷ R) (h, k) w = (sized-fits r h (w 0), all-fit R k (λ i. w (suc i)))
 
-pub sized-append : (A B : List Record) → AllSized A → AllSized B → AllSized (A ++ B)
+pub sized-append : (A B : List Record) → AllFieldsFit A → AllFieldsFit B → AllFieldsFit (A ++ B)
 sized-append [] B h k = k
 sized-append (r ∷ A) B (a, h) k = (a, sized-append A B h k)
 
@@ -72,14 +72,14 @@ table-small s =
     lt-of-lt-of-le (collect-below (2 ^ length ts) (λ j. has s (spread mostConditions ts j))) (pow-mono (pow-mono few))
 
 -- a gate alone
-pub alone-sized : (s : List ℕ) (wire : ℕ → ℕ) (kinds : ℕ → Kind) (v : ℕ) (k : Gate) → GateFits kinds k → StartGate v k → v ≤ 32 → Sized (alone s wire k)
+pub alone-sized : (s : List ℕ) (wire : ℕ → ℕ) (kinds : ℕ → Kind) (v : ℕ) (k : Gate) → GateFits kinds k → StartGate v k → v ≤ 32 → FieldsFit (alone s wire k)
 alone-sized s wire kinds v (gate.start x) f h l = omega arith
 alone-sized s wire kinds v (gate.word n) f h l = f
 alone-sized s wire kinds v (gate.bit b) f h l = omega arith
 alone-sized s wire kinds v (gate.operation op m) f h l = length-map m wire ∙ f .0
 alone-sized s wire kinds v (gate.choice c a b) f h l = tt
 
-picks-sized : (n k : ℕ) (places : List (List ℕ)) → Each (λ values. length values ≡ k) places → k < 256 → AllSized (picks n places)
+picks-sized : (n k : ℕ) (places : List (List ℕ)) → EachGroup (λ values. length values ≡ k) places → k < 256 → AllFieldsFit (picks n places)
 picks-sized n k [] e h = tt
 picks-sized n k (values ∷ places) (e, f) h = (omega (arith, length-pairs n values, e), picks-sized n k places f h)
 
@@ -89,27 +89,27 @@ members-few [] group q h l = omega arith
 members-few (k ∷ C) group q h l = rw h (omega (arith, length-keep (λ g. eqb (group g) q) (from 1 (length C)), length-from 1 (length C)))
 
 module _ (s : List ℕ) (C : Gates) (sets : List ℕ) (wire : ℕ → ℕ) where
-  guards-sized : (ms : List ℕ) → AllSized (map (guardOf s C sets wire) ms)
+  guards-sized : (ms : List ℕ) → AllFieldsFit (map (guardOf s C sets wire) ms)
   guards-sized [] = tt
   guards-sized (m ∷ ms) =
       ((omega (arith, length-map (restsOf C sets m) wire, rests-few s C sets wire m), table-small (getD sets m 0)), guards-sized ms)
 
   -- a joined group of fewer than 256 members
   joined-sized : (n : ℕ) (op : Operation) (ms : List ℕ) → length ms < 256
-      → AllSized (joined n op (map (guardOf s C sets wire) ms) (map (valuesAt s C sets wire ms) (upto (rowOf op .arity))))
+      → AllFieldsFit (joined n op (map (guardOf s C sets wire) ms) (map (valuesAt s C sets wire ms) (upto (entryOf op .arity))))
   joined-sized n op ms h =
       sized-append (map (guardOf s C sets wire) ms) _ (guards-sized ms)
-      (sized-append (picks n (map (valuesAt s C sets wire ms) (upto (rowOf op .arity)))) _
-      (picks-sized n (length ms) (map (valuesAt s C sets wire ms) (upto (rowOf op .arity))) (values-each s C sets wire ms (upto (rowOf op .arity))) h)
-      (length-from _ _ ∙ length-map (upto (rowOf op .arity)) (valuesAt s C sets wire ms) ∙ length-from 0 (rowOf op .arity), tt))
+      (sized-append (picks n (map (valuesAt s C sets wire ms) (upto (entryOf op .arity)))) _
+      (picks-sized n (length ms) (map (valuesAt s C sets wire ms) (upto (entryOf op .arity))) (values-each s C sets wire ms (upto (entryOf op .arity))) h)
+      (length-from _ _ ∙ length-map (upto (entryOf op .arity)) (valuesAt s C sets wire ms) ∙ length-from 0 (entryOf op .arity), tt))
 
   -- any group whose gates fit
   pub emit-sized : (kinds : ℕ → Kind) (v : ℕ) → v ≤ 32 → ((i : ℕ) → GateFits kinds (gateAt C i)) → ((i : ℕ) → StartGate v (gateAt C i))
-      → (n : ℕ) (ms : List ℕ) → (2 ≤ length ms → OneCostly C ms × (length ms < 256)) → AllSized (emit s C sets wire n ms)
+      → (n : ℕ) (ms : List ℕ) → (2 ≤ length ms → OneCostly C ms × (length ms < 256)) → AllFieldsFit (emit s C sets wire n ms)
   emit-sized kinds v l fits starts n [] h = tt
   emit-sized kinds v l fits starts n (m ∷ []) h = (alone-sized s wire kinds v (gateAt C m) (fits m) (starts m) l, tt)
   emit-sized kinds v l fits starts n (m ∷ k ∷ ms) h =
       let ((op, c, f), few) = h (omega arith) in
       let (l, e) = f m (inl refl) in
-      let a : length l ≡ rowOf op .arity = (rw e at (fits m)) .0 in
+      let a : length l ≡ entryOf op .arity = (rw e at (fits m)) .0 in
       rw (e, a) (joined-sized n op (m ∷ k ∷ ms) few)

@@ -33,16 +33,16 @@ use Rattle.fused.specs.Emission.{emit}
 use Rattle.fused.specs.FusedCircuit.{groupRecords, written, fused, recordsOf, wireOf, outputWires}
 use Rattle.fused.specs.CircuitFile.{recordBytes, recordsBytes, fusedFile}
 use Rattle.fused.specs.FileFigures.{recordAt, sizeAt, placeAfter, firstRecord, fileVariables, wireCount, fileRecords, fileOutputs, fileFigures}
-use Rattle.fused.specs.FitRecords.{Wires, AllFit}
+use Rattle.fused.specs.FitRecords.{Wires, AllReadBack}
 use Rattle.fused.specs.FitStarts.{rule-starting, rule-start}
-use Rattle.fused.specs.FitLaws.{AllSized, all-fit, sized-append, members-few, emit-sized}
+use Rattle.fused.specs.FitLaws.{AllFieldsFit, all-fit, sized-append, members-few, emit-sized}
 use Rattle.fused.specs.SizeBounds.{wires-bound, outputs-count}
 use Rattle.fused.specs.FileLaws.{file-place, file-record, file-part, file-found}
 
 -- what is written of groups that fit
 module _ (s : List ℕ) (C : Gates) (sets : List ℕ) (group : ℕ → ℕ)
-    (sized : (wire : ℕ → ℕ) (n q : ℕ) → AllSized (emit s C sets wire n (members (length C) group q))) where
-  written-sized : (done : List ℕ) → AllSized (written s C sets group done .records)
+    (sized : (wire : ℕ → ℕ) (n q : ℕ) → AllFieldsFit (emit s C sets wire n (members (length C) group q))) where
+  written-sized : (done : List ℕ) → AllFieldsFit (written s C sets group done .records)
   unfolding written
   written-sized [] = tt
   written-sized (q ∷ done) =
@@ -75,7 +75,7 @@ module _ (s p : List ℕ) (h : planAnswer s p .number ≡ 0) where
 
   -- the rule is bytes
   module _ (bytes : Bytes s) where
-    pub fused-sized : AllSized (recordsOf s p)
+    pub fused-sized : AllFieldsFit (recordsOf s p)
     unfolding fused
     fused-sized =
         let (b, n, read) = is-read (readRule s) (rule .read) in
@@ -93,7 +93,7 @@ module _ (s p : List ℕ) (h : planAnswer s p .number ≡ 0) where
           (λ t. omega (arith, ltb-true i (length (recordsOf s p)) t, earlier i w m, wires-bound s p h))
           (λ t. absurd (rw (List·getD-eq-default (recordsOf s p) (word 0) {n = i} (ltb-false i (length (recordsOf s p)) t)) at m))
 
-      pub fused-fits : AllFit (recordsOf s p)
+      pub fused-fits : AllReadBack (recordsOf s p)
       fused-fits = all-fit (recordsOf s p) fused-sized reads-small
 
       -- the place of record i in the file, and what stands there

@@ -4,7 +4,7 @@ use mathlib.Core.Path.{_≡_}
 use mathlib.Core.List.{List, [], _∷_}
 use lib.ListN.{length}
 use Rattle.words.specs.Lists.{_∈_}
-use Rattle.codes.specs.Codes.{rowOf}
+use Rattle.codes.specs.Codes.{entryOf}
 use Rattle.codes.specs.declared.Code.{Code}
 use Rattle.fused.specs.Records.{Record, input, word, bit, operation, choice, pick, guard, pairWires}
 
@@ -13,16 +13,16 @@ abbrev pub Wires : List ℕ → Type 0
 Wires l = (w : ℕ) → w ∈ l → w < 256 ^ 2
 
 -- a record that is read back from its bytes
-abbrev pub Fits : Record → Type 0
-Fits (input k x) = x < 256
-Fits (word n) = n < 256 ^ 4
-Fits (bit b) = b < 256
-Fits (operation op l) = (length l ≡ rowOf op .arity) × Wires l
-Fits (choice c a b) = Wires (c ∷ a ∷ b ∷ [])
-Fits (pick l) = (length l < 256) × Wires (pairWires l)
-Fits (guard cs t) = (length cs < 256) × Wires cs × (t < 256 ^ 8)
+abbrev pub ReadsBack : Record → Type 0
+ReadsBack (input k x) = x < 256
+ReadsBack (word n) = n < 256 ^ 4
+ReadsBack (bit b) = b < 256
+ReadsBack (operation op l) = (length l ≡ entryOf op .arity) × Wires l
+ReadsBack (choice c a b) = Wires (c ∷ a ∷ b ∷ [])
+ReadsBack (pick l) = (length l < 256) × Wires (pairWires l)
+ReadsBack (guard cs t) = (length cs < 256) × Wires cs × (t < 256 ^ 8)
 
 -- every record of a list is one
-abbrev pub AllFit : List Record → Type 0
-AllFit [] = Unit {0}
-AllFit (r ∷ R) = Fits r × AllFit R
+abbrev pub AllReadBack : List Record → Type 0
+AllReadBack [] = Unit {0}
+AllReadBack (r ∷ R) = ReadsBack r × AllReadBack R

@@ -4,13 +4,13 @@ use mathlib.Core.List.{List}
 use Prim.Native.Nat.{ℕ, _+_, _*_}
 use lib.ListN.{getD}
 use Rattle.words.specs.Numbers.{numberAt}
-use Rattle.codes.specs.Codes.{rowOf, operationOf, byteOf, codeOf}
+use Rattle.codes.specs.Codes.{entryOf, operationOf, byteOf, codeOf}
 use Rattle.codes.specs.declared.Code.{Code}
 use Rattle.codes.specs.declared.Kind.{Kind}
 use Rattle.codes.specs.declared.Kind.the-variants as kind
 use Rattle.codes.specs.declared.Operation.{Operation}
 use Rattle.codes.specs.declared.Operation.the-variants.{Sum, Difference, Product, LessThan, Equal, And, Or, Not}
-use Rattle.gates.specs.Rows.{startCode}
+use Rattle.gates.specs.Quads.{startCode}
 use Rattle.fused.specs.Records.{input, word, bit, operation, choice, pick, guard}
 use Rattle.fused.specs.FileFigures.{wiresAt, pairsAt, recordAt, sizeAt}
 
@@ -29,7 +29,7 @@ module _ (x : List ℕ) (at : ℕ) where
   form-bit h = (rw h, rw h)
 
   pub form-operation : (op : Operation) → getD x at 0 ≡ byteOf op
-      → (recordAt x at ≡ operation op (wiresAt (rowOf op .arity) x (at + 1))) × (sizeAt x at ≡ 1 + 2 * rowOf op .arity)
+      → (recordAt x at ≡ operation op (wiresAt (entryOf op .arity) x (at + 1))) × (sizeAt x at ≡ 1 + 2 * entryOf op .arity)
   unfolding recordAt sizeAt codeOf operationOf
   form-operation Sum h = (rw h, rw h)
   form-operation Difference h = (rw h, rw h)

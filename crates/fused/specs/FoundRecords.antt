@@ -6,11 +6,11 @@ use native.Mathlib.Omega.{arith}
 use lib.ListN.{length, getD, length-append}
 use Rattle.words.specs.Numbers.{bytesOf, numberAt}
 use Rattle.codes.specs.Codes.{byteOf}
-use Rattle.gates.specs.Rows.{startCode}
+use Rattle.gates.specs.Quads.{startCode}
 use Rattle.fused.specs.Records.{Record, input, word, bit, operation, choice, pick, guard, pairWires}
 use Rattle.fused.specs.CircuitFile.{wiresBytes, recordBytes}
 use Rattle.fused.specs.FileFigures.{wiresAt, pairsAt, recordAt, sizeAt}
-use Rattle.fused.specs.FitRecords.{Fits}
+use Rattle.fused.specs.FitRecords.{ReadsBack}
 use Rattle.fused.specs.SizeLaws.{wires-size, word-size, operation-size, choice-size, pick-size, guard-size}
 use Rattle.fused.specs.FoundWires.{byte-at, number-at, wires-found, pairs-found}
 use Rattle.fused.specs.FoundForms.{form-input, form-word, form-bit, form-operation, form-choice, form-pick, form-guard}
@@ -37,7 +37,7 @@ module _ (x : List ℕ) (at : ℕ) (a b : List ℕ) (place : at ≡ length a) wh
   second : (k n : ℕ) (r : List ℕ) → x ≡ a ++ (k ∷ n ∷ r) → getD x (at + 1) 0 ≡ n
   second k n r e = byte-at x (at + 1) (a ++ (k ∷ [])) (next k) n r (next-is k (n ∷ r) e)
 
-  pub record-found : (r : Record) → Fits r → x ≡ a ++ (recordBytes r ++ b) → (recordAt x at ≡ r) × (sizeAt x at ≡ length (recordBytes r))
+  pub record-found : (r : Record) → ReadsBack r → x ≡ a ++ (recordBytes r ++ b) → (recordAt x at ≡ r) × (sizeAt x at ≡ length (recordBytes r))
   record-found (input k y) h e =
       let f = form-input x at k (byte-at x at a place (startCode k) (y ∷ b) e) in
       (f .0 ∙ ap (input k) (second (startCode k) y b e), f .1)

@@ -15,7 +15,7 @@ use Rattle.gates.specs.Gates.{Gate, resultOn, figure}
 use Rattle.gates.specs.Gates as gate
 use Rattle.fused.specs.Records.{Record, operation, pick, pickFigure, recordFigure}
 use Rattle.fused.specs.Emission.{alone, pairs, joined}
-use Rattle.fused.specs.RecordLaws.{Along, Gives, Figured, along-left, along-right}
+use Rattle.fused.specs.RecordLaws.{Along, GivesFigure, Figured, along-left, along-right}
 
 -- a list by its places
 pub places-map : (f v : ℕ → ℕ) (l : List ℕ) → ((k : ℕ) → k < length l → f k ≡ v (getD l k 0)) → map f (upto (length l)) ≡ map v l
@@ -89,11 +89,11 @@ module _ (inputs : List ℕ) (W : ℕ → ℕ) where
     pub joined-figure : W (n + length (joined n op guards places) - 1) ≡ resultOn op (map (λ values. pickFigure W (pairs n values)) places)
     joined-figure =
         ap W at-end
-        ∙ along-right (Gives inputs W) P O (n + length guards) after .0
-        ∙ ap (resultOn op) (picks-figured n places (n + length guards) (along-left (Gives inputs W) P O (n + length guards) after))
+        ∙ along-right (GivesFigure inputs W) P O (n + length guards) after .0
+        ∙ ap (resultOn op) (picks-figured n places (n + length guards) (along-left (GivesFigure inputs W) P O (n + length guards) after))
       where
         after : Figured inputs W (n + length guards) (P ++ O)
-        after = along-right (Gives inputs W) guards (P ++ O) n h
+        after = along-right (GivesFigure inputs W) guards (P ++ O) n h
 
         at-end : n + length (guards ++ (P ++ O)) - 1 ≡ n + length guards + length P
         at-end = rw (length-append guards (P ++ O), length-append P O) (omega arith)

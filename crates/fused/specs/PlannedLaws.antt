@@ -6,7 +6,7 @@ use mathlib.Core.List.{List}
 use native.Mathlib.Nat.{zero-add}
 use lib.ListN.{length}
 use Rattle.words.specs.Lists.{_∈_}
-use Rattle.codes.specs.Codes.{rowOf}
+use Rattle.codes.specs.Codes.{entryOf}
 use Rattle.codes.specs.declared.Code.{Code}
 use Rattle.codes.specs.declared.Operation.{Operation}
 use Rattle.answers.specs.Parsing.{parsed}
@@ -46,8 +46,8 @@ use Rattle.fused.specs.RightLaws.{written-right}
 -- gates of one operation have equally many arguments, where the table says how many
 pub same-arity : (op : Operation) (a b : Gate) (l m : List ℕ) → ShapedGate a → ShapedGate b → a ≡ operation op l → b ≡ operation op m → length l ≡ length m
 same-arity op a b l m x y e f =
-    let u : length l ≡ rowOf op .arity = rw e at x in
-    let w : length m ≡ rowOf op .arity = rw f at y in
+    let u : length l ≡ entryOf op .arity = rw e at x in
+    let w : length m ≡ entryOf op .arity = rw f at y in
     u ∙ sym w
 
 module _ (s p : List ℕ) (h : planAnswer s p .number ≡ 0) where

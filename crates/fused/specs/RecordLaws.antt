@@ -88,12 +88,12 @@ wires-right inputs R e =
     run-right 0 (recordFigure inputs) (word 0) R (λ j v w s. record-same inputs v w (recordIn R j) (λ a m. s a (rw zero-add (e j a m))))
 
 -- W gives record i its figure; it gives each of the records its figure
-abbrev pub Gives : List ℕ → (ℕ → ℕ) → ℕ → Record → Type 0
-Gives inputs W i r = W i ≡ recordFigure inputs W r
+abbrev pub GivesFigure : List ℕ → (ℕ → ℕ) → ℕ → Record → Type 0
+GivesFigure inputs W i r = W i ≡ recordFigure inputs W r
 
 abbrev pub Figured : List ℕ → (ℕ → ℕ) → ℕ → List Record → Type 0
-Figured inputs W n R = Along (Gives inputs W) n R
+Figured inputs W n R = Along (GivesFigure inputs W) n R
 
 -- records that read only earlier wires have their figures
 pub run-figured : (inputs : List ℕ) (R : List Record) → ReadsEarlier R → Figured inputs (wireFigure inputs R) 0 R
-run-figured inputs R e = along-each (Gives inputs (wireFigure inputs R)) R 0 (λ j l. rw zero-add (wires-right inputs R e j l))
+run-figured inputs R e = along-each (GivesFigure inputs (wireFigure inputs R)) R 0 (λ j l. rw zero-add (wires-right inputs R e j l))

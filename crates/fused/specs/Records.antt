@@ -6,7 +6,7 @@ use lib.ListN.{length, getD}
 use Rattle.words.specs.Lists.{_∈_}
 use Rattle.settings.specs.Settings.{bitOf, numberOf}
 use Rattle.settings.specs.Sets.{has}
-use Rattle.codes.specs.Codes.{rowOf}
+use Rattle.codes.specs.Codes.{entryOf}
 use Rattle.codes.specs.declared.Code.{Code}
 use Rattle.codes.specs.declared.Kind.{Kind}
 use Rattle.codes.specs.declared.Operation.{Operation}
@@ -78,7 +78,7 @@ abbrev pub recordCost : Record → ℕ
 recordCost (input k x) = 0
 recordCost (word n) = 0
 recordCost (bit b) = 0
-recordCost (operation op l) = rowOf op .cost
+recordCost (operation op l) = entryOf op .cost
 recordCost (choice c a b) = choiceCost
 recordCost (pick l) = 2 * length l
 recordCost (guard cs t) = 1

@@ -23,7 +23,7 @@ use Rattle.plan.specs.GroupLaws.{member-of}
 use Rattle.fused.specs.Records.{Record, pickFigure}
 use Rattle.fused.specs.Emission.{gateOperation, pairs, joined, guardOf, valuesAt, emit}
 use Rattle.fused.specs.FusedCircuit.{Written, groupRecords, written}
-use Rattle.fused.specs.RecordLaws.{Gives, Figured, along-left, along-right}
+use Rattle.fused.specs.RecordLaws.{GivesFigure, Figured, along-left, along-right}
 use Rattle.fused.specs.PickLaws.{places-map, alone-figure, Guarding, guards-hold, pick-one, joined-guards, joined-figure}
 use Rattle.fused.specs.JoinedLaws.{Joined, joined-one}
 use Rattle.fused.specs.GuardLaws.{guard-figure, guard-needed}
@@ -103,9 +103,9 @@ module _ (s : List ℕ) (C : Gates) (wanted : List ℕ) (earlier : Earlier C) (i
       many-gates a k m b h d f =
           let op = gateOperation (gateAt C a) in
           let r = joins .alike p two a m k h in
-          let g = guards-hold W (λ i. needed C wanted i wired) (Gives inputs W) (guardOf s C sets (λ c. wire (group c)))
+          let g = guards-hold W (λ i. needed C wanted i wired) (GivesFigure inputs W) (guardOf s C sets (λ c. wire (group c)))
           (λ i q e. e ∙ guard-figure C wanted earlier inside few W (λ c. wire (group c)) q) (of p) n
-          (joined-guards (Gives inputs W) n op (guards (of p)) (places a (of p)) f) in
+          (joined-guards (GivesFigure inputs W) n op (guards (of p)) (places a (of p)) f) in
           let at-place : ℕ → ℕ = λ j. pickFigure W (pairs n (valuesAt s C sets (λ c. wire (group c)) (of p) j)) in
           let values : resultOn op (map at-place (upto (length (arguments (gateAt C a))))) ≡ resultOn (r .0) (map v (r .1)) =
           rw (r .3, r .4) (ap (resultOn (r .0)) (places-map at-place v (r .1) (pick-right m h d (r .0) (r .1) (r .2) g))) in
@@ -136,7 +136,7 @@ module _ (s : List ℕ) (C : Gates) (wanted : List ℕ) (earlier : Earlier C) (i
       → Figured inputs W 0 (written s C (preconditionSets mostConditions C wanted) group done .records)
       → Right W (written s C (preconditionSets mostConditions C wanted) group done .wire) done
   written-right W [] u o f m k d = absurd k
-  written-right W (p ∷ done) (new, u) (before, o) f m k d = go (written-right W done u o (along-left (Gives inputs W) (w .records) _ 0 parts)) k
+  written-right W (p ∷ done) (new, u) (before, o) f m k d = go (written-right W done u o (along-left (GivesFigure inputs W) (w .records) _ 0 parts)) k
     where
       w : Written
       w = written s C sets group done
@@ -151,6 +151,6 @@ module _ (s : List ℕ) (C : Gates) (wanted : List ℕ) (earlier : Earlier C) (i
       go old (inl e) =
           ap (λ (q : ℕ). W (written s C sets group (p ∷ done) .wire q)) e
           ∙ ap W (wire-last s C sets group p done ∙ ap (λ (n : ℕ). n - 1) (written-length s C sets group p done))
-          ∙ group-right W (w .wire) done old p before (length (w .records)) (rw zero-add at (along-right (Gives inputs W) (w .records) _ 0 parts))
+          ∙ group-right W (w .wire) done old p before (length (w .records)) (rw zero-add at (along-right (GivesFigure inputs W) (w .records) _ 0 parts))
           m b (member-of (length C) group m p b e) d
       go old (inr j) = ap W (wire-old s C sets group p done (new, u) (group m) j) ∙ old m j d

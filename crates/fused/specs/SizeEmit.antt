@@ -8,7 +8,7 @@ use Prim.Native.Nat.{ℕ, _+_, _*_, _≤_}
 use native.Mathlib.Omega.{arith}
 use lib.ListN.{length, length-map}
 use Rattle.words.specs.Lists.{upto}
-use Rattle.codes.specs.Codes.{rowOf, costly}
+use Rattle.codes.specs.Codes.{entryOf, costly}
 use Rattle.codes.specs.declared.Code.{Code}
 use Rattle.codes.specs.declared.Operation.{Operation}
 use Rattle.codes.specs.declared.Operation.the-variants.{Sum, Difference, Product, LessThan, Equal, And, Or, Not}
@@ -24,7 +24,7 @@ use Rattle.fused.specs.SizeLaws.{word-size, operation-size, choice-size,
 use Rattle.fused.specs.SizeJoined.{guards-most, group-count, group-size, group-cost}
 
 -- a costly operation has two arguments
-pub costly-two : (op : Operation) → costly op ≡ true → rowOf op .arity ≡ 2
+pub costly-two : (op : Operation) → costly op ≡ true → entryOf op .arity ≡ 2
 costly-two Sum h = refl
 costly-two Difference h = refl
 costly-two Product h = refl
@@ -35,7 +35,7 @@ costly-two Or h = refl
 costly-two Not h = absurd (false≢true h)
 
 -- and any has at most two
-pub arity-most : (op : Operation) → rowOf op .arity ≤ 2
+pub arity-most : (op : Operation) → entryOf op .arity ≤ 2
 arity-most Sum = omega arith
 arity-most Difference = omega arith
 arity-most Product = omega arith
@@ -79,7 +79,7 @@ module _ (s : List ℕ) (C : Gates) (sets : List ℕ) (wire : ℕ → ℕ) (n : 
         ≡ length (recordsBytes (map (guardOf s C sets wire) (m ∷ k ∷ l))) + 2 * (2 + 4 * length (m ∷ k ∷ l)) + 5
     emit-size = ap (λ (R : List Record). length (recordsBytes R)) emit-joined ∙ group-size s C sets wire n op (m ∷ k ∷ l) 2
 
-    pub emit-cost : recordsCost (emit s C sets wire n (m ∷ k ∷ l)) ≡ 5 * length (m ∷ k ∷ l) + rowOf op .cost
+    pub emit-cost : recordsCost (emit s C sets wire n (m ∷ k ∷ l)) ≡ 5 * length (m ∷ k ∷ l) + entryOf op .cost
     emit-cost = ap recordsCost emit-joined ∙ group-cost s C sets wire n op (m ∷ k ∷ l) 2 ∙ omega arith
 
   -- any group of k members: at most 5 k / 2 records, of at most 69 k / 2 bytes, at a cost of at most 40 k

@@ -8,12 +8,12 @@ use lib.ListN.{length, getD, length-append, length-map}
 use Rattle.words.specs.Lists.{from, upto, length-from}
 use Rattle.settings.specs.Sets.{restsOn, rests}
 use Rattle.settings.specs.ListLaws.{length-keep}
-use Rattle.codes.specs.Codes.{rowOf}
+use Rattle.codes.specs.Codes.{entryOf}
 use Rattle.codes.specs.declared.Code.{Code}
 use Rattle.codes.specs.declared.Operation.{Operation}
 use Rattle.gates.specs.Gates.{Gates}
 use Rattle.gates.specs.Limits.{mostConditions}
-use Rattle.plan.specs.PlanFile.{Each}
+use Rattle.plan.specs.PlanFile.{EachGroup}
 use Rattle.plan.specs.Groups.{restsOf}
 use Rattle.fused.specs.Records.{Record, operation, pick, recordsCost}
 use Rattle.fused.specs.Emission.{pairs, joined, guardOf, valuesAt}
@@ -29,14 +29,14 @@ length-pairs n (w ∷ values) = ap suc (length-pairs (suc n) values)
 abbrev pub picks : ℕ → List (List ℕ) → List Record
 picks n places = map (λ values. pick (pairs n values)) places
 
-pub picks-size : (n k : ℕ) (places : List (List ℕ)) → Each (λ values. length values ≡ k) places → length (recordsBytes (picks n places)) ≡ length places * (2 + 4 * k)
+pub picks-size : (n k : ℕ) (places : List (List ℕ)) → EachGroup (λ values. length values ≡ k) places → length (recordsBytes (picks n places)) ≡ length places * (2 + 4 * k)
 picks-size n k [] e = omega arith
 picks-size n k (values ∷ places) (e, f) =
     length-append (recordBytes (pick (pairs n values))) (recordsBytes (picks n places))
     ∙ ap₂ (λ (x y : ℕ). x + y) (pick-size (pairs n values) ∙ ap (λ (i : ℕ). 2 + 4 * i) (length-pairs n values ∙ e)) (picks-size n k places f)
     ∙ rw (suc-mul (length places) (2 + 4 * k)) (omega arith)
 
-pub picks-cost : (n k : ℕ) (places : List (List ℕ)) → Each (λ values. length values ≡ k) places → recordsCost (picks n places) ≡ length places * (2 * k)
+pub picks-cost : (n k : ℕ) (places : List (List ℕ)) → EachGroup (λ values. length values ≡ k) places → recordsCost (picks n places) ≡ length places * (2 * k)
 unfolding recordsCost
 picks-cost n k [] e = omega arith
 picks-cost n k (values ∷ places) (e, f) =
@@ -51,7 +51,7 @@ module _ (n : ℕ) (op : Operation) (guards : List Record) (places : List (List 
   pub joined-count : length (joined n op guards places) ≡ length guards + length places + 1
   joined-count = rw (length-append guards (picks n places ++ (last ∷ [])), length-append (picks n places) (last ∷ []), length-map) (omega arith)
 
-  module _ (k : ℕ) (each : Each (λ values. length values ≡ k) places) where
+  module _ (k : ℕ) (each : EachGroup (λ values. length values ≡ k) places) where
     pub joined-size : length (recordsBytes (joined n op guards places)) ≡ length (recordsBytes guards) + length places * (2 + 4 * k) + (1 + 2 * length places)
     joined-size =
         rw (
@@ -64,7 +64,7 @@ module _ (n : ℕ) (op : Operation) (guards : List Record) (places : List (List 
         )
         (omega arith)
 
-    pub joined-cost : recordsCost (joined n op guards places) ≡ recordsCost guards + length places * (2 * k) + rowOf op .cost
+    pub joined-cost : recordsCost (joined n op guards places) ≡ recordsCost guards + length places * (2 * k) + entryOf op .cost
     joined-cost =
         rw (cost-append guards (picks n places ++ (last ∷ [])), cost-append (picks n places) (last ∷ []), picks-cost n k places each, cost-one last) (omega arith)
 
@@ -91,7 +91,7 @@ module _ (s : List ℕ) (C : Gates) (sets : List ℕ) (wire : ℕ → ℕ) where
   guards-cost (m ∷ ms) = rw (guards-cost ms) (omega arith)
 
   -- at each place as many wires as members
-  pub values-each : (ms l : List ℕ) → Each (λ values. length values ≡ length ms) (map (valuesAt s C sets wire ms) l)
+  pub values-each : (ms l : List ℕ) → EachGroup (λ values. length values ≡ length ms) (map (valuesAt s C sets wire ms) l)
   values-each ms [] = tt
   values-each ms (k ∷ l) = (length-map ms _, values-each ms l)
 
@@ -113,7 +113,7 @@ module _ (s : List ℕ) (C : Gates) (sets : List ℕ) (wire : ℕ → ℕ) where
         joined-size n op (map (guardOf s C sets wire) ms) (map (valuesAt s C sets wire ms) (upto a)) (length ms) (values-each ms (upto a))
         ∙ ap (λ (x : ℕ). length (recordsBytes (map (guardOf s C sets wire) ms)) + x * (2 + 4 * length ms) + (1 + 2 * x)) places
 
-    pub group-cost : recordsCost group ≡ length ms + a * (2 * length ms) + rowOf op .cost
+    pub group-cost : recordsCost group ≡ length ms + a * (2 * length ms) + entryOf op .cost
     group-cost =
         joined-cost n op (map (guardOf s C sets wire) ms) (map (valuesAt s C sets wire ms) (upto a)) (length ms) (values-each ms (upto a))
-        ∙ ap₂ (λ (g x : ℕ). g + x * (2 * length ms) + rowOf op .cost) (guards-cost ms) places
+        ∙ ap₂ (λ (g x : ℕ). g + x * (2 * length ms) + entryOf op .cost) (guards-cost ms) places

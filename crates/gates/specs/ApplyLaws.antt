@@ -8,7 +8,7 @@ use native.Mathlib.Omega.{arith}
 use lib.Dec.{ltb}
 use borrow.Author.Tests.{ltb-true, ltb-false}
 use Rattle.words.specs.Lists.{_∈_, split}
-use Rattle.codes.specs.Codes.{commutes, rowOf}
+use Rattle.codes.specs.Codes.{commutes, entryOf}
 use Rattle.codes.specs.Results.{resultOf}
 use Rattle.codes.specs.ResultLaws.{result-commutes}
 use Rattle.codes.specs.declared.Kind.{Kind}
@@ -49,8 +49,8 @@ pub apply-figure : (inputs : List ℕ) (v : ℕ → ℕ) (op : Operation) (a b :
 apply-figure inputs v op a b = apply-cases (λ k. figure inputs v k ≡ resultOf op (v a) (v b)) op a b refl (λ c. result-commutes op (v b) (v a) c)
 
 -- its kind is what the operation gives
-pub apply-kind : (kinds k : ℕ → Kind) (op : Operation) (a b : ℕ) → gateKind kinds k (applyGate op a b) ≡ rowOf op .gives
-apply-kind kinds k op a b = apply-cases (λ g. gateKind kinds k g ≡ rowOf op .gives) op a b refl (λ c. refl)
+pub apply-kind : (kinds k : ℕ → Kind) (op : Operation) (a b : ℕ) → gateKind kinds k (applyGate op a b) ≡ entryOf op .gives
+apply-kind kinds k op a b = apply-cases (λ g. gateKind kinds k g ≡ entryOf op .gives) op a b refl (λ c. refl)
 
 -- two orders, one gate
 pub apply-commutes : (op : Operation) (a b : ℕ) → commutes op ≡ true → applyGate op a b ≡ applyGate op b a

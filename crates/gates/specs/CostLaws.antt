@@ -5,7 +5,7 @@ use mathlib.Core.List.{[], _∷_, _++_}
 use native.Mathlib.Nat.{zero-add, add-assoc}
 use native.Mathlib.Omega.{arith}
 use lib.ListN.{length}
-use Rattle.codes.specs.Codes.{rowOf}
+use Rattle.codes.specs.Codes.{entryOf}
 use Rattle.codes.specs.declared.Code.{Code}
 use Rattle.codes.specs.declared.Operation.{Operation}
 use Rattle.codes.specs.declared.Operation.the-variants.{Sum, Difference, Product, LessThan, Equal, And, Or, Not}
@@ -21,7 +21,7 @@ pub costs-add : (C : Gates) (k : Gate) → costs (C ++ (k ∷ [])) ≡ costs C +
 unfolding costs
 costs-add C k = costs-append C (k ∷ []) ∙ ap (λ (n : ℕ). costs C + n) (omega arith)
 
-operation-most : (op : Operation) → rowOf op .cost ≤ 40
+operation-most : (op : Operation) → entryOf op .cost ≤ 40
 operation-most Sum = omega arith
 operation-most Difference = omega arith
 operation-most Product = omega arith

@@ -21,7 +21,7 @@ use Rattle.gates.specs.FigureLaws.{figure-same, runAt-last}
 use Rattle.gates.specs.PlainLaws.{extends-trans, expr-extends}
 use Rattle.gates.specs.SoundLaws.{Sound, expr-standing, sound-again, Parts, statement-sound, parts-of}
 use Rattle.gates.specs.RunLaws.{statement-count, block-keeps}
-use Rattle.gates.specs.HoldLaws.{Holds, runAt-extends, holds-extends, condition-stays, first-stays, before-stays, parts-hold}
+use Rattle.gates.specs.HoldLaws.{PresentGives, runAt-extends, holds-extends, condition-stays, first-stays, before-stays, parts-hold}
 
 module _ (inputs : List ℕ) where
   -- the figure of gate i
@@ -30,7 +30,7 @@ module _ (inputs : List ℕ) where
 
   -- the present gates have the figures f
   abbrev pub Agrees : Making → List ℕ → Type 0
-  Agrees m f = Holds 0 (figure inputs) m (λ x. getD f x 0)
+  Agrees m f = PresentGives 0 (figure inputs) m (λ x. getD f x 0)
 
   module _ (v : ℕ) (kinds : ℕ → Kind) where
     pub expr-figure : (e : Expr) (k : Kind) → Typed v kinds e k → (m : Making) → Sound v m → (f : List ℕ) → Agrees m f

@@ -6,7 +6,7 @@ use mathlib.Core.Logic.{_⊎_, inl, inr}
 use native.Mathlib.Omega.{arith}
 use lib.ListN.{length, getD}
 use Rattle.words.specs.Lists.{_∈_}
-use Rattle.codes.specs.Codes.{rowOf}
+use Rattle.codes.specs.Codes.{entryOf}
 use Rattle.codes.specs.declared.Code.{Code}
 use Rattle.codes.specs.declared.Kind.{Kind}
 use Rattle.codes.specs.declared.Kind.the-variants as kind
@@ -21,8 +21,8 @@ use Rattle.gates.specs.FigureLaws.{runAt-append, runAt-last}
 use Rattle.gates.specs.PlainLaws.{extends-length, expr-extends}
 use Rattle.gates.specs.ApplyLaws.{apply-cases, apply-arguments, apply-kind}
 use Rattle.gates.specs.EarlierLaws.{Inside, gate-add, earlier-add, argument-inside}
-use Rattle.gates.specs.SoundLaws.{Sound, expr-standing, sound-again, Ready, ready-next, choice-inside}
-use Rattle.gates.specs.HoldLaws.{Holds, runAt-extends, holds-extends}
+use Rattle.gates.specs.SoundLaws.{Sound, expr-standing, sound-again, CanChoose, ready-next, choice-inside}
+use Rattle.gates.specs.HoldLaws.{PresentGives, runAt-extends, holds-extends}
 
 -- whether a gate fits rests on the kinds of its arguments
 fits-same : (g : Gate) (k j : ℕ → Kind) → ((a : ℕ) → a ∈ arguments g → k a ≡ j a) → GateFits k g → GateFits j g
@@ -33,10 +33,10 @@ fits-same (operation op l) k j h (n, f) = (n, λ a m. sym (h a m) ∙ f a m)
 fits-same (choice c a b) k j h (f, e) = (sym (h c (inl refl)) ∙ f, sym (h a (inr (inl refl))) ∙ e ∙ h b (inr (inr (inl refl))))
 
 -- an operation's gate fits if its two arguments are of the kind that it takes
-apply-fits : (op : Operation) (a b : ℕ) (k : ℕ → Kind) → rowOf op .arity ≡ 2 → k a ≡ rowOf op .takes → k b ≡ rowOf op .takes → GateFits k (applyGate op a b)
+apply-fits : (op : Operation) (a b : ℕ) (k : ℕ → Kind) → entryOf op .arity ≡ 2 → k a ≡ entryOf op .takes → k b ≡ entryOf op .takes → GateFits k (applyGate op a b)
 apply-fits op a b k n e f = apply-cases (GateFits k) op a b (sym n, each a b e f) (λ c. (sym n, each b a f e))
   where
-    each : (a b : ℕ) → k a ≡ rowOf op .takes → k b ≡ rowOf op .takes → (x : ℕ) → x ∈ (a ∷ b ∷ []) → k x ≡ rowOf op .takes
+    each : (a b : ℕ) → k a ≡ entryOf op .takes → k b ≡ entryOf op .takes → (x : ℕ) → x ∈ (a ∷ b ∷ []) → k x ≡ entryOf op .takes
     each a b e f x (inl z) = rw z e
     each a b e f x (inr (inl z)) = rw z f
     each a b e f x (inr (inr z)) = absurd z
@@ -76,7 +76,7 @@ module _ (v : ℕ) (kinds : ℕ → Kind) where
   add-kinded C g k e f i h n = record { stands = runAt-last kind.Word (gateKind kinds) C g ∙ n; fit = fit-add C g e f i h }
 
   pub expr-kinded : (e : Expr) (k : Kind) → Typed v kinds e k → Words v kinds e k → (m : Making) → Sound v m → Fit (m .gates)
-      → Holds kind.Word (gateKind kinds) m kinds → Kinded k (makeExpr e (m .present) (m .gates))
+      → PresentGives kind.Word (gateKind kinds) m kinds → Kinded k (makeExpr e (m .present) (m .gates))
   unfolding makeExpr
   expr-kinded (variable x) k (h, t) w m s f a = record { stands = a x (omega (arith, s .count)) ∙ t; fit = f }
   expr-kinded (word n) k t w m s f a = add-kinded (m .gates) (gate.word n) k (s .earlier) f (λ z q. absurd q) w t
@@ -86,7 +86,7 @@ module _ (v : ℕ) (kinds : ℕ → Kind) where
       let r = expr-standing v kinds e _ t (m .present) (m .gates) (s .count) (s .inside) (s .earlier) in
       let q = expr-kinded e _ t w m s f a in
       add-kinded (n .gates) (operation op (n .place ∷ [])) k (r .earlier) (q .fit) (one-in (n .place) (λ z. z < length (n .gates)) (r .within))
-      (sym h, one-in (n .place) (λ z. at (n .gates) z ≡ rowOf op .takes) (q .stands)) g
+      (sym h, one-in (n .place) (λ z. at (n .gates) z ≡ entryOf op .takes) (q .stands)) g
   expr-kinded (two op d e) k (h, g, t, u) (w, y) m s f a =
       let n = makeExpr d (m .present) (m .gates) in
       let x = expr-extends d (m .present) (m .gates) in
@@ -104,7 +104,7 @@ module _ (v : ℕ) (kinds : ℕ → Kind) where
       (runAt-extends kind.Word (gateKind kinds) (n .gates) (n′ .gates) x′ (n .place) (r .within) ∙ q .stands) (q′ .stands))
       (apply-kind kinds (at (n′ .gates)) op (n .place) (n′ .place) ∙ g)
 
-  pub choices-fit : (c : ℕ) (p q l : List ℕ) (m : Making) → Ready (length (m .gates)) c p q l → Earlier (m .gates) → Fit (m .gates) → at (m .gates) c ≡ kind.Bit
+  pub choices-fit : (c : ℕ) (p q l : List ℕ) (m : Making) → CanChoose (length (m .gates)) c p q l → Earlier (m .gates) → Fit (m .gates) → at (m .gates) c ≡ kind.Bit
       → ((x : ℕ) → x ∈ l → at (m .gates) (getD p x 0) ≡ at (m .gates) (getD q x 0)) → Fit (choices c p q l m .gates)
   unfolding choices
   choices-fit c p q [] m r s f e h = f

@@ -21,7 +21,7 @@ use Rattle.gates.specs.GateKinds.{gateKind, kindOfGate, GateFits, GatesF
 use Rattle.gates.specs.PlainCircuit.{Making, Made, makeExpr, choices, assignedIn, asBefore, makeStatement, makeBlock, conditionMade, firstMade, secondMade, starts, plainCircuit, gatesOf, outputsOf}
 use Rattle.gates.specs.PlainLaws.{extends-trans, expr-extends}
 use Rattle.gates.specs.SoundLaws.{Sound, sound-again, assigned-below, Parts, parts-ready, parts-of, statement-sound}
-use Rattle.gates.specs.HoldLaws.{Holds, holds-extends, condition-stays, first-stays, before-stays, parts-hold}
+use Rattle.gates.specs.HoldLaws.{PresentGives, holds-extends, condition-stays, first-stays, before-stays, parts-hold}
 use Rattle.gates.specs.KindLaws.{kind-same, FiguresFit, block-fits, gate-fits, inputs-fit}
 use Rattle.gates.specs.ExprKindLaws.{at, Fit, expr-kinded, choices-fit}
 use Rattle.gates.specs.ReadLaws.{read-typed, read-words}
@@ -31,10 +31,10 @@ module _ (v : ℕ) (kinds : ℕ → Kind) where
   -- what statements keep: every gate fits, and each variable's present gate is of the variable's kind
   record Kept (m : Making) : Type 0 where
     fit : Fit v kinds (m .gates)
-    present-kinds : Holds kind.Word (gateKind kinds) m kinds
+    present-kinds : PresentGives kind.Word (gateKind kinds) m kinds
 
-  set-kept : (m : Making) (x g : ℕ) (C : Gates) → Holds kind.Word (gateKind kinds) (asBefore m C) kinds
-      → at v kinds C g ≡ kinds x → Holds kind.Word (gateKind kinds) (record { gates = C; present = set (m .present) x g }) kinds
+  set-kept : (m : Making) (x g : ℕ) (C : Gates) → PresentGives kind.Word (gateKind kinds) (asBefore m C) kinds
+      → at v kinds C g ≡ kinds x → PresentGives kind.Word (gateKind kinds) (record { gates = C; present = set (m .present) x g }) kinds
   set-kept m x g C a e y h = go (same? y x)
     where
       in-present : y < length (m .present)
@@ -45,7 +45,7 @@ module _ (v : ℕ) (kinds : ℕ → Kind) where
       go (inr w) = rw (getD-set-other (m .present) x y g 0 w) (a y in-present)
 
   -- after an if whose condition is a bit and whose blocks keep it, so do the choices
-  branch-kept : (b d : Block) (m : Making) (n : Made) (first second : Making) → Parts v m n first second → Holds kind.Word (gateKind kinds) m kinds
+  branch-kept : (b d : Block) (m : Making) (n : Made) (first second : Making) → Parts v m n first second → PresentGives kind.Word (gateKind kinds) m kinds
       → at v kinds (n .gates) (n .place) ≡ kind.Bit → Kept first → Kept second
       → Kept (choices (n .place) (first .present) (second .present) (assignedIn b d (length (m .present))) (asBefore m (second .gates)))
   branch-kept b d m n first second w a e k₁ k₂ =

@@ -3,7 +3,7 @@ use Prim.Native.Nat.{ℕ}
 use mathlib.Core.Path.{_≡_}
 use lib.ListN.{length}
 use Rattle.words.specs.Lists.{_∈_}
-use Rattle.codes.specs.Codes.{rowOf}
+use Rattle.codes.specs.Codes.{entryOf}
 use Rattle.codes.specs.declared.Code.{Code}
 use Rattle.codes.specs.declared.Kind.{Kind}
 use Rattle.codes.specs.declared.Kind.the-variants as kind
@@ -15,7 +15,7 @@ abbrev pub gateKind : (ℕ → Kind) → (ℕ → Kind) → Gate → Kind
 gateKind kinds k (start x) = kinds x
 gateKind kinds k (word n) = kind.Word
 gateKind kinds k (bit b) = kind.Bit
-gateKind kinds k (operation op l) = rowOf op .gives
+gateKind kinds k (operation op l) = entryOf op .gives
 gateKind kinds k (choice c a b) = k a
 
 -- the kind of gate i
@@ -27,7 +27,7 @@ abbrev pub GateFits : (ℕ → Kind) → Gate → Type 0
 GateFits k (start x) = Unit {0}
 GateFits k (word n) = Fits kind.Word n
 GateFits k (bit b) = Fits kind.Bit b
-GateFits k (operation op l) = (length l ≡ rowOf op .arity) × ((a : ℕ) → a ∈ l → k a ≡ rowOf op .takes)
+GateFits k (operation op l) = (length l ≡ entryOf op .arity) × ((a : ℕ) → a ∈ l → k a ≡ entryOf op .takes)
 GateFits k (choice c a b) = (k c ≡ kind.Bit) × (k a ≡ k b)
 
 -- every gate fits

@@ -5,7 +5,7 @@ use mathlib.Core.List.{List, [], _∷_, _++_, map}
 use mathlib.Core.Bool.{cond}
 use lib.ListN.{length, getD}
 use Rattle.words.specs.Lists.{_∈_, elem, keep, upto}
-use Rattle.codes.specs.Codes.{rowOf}
+use Rattle.codes.specs.Codes.{entryOf}
 use Rattle.codes.specs.Results.{resultOf}
 use Rattle.codes.specs.declared.Code.{Code}
 use Rattle.codes.specs.declared.Operation.{Operation}
@@ -72,7 +72,7 @@ abbrev pub costOf : Gate → ℕ
 costOf (start x) = 0
 costOf (word n) = 0
 costOf (bit b) = 0
-costOf (operation op l) = rowOf op .cost
+costOf (operation op l) = entryOf op .cost
 costOf (choice c a b) = choiceCost
 
 unfoldable pub costs : Gates → ℕ

@@ -14,27 +14,27 @@ use Rattle.gates.specs.FigureLaws.{OnArguments, runAt-append, runAt-last
 use Rattle.gates.specs.PlainCircuit.{Making, Made, assigns, choose, choices, assignedIn, asBefore}
 use Rattle.gates.specs.PlainLaws.{Extends, extends-trans, extends-length}
 use Rattle.gates.specs.EarlierLaws.{Inside, inside-at, inside-set, inside-more}
-use Rattle.gates.specs.SoundLaws.{Ready, ready-next, choice-inside, assigned-below, Parts, parts-whole, parts-ready}
+use Rattle.gates.specs.SoundLaws.{CanChoose, ready-next, choice-inside, assigned-below, Parts, parts-whole, parts-ready}
 use Rattle.gates.specs.RunLaws.{or-none}
 
 module _ {A : Type 0} (d : A) (value : (ℕ → A) → Gate → A) where
   -- the present gate of each variable x gives h x
-  abbrev pub Holds : Making → (ℕ → A) → Type 0
-  Holds m h = (x : ℕ) → x < length (m .present) → runAt d value (m .gates) (getD (m .present) x 0) ≡ h x
+  abbrev pub PresentGives : Making → (ℕ → A) → Type 0
+  PresentGives m h = (x : ℕ) → x < length (m .present) → runAt d value (m .gates) (getD (m .present) x 0) ≡ h x
 
   pub runAt-extends : (B C : Gates) → Extends B C → (i : ℕ) → i < length B → runAt d value C i ≡ runAt d value B i
   runAt-extends B C x i h = ap (λ (l : Gates). runAt d value l i) (x .grown) ∙ runAt-append d value B (x .more) i h
 
   pub holds-extends : (m : Making) (h : ℕ → A) (C : Gates) → Extends (m .gates) C → Inside (length (m .gates)) (m .present)
-      → Holds m h → Holds (asBefore m C) h
+      → PresentGives m h → PresentGives (asBefore m C) h
   holds-extends m h C e i k x l = runAt-extends (m .gates) C e (getD (m .present) x 0) (inside-at _ (m .present) x i l) ∙ k x l
 
   module _ (o : OnArguments value) (c : ℕ) (p q : List ℕ) (h : ℕ → A) where
     -- if the choice of each listed variable gives h of it, and every other variable's gate gives h of it already, then after the choices all do
-    pub choices-hold : (l : List ℕ) (m : Making) → Ready (length (m .gates)) c p q l → Inside (length (m .gates)) (m .present)
+    pub choices-hold : (l : List ℕ) (m : Making) → CanChoose (length (m .gates)) c p q l → Inside (length (m .gates)) (m .present)
         → ((x : ℕ) → x ∈ l → value (runAt d value (m .gates)) (choice c (getD p x 0) (getD q x 0)) ≡ h x)
         → ((x : ℕ) → x < length (m .present) → (x ∈ l) ⊎ (runAt d value (m .gates) (getD (m .present) x 0) ≡ h x))
-        → Holds (choices c p q l m) h
+        → PresentGives (choices c p q l m) h
     unfolding choices
     choices-hold [] m r i g k x n = go (k x n)
       where
@@ -73,12 +73,12 @@ module _ {A : Type 0} (d : A) (value : (ℕ → A) → Gate → A) where
     pub condition-stays : runAt d value (second .gates) (n .place) ≡ runAt d value (n .gates) (n .place)
     condition-stays = runAt-extends (n .gates) (second .gates) (extends-trans (w .to-first) (w .to-second)) (n .place) (w .stands .within)
 
-    pub first-stays : (h : ℕ → A) → Holds first h → (x : ℕ) → x < v → runAt d value (second .gates) (getD (first .present) x 0) ≡ h x
+    pub first-stays : (h : ℕ → A) → PresentGives first h → (x : ℕ) → x < v → runAt d value (second .gates) (getD (first .present) x 0) ≡ h x
     first-stays h k x l =
         let l′ : x < length (first .present) = omega (arith, w .first-sound .count) in
         holds-extends first h (second .gates) (w .to-second) (w .first-sound .inside) k x l′
 
-    pub before-stays : (h : ℕ → A) → Holds m h → (x : ℕ) → x < v → runAt d value (second .gates) (getD (m .present) x 0) ≡ h x
+    pub before-stays : (h : ℕ → A) → PresentGives m h → (x : ℕ) → x < v → runAt d value (second .gates) (getD (m .present) x 0) ≡ h x
     before-stays h k x l =
         let l′ : x < length (m .present) = omega (arith, w .before .count) in
         holds-extends m h (second .gates) (parts-whole v m n first second w) (w .before .inside) k x l′
@@ -87,7 +87,7 @@ module _ {A : Type 0} (d : A) (value : (ℕ → A) → Gate → A) where
     pub parts-hold : OnArguments value → (b e : Block) (h : ℕ → A)
         → ((x : ℕ) → x < v → value (runAt d value (second .gates)) (choice (n .place) (getD (first .present) x 0) (getD (second .present) x 0)) ≡ h x)
         → ((x : ℕ) → x < v → assigns b x ≡ false → assigns e x ≡ false → runAt d value (second .gates) (getD (m .present) x 0) ≡ h x)
-        → Holds (choices (n .place) (first .present) (second .present) (assignedIn b e (length (m .present))) (asBefore m (second .gates))) h
+        → PresentGives (choices (n .place) (first .present) (second .present) (assignedIn b e (length (m .present))) (asBefore m (second .gates))) h
     parts-hold o b e h g k =
         choices-hold o (n .place) (first .present) (second .present) h (assignedIn b e (length (m .present))) (asBefore m (second .gates))
         (parts-ready v m n first second w b e) (inside-more (m .present) (extends-length (parts-whole v m n first second w)) (w .before .inside))

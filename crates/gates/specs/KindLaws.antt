@@ -11,7 +11,7 @@ use lib.ListN.{length, getD, set, List·getD-eq-default}
 use lib.Seq.{getD-set-same, getD-set-other}
 use Rattle.words.specs.Lists.{_∈_, split, same?}
 use Rattle.words.specs.NumberLaws.{word-below}
-use Rattle.codes.specs.Codes.{rowOf}
+use Rattle.codes.specs.Codes.{entryOf}
 use Rattle.codes.specs.Results.{bitOf, resultOf}
 use Rattle.codes.specs.declared.Code.{Code}
 use Rattle.codes.specs.declared.Kind.{Kind}
@@ -32,7 +32,7 @@ bit-fits true = omega arith
 bit-fits false = omega arith
 
 -- an operation's result is of the kind that it gives, whatever its arguments
-pub result-fits : (op : Operation) (a b : ℕ) → Fits (rowOf op .gives) (resultOf op a b)
+pub result-fits : (op : Operation) (a b : ℕ) → Fits (entryOf op .gives) (resultOf op a b)
 unfolding resultOf
 result-fits Sum a b = omega arith
 result-fits Difference a b = omega arith

@@ -1,7 +1,7 @@
 -- Document 01, "The rule file": "arguments to result" of the operation table, as a relation on trees, and the sizes of words and bits.
 use Prim.Native.Nat.{ℕ, _<_, _≤_}
 use mathlib.Core.Path.{_≡_}
-use Rattle.codes.specs.Codes.{rowOf}
+use Rattle.codes.specs.Codes.{entryOf}
 use Rattle.codes.specs.declared.Code.{Code}
 use Rattle.codes.specs.declared.Kind.{Kind}
 use Rattle.codes.specs.declared.Kind.the-variants as kind
@@ -19,8 +19,8 @@ module _ (v : ℕ) (kinds : ℕ → Kind) where
   Typed (variable x) k = (x < v) × (kinds x ≡ k)
   Typed (word n) k = kind.Word ≡ k
   Typed (bit b) k = (b ≤ 1) × (kind.Bit ≡ k)
-  Typed (one op e) k = (rowOf op .arity ≡ 1) × (rowOf op .gives ≡ k) × Typed e (rowOf op .takes)
-  Typed (two op d e) k = (rowOf op .arity ≡ 2) × (rowOf op .gives ≡ k) × Typed d (rowOf op .takes) × Typed e (rowOf op .takes)
+  Typed (one op e) k = (entryOf op .arity ≡ 1) × (entryOf op .gives ≡ k) × Typed e (entryOf op .takes)
+  Typed (two op d e) k = (entryOf op .arity ≡ 2) × (entryOf op .gives ≡ k) × Typed d (entryOf op .takes) × Typed e (entryOf op .takes)
 
   -- P holds of every expression and its kind: an assign is of its variable's kind, an if asks a bit
   module _ (P : Expr → Kind → Type 0) where
@@ -46,8 +46,8 @@ module _ (v : ℕ) (kinds : ℕ → Kind) where
   Words (variable x) k = Unit {0}
   Words (word n) k = Fits kind.Word n
   Words (bit b) k = Unit {0}
-  Words (one op e) k = Words e (rowOf op .takes)
-  Words (two op d e) k = Words d (rowOf op .takes) × Words e (rowOf op .takes)
+  Words (one op e) k = Words e (entryOf op .takes)
+  Words (two op d e) k = Words d (entryOf op .takes) × Words e (entryOf op .takes)
 
   abbrev pub WordsStatement : Statement → Type 0
   WordsStatement = EachIn Words

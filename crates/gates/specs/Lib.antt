@@ -3,7 +3,7 @@ pub mod Limits
 pub mod Gates
 pub mod PlainCircuit
 pub mod OnlyOrder
-pub mod Rows
+pub mod Quads
 pub mod Kinds
 pub mod GateKinds
 pub mod ApplyLaws

@@ -8,7 +8,7 @@ use borrow.Author.Tests.{ltb-true, leb-true, eqb-true}
 use lib.Dec.{ltb, leb, eqb}
 use lib.ListN.{length, getD}
 use Rattle.words.specs.Numbers.{numberAt}
-use Rattle.codes.specs.Codes.{codeOf, rowOf, sameKind}
+use Rattle.codes.specs.Codes.{codeOf, entryOf, sameKind}
 use Rattle.codes.specs.CodeLaws.{same-kind}
 use Rattle.codes.specs.declared.Kind.{Kind}
 use Rattle.codes.specs.declared.Kind.the-variants as kind
@@ -30,7 +30,7 @@ pub never : {A C : Type 0} {k p n : ℕ} {a : A} → refused k p ≡ parsed a n 
 never h = let z : _≡_ {A = ℕ} 0 1 = cc in absurd (omega arith)
 
 -- an operation that has not one argument has two
-arity-two : (op : Operation) → eqb (rowOf op .arity) 1 ≡ false → rowOf op .arity ≡ 2
+arity-two : (op : Operation) → eqb (entryOf op .arity) 1 ≡ false → entryOf op .arity ≡ 2
 arity-two Sum h = refl
 arity-two Difference h = refl
 arity-two Product h = refl
@@ -45,21 +45,21 @@ pub record Closed (s : List ℕ) (P : Expr → Kind → Type 0) : Type 0 where
   pub of-variable : (x : ℕ) → x < variables s → P (variable x) (kindAt s x)
   pub of-word : (at : ℕ) → at + 4 ≤ length s → P (word (numberAt 4 s at)) kind.Word
   pub of-bit : (b : ℕ) → b ≤ 1 → P (bit b) kind.Bit
-  pub of-one : (op : Operation) (e : Expr) → rowOf op .arity ≡ 1 → P e (rowOf op .takes) → P (one op e) (rowOf op .gives)
-  pub of-two : (op : Operation) (d e : Expr) → rowOf op .arity ≡ 2 → P d (rowOf op .takes) → P e (rowOf op .takes) → P (two op d e) (rowOf op .gives)
+  pub of-one : (op : Operation) (e : Expr) → entryOf op .arity ≡ 1 → P e (entryOf op .takes) → P (one op e) (entryOf op .gives)
+  pub of-two : (op : Operation) (d e : Expr) → entryOf op .arity ≡ 2 → P d (entryOf op .takes) → P e (entryOf op .takes) → P (two op d e) (entryOf op .gives)
 
 module _ (s : List ℕ) (P : Expr → Kind → Type 0) (c : Closed s P) where
   -- what a reader of expressions gives has P at the kind wanted
   abbrev pub Gives : (Kind → ℕ → Parsed Expr) → Type 0
   Gives argument = (k : Kind) (at : ℕ) (e : Expr) (n : ℕ) → argument k at ≡ parsed e n → P e k
 
-  of-second : (t : Bool) (argument : Kind → ℕ → Parsed Expr) → Gives argument → (op : Operation) → eqb (rowOf op .arity) 1 ≡ t
-      → (x : Expr) → P x (rowOf op .takes) → (at : ℕ) (e : Expr) (n : ℕ) → secondWith t argument op x at ≡ parsed e n → P e (rowOf op .gives)
+  of-second : (t : Bool) (argument : Kind → ℕ → Parsed Expr) → Gives argument → (op : Operation) → eqb (entryOf op .arity) 1 ≡ t
+      → (x : Expr) → P x (entryOf op .takes) → (at : ℕ) (e : Expr) (n : ℕ) → secondWith t argument op x at ≡ parsed e n → P e (entryOf op .gives)
   of-second true argument g op t x p at e n h =
-      subst (λ (y : Expr). P y (rowOf op .gives)) (same-what h) (c .of-one op x (eqb-true _ _ t) p)
+      subst (λ (y : Expr). P y (entryOf op .gives)) (same-what h) (c .of-one op x (eqb-true _ _ t) p)
   of-second false argument g op t x p at e n h =
-      let r = parts-read (argument (rowOf op .takes) at) (λ y next. parsed (two op x y) next) h in
-      subst (λ (y : Expr). P y (rowOf op .gives)) (same-what (r .3)) (c .of-two op x (r .0) (arity-two op t) p (g _ at (r .0) (r .1) (r .2)))
+      let r = parts-read (argument (entryOf op .takes) at) (λ y next. parsed (two op x y) next) h in
+      subst (λ (y : Expr). P y (entryOf op .gives)) (same-what (r .3)) (c .of-two op x (r .0) (arity-two op t) p (g _ at (r .0) (r .1) (r .2)))
 
   at-kind : (k want : Kind) (d e : Expr) → sameKind k want ≡ true → d ≡ e → P d k → P e want
   at-kind k want d e h f p = rw (same-kind k want h, f) at p
@@ -89,10 +89,10 @@ module _ (s : List ℕ) (P : Expr → Kind → Type 0) (c : Closed s P) where
       let h₄ = unless-parsed (leb (getD s (at + 1) 0) 1) 5 (at + 1) _ h₃ in
       at-kind kind.Bit want (bit (getD s (at + 1) 0)) e (h₁ .0) (same-what (h₄ .1)) (c .of-bit (getD s (at + 1) 0) (leb-true _ _ (h₄ .0)))
   of-form (form.Apply op) argument g want deep at e n h =
-      let h₁ = unless-parsed (sameKind (rowOf op .gives) want) 7 at _ h in
+      let h₁ = unless-parsed (sameKind (entryOf op .gives) want) 7 at _ h in
       let h₂ = unless-parsed (ltb 0 deep) 8 at _ (h₁ .1) .1 in
-      let r = parts-read (argument (rowOf op .takes) (at + 1)) (λ x next. secondWith (eqb (rowOf op .arity) 1) argument op x next) h₂ in
-      at-kind (rowOf op .gives) want e e (h₁ .0) refl (of-second _ argument g op refl (r .0) (g _ (at + 1) (r .0) (r .1) (r .2)) (r .1) e n (r .3))
+      let r = parts-read (argument (entryOf op .takes) (at + 1)) (λ x next. secondWith (eqb (entryOf op .arity) 1) argument op x next) h₂ in
+      at-kind (entryOf op .gives) want e e (h₁ .0) refl (of-second _ argument g op refl (r .0) (g _ (at + 1) (r .0) (r .1) (r .2)) (r .1) e n (r .3))
   of-form form.Unknown argument g want deep at e n h = never h
 
   -- an expression that was read

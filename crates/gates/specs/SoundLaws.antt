@@ -63,13 +63,13 @@ module _ (v : ℕ) (kinds : ℕ → Kind) where
       two-standing op m (makeExpr e p (m .gates)) s (expr-extends e p (m .gates)) (expr-standing e _ u p (m .gates) n i′ (s .earlier))
 
 -- a choice of each listed variable can be made: its condition and both values lie inside
-pub record Ready (n c : ℕ) (p q l : List ℕ) : Type 0 where
+pub record CanChoose (n c : ℕ) (p q l : List ℕ) : Type 0 where
   pub condition : c < n
   pub first : (x : ℕ) → x ∈ l → getD p x 0 < n
   pub second : (x : ℕ) → x ∈ l → getD q x 0 < n
 
 -- and so can those of the variables after the first, after one gate more
-pub ready-next : (C : Gates) (k : Gate) (c x : ℕ) (p q l : List ℕ) → Ready (length C) c p q (x ∷ l) → Ready (length (C ++ (k ∷ []))) c p q l
+pub ready-next : (C : Gates) (k : Gate) (c x : ℕ) (p q l : List ℕ) → CanChoose (length C) c p q (x ∷ l) → CanChoose (length (C ++ (k ∷ []))) c p q l
 ready-next C k c x p q l r =
     record {
       condition = rw length-append (omega (arith, r .condition));
@@ -78,13 +78,13 @@ ready-next C k c x p q l r =
     }
 
 -- the arguments of such a choice lie inside
-pub choice-inside : (n c x : ℕ) (p q l : List ℕ) → Ready n c p q l → x ∈ l → Inside n (c ∷ getD p x 0 ∷ getD q x 0 ∷ [])
+pub choice-inside : (n c x : ℕ) (p q l : List ℕ) → CanChoose n c p q l → x ∈ l → Inside n (c ∷ getD p x 0 ∷ getD q x 0 ∷ [])
 choice-inside n c x p q l r m a (inl e) = rw e (r .condition)
 choice-inside n c x p q l r m a (inr (inl e)) = rw e (r .first x m)
 choice-inside n c x p q l r m a (inr (inr (inl e))) = rw e (r .second x m)
 choice-inside n c x p q l r m a (inr (inr (inr k))) = absurd k
 
-pub choices-sound : (v c : ℕ) (p q l : List ℕ) (m : Making) → Ready (length (m .gates)) c p q l → Sound v m → Sound v (choices c p q l m)
+pub choices-sound : (v c : ℕ) (p q l : List ℕ) (m : Making) → CanChoose (length (m .gates)) c p q l → Sound v m → Sound v (choices c p q l m)
 unfolding choices
 choices-sound v c p q [] m r s = s
 choices-sound v c p q (x ∷ l) m r s = choices-sound v c p q l (choose c p q x m) (ready-next (m .gates) _ c x p q l r) chosen
@@ -122,7 +122,7 @@ module _ (v : ℕ) (m : Making) (n : Made) (first second : Making) (w : Parts v 
   parts-whole = extends-trans (w .to-condition) (extends-trans (w .to-first) (w .to-second))
 
   -- the choices can be made
-  pub parts-ready : (b d : Block) → Ready (length (second .gates)) (n .place) (first .present) (second .present) (assignedIn b d (length (m .present)))
+  pub parts-ready : (b d : Block) → CanChoose (length (second .gates)) (n .place) (first .present) (second .present) (assignedIn b d (length (m .present)))
   parts-ready b d =
       let e : length (m .present) ≡ v = w .before .count in
       let k : length (first .gates) ≤ length (second .gates) = extends-length (w .to-second) in

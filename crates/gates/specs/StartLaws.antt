@@ -15,7 +15,7 @@ use Rattle.gates.specs.Gates.{Gate, start, gateAt, arguments}
 use Rattle.gates.specs.PlainCircuit.{starts, plainOf, plainRead, plainCircuit}
 use Rattle.gates.specs.FigureLaws.{OnArguments, gates-right}
 use Rattle.gates.specs.SoundLaws.{Sound, block-sound}
-use Rattle.gates.specs.HoldLaws.{Holds}
+use Rattle.gates.specs.HoldLaws.{PresentGives}
 use Rattle.gates.specs.ReadLaws.{read-typed}
 
 -- Gates 0 to V−1 are the variables' starting values.
@@ -44,7 +44,7 @@ start-at i (suc n) (suc x) h = start-at (suc i) n x (omega arith) ∙ ap start (
 
 -- at the start each variable's gate gives what its starting value gives
 pub starts-hold : {A : Type 0} (d : A) (value : (ℕ → A) → Gate → A) → OnArguments value → (v : ℕ) (h : ℕ → A)
-    → ((g : ℕ → A) (x : ℕ) → value g (start x) ≡ h x) → Holds d value (starts v) h
+    → ((g : ℕ → A) (x : ℕ) → value g (start x) ≡ h x) → PresentGives d value (starts v) h
 starts-hold d value o v h k x l =
     let l′ : x < v = rw (length-from 0 v) at l in
     let e : getD (upto v) x 0 ≡ x = getD-from 0 v x l′ ∙ zero-add x in

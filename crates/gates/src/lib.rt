@@ -3,7 +3,7 @@
 // A gate's number in the plain circuit; never taken for a wire number of a circuit file.
 pub struct GateId(pub u16);
 
-// The codes of constants and choices in the rows of gates (specs/Rows.antt); an operation has its byte, a starting value its kind.
+// The codes of constants and choices in the quads of gates (specs/Quads.antt); an operation has its byte, a starting value its kind.
 pub const WORD: u32 = 0x11;
 
 pub const BIT: u32 = 0x12;

@@ -10,7 +10,7 @@ use borrow.Author.Tests.{le-leb, lt-leb}
 use Rattle.plan.specs.PlanFile.{leastBytes, mostBytes, groupsCounted, groupAt, after, groupsFrom, groupsIn, ends}
 use Rattle.plan.specs.Rows.{everyGroup}
 use Rattle.plan.specs.LayoutLaws.{length-numbers}
-use Rattle.grouping.specs.Walks.{Readable, Lie, Ahead, Fits}
+use Rattle.grouping.specs.Walks.{Readable, Lie, Ahead, ReadableGroup}
 
 pred : (n : ℕ) → suc n - 1 ≡ n
 pred n = omega arith
@@ -58,11 +58,11 @@ lie-step p zero at w h = absurd (omega arith)
 lie-step p (suc n) at w h = rw (pred n) (record { short = w .short; begun = omega (arith, w .begun); ended = w .ended .1 })
 
 -- a test of every group: what is left of them decides
-pub record Testing (t : List ℕ → Bool) (p : List ℕ) (left at : ℕ) : Type 0 where
+pub record TestingGroups (t : List ℕ → Bool) (p : List ℕ) (left at : ℕ) : Type 0 where
   pub lie : Lie p left at
   pub same : everyGroup t (groupsIn p) ≡ everyGroup t (groupsFrom left p at)
 
-pub testing-start : (t : List ℕ → Bool) (p : List ℕ) (left : ℕ) → Lie p (groupsCounted p) leastBytes → left ≡ groupsCounted p → Testing t p left leastBytes
+pub testing-start : (t : List ℕ → Bool) (p : List ℕ) (left : ℕ) → Lie p (groupsCounted p) leastBytes → left ≡ groupsCounted p → TestingGroups t p left leastBytes
 unfolding groupsIn
 testing-start t p left w e = rw e (record { lie = w; same = refl })
 
@@ -75,16 +75,16 @@ every-fails : (t : List ℕ → Bool) (p : List ℕ) (left at : ℕ) → 0 < lef
 every-fails t p zero at h e = absurd (omega arith)
 every-fails t p (suc n) at h e = rw e
 
-pub testing-step : (t : List ℕ → Bool) (p : List ℕ) (left at next : ℕ) (r : Bool) → Testing t p left at → 0 < left → r ≡ t (groupAt p at) → r ≡ true → next ≡ after p at
-    → Testing t p (left - 1) next
+pub testing-step : (t : List ℕ → Bool) (p : List ℕ) (left at next : ℕ) (r : Bool) → TestingGroups t p left at → 0 < left → r ≡ t (groupAt p at) → r ≡ true → next ≡ after p at
+    → TestingGroups t p (left - 1) next
 testing-step t p left at next r w h e f q =
     rw q (record { lie = lie-step p left at (w .lie) h; same = w .same ∙ every-step t p left at h (sym e ∙ f) })
 
-pub testing-fails : (t : List ℕ → Bool) (p : List ℕ) (left at : ℕ) (r : Bool) → Testing t p left at → 0 < left → r ≡ t (groupAt p at) → r ≡ false
+pub testing-fails : (t : List ℕ → Bool) (p : List ℕ) (left at : ℕ) (r : Bool) → TestingGroups t p left at → 0 < left → r ≡ t (groupAt p at) → r ≡ false
     → false ≡ everyGroup t (groupsIn p)
 testing-fails t p left at r w h e f = sym (w .same ∙ every-fails t p left at h (sym e ∙ f))
 
-pub testing-end : (t : List ℕ → Bool) (p : List ℕ) (left at : ℕ) → Testing t p left at → left ≤ 0 → true ≡ everyGroup t (groupsIn p)
+pub testing-end : (t : List ℕ → Bool) (p : List ℕ) (left at : ℕ) → TestingGroups t p left at → left ≤ 0 → true ≡ everyGroup t (groupsIn p)
 testing-end t p left at w h = let e : left ≡ 0 = omega arith in sym (w .same ∙ ap (λ (n : ℕ). everyGroup t (groupsFrom n p at)) e)
 
 -- readable groups: all of them, the first of them, and those after it
@@ -96,7 +96,7 @@ unfolding groupsIn
 ahead-start n p left r e =
     rw e (record { room = r .room; lie = readable-lie n p r; joins = r .joins; rising = r .rising; exist = r .exist })
 
-pub ahead-fits : (n : ℕ) (p : List ℕ) (left at : ℕ) → Ahead n p left at → 0 < left → Fits n p at
+pub ahead-fits : (n : ℕ) (p : List ℕ) (left at : ℕ) → Ahead n p left at → 0 < left → ReadableGroup n p at
 ahead-fits n p zero at w h = absurd (omega arith)
 ahead-fits n p (suc k) at w h =
     record {

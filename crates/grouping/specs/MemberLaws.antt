@@ -12,7 +12,7 @@ use Rattle.plan.specs.RowLaws.{and}
 use Rattle.plan.specs.GroupLaws.{rising-first}
 use Rattle.plan.specs.Accepted.{Exist}
 use Rattle.grouping.specs.Tests.{membersFrom}
-use Rattle.grouping.specs.Walks.{Fits}
+use Rattle.grouping.specs.Walks.{ReadableGroup}
 
 -- what is left from member k on: that member, then the rest; nothing at the end; all at the start
 pub members-step : (p : List ℕ) (at k : ℕ) → k < getD p at 0 → membersFrom p at k ≡ numberAt 2 p (at + 1 + 2 * k) ∷ membersFrom p at (k + 1)
@@ -32,12 +32,12 @@ members-all p at =
 
 -- where a walk over the members of a fitting group stands
 pub record Walk (n : ℕ) (p : List ℕ) (at k : ℕ) : Type 0 where
-  pub fits : Fits n p at
+  pub fits : ReadableGroup n p at
   pub low : k ≤ getD p at 0
   pub rising : Rising (membersFrom p at k)
   pub exist : Exist n (membersFrom p at k)
 
-pub walk-start : (n : ℕ) (p : List ℕ) (at : ℕ) → Fits n p at → Walk n p at 0
+pub walk-start : (n : ℕ) (p : List ℕ) (at : ℕ) → ReadableGroup n p at → Walk n p at 0
 walk-start n p at f = record { fits = f; low = omega arith; rising = rw (members-all p at) (f .rising); exist = rw (members-all p at) (f .exist) }
 
 pub walk-step : (n : ℕ) (p : List ℕ) (at k : ℕ) → Walk n p at k → k < getD p at 0 → Walk n p at (k + 1)

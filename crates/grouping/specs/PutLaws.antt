@@ -15,31 +15,31 @@ use Rattle.plan.specs.PlanFile.{groupAt}
 use Rattle.plan.specs.Groups.{smallest}
 use Rattle.plan.specs.Rows.{every}
 use Rattle.grouping.specs.Tests.{membersFrom, putAll}
-use Rattle.grouping.specs.Walks.{Fits}
+use Rattle.grouping.specs.Walks.{ReadableGroup}
 use Rattle.grouping.specs.MemberLaws.{members-step, members-end, members-all, Walk, walk-start, walk-step, walk-above}
 use Rattle.grouping.specs.WalkLaws.{first-smallest}
 
 -- no group has been given to the gate
 abbrev pub free : List ℕ → ℕ → Bool
-free joined g = eqb (getD joined g 0) 0
+free places g = eqb (getD places g 0) 0
 
 -- The members of one group: what is left of them decides.
 
-pub record Putting (n : ℕ) (p : List ℕ) (at first : ℕ) (group₀ joined₀ group joined : List ℕ) (k : ℕ) : Type 0 where
+pub record PuttingMembers (n : ℕ) (p : List ℕ) (at first : ℕ) (group₀ places₀ group places : List ℕ) (k : ℕ) : Type 0 where
   pub walk : Walk n p at k
   pub named : first ≡ smallest (groupAt p at)
-  pub none : every (free joined₀) (groupAt p at) ≡ every (free joined) (membersFrom p at k)
+  pub none : every (free places₀) (groupAt p at) ≡ every (free places) (membersFrom p at k)
   pub groups : putAll (groupAt p at) first group₀ ≡ putAll (membersFrom p at k) first group
-  pub places : putAll (groupAt p at) at joined₀ ≡ putAll (membersFrom p at k) at joined
+  pub placing : putAll (groupAt p at) at places₀ ≡ putAll (membersFrom p at k) at places
 
-pub putting-start : (n : ℕ) (p : List ℕ) (at first : ℕ) (group joined : List ℕ) → Fits n p at → first ≡ numberAt 2 p (at + 1 + 2 * 0) → Putting n p at first group joined group joined 0
-putting-start n p at first group joined f q =
+pub putting-start : (n : ℕ) (p : List ℕ) (at first : ℕ) (group places : List ℕ) → ReadableGroup n p at → first ≡ numberAt 2 p (at + 1 + 2 * 0) → PuttingMembers n p at first group places group places 0
+putting-start n p at first group places f q =
     record {
       walk = walk-start n p at f;
       named = first-smallest n p at first f q;
-      none = ap (every (free joined)) (sym (members-all p at));
+      none = ap (every (free places)) (sym (members-all p at));
       groups = ap (λ (l : List ℕ). putAll l first group) (sym (members-all p at));
-      places = ap (λ (l : List ℕ). putAll l at joined) (sym (members-all p at));
+      placing = ap (λ (l : List ℕ). putAll l at places) (sym (members-all p at));
     }
 
 -- two tests that are the same on a list pass the same lists
@@ -47,33 +47,33 @@ pub every-same : (s t : ℕ → Bool) (l : List ℕ) → ((g : ℕ) → g ∈ l 
 every-same s t [] h = refl
 every-same s t (a ∷ l) h = rw (h a (inl refl), every-same s t l (λ g m. h g (inr m)))
 
-module _ (n : ℕ) (p : List ℕ) (at first : ℕ) (group₀ joined₀ group joined : List ℕ) (k g : ℕ)
-    (w : Putting n p at first group₀ joined₀ group joined k) (h : k < getD p at 0) (q : g ≡ numberAt 2 p (at + 1 + 2 * k)) where
+module _ (n : ℕ) (p : List ℕ) (at first : ℕ) (group₀ places₀ group places : List ℕ) (k g : ℕ)
+    (w : PuttingMembers n p at first group₀ places₀ group places k) (h : k < getD p at 0) (q : g ≡ numberAt 2 p (at + 1 + 2 * k)) where
   here : membersFrom p at k ≡ g ∷ membersFrom p at (k + 1)
   here = members-step p at k h ∙ ap (λ (i : ℕ). i ∷ membersFrom p at (k + 1)) (sym q)
 
-  pub putting-fails : (getD joined g 0 ≡ 0 → ⊥) → false ≡ every (free joined₀) (groupAt p at)
-  putting-fails f = sym (w .none ∙ ap (every (free joined)) here ∙ rw (ne-eqb (getD joined g 0) 0 f))
+  pub putting-fails : (getD places g 0 ≡ 0 → ⊥) → false ≡ every (free places₀) (groupAt p at)
+  putting-fails f = sym (w .none ∙ ap (every (free places)) here ∙ rw (ne-eqb (getD places g 0) 0 f))
 
-  pub putting-step : (groupₙ joinedₙ : List ℕ) → getD joined g 0 ≡ 0 → groupₙ ≡ set group g first → joinedₙ ≡ set joined g at
-      → Putting n p at first group₀ joined₀ groupₙ joinedₙ (k + 1)
+  pub putting-step : (groupₙ joinedₙ : List ℕ) → getD places g 0 ≡ 0 → groupₙ ≡ set group g first → joinedₙ ≡ set places g at
+      → PuttingMembers n p at first group₀ places₀ groupₙ joinedₙ (k + 1)
   putting-step groupₙ joinedₙ f d e =
       record {
         walk = walk-step n p at k (w .walk) h;
         named = w .named;
-        none = w .none ∙ ap (every (free joined)) here ∙ rw (eq-eqb (getD joined g 0) 0 f)
-            (every-same (free joined) (free joinedₙ) (membersFrom p at (k + 1)) (λ i m. ap (λ (x : ℕ). eqb x 0) (sym (ap (λ (l : List ℕ). getD l i 0) e ∙ getD-set-other joined g i at 0 (λ z. omega (arith, walk-above n p at k (w .walk) h i m))))));
+        none = w .none ∙ ap (every (free places)) here ∙ rw (eq-eqb (getD places g 0) 0 f)
+            (every-same (free places) (free joinedₙ) (membersFrom p at (k + 1)) (λ i m. ap (λ (x : ℕ). eqb x 0) (sym (ap (λ (l : List ℕ). getD l i 0) e ∙ getD-set-other places g i at 0 (λ z. omega (arith, walk-above n p at k (w .walk) h i m))))));
         groups = w .groups ∙ ap (λ (l : List ℕ). putAll l first group) here ∙ ap (putAll (membersFrom p at (k + 1)) first) (sym d);
-        places = w .places ∙ ap (λ (l : List ℕ). putAll l at joined) here ∙ ap (putAll (membersFrom p at (k + 1)) at) (sym e);
+        placing = w .placing ∙ ap (λ (l : List ℕ). putAll l at places) here ∙ ap (putAll (membersFrom p at (k + 1)) at) (sym e);
       }
 
-module _ (n : ℕ) (p : List ℕ) (at first : ℕ) (group₀ joined₀ group joined : List ℕ) (k : ℕ)
-    (w : Putting n p at first group₀ joined₀ group joined k) (h : getD p at 0 ≤ k) where
-  pub putting-free : true ≡ every (free joined₀) (groupAt p at)
-  putting-free = sym (w .none ∙ ap (every (free joined)) (members-end p at k h))
+module _ (n : ℕ) (p : List ℕ) (at first : ℕ) (group₀ places₀ group places : List ℕ) (k : ℕ)
+    (w : PuttingMembers n p at first group₀ places₀ group places k) (h : getD p at 0 ≤ k) where
+  pub putting-free : true ≡ every (free places₀) (groupAt p at)
+  putting-free = sym (w .none ∙ ap (every (free places)) (members-end p at k h))
 
   pub putting-groups : group ≡ putAll (groupAt p at) (smallest (groupAt p at)) group₀
   putting-groups = sym (ap (λ (v : ℕ). putAll (groupAt p at) v group₀) (sym (w .named)) ∙ w .groups ∙ ap (λ (l : List ℕ). putAll l first group) (members-end p at k h))
 
-  pub putting-places : joined ≡ putAll (groupAt p at) at joined₀
-  putting-places = sym (w .places ∙ ap (λ (l : List ℕ). putAll l at joined) (members-end p at k h))
+  pub putting-places : places ≡ putAll (groupAt p at) at places₀
+  putting-places = sym (w .placing ∙ ap (λ (l : List ℕ). putAll l at places) (members-end p at k h))

@@ -64,46 +64,46 @@ cost-above code h = sym (ap (λ (r : Code). ltb 0 (r .cost)) (sym (code-above co
 
 module _ (n : ℕ) (p : List ℕ) where
   -- the rows 20 to 25, and each fact of theirs
-  abbrev Sized : Bool
-  Sized = leb leastBytes (length p) && leb (length p) mostBytes
+  abbrev SizeHolds : Bool
+  SizeHolds = leb leastBytes (length p) && leb (length p) mostBytes
 
-  abbrev Marked : Bool
-  Marked = same (take 5 p) mark
+  abbrev MarkHolds : Bool
+  MarkHolds = same (take 5 p) mark
 
-  abbrev Ended : Bool
-  Ended = ends (groupsCounted p) p leastBytes
+  abbrev EndHolds : Bool
+  EndHolds = ends (groupsCounted p) p leastBytes
 
   abbrev pub shapeRows : List Row
   shapeRows = take 6 (layoutRows n p)
 
-  pub row-20 : Sized ≡ false → 20 ≡ firstFailing shapeRows
+  pub row-20 : SizeHolds ≡ false → 20 ≡ firstFailing shapeRows
   row-20 a = rw a
 
-  pub row-21 : Sized ≡ true → Marked ≡ false → 21 ≡ firstFailing shapeRows
+  pub row-21 : SizeHolds ≡ true → MarkHolds ≡ false → 21 ≡ firstFailing shapeRows
   row-21 a b = rw (a, b)
 
-  pub row-22 : Sized ≡ true → Marked ≡ true → (gatesCounted p ≡ n → ⊥) → 22 ≡ firstFailing shapeRows
+  pub row-22 : SizeHolds ≡ true → MarkHolds ≡ true → (gatesCounted p ≡ n → ⊥) → 22 ≡ firstFailing shapeRows
   row-22 a b d = rw (a, b, ne-eqb (gatesCounted p) n d)
 
-  pub row-23 : Sized ≡ true → Marked ≡ true → gatesCounted p ≡ n → Ended ≡ false → 23 ≡ firstFailing shapeRows
+  pub row-23 : SizeHolds ≡ true → MarkHolds ≡ true → gatesCounted p ≡ n → EndHolds ≡ false → 23 ≡ firstFailing shapeRows
   row-23 a b d e = rw (a, b, eq-eqb (gatesCounted p) n d, e)
 
-  pub row-24 : Sized ≡ true → Marked ≡ true → gatesCounted p ≡ n → Ended ≡ true → everyGroup (shapeTest 24 n) (groupsIn p) ≡ false → 24 ≡ firstFailing shapeRows
+  pub row-24 : SizeHolds ≡ true → MarkHolds ≡ true → gatesCounted p ≡ n → EndHolds ≡ true → everyGroup (shapeTest 24 n) (groupsIn p) ≡ false → 24 ≡ firstFailing shapeRows
   unfolding shapeTest
   row-24 a b d e f = rw (a, b, eq-eqb (gatesCounted p) n d, e, f)
 
-  pub row-25 : Sized ≡ true → Marked ≡ true → gatesCounted p ≡ n → Ended ≡ true → everyGroup (shapeTest 24 n) (groupsIn p) ≡ true
+  pub row-25 : SizeHolds ≡ true → MarkHolds ≡ true → gatesCounted p ≡ n → EndHolds ≡ true → everyGroup (shapeTest 24 n) (groupsIn p) ≡ true
       → everyGroup (shapeTest 25 n) (groupsIn p) ≡ false → 25 ≡ firstFailing shapeRows
   unfolding shapeTest
   row-25 a b d e f g = rw (a, b, eq-eqb (gatesCounted p) n d, e, f, g)
 
-  pub row-none : Sized ≡ true → Marked ≡ true → gatesCounted p ≡ n → Ended ≡ true → everyGroup (shapeTest 24 n) (groupsIn p) ≡ true
+  pub row-none : SizeHolds ≡ true → MarkHolds ≡ true → gatesCounted p ≡ n → EndHolds ≡ true → everyGroup (shapeTest 24 n) (groupsIn p) ≡ true
       → everyGroup (shapeTest 25 n) (groupsIn p) ≡ true → 0 ≡ firstFailing shapeRows
   unfolding shapeTest
   row-none a b d e f g = rw (a, b, eq-eqb (gatesCounted p) n d, e, f, g)
 
   -- what they establish
-  pub layout-lie : Sized ≡ true → Ended ≡ true → (leastBytes ≤ length p) × Lie p (groupsCounted p) leastBytes
+  pub layout-lie : SizeHolds ≡ true → EndHolds ≡ true → (leastBytes ≤ length p) × Lie p (groupsCounted p) leastBytes
   layout-lie a e =
       let s = size-right p a in
       (s .0, record { short = s .1; begun = omega arith; ended = ends-right (groupsCounted p) p leastBytes .0 e })

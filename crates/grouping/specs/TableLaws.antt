@@ -13,8 +13,8 @@ use borrow.Author.Tests.{eq-eqb, ne-eqb, ltb-true, ltb-false}
 use Rattle.words.specs.Lists.{_∈_, elem, split, same?, upto, length-from}
 use Rattle.gates.specs.Limits.{mostGates}
 use Rattle.needed.specs.MarkSteps.{getD-zeros}
-use Rattle.needed.specs.PlaceLaws.{getD-run}
-use Rattle.circuit.specs.Shown.{padded}
+use Rattle.needed.specs.RankLaws.{getD-run}
+use Rattle.circuit.specs.Built.{padded}
 use Rattle.plan.specs.PlanFile.{groupsIn}
 use Rattle.plan.specs.Groups.{groupOf}
 use Rattle.grouping.specs.Tables.{placeOf, groupTable, placeTable, eachAlone}
@@ -94,14 +94,14 @@ place-at n p g h = table-at (placeOf p) n g h
 
 -- The loop that numbers the gates.
 
-pub record Counting (n : ℕ) (group : List ℕ) (g : ℕ) : Type 0 where
+pub record CountingGates (n : ℕ) (group : List ℕ) (g : ℕ) : Type 0 where
   pub low : g ≤ n
   pub room : n ≤ mostGates
   pub size : length group ≡ 256
   pub below : (i : ℕ) → i < g → getD group i 0 ≡ i
   pub after : (i : ℕ) → g ≤ i → getD group i 0 ≡ 0
 
-pub counting-start : (n : ℕ) (group : List ℕ) → n ≤ mostGates → group ≡ replicate 256 0 → Counting n group 0
+pub counting-start : (n : ℕ) (group : List ℕ) → n ≤ mostGates → group ≡ replicate 256 0 → CountingGates n group 0
 counting-start n group h e =
     record {
       low = omega arith;
@@ -111,7 +111,7 @@ counting-start n group h e =
       after = λ i l. ap (λ (t : List ℕ). getD t i 0) e ∙ getD-zeros 256 i;
     }
 
-pub counting-step : (n : ℕ) (group new : List ℕ) (g : ℕ) → Counting n group g → g < n → new ≡ set group g g → Counting n new (g + 1)
+pub counting-step : (n : ℕ) (group new : List ℕ) (g : ℕ) → CountingGates n group g → g < n → new ≡ set group g g → CountingGates n new (g + 1)
 counting-step n group new g w h e =
     rw e (record {
       low = omega arith;
@@ -125,7 +125,7 @@ counting-step n group new g w h e =
     each i l (inl q) = rw q (getD-set-same group g g 0 (rw (w .size) (omega (arith, w .room))))
     each i l (inr m) = getD-set-other group g i g 0 m ∙ w .below i (omega arith)
 
-pub counting-end : (n : ℕ) (group : List ℕ) (g : ℕ) → Counting n group g → n ≤ g → group ≡ eachAlone n
+pub counting-end : (n : ℕ) (group : List ℕ) (g : ℕ) → CountingGates n group g → n ≤ g → group ≡ eachAlone n
 counting-end n group g w h =
     table-is (λ i. i) n group (w .room) (w .size) (λ i l. w .below i (omega arith)) (λ i l. w .after i (omega (arith, w .low))) ∙ sym (alone-is n)
 

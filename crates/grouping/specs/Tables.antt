@@ -4,7 +4,7 @@ use mathlib.Core.List.{List, map}
 use mathlib.Core.Bool.{cond}
 use Rattle.words.specs.Lists.{elem, upto}
 use Rattle.gates.specs.Limits.{mostGates}
-use Rattle.circuit.specs.Shown.{padded}
+use Rattle.circuit.specs.Built.{padded}
 use Rattle.plan.specs.PlanFile.{Plan, leastBytes, groupsCounted, groupAt, after}
 use Rattle.plan.specs.Groups.{groupOf}
 

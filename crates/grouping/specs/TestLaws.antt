@@ -10,7 +10,7 @@ use lib.Bits.{or-add-and, and-comm, and-zero-l}
 use lib.ListN.{getD}
 use borrow.Author.Tests.{eqb-false, ne-eqb, ltb-true, ltb-false, lt-ltb, leb-true, le-leb}
 use Rattle.words.specs.Lists.{_∈_, split, same-test}
-use Rattle.settings.specs.Sets.{has, union, Exclude, excludes}
+use Rattle.settings.specs.Sets.{has, union, Disjoint, excludes}
 use Rattle.settings.specs.SetLaws.{has-union, excludes-right, both, either, or-left, or-right}
 use Rattle.plan.specs.PlanFile.{Rising}
 use Rattle.plan.specs.Rows.{every, above, rises, parted}
@@ -59,12 +59,12 @@ excludes-union s t u = same-test (excludes (union s t) u) (excludes s u && exclu
     whole : s + t < 2 ^ (s + t)
     whole = below-power (s + t)
 
-    joined : union s t < 2 ^ (s + t)
-    joined = omega (arith, or-add-and s t, whole)
+    places : union s t < 2 ^ (s + t)
+    places = omega (arith, or-add-and s t, whole)
 
     to : excludes (union s t) u ≡ true → (excludes s u && excludes t u) ≡ true
     to e =
-        let x : Exclude (s + t) (union s t) u = excludes-right (s + t) (union s t) u joined .0 e in
+        let x : Disjoint (s + t) (union s t) u = excludes-right (s + t) (union s t) u places .0 e in
         and
         (excludes-right (s + t) s u (omega (arith, whole)) .1 (λ j l p q. x j l (has-union s t j ∙ or-left (has s j) (has t j) p) q))
         (excludes-right (s + t) t u (omega (arith, whole)) .1 (λ j l p q. x j l (has-union s t j ∙ or-right (has s j) (has t j) p) q))
@@ -72,7 +72,7 @@ excludes-union s t u = same-test (excludes (union s t) u) (excludes s u && exclu
     back : (excludes s u && excludes t u) ≡ true → excludes (union s t) u ≡ true
     back e =
         let b = both (excludes s u) (excludes t u) e in
-        excludes-right (s + t) (union s t) u joined .1 (λ j l p q. go j l q (either (has s j) (has t j) (sym (has-union s t j) ∙ p)))
+        excludes-right (s + t) (union s t) u places .1 (λ j l p q. go j l q (either (has s j) (has t j) (sym (has-union s t j) ∙ p)))
       where
         go : (j : ℕ) → j < s + t → has u j ≡ true → (has s j ≡ true) ⊎ (has t j ≡ true) → ⊥
         go j l q (inl p) = excludes-right (s + t) s u (omega (arith, whole)) .0 (both (excludes s u) (excludes t u) e .0) j l p q

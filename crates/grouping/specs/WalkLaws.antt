@@ -16,7 +16,7 @@ use Rattle.plan.specs.PlanFile.{mostBytes, groupAt, after}
 use Rattle.plan.specs.Groups.{smallest}
 use Rattle.plan.specs.Rows.{every, rises, parted}
 use Rattle.grouping.specs.Tests.{memberTest, membersTest, membersFrom, risingFrom, partedFrom}
-use Rattle.grouping.specs.Walks.{Fits}
+use Rattle.grouping.specs.Walks.{ReadableGroup}
 use Rattle.grouping.specs.MemberLaws.{members-step, members-end, members-all, Walk, walk-start, walk-step, walk-member}
 use Rattle.grouping.specs.GateLaws.{members-test}
 use Rattle.grouping.specs.TestLaws.{rising-right, parted-is}
@@ -47,53 +47,53 @@ pub climbing-end : (n : ℕ) (p : List ℕ) (at least k : ℕ) → Climbing n p 
 climbing-end n p at least k w h = sym (w .same ∙ ap (risingFrom n least) (members-end p at k h))
 
 -- the first member is the smallest
-pub first-smallest : (n : ℕ) (p : List ℕ) (at g : ℕ) → Fits n p at → g ≡ numberAt 2 p (at + 1 + 2 * 0) → g ≡ smallest (groupAt p at)
+pub first-smallest : (n : ℕ) (p : List ℕ) (at g : ℕ) → ReadableGroup n p at → g ≡ numberAt 2 p (at + 1 + 2 * 0) → g ≡ smallest (groupAt p at)
 first-smallest n p at g f q = q ∙ sym (ap smallest (sym (members-all p at) ∙ members-step p at 0 (omega (arith, f .joins))))
 
-pub first-member : (n : ℕ) (p : List ℕ) (at g : ℕ) → Fits n p at → g ≡ numberAt 2 p (at + 1 + 2 * 0) → g < n
+pub first-member : (n : ℕ) (p : List ℕ) (at g : ℕ) → ReadableGroup n p at → g ≡ numberAt 2 p (at + 1 + 2 * 0) → g < n
 first-member n p at g f q = walk-member n p at 0 g (walk-start n p at f) (omega (arith, f .joins)) q
 
 -- 27 and 28: each member's test by the first member
-pub record Holding (rows : List ℕ) (row n : ℕ) (p : List ℕ) (at first k : ℕ) : Type 0 where
+pub record Holding (quads : List ℕ) (row n : ℕ) (p : List ℕ) (at first k : ℕ) : Type 0 where
   pub walk : Walk n p at k
   pub inside : first < n
-  pub same : membersTest (gatesIn rows n) row (groupAt p at) ≡ every (λ g. memberTest row (gateAt (gatesIn rows n) first) (gateAt (gatesIn rows n) g)) (membersFrom p at k)
+  pub same : membersTest (gatesIn quads n) row (groupAt p at) ≡ every (λ g. memberTest row (gateAt (gatesIn quads n) first) (gateAt (gatesIn quads n) g)) (membersFrom p at k)
 
-pub holding-start : (rows : List ℕ) (row n : ℕ) (p : List ℕ) (at first : ℕ) → Fits n p at → first ≡ numberAt 2 p (at + 1 + 2 * 0) → Holding rows row n p at first 0
-holding-start rows row n p at first f q =
+pub holding-start : (quads : List ℕ) (row n : ℕ) (p : List ℕ) (at first : ℕ) → ReadableGroup n p at → first ≡ numberAt 2 p (at + 1 + 2 * 0) → Holding quads row n p at first 0
+holding-start quads row n p at first f q =
     record {
       walk = walk-start n p at f;
       inside = first-member n p at first f q;
-      same = members-test (gatesIn rows n) row (groupAt p at)
-          ∙ ap (λ (m : ℕ). every (λ g. memberTest row (gateAt (gatesIn rows n) m) (gateAt (gatesIn rows n) g)) (groupAt p at)) (sym (first-smallest n p at first f q))
-          ∙ ap (every (λ g. memberTest row (gateAt (gatesIn rows n) first) (gateAt (gatesIn rows n) g))) (sym (members-all p at));
+      same = members-test (gatesIn quads n) row (groupAt p at)
+          ∙ ap (λ (m : ℕ). every (λ g. memberTest row (gateAt (gatesIn quads n) m) (gateAt (gatesIn quads n) g)) (groupAt p at)) (sym (first-smallest n p at first f q))
+          ∙ ap (every (λ g. memberTest row (gateAt (gatesIn quads n) first) (gateAt (gatesIn quads n) g))) (sym (members-all p at));
     }
 
-module _ (rows : List ℕ) (row n : ℕ) (p : List ℕ) (at first k g : ℕ) (r : Bool) (w : Holding rows row n p at first k) (h : k < getD p at 0)
-    (q : g ≡ numberAt 2 p (at + 1 + 2 * k)) (e : r ≡ memberTest row (gateIn rows first) (gateIn rows g)) where
-  tested : r ≡ memberTest row (gateAt (gatesIn rows n) first) (gateAt (gatesIn rows n) g)
-  tested = e ∙ sym (rw (gates-at rows n first (w .inside), gates-at rows n g (walk-member n p at k g (w .walk) h q)))
+module _ (quads : List ℕ) (row n : ℕ) (p : List ℕ) (at first k g : ℕ) (r : Bool) (w : Holding quads row n p at first k) (h : k < getD p at 0)
+    (q : g ≡ numberAt 2 p (at + 1 + 2 * k)) (e : r ≡ memberTest row (gateIn quads first) (gateIn quads g)) where
+  tested : r ≡ memberTest row (gateAt (gatesIn quads n) first) (gateAt (gatesIn quads n) g)
+  tested = e ∙ sym (rw (gates-at quads n first (w .inside), gates-at quads n g (walk-member n p at k g (w .walk) h q)))
 
-  next-member : membersTest (gatesIn rows n) row (groupAt p at) ≡ (r && every (λ i. memberTest row (gateAt (gatesIn rows n) first) (gateAt (gatesIn rows n) i)) (membersFrom p at (k + 1)))
+  next-member : membersTest (gatesIn quads n) row (groupAt p at) ≡ (r && every (λ i. memberTest row (gateAt (gatesIn quads n) first) (gateAt (gatesIn quads n) i)) (membersFrom p at (k + 1)))
   next-member =
-      w .same ∙ ap (every (λ i. memberTest row (gateAt (gatesIn rows n) first) (gateAt (gatesIn rows n) i))) (members-step p at k h)
+      w .same ∙ ap (every (λ i. memberTest row (gateAt (gatesIn quads n) first) (gateAt (gatesIn quads n) i))) (members-step p at k h)
       ∙ rw (tested, q)
 
-  pub holding-fails : r ≡ false → false ≡ membersTest (gatesIn rows n) row (groupAt p at)
+  pub holding-fails : r ≡ false → false ≡ membersTest (gatesIn quads n) row (groupAt p at)
   holding-fails f = sym (next-member ∙ rw f)
 
-  pub holding-step : r ≡ true → Holding rows row n p at first (k + 1)
+  pub holding-step : r ≡ true → Holding quads row n p at first (k + 1)
   holding-step f = record { walk = walk-step n p at k (w .walk) h; inside = w .inside; same = next-member ∙ rw f }
 
-pub holding-end : (rows : List ℕ) (row n : ℕ) (p : List ℕ) (at first k : ℕ) → Holding rows row n p at first k → getD p at 0 ≤ k → true ≡ membersTest (gatesIn rows n) row (groupAt p at)
-holding-end rows row n p at first k w h = sym (w .same ∙ ap (every (λ g. memberTest row (gateAt (gatesIn rows n) first) (gateAt (gatesIn rows n) g))) (members-end p at k h))
+pub holding-end : (quads : List ℕ) (row n : ℕ) (p : List ℕ) (at first k : ℕ) → Holding quads row n p at first k → getD p at 0 ≤ k → true ≡ membersTest (gatesIn quads n) row (groupAt p at)
+holding-end quads row n p at first k w h = sym (w .same ∙ ap (every (λ g. memberTest row (gateAt (gatesIn quads n) first) (gateAt (gatesIn quads n) g))) (members-end p at k h))
 
 -- 29: the settings seen so far
 pub record Parting (sets : List ℕ) (n : ℕ) (p : List ℕ) (at seen k : ℕ) : Type 0 where
   pub walk : Walk n p at k
   pub same : parted sets (groupAt p at) ≡ partedFrom sets seen (membersFrom p at k)
 
-pub parting-start : (sets : List ℕ) (n : ℕ) (p : List ℕ) (at seen : ℕ) → Fits n p at → seen ≡ 0 → Parting sets n p at seen 0
+pub parting-start : (sets : List ℕ) (n : ℕ) (p : List ℕ) (at seen : ℕ) → ReadableGroup n p at → seen ≡ 0 → Parting sets n p at seen 0
 parting-start sets n p at seen f e =
     record {
       walk = walk-start n p at f;

@@ -16,7 +16,7 @@ ghost use Rattle.plan.specs.Groups.{smallest};
 ghost use Rattle.plan.specs.Rows as checks;
 ghost use Rattle.grouping.specs.Tables.{groupTable, placeTable, eachAlone};
 ghost use Rattle.grouping.specs.Tests.{shapeTest, memberTest, membersTest, joinTest, operationCode, putAll};
-ghost use Rattle.grouping.specs.Walks.{Lie, Fits, Readable};
+ghost use Rattle.grouping.specs.Walks.{Lie, ReadableGroup, Readable};
 
 // A plan's bytes, at least and at most.
 const LEAST_BYTES: usize = 9;
@@ -216,12 +216,12 @@ fn join_members(
     at: usize,
     count: usize,
     group: &mut [u16; 256],
-    joined: &mut [u16; 256],
+    places: &mut [u16; 256],
 ) -> bool
-    requires { ⌜ Fits count (now plan) at ⌝ }
-    ensures free { λ r. ⌜ r ≡ checks.every (λ g. eqb (getD (now (joined .entry)) g 0) 0) (file.groupAt (now (plan .entry)) at) ⌝ }
+    requires { ⌜ ReadableGroup count (now plan) at ⌝ }
+    ensures free { λ r. ⌜ r ≡ checks.every (λ g. eqb (getD (now (places .entry)) g 0) 0) (file.groupAt (now (plan .entry)) at) ⌝ }
     ensures groups { λ r. ⌜ (r ≡ true → now (group .exit) ≡ putAll (file.groupAt (now (plan .entry)) at) (smallest (file.groupAt (now (plan .entry)) at)) (now (group .entry))) ⌝ }
-    ensures places { λ r. ⌜ (r ≡ true → now (joined .exit) ≡ putAll (file.groupAt (now (plan .entry)) at) at (now (joined .entry))) ⌝ }
+    ensures places { λ r. ⌜ (r ≡ true → now (places .exit) ≡ putAll (file.groupAt (now (plan .entry)) at) at (now (places .entry))) ⌝ }
 {
     let size = size_at(plan, at);
     let first = member(plan, at, 0);
@@ -229,29 +229,29 @@ fn join_members(
     while k < size {
         let g = member(plan, at, k);
         let i = g.0 as usize;
-        if joined[i] != 0 {
+        if places[i] != 0 {
             return false;
         }
         group[i] = first.0;
-        joined[i] = at as u16;
+        places[i] = at as u16;
         k = k + 1;
     }
     true
 }
 
 // 26: no gate is in two groups. Every gate's group, and the place of its group in the plan.
-fn join_groups(plan: &[u8], count: usize, group: &mut [u16; 256], joined: &mut [u16; 256]) -> bool
+fn join_groups(plan: &[u8], count: usize, group: &mut [u16; 256], places: &mut [u16; 256]) -> bool
     requires { ⌜ Readable count (now plan) ⌝ }
     ensures once { λ r. ⌜ r ≡ checks.apart (file.groupsIn (now (plan .entry))) ⌝ }
     ensures groups { λ r. ⌜ (r ≡ true → now (group .exit) ≡ groupTable count (file.groupsIn (now (plan .entry)))) ⌝ }
-    ensures places { λ r. ⌜ (r ≡ true → now (joined .exit) ≡ placeTable count (now (plan .entry))) ⌝ }
+    ensures places { λ r. ⌜ (r ≡ true → now (places .exit) ≡ placeTable count (now (plan .entry))) ⌝ }
 {
     number_gates(count, group);
-    clear(joined);
+    clear(places);
     let mut left = groups_counted(plan);
     let mut at = LEAST_BYTES;
     while 0 < left {
-        if !join_members(plan, at, count, group, joined) {
+        if !join_members(plan, at, count, group, places) {
             return false;
         }
         at = after(plan, at);
@@ -261,18 +261,18 @@ fn join_groups(plan: &[u8], count: usize, group: &mut [u16; 256], joined: &mut [
 }
 
 // Rows 20 to 26 of the plan for a circuit of `count` gates: the lowest that refuses it, or 0. With 0 each gate's group, by its smallest member, is in
-// `group`, and the place of that group in the plan, 0 for a gate that no group lists, in `joined`.
-pub fn group_gates(plan: &[u8], count: usize, group: &mut [u16; 256], joined: &mut [u16; 256]) -> u8
+// `group`, and the place of that group in the plan, 0 for a gate that no group lists, in `places`.
+pub fn group_gates(plan: &[u8], count: usize, group: &mut [u16; 256], places: &mut [u16; 256]) -> u8
     requires { ⌜ count ≤ mostGates ⌝ }
     ensures number { λ r. ⌜ r ≡ checks.firstFailing (checks.layoutRows count (now (plan .entry))) ⌝ }
     ensures groups { λ r. ⌜ (r ≡ 0 → now (group .exit) ≡ groupTable count (file.groupsIn (now (plan .entry)))) ⌝ }
-    ensures places { λ r. ⌜ (r ≡ 0 → now (joined .exit) ≡ placeTable count (now (plan .entry))) ⌝ }
+    ensures places { λ r. ⌜ (r ≡ 0 → now (places .exit) ≡ placeTable count (now (plan .entry))) ⌝ }
 {
     let row = layout_row(plan, count);
     if row != 0 {
         return row;
     }
-    if join_groups(plan, count, group, joined) {
+    if join_groups(plan, count, group, places) {
         0
     } else {
         26
@@ -302,38 +302,38 @@ fn operation_code(code: u32) -> u32
     code
 }
 
-fn code_at(rows: &[u32; 1024], g: GateId) -> u32
+fn code_at(quads: &[u32; 1024], g: GateId) -> u32
     requires { ⌜ g .0 < 256 ⌝ }
-    ensures { λ r. ⌜ r ≡ codeAt (now (rows .entry)) (g .0) ⌝ }
+    ensures { λ r. ⌜ r ≡ codeAt (now (quads .entry)) (g .0) ⌝ }
 {
     let i = g.0 as usize;
-    rows[4 * i]
+    quads[4 * i]
 }
 
 // 27 or 28 of a member, by the first member.
-fn member_holds(row: u8, rows: &[u32; 1024], first: GateId, g: GateId) -> bool
+fn member_holds(row: u8, quads: &[u32; 1024], first: GateId, g: GateId) -> bool
     requires { ⌜ (first .0 < 256) × (g .0 < 256) ⌝ }
-    ensures { λ r. ⌜ r ≡ memberTest row (gateIn (now (rows .entry)) (first .0)) (gateIn (now (rows .entry)) (g .0)) ⌝ }
+    ensures { λ r. ⌜ r ≡ memberTest row (gateIn (now (quads .entry)) (first .0)) (gateIn (now (quads .entry)) (g .0)) ⌝ }
 {
-    let code = code_at(rows, g);
+    let code = code_at(quads, g);
     if row == COSTLY {
         costly(code)
     } else {
-        operation_code(code_at(rows, first)) == operation_code(code)
+        operation_code(code_at(quads, first)) == operation_code(code)
     }
 }
 
 // 27 or 28 of the group that begins at a place.
-fn members_hold(row: u8, plan: &[u8], at: usize, rows: &[u32; 1024], count: usize) -> bool
-    requires { ⌜ Fits count (now plan) at ⌝ }
-    ensures { λ r. ⌜ r ≡ membersTest (gatesIn (now (rows .entry)) count) row (file.groupAt (now (plan .entry)) at) ⌝ }
+fn members_hold(row: u8, plan: &[u8], at: usize, quads: &[u32; 1024], count: usize) -> bool
+    requires { ⌜ ReadableGroup count (now plan) at ⌝ }
+    ensures { λ r. ⌜ r ≡ membersTest (gatesIn (now (quads .entry)) count) row (file.groupAt (now (plan .entry)) at) ⌝ }
 {
     let size = size_at(plan, at);
     let first = member(plan, at, 0);
     let mut k: usize = 0;
     while k < size {
         let g = member(plan, at, k);
-        if !member_holds(row, rows, first, g) {
+        if !member_holds(row, quads, first, g) {
             return false;
         }
         k = k + 1;
@@ -343,7 +343,7 @@ fn members_hold(row: u8, plan: &[u8], at: usize, rows: &[u32; 1024], count: usiz
 
 // 29 of the group that begins at a place: numbers rise, so a member met later is another one.
 fn members_part(plan: &[u8], at: usize, count: usize, needs: &[u64; 256]) -> bool
-    requires { ⌜ Fits count (now plan) at ⌝ }
+    requires { ⌜ ReadableGroup count (now plan) at ⌝ }
     ensures { λ r. ⌜ r ≡ checks.parted (now (needs .entry)) (file.groupAt (now (plan .entry)) at) ⌝ }
 {
     let size = size_at(plan, at);
@@ -367,29 +367,29 @@ fn join_holds(
     row: u8,
     plan: &[u8],
     at: usize,
-    rows: &[u32; 1024],
+    quads: &[u32; 1024],
     count: usize,
     needs: &[u64; 256],
 ) -> bool
-    requires { ⌜ Fits count (now plan) at ⌝ }
-    ensures { λ r. ⌜ r ≡ joinTest (gatesIn (now (rows .entry)) count) (now (needs .entry)) row (file.groupAt (now (plan .entry)) at) ⌝ }
+    requires { ⌜ ReadableGroup count (now plan) at ⌝ }
+    ensures { λ r. ⌜ r ≡ joinTest (gatesIn (now (quads .entry)) count) (now (needs .entry)) row (file.groupAt (now (plan .entry)) at) ⌝ }
 {
     if row == PARTED {
         members_part(plan, at, count, needs)
     } else {
-        members_hold(row, plan, at, rows, count)
+        members_hold(row, plan, at, quads, count)
     }
 }
 
 // 27, 28 or 29 of every group.
-fn every_join(row: u8, plan: &[u8], rows: &[u32; 1024], count: usize, needs: &[u64; 256]) -> bool
+fn every_join(row: u8, plan: &[u8], quads: &[u32; 1024], count: usize, needs: &[u64; 256]) -> bool
     requires { ⌜ Readable count (now plan) ⌝ }
-    ensures { λ r. ⌜ r ≡ checks.everyGroup (joinTest (gatesIn (now (rows .entry)) count) (now (needs .entry)) row) (file.groupsIn (now (plan .entry))) ⌝ }
+    ensures { λ r. ⌜ r ≡ checks.everyGroup (joinTest (gatesIn (now (quads .entry)) count) (now (needs .entry)) row) (file.groupsIn (now (plan .entry))) ⌝ }
 {
     let mut unchecked = groups_counted(plan);
     let mut at = LEAST_BYTES;
     while 0 < unchecked {
-        if !join_holds(row, plan, at, rows, count, needs) {
+        if !join_holds(row, plan, at, quads, count, needs) {
             return false;
         }
         at = after(plan, at);
@@ -398,18 +398,18 @@ fn every_join(row: u8, plan: &[u8], rows: &[u32; 1024], count: usize, needs: &[u
     true
 }
 
-// Rows 27 to 29 of a plan that the rows before do not refuse, for the gates that lie in `rows` and their preconditions: the lowest that refuses it, or 0.
-pub fn check_groups(plan: &[u8], rows: &[u32; 1024], count: usize, needs: &[u64; 256]) -> u8
+// Rows 27 to 29 of a plan that the rows before do not refuse, for the gates that lie in `quads` and their preconditions: the lowest that refuses it, or 0.
+pub fn check_groups(plan: &[u8], quads: &[u32; 1024], count: usize, needs: &[u64; 256]) -> u8
     requires { ⌜ Readable count (now plan) ⌝ }
-    ensures { λ r. ⌜ r ≡ checks.firstFailing (checks.joinRows (gatesIn (now (rows .entry)) count) (now (needs .entry)) (now (plan .entry))) ⌝ }
+    ensures { λ r. ⌜ r ≡ checks.firstFailing (checks.joinRows (gatesIn (now (quads .entry)) count) (now (needs .entry)) (now (plan .entry))) ⌝ }
 {
-    if !every_join(COSTLY, plan, rows, count, needs) {
+    if !every_join(COSTLY, plan, quads, count, needs) {
         return COSTLY;
     }
-    if !every_join(ALIKE, plan, rows, count, needs) {
+    if !every_join(ALIKE, plan, quads, count, needs) {
         return ALIKE;
     }
-    if !every_join(PARTED, plan, rows, count, needs) {
+    if !every_join(PARTED, plan, quads, count, needs) {
         return PARTED;
     }
     0

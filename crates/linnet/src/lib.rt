@@ -3,7 +3,7 @@ use answers::Answer;
 ghost use mathlib.Core.Path.{_≡_};
 ghost use lib.ListN.{length};
 ghost use Rattle.circuit.specs.Whole.{ruleAnswer};
-ghost use Rattle.circuit.specs.Shown.{shownRows, shownNeeds};
+ghost use Rattle.circuit.specs.Built.{builtQuads, builtNeeds};
 ghost use Rattle.plan.specs.Rows.{planAnswer};
 ghost use Rattle.fused.specs.Answers.{fusedAnswer, writeAnswer, writtenOver};
 ghost use Rattle.running.specs.FusedRun.{fusedResults};
@@ -26,7 +26,7 @@ pub extern "C" fn linnet_run_rule(rule: &[u8], inputs: &[u32], results: &mut [u3
     direct::run(rule, inputs, results)
 }
 
-// A plain circuit shown, laid out as C lays it out: `circuit::Shown`, field by field.
+// A plain circuit shown, laid out as C lays it out: the first fields of `circuit::Built`; the quads of the gates are its rows.
 #[repr(C)]
 pub struct Shown {
     pub answer: Answer,
@@ -38,13 +38,13 @@ pub struct Shown {
 #[no_mangle]
 pub extern "C" fn linnet_show_plain(rule: &[u8]) -> Shown
     ensures answer { λ r. ⌜ r .answer ≡ ruleAnswer (now (rule .entry)) ⌝ }
-    ensures rows { λ r. ⌜ r .rows ≡ shownRows (now (rule .entry)) ⌝ }
-    ensures needs { λ r. ⌜ r .needs ≡ shownNeeds (now (rule .entry)) ⌝ }
+    ensures rows { λ r. ⌜ r .rows ≡ builtQuads (now (rule .entry)) ⌝ }
+    ensures needs { λ r. ⌜ r .needs ≡ builtNeeds (now (rule .entry)) ⌝ }
 {
-    let shown = circuit::show(rule);
-    let answer = shown.answer;
-    let rows = shown.rows;
-    let needs = shown.needs;
+    let built = circuit::build(rule);
+    let answer = built.answer;
+    let rows = built.quads;
+    let needs = built.needs;
     Shown {
         answer,
         rows,

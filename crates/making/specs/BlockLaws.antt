@@ -21,14 +21,14 @@ use Rattle.reading.specs.Rule.{readRule}
 use Rattle.reading.specs.FirstStatement as read
 use Rattle.gates.specs.PlainCircuit.{Making, assignsIn, assigns, makeStatement, makeBlock, starts, plainCircuit}
 use Rattle.gates.specs.StartLaws.{read-plain, plain-sound}
-use Rattle.gates.specs.Rows.{rowsOf}
+use Rattle.gates.specs.Quads.{quadsOf}
 use Rattle.making.specs.RuleMade.{RuleMade}
 use Rattle.making.specs.Holding.{Held, Done, Walked}
 use Rattle.making.specs.StatementLaws.{statement-length}
 
 -- a block, statement after statement
-module _ (s : List ℕ) (nest at : ℕ) (rows present : List ℕ) (count : ℕ) where
-  pub walked-none : IsRead (readBlock s nest at) → Walked s nest at rows present count at count 0 rows present
+module _ (s : List ℕ) (nest at : ℕ) (quads present : List ℕ) (count : ℕ) where
+  pub walked-none : IsRead (readBlock s nest at) → Walked s nest at quads present count at count 0 quads present
   walked-none h =
       let r = is-read (readBlock s nest at) h in
       record {
@@ -42,14 +42,14 @@ module _ (s : List ℕ) (nest at : ℕ) (rows present : List ℕ) (count : ℕ) 
         walked = λ m l held. record { now = m; count = l; held = held; same = refl };
       }
 
-  module _ (here n mask : ℕ) (rows′ present′ : List ℕ) (w : Walked s nest at rows present count here n mask rows′ present′) where
+  module _ (here n mask : ℕ) (quads′ present′ : List ℕ) (w : Walked s nest at quads present count here n mask quads′ present′) where
     pub rest-taken : IsRead (readBlock s nest here)
     rest-taken = read-is (readBlock s nest here) (w .left)
 
     pub statement-taken : (getD s here 0 ≡ 0 → ⊥) → IsRead (readStatement s nest here)
     statement-taken z = read-is (readStatement s nest here) (read.block-read s nest here (w .rest) (w .last) (w .left) z .statement)
 
-    pub walked-all : getD s here 0 ≡ 0 → Done makeBlock assigns s (readBlock s nest at) rows present count (here + 1) n mask rows′ present′
+    pub walked-all : getD s here 0 ≡ 0 → Done makeBlock assigns s (readBlock s nest at) quads present count (here + 1) n mask quads′ present′
     unfolding makeBlock assigns
     walked-all z =
         let e : parsed (w .rest) (w .last) ≡ parsed end (here + 1) = sym (w .left) ∙ read.block-closed s nest here (read.block-inside s nest here rest-taken) z in
@@ -60,14 +60,14 @@ module _ (s : List ℕ) (nest at : ℕ) (rows present : List ℕ) (count : ℕ) 
           marks = λ x i. sym (or-false (has mask x)) ∙ ap (λ (b : Block). has mask x || assigns b x) (sym r) ∙ w .marks x i;
           done = λ m l held.
               let q = w .walked m l held in
-              subst (λ (k : Making). Held s k rows′ present′ n) (ap (λ (b : Block). makeBlock b (q .now)) (sym r) ∙ q .same) (q .held);
+              subst (λ (k : Making). Held s k quads′ present′ n) (ap (λ (b : Block). makeBlock b (q .now)) (sym r) ∙ q .same) (q .held);
         }
 
-    pub walked-more : (getD s here 0 ≡ 0 → ⊥) → (next more mask′ : ℕ) (rows″ present″ : List ℕ) → here < next
-        → Done makeStatement assignsIn s (readStatement s nest here) rows′ present′ n next more mask′ rows″ present″
-        → Walked s nest at rows present count next more (bitOr mask mask′) rows″ present″
+    pub walked-more : (getD s here 0 ≡ 0 → ⊥) → (next more mask′ : ℕ) (quads″ present″ : List ℕ) → here < next
+        → Done makeStatement assignsIn s (readStatement s nest here) quads′ present′ n next more mask′ quads″ present″
+        → Walked s nest at quads present count next more (bitOr mask mask′) quads″ present″
     unfolding makeBlock assigns
-    walked-more z next more mask′ rows″ present″ on d =
+    walked-more z next more mask′ quads″ present″ on d =
         let r = read.block-read s nest here (w .rest) (w .last) (w .left) z in
         let e : parsed (d .what) next ≡ parsed (r .x) (r .next) = sym (d .read) ∙ r .statement in
         let k : next ≡ r .next = same-next e in
@@ -99,25 +99,25 @@ module _ (s : List ℕ) (nest at : ℕ) (rows present : List ℕ) (count : ℕ) 
         or-assoc false b c = refl
 
 -- a whole rule
-module _ (s : List ℕ) (h : IsRead (readRule s)) (rows present : List ℕ) (count : ℕ) (held : Held s (starts (variables s)) rows present count)
-    (next more mask : ℕ) (rows′ present′ : List ℕ)
-    (d : Done makeBlock assigns s (readBlock s nested (6 + variables s)) rows present count next more mask rows′ present′) where
+module _ (s : List ℕ) (h : IsRead (readRule s)) (quads present : List ℕ) (count : ℕ) (held : Held s (starts (variables s)) quads present count)
+    (next more mask : ℕ) (quads′ present′ : List ℕ)
+    (d : Done makeBlock assigns s (readBlock s nested (6 + variables s)) quads present count next more mask quads′ present′) where
   plain : plainCircuit s ≡ makeBlock (d .what) (starts (variables s))
   plain = read-plain s (d .what) next (read.rule-read s h .block ∙ d .read)
 
-  pub rule-held : length (starts (variables s) .present) ≡ variables s → Held s (plainCircuit s) rows′ present′ more
-  rule-held l = subst⁻¹ (λ (m : Making). Held s m rows′ present′ more) plain (d .done (starts (variables s)) l held)
+  pub rule-held : length (starts (variables s) .present) ≡ variables s → Held s (plainCircuit s) quads′ present′ more
+  rule-held l = subst⁻¹ (λ (m : Making). Held s m quads′ present′ more) plain (d .done (starts (variables s)) l held)
 
 -- what is held, as equations
-module _ (s : List ℕ) (m : Making) (rows present : List ℕ) (count : ℕ) (held : Held s m rows present count) where
+module _ (s : List ℕ) (m : Making) (quads present : List ℕ) (count : ℕ) (held : Held s m quads present count) where
   pub held-count : length (m .gates) ≤ 256 → count ≡ length (m .gates)
   held-count few = omega (arith, held .stored .counted)
 
   pub held-many : 256 < length (m .gates) → count ≡ 257
   held-many many = omega (arith, held .stored .counted)
 
-  pub held-rows : length (m .gates) ≤ 256 → take (4 * count) rows ≡ rowsOf s (m .gates)
-  held-rows few = ap (λ (k : ℕ). take (4 * k) rows) (held-count few) ∙ held .stored .lie few
+  pub held-quads : length (m .gates) ≤ 256 → take (4 * count) quads ≡ quadsOf s (m .gates)
+  held-quads few = ap (λ (k : ℕ). take (4 * k) quads) (held-count few) ∙ held .stored .lie few
 
   pub held-present : length (m .gates) ≤ 256 → (v : ℕ) → length (m .present) ≡ v → v ≤ 32 → take v present ≡ m .present
   held-present few v l small =
@@ -126,18 +126,18 @@ module _ (s : List ℕ) (m : Making) (rows present : List ℕ) (count : ℕ) (he
       (λ x i. getD-take v present x 0 (omega arith) ∙ held .stand few x (omega arith))
 
 -- the promise of a whole rule: the gates and outputs of its plain circuit
-pub rule-made : (s : List ℕ) → IsRead (readRule s) → (rows present : List ℕ) (count : ℕ) → Held s (starts (variables s)) rows present count
-    → (next more mask : ℕ) (rows′ present′ : List ℕ)
-    → Done makeBlock assigns s (readBlock s nested (6 + variables s)) rows present count next more mask rows′ present′ → RuleMade s rows′ present′ more
-rule-made s h rows present count held next more mask rows′ present′ d =
+pub rule-made : (s : List ℕ) → IsRead (readRule s) → (quads present : List ℕ) (count : ℕ) → Held s (starts (variables s)) quads present count
+    → (next more mask : ℕ) (quads′ present′ : List ℕ)
+    → Done makeBlock assigns s (readBlock s nested (6 + variables s)) quads present count next more mask quads′ present′ → RuleMade s quads′ present′ more
+rule-made s h quads present count held next more mask quads′ present′ d =
     let l : length (starts (variables s) .present) ≡ variables s = length-from 0 (variables s) in
-    let r = rule-held s h rows present count held next more mask rows′ present′ d l in
+    let r = rule-held s h quads present count held next more mask quads′ present′ d l in
     let b = read.rule-read s h in
     let o : length (plainCircuit s .present) ≡ variables s = plain-sound s (d .what) next (b .block ∙ d .read) .count in
     record {
-      counted = λ few. held-count s (plainCircuit s) rows′ present′ more r few;
-      lie = λ few. held-rows s (plainCircuit s) rows′ present′ more r few;
-      outputs = λ few. held-present s (plainCircuit s) rows′ present′ more r few (variables s) o (b .header .few);
-      many = held-many s (plainCircuit s) rows′ present′ more r;
+      counted = λ few. held-count s (plainCircuit s) quads′ present′ more r few;
+      lie = λ few. held-quads s (plainCircuit s) quads′ present′ more r few;
+      outputs = λ few. held-present s (plainCircuit s) quads′ present′ more r few (variables s) o (b .header .few);
+      many = held-many s (plainCircuit s) quads′ present′ more r;
       wide = r .stored .room;
     }

@@ -16,8 +16,8 @@ use Rattle.settings.specs.BitLaws.{bit-zero, bit-suc, bit-none}
 use Rattle.reading.specs.Header.{variables, kindAt}
 use Rattle.gates.specs.Gates.{Gate, start, choice, Gates}
 use Rattle.gates.specs.PlainCircuit.{Making, choose, choices, starts}
-use Rattle.gates.specs.Rows.{startCode, fourOf, rowsOf}
-use Rattle.making.specs.Holding.{Stored, Stands, Held, Pushed, Chose, Chosen, ChosenTo, Started}
+use Rattle.gates.specs.Quads.{startCode, quadOf, quadsOf}
+use Rattle.making.specs.Holding.{Stored, StandsFor, Held, Pushed, Chose, Chosen, ChosenTo, Started}
 
 -- the bit of one variable alone
 eqb-suc : (j t : ℕ) → eqb j t ≡ eqb (suc j) (suc t)
@@ -31,7 +31,7 @@ only-bit (suc t) zero = let e : 2 ^ suc t % 2 ≡ 0 = omega arith in bit-zero (2
 only-bit (suc t) (suc j) = let e : 2 ^ suc t / 2 ≡ 2 ^ t = omega arith in bit-suc (2 ^ suc t) j ∙ ap (λ (k : ℕ). bit k j) e ∙ only-bit t j ∙ eqb-suc j t
 
 -- a variable's gate stored in both
-pub stands-set : (p l : List ℕ) (x a b : ℕ) → a ≡ b → x < length l → x < length p → Stands p l → Stands (set p x b) (set l x a)
+pub stands-set : (p l : List ℕ) (x a b : ℕ) → a ≡ b → x < length l → x < length p → StandsFor p l → StandsFor (set p x b) (set l x a)
 stands-set p l x a b e h k st y i = go (same? y x)
   where
     go : (y ≡ x) ⊎ (y ≡ x → ⊥) → getD (set l x a) y 0 ≡ getD (set p x b) y 0
@@ -39,15 +39,15 @@ stands-set p l x a b e h k st y i = go (same? y x)
     go (inr n) = getD-set-other l x y a 0 n ∙ st y (subst (λ (j : ℕ). y < j) (length-set p x b) i) ∙ sym (getD-set-other p x y b 0 n)
 
 -- a gate that variable x stands for
-pub pushed-chose : (k : Gate) (code a b c x : ℕ) (rows present : List ℕ) (count : ℕ) (after : List ℕ) (more : ℕ) → x < 32
-    → ((s : List ℕ) → fourOf s k ≡ code ∷ a ∷ b ∷ c ∷ []) → Pushed (code ∷ a ∷ b ∷ c ∷ []) rows count after more
-    → Chose k x rows present count after (set present x count) more
-pushed-chose k code a b c x rows present count after more small four q =
+pub pushed-chose : (k : Gate) (code a b c x : ℕ) (quads present : List ℕ) (count : ℕ) (after : List ℕ) (more : ℕ) → x < 32
+    → ((s : List ℕ) → quadOf s k ≡ code ∷ a ∷ b ∷ c ∷ []) → Pushed (code ∷ a ∷ b ∷ c ∷ []) quads count after more
+    → Chose k x quads present count after (set present x count) more
+pushed-chose k code a b c x quads present count after more small four q =
     record {
       chose = λ s m wanted right inside held.
           let longer : length (m .gates ++ (wanted ∷ [])) ≡ length (m .gates) + 1 = length-append (m .gates) (wanted ∷ []) in
           record {
-            stored = q .pushed s (m .gates) wanted (λ h. ap (fourOf s) (right h) ∙ four s) (held .stored);
+            stored = q .pushed s (m .gates) wanted (λ h. ap (quadOf s) (right h) ∙ four s) (held .stored);
             wide = length-set present x count ∙ held .wide;
             stand = λ few.
                 stands-set (m .present) present x count (length (m .gates)) (omega (arith, held .stored .counted)) (omega (arith, held .wide)) inside (held .stand (omega arith));
@@ -61,8 +61,8 @@ choices-length c p q [] m = refl
 choices-length c p q (x ∷ l) m = choices-length c p q l (choose c p q x m) ∙ length-set (m .present) x (length (m .gates))
 
 -- the choices, one variable after another
-module _ (condition : ℕ) (first second : List ℕ) (mask v : ℕ) (rows present : List ℕ) (count : ℕ) where
-  pub chosen-none : ChosenTo condition first second mask v rows present count 0 count rows present
+module _ (condition : ℕ) (first second : List ℕ) (mask v : ℕ) (quads present : List ℕ) (count : ℕ) where
+  pub chosen-none : ChosenTo condition first second mask v quads present count 0 count quads present
   chosen-none =
       record {
         inside = omega arith;
@@ -78,8 +78,8 @@ module _ (condition : ℕ) (first second : List ℕ) (mask v : ℕ) (rows presen
       ap (λ (k : ℕ). keep (has mask) (from x k)) e
       ∙ ap (λ (j : ℕ). cond (has mask x) (x ∷ keep (has mask) (from j (v - (x + 1)))) (keep (has mask) (from j (v - (x + 1))))) f
 
-  module _ (x n : ℕ) (rows′ present′ : List ℕ) (r : ChosenTo condition first second mask v rows present count x n rows′ present′) (inside : x < v) where
-    pub chosen-not : has mask x ≡ false → ChosenTo condition first second mask v rows present count (x + 1) n rows′ present′
+  module _ (x n : ℕ) (quads′ present′ : List ℕ) (r : ChosenTo condition first second mask v quads present count x n quads′ present′) (inside : x < v) where
+    pub chosen-not : has mask x ≡ false → ChosenTo condition first second mask v quads present count (x + 1) n quads′ present′
     chosen-not b =
         record {
           inside = omega arith;
@@ -89,10 +89,10 @@ module _ (condition : ℕ) (first second : List ℕ) (mask v : ℕ) (rows presen
               record { now = z .now; count = z .count; grown = z .grown; held = z .held; same = ap (λ (k : List ℕ). choices c p q k (z .now)) (sym e) ∙ z .same };
         }
 
-    pub chosen-one : has mask x ≡ true → (more : ℕ) (rows″ present″ : List ℕ) → Chose (choice condition (getD first x 0) (getD second x 0)) x rows′ present′ n rows″ present″ more
-        → ChosenTo condition first second mask v rows present count (x + 1) more rows″ present″
+    pub chosen-one : has mask x ≡ true → (more : ℕ) (quads″ present″ : List ℕ) → Chose (choice condition (getD first x 0) (getD second x 0)) x quads′ present′ n quads″ present″ more
+        → ChosenTo condition first second mask v quads present count (x + 1) more quads″ present″
     unfolding choices
-    chosen-one b more rows″ present″ y =
+    chosen-one b more quads″ present″ y =
         record {
           inside = omega arith;
           to = λ s m c p q l lp lq ready held.
@@ -116,28 +116,28 @@ module _ (condition : ℕ) (first second : List ℕ) (mask v : ℕ) (rows presen
               };
         }
 
-  pub chosen-all : (x n : ℕ) (rows′ present′ : List ℕ) → ChosenTo condition first second mask v rows present count x n rows′ present′ → v ≤ x → Chosen condition first second mask v rows present count n rows′ present′
+  pub chosen-all : (x n : ℕ) (quads′ present′ : List ℕ) → ChosenTo condition first second mask v quads present count x n quads′ present′ → v ≤ x → Chosen condition first second mask v quads present count n quads′ present′
   unfolding choices
-  chosen-all x n rows′ present′ r h =
+  chosen-all x n quads′ present′ r h =
       record {
         chosen = λ s m c p q l lp lq ready held.
             let z = r .to s m c p q l lp lq ready held in
             let e : v - x ≡ 0 = omega arith in
-            subst (λ (w : Making). Held s w rows′ present′ n) (ap (λ (k : ℕ). choices c p q (keep (has mask) (from x k)) (z .now)) (sym e) ∙ z .same) (z .held);
+            subst (λ (w : Making). Held s w quads′ present′ n) (ap (λ (k : ℕ). choices c p q (keep (has mask) (from x k)) (z .now)) (sym e) ∙ z .same) (z .held);
       }
 
 starts-more : (x : ℕ) → map start (upto (x + 1)) ≡ map start (upto x) ++ (start x ∷ [])
 starts-more x = let e : x + 1 ≡ suc x = omega arith in ap (λ (k : ℕ). map start (upto k)) e ∙ ap (map start) (from-more 0 x) ∙ map-append start (upto x) ((0 + x) ∷ []) ∙ ap (λ (k : ℕ). map start (upto x) ++ (start k ∷ [])) (omega arith)
 
 -- the starting values, one variable after another
-module _ (s rows present : List ℕ) where
-  pub started-none : length rows ≡ 1024 → length present ≡ 32 → Started s 0 rows present 0
-  unfolding rowsOf
+module _ (s quads present : List ℕ) where
+  pub started-none : length quads ≡ 1024 → length present ≡ 32 → Started s 0 quads present 0
+  unfolding quadsOf
   started-none r w =
       record { inside = omega arith; wide = w; stored = record { room = r; counted = omega arith; lie = λ few. refl }; stand = λ y h. absurd (omega arith) }
 
-  pub started-more : (x n code more : ℕ) (after : List ℕ) → Started s x rows present n → x < variables s → variables s ≤ 32 → code ≡ startCode (kindAt s x)
-      → Pushed (code ∷ x ∷ 0 ∷ 0 ∷ []) rows n after more → Started s (x + 1) after (set present x x) more
+  pub started-more : (x n code more : ℕ) (after : List ℕ) → Started s x quads present n → x < variables s → variables s ≤ 32 → code ≡ startCode (kindAt s x)
+      → Pushed (code ∷ x ∷ 0 ∷ 0 ∷ []) quads n after more → Started s (x + 1) after (set present x x) more
   started-more x n code more after r h few e q =
       record {
         inside = omega arith;
@@ -152,11 +152,11 @@ module _ (s rows present : List ℕ) where
       later y i (inl z) = rw z (getD-set-same present x x 0 (omega (arith, r .wide)))
       later y i (inr z) = getD-set-other present x y x 0 z ∙ r .stand y (omega arith)
 
-  pub started-all : (x n : ℕ) → Started s x rows present n → variables s ≤ x → Held s (starts (variables s)) rows present n
+  pub started-all : (x n : ℕ) → Started s x quads present n → variables s ≤ x → Held s (starts (variables s)) quads present n
   started-all x n r h =
       let e : x ≡ variables s = omega (arith, r .inside) in
       record {
-        stored = subst (λ (k : ℕ). Stored s (map start (upto k)) rows n) e (r .stored);
+        stored = subst (λ (k : ℕ). Stored s (map start (upto k)) quads n) e (r .stored);
         wide = r .wide;
         stand = λ few y i.
             let j : y < variables s = subst (λ (k : ℕ). y < k) (length-from 0 (variables s)) i in

@@ -1,4 +1,4 @@
--- Document 01, "Examples": the rows of the plain circuits of R1 and of example 7, computed from the definitions.
+-- Document 01, "Examples": the quads of the plain circuits of R1 and of example 7, computed from the definitions.
 use mathlib.Core.Path.{_≡_, refl}
 use mathlib.Core.List.{[], _∷_}
 use Rattle.words.specs.Numbers.{number}
@@ -11,16 +11,16 @@ use Rattle.reading.specs.Rule.{readRule}
 use Rattle.reading.specs.Examples.{r1}
 use Rattle.gates.specs.Examples.{r7}
 use Rattle.gates.specs.PlainCircuit.{applyGate, makeExpr, assignsIn, assigns, choices, makeStatement, makeBlock, plainCircuit, gatesOf}
-use Rattle.gates.specs.Rows.{rowsOf}
+use Rattle.gates.specs.Quads.{quadsOf}
 
 -- R1: a bit and two words; gates 3 and 4 products, 5 a choice
-pub rows-r1 : rowsOf r1 (gatesOf r1) ≡
+pub quads-r1 : quadsOf r1 (gatesOf r1) ≡
     0x01 ∷ 0 ∷ 0 ∷ 0 ∷ 0x00 ∷ 1 ∷ 0 ∷ 0 ∷ 0x00 ∷ 2 ∷ 0 ∷ 0
     ∷ 0x22 ∷ 1 ∷ 2 ∷ 0 ∷ 0x22 ∷ 2 ∷ 2 ∷ 0 ∷ 0x30 ∷ 0 ∷ 3 ∷ 4 ∷ []
-unfolding number kindOf operationOf codeOf readMark readCount readKinds readHeader readVariable readWord readBit operationWith exprWith readExpr readAssign branchWith statementWith blockWith blockFuel readBlock readRule applyGate makeExpr assignsIn assigns choices makeStatement makeBlock plainCircuit rowsOf
-rows-r1 = refl
+unfolding number kindOf operationOf codeOf readMark readCount readKinds readHeader readVariable readWord readBit operationWith exprWith readExpr readAssign branchWith statementWith blockWith blockFuel readBlock readRule applyGate makeExpr assignsIn assigns choices makeStatement makeBlock plainCircuit quadsOf
+quads-r1 = refl
 
 -- example 7's rule: a word, two products and the constant 7
-pub rows-r7 : rowsOf r7 (gatesOf r7) ≡ 0x00 ∷ 0 ∷ 0 ∷ 0 ∷ 0x22 ∷ 0 ∷ 0 ∷ 0 ∷ 0x22 ∷ 0 ∷ 1 ∷ 0 ∷ 0x11 ∷ 7 ∷ 0 ∷ 0 ∷ []
-unfolding number kindOf operationOf codeOf readMark readCount readKinds readHeader readVariable readWord readBit operationWith exprWith readExpr readAssign branchWith statementWith blockWith blockFuel readBlock readRule applyGate makeExpr assignsIn assigns choices makeStatement makeBlock plainCircuit rowsOf
-rows-r7 = refl
+pub quads-r7 : quadsOf r7 (gatesOf r7) ≡ 0x00 ∷ 0 ∷ 0 ∷ 0 ∷ 0x22 ∷ 0 ∷ 0 ∷ 0 ∷ 0x22 ∷ 0 ∷ 1 ∷ 0 ∷ 0x11 ∷ 7 ∷ 0 ∷ 0 ∷ []
+unfolding number kindOf operationOf codeOf readMark readCount readKinds readHeader readVariable readWord readBit operationWith exprWith readExpr readAssign branchWith statementWith blockWith blockFuel readBlock readRule applyGate makeExpr assignsIn assigns choices makeStatement makeBlock plainCircuit quadsOf
+quads-r7 = refl

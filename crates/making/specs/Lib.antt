@@ -1,6 +1,6 @@
 pub mod RuleMade
 pub mod Holding
-pub mod RowLaws
+pub mod QuadLaws
 pub mod ExprLaws
 pub mod ChoiceLaws
 pub mod StatementLaws

@@ -17,7 +17,7 @@ ghost use Rattle.settings.specs.Sets.{has};
 ghost use Rattle.gates.specs.Gates.{choice};
 ghost use Rattle.gates.specs.PlainCircuit.{turned, applyGate, assignsIn, assigns, makeStatement, makeBlock, starts};
 ghost use Rattle.codes.specs.Codes.{byteOf};
-ghost use Rattle.gates.specs.Rows.{startCode};
+ghost use Rattle.gates.specs.Quads.{startCode};
 ghost use Rattle.making.specs.RuleMade.{RuleMade};
 ghost use Rattle.making.specs.Holding.{Held, Pushed, Applied, ExprMade, Chose, Chosen, Done};
 
@@ -39,17 +39,17 @@ struct MadePart {
 }
 
 // One gate more, by its four numbers; the count then.
-fn push(rows: &mut [u32; 1024], count: u16, code: u32, a: u32, b: u32, c: u32) -> u16
-    ensures { λ r. ⌜ Pushed (code ∷ a ∷ b ∷ c ∷ []) (now (rows .entry)) count (now (rows .exit)) r ⌝ }
+fn push(quads: &mut [u32; 1024], count: u16, code: u32, a: u32, b: u32, c: u32) -> u16
+    ensures { λ r. ⌜ Pushed (code ∷ a ∷ b ∷ c ∷ []) (now (quads .entry)) count (now (quads .exit)) r ⌝ }
 {
     if MOST_GATES <= count {
         return MOST_GATES + 1;
     }
     let i = 4 * (count as usize);
-    rows[i] = code;
-    rows[i + 1] = a;
-    rows[i + 2] = b;
-    rows[i + 3] = c;
+    quads[i] = code;
+    quads[i + 1] = a;
+    quads[i + 2] = b;
+    quads[i + 3] = c;
     count + 1
 }
 
@@ -82,14 +82,14 @@ fn turned(op: Operation, a: GateId, b: GateId) -> bool
 }
 
 // The gate of an operation whose two arguments, as written, are the gates a and b.
-fn apply_gate(rows: &mut [u32; 1024], count: u16, op: Operation, a: GateId, b: GateId) -> u16
-    ensures { λ r. ⌜ Applied (applyGate op (a .0) (b .0)) (now (rows .entry)) count (now (rows .exit)) r ⌝ }
+fn apply_gate(quads: &mut [u32; 1024], count: u16, op: Operation, a: GateId, b: GateId) -> u16
+    ensures { λ r. ⌜ Applied (applyGate op (a .0) (b .0)) (now (quads .entry)) count (now (quads .exit)) r ⌝ }
 {
     let byte = byte_of(op);
     if turned(op, a, b) {
-        push(rows, count, byte, b.0 as u32, a.0 as u32, 0)
+        push(quads, count, byte, b.0 as u32, a.0 as u32, 0)
     } else {
-        push(rows, count, byte, a.0 as u32, b.0 as u32, 0)
+        push(quads, count, byte, a.0 as u32, b.0 as u32, 0)
     }
 }
 
@@ -100,11 +100,11 @@ fn make_expr(
     want: Kind,
     deep: u8,
     present: &[u16; 32],
-    rows: &mut [u32; 1024],
+    quads: &mut [u32; 1024],
     count: u16,
 ) -> MadeExpr
     requires { ⌜ Headed (now s) (6 + variables (now s)) × IsRead (readExpr deep (now s) want at) ⌝ }
-    ensures { λ r. ⌜ ExprMade (now (s .entry)) (readExpr deep (now (s .entry)) want at) (now (present .entry)) (now (rows .entry)) count (r .next) (r .gate .0) (r .count) (now (rows .exit)) ⌝ }
+    ensures { λ r. ⌜ ExprMade (now (s .entry)) (readExpr deep (now (s .entry)) want at) (now (present .entry)) (now (quads .entry)) count (r .next) (r .gate .0) (r .count) (now (quads .exit)) ⌝ }
 {
     let c = codes::code_of(s[at]);
     let form = c.form;
@@ -121,7 +121,7 @@ fn make_expr(
             let n = words::read32(s, at + 1);
             MadeExpr {
                 next: at + 5,
-                count: push(rows, count, gates::WORD, n, 0, 0),
+                count: push(quads, count, gates::WORD, n, 0, 0),
                 gate: GateId(count),
             }
         }
@@ -129,24 +129,24 @@ fn make_expr(
             let n = s[at + 1] as u32;
             MadeExpr {
                 next: at + 2,
-                count: push(rows, count, gates::BIT, n, 0, 0),
+                count: push(quads, count, gates::BIT, n, 0, 0),
                 gate: GateId(count),
             }
         }
         Form::Apply(op) => {
             let takes = c.takes;
-            let x = make_expr(s, at + 1, takes, deep - 1, present, rows, count);
+            let x = make_expr(s, at + 1, takes, deep - 1, present, quads, count);
             if c.arity == 1 {
                 MadeExpr {
                     next: x.next,
-                    count: push(rows, x.count, byte_of(op), x.gate.0 as u32, 0, 0),
+                    count: push(quads, x.count, byte_of(op), x.gate.0 as u32, 0, 0),
                     gate: GateId(x.count),
                 }
             } else {
-                let y = make_expr(s, x.next, takes, deep - 1, present, rows, x.count);
+                let y = make_expr(s, x.next, takes, deep - 1, present, quads, x.count);
                 MadeExpr {
                     next: y.next,
-                    count: apply_gate(rows, y.count, op, x.gate, y.gate),
+                    count: apply_gate(quads, y.count, op, x.gate, y.gate),
                     gate: GateId(y.count),
                 }
             }
@@ -191,14 +191,14 @@ fn choose(
     second: GateId,
     x: u8,
     present: &mut [u16; 32],
-    rows: &mut [u32; 1024],
+    quads: &mut [u32; 1024],
     count: u16,
 ) -> u16
     requires { ⌜ x < 32 ⌝ }
-    ensures { λ r. ⌜ Chose (choice (condition .0) (first .0) (second .0)) x (now (rows .entry)) (now (present .entry)) count (now (rows .exit)) (now (present .exit)) r ⌝ }
+    ensures { λ r. ⌜ Chose (choice (condition .0) (first .0) (second .0)) x (now (quads .entry)) (now (present .entry)) count (now (quads .exit)) (now (present .exit)) r ⌝ }
 {
     let more = push(
-        rows,
+        quads,
         count,
         gates::CHOICE,
         condition.0 as u32,
@@ -218,11 +218,11 @@ fn make_choices(
     assigned: u32,
     v: u8,
     present: &mut [u16; 32],
-    rows: &mut [u32; 1024],
+    quads: &mut [u32; 1024],
     count: u16,
 ) -> u16
     requires { ⌜ v ≤ 32 ⌝ }
-    ensures { λ r. ⌜ Chosen (condition .0) (now (first .entry)) (now (second .entry)) assigned v (now (rows .entry)) (now (present .entry)) count r (now (rows .exit)) (now (present .exit)) ⌝ }
+    ensures { λ r. ⌜ Chosen (condition .0) (now (first .entry)) (now (second .entry)) assigned v (now (quads .entry)) (now (present .entry)) count r (now (quads .exit)) (now (present .exit)) ⌝ }
 {
     let mut n = count;
     let mut x: u8 = 0;
@@ -231,7 +231,7 @@ fn make_choices(
             let i = x as usize;
             let yes = GateId(first[i]);
             let no = GateId(second[i]);
-            n = choose(condition, yes, no, x, present, rows, n);
+            n = choose(condition, yes, no, x, present, quads, n);
         }
         x = x + 1;
     }
@@ -239,16 +239,16 @@ fn make_choices(
 }
 
 // Gates 0 to V - 1: the variables' starting values.
-fn make_starts(s: &[u8], present: &mut [u16; 32], rows: &mut [u32; 1024]) -> u16
-    requires { ⌜ Headed (now s) (6 + variables (now s)) × ((length (now rows) ≡ 1024) × (length (now present) ≡ 32)) ⌝ }
-    ensures { λ r. ⌜ Held (now (s .entry)) (starts (variables (now (s .entry)))) (now (rows .exit)) (now (present .exit)) r ⌝ }
+fn make_starts(s: &[u8], present: &mut [u16; 32], quads: &mut [u32; 1024]) -> u16
+    requires { ⌜ Headed (now s) (6 + variables (now s)) × ((length (now quads) ≡ 1024) × (length (now present) ≡ 32)) ⌝ }
+    ensures { λ r. ⌜ Held (now (s .entry)) (starts (variables (now (s .entry)))) (now (quads .exit)) (now (present .exit)) r ⌝ }
 {
     let v = s[5];
     let mut n: u16 = 0;
     let mut x: u8 = 0;
     while x < v {
         let code = start_code(reading::kind_at(s, x));
-        n = push(rows, n, code, x as u32, 0, 0);
+        n = push(quads, n, code, x as u32, 0, 0);
         let i = x as usize;
         present[i] = x as u16;
         x = x + 1;
@@ -261,11 +261,11 @@ fn make_assign(
     s: &[u8],
     at: usize,
     present: &mut [u16; 32],
-    rows: &mut [u32; 1024],
+    quads: &mut [u32; 1024],
     count: u16,
 ) -> MadePart
     requires { ⌜ Headed (now s) (6 + variables (now s)) × IsRead (readAssign (now s) at) ⌝ }
-    ensures { λ r. ⌜ Done makeStatement assignsIn (now (s .entry)) (readAssign (now (s .entry)) at) (now (rows .entry)) (now (present .entry)) count (r .next) (r .count) (r .assigned) (now (rows .exit)) (now (present .exit)) ⌝ }
+    ensures { λ r. ⌜ Done makeStatement assignsIn (now (s .entry)) (readAssign (now (s .entry)) at) (now (quads .entry)) (now (present .entry)) count (r .next) (r .count) (r .assigned) (now (quads .exit)) (now (present .exit)) ⌝ }
 {
     let x = s[at + 1];
     let value = make_expr(
@@ -274,7 +274,7 @@ fn make_assign(
         reading::kind_at(s, x),
         reading::DEEPEST,
         present,
-        rows,
+        quads,
         count,
     );
     let i = x as usize;
@@ -303,17 +303,25 @@ fn make_branch(
     at: usize,
     nest: u8,
     present: &mut [u16; 32],
-    rows: &mut [u32; 1024],
+    quads: &mut [u32; 1024],
     count: u16,
 ) -> MadePart
     requires { ⌜ Headed (now s) (6 + variables (now s)) × ((at < length (now s)) × IsRead (branchWith (readBlock (now s)) (now s) nest at)) ⌝ }
-    ensures { λ r. ⌜ Done makeStatement assignsIn (now (s .entry)) (branchWith (readBlock (now (s .entry))) (now (s .entry)) nest at) (now (rows .entry)) (now (present .entry)) count (r .next) (r .count) (r .assigned) (now (rows .exit)) (now (present .exit)) ⌝ }
+    ensures { λ r. ⌜ Done makeStatement assignsIn (now (s .entry)) (branchWith (readBlock (now (s .entry))) (now (s .entry)) nest at) (now (quads .entry)) (now (present .entry)) count (r .next) (r .count) (r .assigned) (now (quads .exit)) (now (present .exit)) ⌝ }
 {
-    let test = make_expr(s, at + 1, Kind::Bit, reading::DEEPEST, present, rows, count);
+    let test = make_expr(
+        s,
+        at + 1,
+        Kind::Bit,
+        reading::DEEPEST,
+        present,
+        quads,
+        count,
+    );
     let mut first = *present;
     let mut second = *present;
-    let x = make_block(s, test.next, nest - 1, &mut first, rows, test.count);
-    let y = make_block(s, x.next, nest - 1, &mut second, rows, x.count);
+    let x = make_block(s, test.next, nest - 1, &mut first, quads, test.count);
+    let y = make_block(s, x.next, nest - 1, &mut second, quads, x.count);
     let assigned = x.assigned | y.assigned;
     let more = make_choices(
         test.gate,
@@ -322,7 +330,7 @@ fn make_branch(
         assigned,
         s[5],
         present,
-        rows,
+        quads,
         y.count,
     );
     MadePart {
@@ -338,18 +346,18 @@ fn make_statement(
     at: usize,
     nest: u8,
     present: &mut [u16; 32],
-    rows: &mut [u32; 1024],
+    quads: &mut [u32; 1024],
     count: u16,
 ) -> MadePart
     requires { ⌜ Headed (now s) (6 + variables (now s)) × ((at < length (now s)) × IsRead (readStatement (now s) nest at)) ⌝ }
-    ensures { λ r. ⌜ Done makeStatement assignsIn (now (s .entry)) (readStatement (now (s .entry)) nest at) (now (rows .entry)) (now (present .entry)) count (r .next) (r .count) (r .assigned) (now (rows .exit)) (now (present .exit)) ⌝ }
+    ensures { λ r. ⌜ Done makeStatement assignsIn (now (s .entry)) (readStatement (now (s .entry)) nest at) (now (quads .entry)) (now (present .entry)) count (r .next) (r .count) (r .assigned) (now (quads .exit)) (now (present .exit)) ⌝ }
 {
     let c = codes::code_of(s[at]);
     let form = c.form;
     match form {
-        Form::Assign => make_assign(s, at, present, rows, count),
+        Form::Assign => make_assign(s, at, present, quads, count),
         Form::Skip => passed(at + 1, count),
-        Form::Branch => make_branch(s, at, nest, present, rows, count),
+        Form::Branch => make_branch(s, at, nest, present, quads, count),
         Form::End => passed(at, count),
         Form::Variable => passed(at, count),
         Form::Word => passed(at, count),
@@ -365,11 +373,11 @@ fn make_block(
     at: usize,
     nest: u8,
     present: &mut [u16; 32],
-    rows: &mut [u32; 1024],
+    quads: &mut [u32; 1024],
     count: u16,
 ) -> MadePart
     requires { ⌜ Headed (now s) (6 + variables (now s)) × IsRead (readBlock (now s) nest at) ⌝ }
-    ensures { λ r. ⌜ Done makeBlock assigns (now (s .entry)) (readBlock (now (s .entry)) nest at) (now (rows .entry)) (now (present .entry)) count (r .next) (r .count) (r .assigned) (now (rows .exit)) (now (present .exit)) ⌝ }
+    ensures { λ r. ⌜ Done makeBlock assigns (now (s .entry)) (readBlock (now (s .entry)) nest at) (now (quads .entry)) (now (present .entry)) count (r .next) (r .count) (r .assigned) (now (quads .exit)) (now (present .exit)) ⌝ }
 {
     let mut here = at;
     let mut n = count;
@@ -382,22 +390,22 @@ fn make_block(
                 assigned,
             };
         }
-        let x = make_statement(s, here, nest, present, rows, n);
+        let x = make_statement(s, here, nest, present, quads, n);
         here = x.next;
         n = x.count;
         assigned = assigned | x.assigned;
     }
 }
 
-// The plain circuit of an accepted rule: its gates' rows, the variables' last gates, and the count of its gates, 257 for any above 256.
-pub fn make_rule(s: &[u8], rows: &mut [u32; 1024], present: &mut [u16; 32]) -> u16
+// The plain circuit of an accepted rule: its gates' quads, the variables' last gates, and the count of its gates, 257 for any above 256.
+pub fn make_rule(s: &[u8], quads: &mut [u32; 1024], present: &mut [u16; 32]) -> u16
     requires { ⌜ IsRead (readRule (now s)) ⌝ }
-    ensures { λ r. ⌜ RuleMade (now (s .entry)) (now (rows .exit)) (now (present .exit)) r ⌝ }
+    ensures { λ r. ⌜ RuleMade (now (s .entry)) (now (quads .exit)) (now (present .exit)) r ⌝ }
 {
-    *rows = [0; 1024];
+    *quads = [0; 1024];
     *present = [0; 32];
     let v = s[5] as usize;
-    let count = make_starts(s, present, rows);
-    let made = make_block(s, 6 + v, reading::NESTED, present, rows, count);
+    let count = make_starts(s, present, quads);
+    let made = make_block(s, 6 + v, reading::NESTED, present, quads, count);
     made.count
 }

@@ -5,7 +5,7 @@ ghost use mathlib.Core.List.{List, _∷_, []};
 ghost use Prim.Native.Nat.{ℕ};
 ghost use lib.ListN.{getD};
 ghost use Rattle.plan.specs.PlanFile.{groupAt};
-ghost use Rattle.emitting.specs.Emitted.{restedBy, Coded, Lies, Joinable, Sized};
+ghost use Rattle.emitting.specs.Emitted.{restedBy, Coded, Lies, Joinable, Measured};
 
 // What the records of a group come to.
 pub struct Size {
@@ -15,12 +15,12 @@ pub struct Size {
 }
 
 // The size of a group alone.
-pub fn size_alone(rows: &[u32; 1024], g: GateId) -> Size
-    requires { ⌜ Coded (now rows) (g .0) ⌝ }
-    ensures { λ r. ⌜ ((sets : List ℕ) → Sized (now (rows .entry)) sets (g .0 ∷ []) (r .wires) (r .bytes) (r .cost)) ⌝ }
+pub fn size_alone(quads: &[u32; 1024], g: GateId) -> Size
+    requires { ⌜ Coded (now quads) (g .0) ⌝ }
+    ensures { λ r. ⌜ ((sets : List ℕ) → Measured (now (quads .entry)) sets (g .0 ∷ []) (r .wires) (r .bytes) (r .cost)) ⌝ }
 {
     let i = g.0 as usize;
-    let code = rows[4 * i];
+    let code = quads[4 * i];
     if code == gates::CHOICE {
         return Size {
             wires: 1,
@@ -35,8 +35,8 @@ pub fn size_alone(rows: &[u32; 1024], g: GateId) -> Size
             cost: 0,
         };
     }
-    let row = codes::code_of(code as u8);
-    if row.arity == 0 {
+    let means = codes::code_of(code as u8);
+    if means.arity == 0 {
         return Size {
             wires: 1,
             bytes: 2,
@@ -45,8 +45,8 @@ pub fn size_alone(rows: &[u32; 1024], g: GateId) -> Size
     }
     Size {
         wires: 1,
-        bytes: 1 + 2 * (row.arity as usize),
-        cost: row.cost as usize,
+        bytes: 1 + 2 * (means.arity as usize),
+        cost: means.cost as usize,
     }
 }
 
@@ -68,18 +68,18 @@ fn rested_by(plan: &[u8], at: usize, needs: &[u64; 256]) -> usize
 }
 
 // The size of the joined group at the place `at` of the plan: a guard of 10 bytes and its wires for each member, two picks, the operation.
-pub fn size_joined(plan: &[u8], at: usize, rows: &[u32; 1024], needs: &[u64; 256]) -> Size
-    requires { ⌜ Joinable (now rows) (now plan) at ⌝ }
-    ensures { λ r. ⌜ Sized (now (rows .entry)) (now (needs .entry)) (groupAt (now (plan .entry)) at) (r .wires) (r .bytes) (r .cost) ⌝ }
+pub fn size_joined(plan: &[u8], at: usize, quads: &[u32; 1024], needs: &[u64; 256]) -> Size
+    requires { ⌜ Joinable (now quads) (now plan) at ⌝ }
+    ensures { λ r. ⌜ Measured (now (quads .entry)) (now (needs .entry)) (groupAt (now (plan .entry)) at) (r .wires) (r .bytes) (r .cost) ⌝ }
 {
     let size = plan[at] as usize;
     let n = rested_by(plan, at, needs);
     let m = emitting::member(plan, at, 0);
     let i = m.0 as usize;
-    let row = codes::code_of(rows[4 * i] as u8);
+    let means = codes::code_of(quads[4 * i] as u8);
     Size {
         wires: size + 3,
         bytes: 18 * size + 2 * n + 9,
-        cost: 5 * size + (row.cost as usize),
+        cost: 5 * size + (means.cost as usize),
     }
 }

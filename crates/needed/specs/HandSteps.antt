@@ -20,50 +20,50 @@ use Rattle.needed.specs.PreconditionLaws.{conditions-once}
 use Rattle.needed.specs.StepLaws.{addNumber, hand-choice}
 use Rattle.needed.specs.Held.{choiceCode, ofForm, argumentsOf, codeAt, firstAt, secondAt, thirdAt, gateIn, gatesIn}
 use Rattle.needed.specs.HeldLaws.{gate-choice, gate-other, arguments-other, gates-at}
-use Rattle.needed.specs.PlaceLaws.{Found, place-found, place-at}
+use Rattle.needed.specs.RankLaws.{Found, rank-found, rank-at}
 use Rattle.needed.specs.Passing.{addNumbers, handGate, Passable}
 use Rattle.needed.specs.PassingLaws.{add-all}
 
 -- A choice c on the values a, b.
 
-choice-at : (rows : List ℕ) (count i c a b : ℕ) → i < count → codeAt rows i ≡ choiceCode → c ≡ firstAt rows i → a ≡ secondAt rows i → b ≡ thirdAt rows i
-    → gateAt (gatesIn rows count) i ≡ choice c a b
+choice-at : (quads : List ℕ) (count i c a b : ℕ) → i < count → codeAt quads i ≡ choiceCode → c ≡ firstAt quads i → a ≡ secondAt quads i → b ≡ thirdAt quads i
+    → gateAt (gatesIn quads count) i ≡ choice c a b
 unfolding gateIn
-choice-at rows count i c a b l h e f g =
-    gates-at rows count i l ∙ gate-choice (codeAt rows i) (firstAt rows i) (secondAt rows i) (thirdAt rows i) h ∙ rw (e, f, g)
+choice-at quads count i c a b l h e f g =
+    gates-at quads count i l ∙ gate-choice (codeAt quads i) (firstAt quads i) (secondAt quads i) (thirdAt quads i) h ∙ rw (e, f, g)
 
-pub choice-inside : (rows places : List ℕ) (count i c a b : ℕ) → Passable rows places count → i < count → codeAt rows i ≡ choiceCode
-    → c ≡ firstAt rows i → a ≡ secondAt rows i → b ≡ thirdAt rows i → (c < 256) × ((a < 256) × (b < 256))
-choice-inside rows places count i c a b p l h e f g =
+pub choice-inside : (quads ranks : List ℕ) (count i c a b : ℕ) → Passable quads ranks count → i < count → codeAt quads i ≡ choiceCode
+    → c ≡ firstAt quads i → a ≡ secondAt quads i → b ≡ thirdAt quads i → (c < 256) × ((a < 256) × (b < 256))
+choice-inside quads ranks count i c a b p l h e f g =
     let below : (x : ℕ) → x ∈ (c ∷ a ∷ b ∷ []) → x < 256 =
-    λ x m. let k : x < i = p .earlier i x (rw (choice-at rows count i c a b l h e f g) m) in omega (arith, p .room) in
+    λ x m. let k : x < i = p .earlier i x (rw (choice-at quads count i c a b l h e f g) m) in omega (arith, p .room) in
     (below c (inl refl), (below a (inr (inl refl)), below b (inr (inr (inl refl)))))
 
 -- its condition's number
-module _ (rows places : List ℕ) (count i c a b : ℕ) (p : Passable rows places count) (l : i < count) (h : codeAt rows i ≡ choiceCode)
-    (e : c ≡ firstAt rows i) (f : a ≡ secondAt rows i) (g : b ≡ thirdAt rows i) where
-  condition-found : Found (conditions (gatesIn rows count)) c
-  condition-found = place-found _ c (condition-in (gatesIn rows count) (p .earlier) c (i, a, b, choice-at rows count i c a b l h e f g))
+module _ (quads ranks : List ℕ) (count i c a b : ℕ) (p : Passable quads ranks count) (l : i < count) (h : codeAt quads i ≡ choiceCode)
+    (e : c ≡ firstAt quads i) (f : a ≡ secondAt quads i) (g : b ≡ thirdAt quads i) where
+  condition-found : Found (conditions (gatesIn quads count)) c
+  condition-found = rank-found _ c (condition-in (gatesIn quads count) (p .earlier) c (i, a, b, choice-at quads count i c a b l h e f g))
 
-  condition-place : getD places c 0 ≡ suc (condition-found .at)
+  condition-place : getD ranks c 0 ≡ suc (condition-found .at)
   condition-place =
-      ap (λ (k : List ℕ). getD k c 0) (p .placed) ∙ place-at (gatesIn rows count) 256 c (choice-inside rows places count i c a b p l h e f g .0) ∙ condition-found .place
+      ap (λ (k : List ℕ). getD k c 0) (p .placed) ∙ rank-at (gatesIn quads count) 256 c (choice-inside quads ranks count i c a b p l h e f g .0) ∙ condition-found .rank
 
-  pub condition-known : (c < 256) × ((0 < getD places c 0) × (getD places c 0 ≤ 6))
+  pub condition-known : (c < 256) × ((0 < getD ranks c 0) × (getD ranks c 0 ≤ 6))
   condition-known =
-      (choice-inside rows places count i c a b p l h e f g .0, (rw condition-place (omega arith), rw condition-place (omega (arith, condition-found .inside, p .few))))
+      (choice-inside quads ranks count i c a b p l h e f g .0, (rw condition-place (omega arith), rw condition-place (omega (arith, condition-found .inside, p .few))))
 
-  pub choice-known : (t : ℕ) → t ≡ getD places c 0 - 1 → (t < 6) × ((c < 256) × ((a < 256) × (b < 256)))
-  choice-known t q = (omega (arith, q, condition-known .1 .0, condition-known .1 .1), choice-inside rows places count i c a b p l h e f g)
+  pub choice-known : (t : ℕ) → t ≡ getD ranks c 0 - 1 → (t < 6) × ((c < 256) × ((a < 256) × (b < 256)))
+  choice-known t q = (omega (arith, q, condition-known .1 .0, condition-known .1 .1), choice-inside quads ranks count i c a b p l h e f g)
 
   -- what it hands on
-  pub choice-hands : (t s : ℕ) (M N : List ℕ) → t ≡ getD places c 0 - 1 → s ≡ getD M i 0
-      → N ≡ addNumber b (without 64 t s) (addNumber a (given 64 t s) (addNumber c s M)) → N ≡ handGate (gatesIn rows count) i M
+  pub choice-hands : (t s : ℕ) (M N : List ℕ) → t ≡ getD ranks c 0 - 1 → s ≡ getD M i 0
+      → N ≡ addNumber b (without 64 t s) (addNumber a (given 64 t s) (addNumber c s M)) → N ≡ handGate (gatesIn quads count) i M
   unfolding handGate
   choice-hands t s M N q r n =
       let k : t ≡ condition-found .at = omega (arith, q, condition-place) in
-      let u = hand-choice 64 (conditions (gatesIn rows count)) (conditions-once (gatesIn rows count)) (condition-found .at) (condition-found .inside) a b (getD M i 0) M in
-      n ∙ rw (choice-at rows count i c a b l h e f g, k, r) (sym (rw (condition-found .same) at u))
+      let u = hand-choice 64 (conditions (gatesIn quads count)) (conditions-once (gatesIn quads count)) (condition-found .at) (condition-found .inside) a b (getD M i 0) M in
+      n ∙ rw (choice-at quads count i c a b l h e f g, k, r) (sym (rw (condition-found .same) at u))
 
 -- Another gate.
 
@@ -78,26 +78,26 @@ form-hands N cs Bit a l s M = refl
 form-hands N cs (Apply op) a l s M = refl
 form-hands N cs Unknown a l s M = refl
 
-module _ (rows places : List ℕ) (count i : ℕ) (p : Passable rows places count) (l : i < count) (h : codeAt rows i ≡ choiceCode → ⊥) where
-  other-at : gateAt (gatesIn rows count) i ≡ ofForm (codeOf (codeAt rows i) .form) (firstAt rows i) (argumentsOf (codeOf (codeAt rows i)) (firstAt rows i) (secondAt rows i))
+module _ (quads ranks : List ℕ) (count i : ℕ) (p : Passable quads ranks count) (l : i < count) (h : codeAt quads i ≡ choiceCode → ⊥) where
+  other-at : gateAt (gatesIn quads count) i ≡ ofForm (codeOf (codeAt quads i) .form) (firstAt quads i) (argumentsOf (codeOf (codeAt quads i)) (firstAt quads i) (secondAt quads i))
   unfolding gateIn
-  other-at = gates-at rows count i l ∙ gate-other (codeAt rows i) (firstAt rows i) (secondAt rows i) (thirdAt rows i) h
+  other-at = gates-at quads count i l ∙ gate-other (codeAt quads i) (firstAt quads i) (secondAt quads i) (thirdAt quads i) h
 
-  other-arguments : arguments (gateAt (gatesIn rows count) i) ≡ argumentsOf (codeOf (codeAt rows i)) (firstAt rows i) (secondAt rows i)
-  other-arguments = ap arguments other-at ∙ arguments-other (codeAt rows i) (firstAt rows i) (secondAt rows i)
+  other-arguments : arguments (gateAt (gatesIn quads count) i) ≡ argumentsOf (codeOf (codeAt quads i)) (firstAt quads i) (secondAt quads i)
+  other-arguments = ap arguments other-at ∙ arguments-other (codeAt quads i) (firstAt quads i) (secondAt quads i)
 
-  pub other-inside : (r : Code) (a b : ℕ) → r ≡ codeOf (codeAt rows i) → a ≡ firstAt rows i → b ≡ secondAt rows i → Inside 256 (take (r .arity) (a ∷ b ∷ []))
+  pub other-inside : (r : Code) (a b : ℕ) → r ≡ codeOf (codeAt quads i) → a ≡ firstAt quads i → b ≡ secondAt quads i → Inside 256 (take (r .arity) (a ∷ b ∷ []))
   other-inside r a b e f g x m =
       let k : x < i = p .earlier i x (rw other-arguments (rw (e, f, g) at m)) in
       omega (arith, p .room)
 
-  pub other-hands : (r : Code) (a b s : ℕ) (M N : List ℕ) → r ≡ codeOf (codeAt rows i) → a ≡ firstAt rows i → b ≡ secondAt rows i → s ≡ getD M i 0
-      → N ≡ addNumbers (take (r .arity) (a ∷ b ∷ [])) s M → N ≡ handGate (gatesIn rows count) i M
+  pub other-hands : (r : Code) (a b s : ℕ) (M N : List ℕ) → r ≡ codeOf (codeAt quads i) → a ≡ firstAt quads i → b ≡ secondAt quads i → s ≡ getD M i 0
+      → N ≡ addNumbers (take (r .arity) (a ∷ b ∷ [])) s M → N ≡ handGate (gatesIn quads count) i M
   unfolding handGate
   other-hands r a b s M N e f g q n =
-      let cs = conditions (gatesIn rows count) in
-      let L = argumentsOf (codeOf (codeAt rows i)) (firstAt rows i) (secondAt rows i) in
+      let cs = conditions (gatesIn quads count) in
+      let L = argumentsOf (codeOf (codeAt quads i)) (firstAt quads i) (secondAt quads i) in
       n ∙ rw (e, f, g, q) (sym (ap (λ (k : Gate). hand (numbers 64 cs) k (getD M i 0) M) other-at
-      ∙ form-hands 64 cs (codeOf (codeAt rows i) .form) (firstAt rows i) L (getD M i 0) M
-      ∙ ap (λ (k : List ℕ). addAll (numbers 64 cs) k (getD M i 0) M) (arguments-other (codeAt rows i) (firstAt rows i) (secondAt rows i))
+      ∙ form-hands 64 cs (codeOf (codeAt quads i) .form) (firstAt quads i) L (getD M i 0) M
+      ∙ ap (λ (k : List ℕ). addAll (numbers 64 cs) k (getD M i 0) M) (arguments-other (codeAt quads i) (firstAt quads i) (secondAt quads i))
       ∙ add-all 64 cs L (getD M i 0) M))

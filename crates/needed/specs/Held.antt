@@ -5,7 +5,7 @@ use mathlib.Core.List.{List, [], _∷_, _++_}
 use mathlib.Core.Bool.{cond}
 use lib.ListN.{length, getD, take}
 use lib.Dec.{eqb}
-use Rattle.codes.specs.Codes.{rowOf, codeOf}
+use Rattle.codes.specs.Codes.{entryOf, codeOf}
 use Rattle.codes.specs.declared.Code.{Code}
 use Rattle.codes.specs.declared.Form.{Form}
 use Rattle.codes.specs.declared.Form.the-variants.{End, Assign, Skip, Branch, Variable, Word, Bit, Apply, Unknown}
@@ -27,9 +27,9 @@ ofForm Bit a l = bit a
 ofForm (Apply op) a l = operation op l
 ofForm Unknown a l = start a
 
--- the arguments of an operation: as many of the numbers as its row of the table says
+-- the arguments of an operation: as many of the numbers as the table says
 abbrev pub argumentsOf : Code → ℕ → ℕ → List ℕ
-argumentsOf row a b = take (row .arity) (a ∷ b ∷ [])
+argumentsOf code a b = take (code .arity) (a ∷ b ∷ [])
 
 -- the gate of four numbers
 unfoldable pub gateOf : ℕ → ℕ → ℕ → ℕ → Gate
@@ -37,25 +37,25 @@ gateOf code a b c = cond (eqb code choiceCode) (choice a b c) (ofForm (codeOf co
 
 -- the four numbers of gate i
 abbrev pub codeAt : List ℕ → ℕ → ℕ
-codeAt rows i = getD rows (4 * i) 0
+codeAt quads i = getD quads (4 * i) 0
 
 abbrev pub firstAt : List ℕ → ℕ → ℕ
-firstAt rows i = getD rows (4 * i + 1) 0
+firstAt quads i = getD quads (4 * i + 1) 0
 
 abbrev pub secondAt : List ℕ → ℕ → ℕ
-secondAt rows i = getD rows (4 * i + 2) 0
+secondAt quads i = getD quads (4 * i + 2) 0
 
 abbrev pub thirdAt : List ℕ → ℕ → ℕ
-thirdAt rows i = getD rows (4 * i + 3) 0
+thirdAt quads i = getD quads (4 * i + 3) 0
 
--- gate i of the rows
+-- gate i of the quads
 unfoldable pub gateIn : List ℕ → ℕ → Gate
-gateIn rows i = gateOf (codeAt rows i) (firstAt rows i) (secondAt rows i) (thirdAt rows i)
+gateIn quads i = gateOf (codeAt quads i) (firstAt quads i) (secondAt quads i) (thirdAt quads i)
 
--- the first n gates of the rows
+-- the first n gates of the quads
 unfoldable pub gatesIn : List ℕ → ℕ → Gates
-gatesIn rows zero = []
-gatesIn rows (suc n) = gatesIn rows n ++ (gateIn rows n ∷ [])
+gatesIn quads zero = []
+gatesIn quads (suc n) = gatesIn quads n ++ (gateIn quads n ∷ [])
 
 -- "Cost of a circuit", by a gate's code: operations by the table, choice 3, others 0
 unfoldable pub codeCost : ℕ → ℕ
@@ -66,7 +66,7 @@ abbrev pub ShapedGate : Gate → Type 0
 ShapedGate (start x) = Unit {0}
 ShapedGate (word n) = Unit {0}
 ShapedGate (bit b) = Unit {0}
-ShapedGate (operation op l) = length l ≡ rowOf op .arity
+ShapedGate (operation op l) = length l ≡ entryOf op .arity
 ShapedGate (choice c a b) = Unit {0}
 
 abbrev pub Shaped : Gates → Type 0

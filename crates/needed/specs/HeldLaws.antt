@@ -1,4 +1,4 @@
--- Laws of gates read back from rows: each by its code, all of them one after the other, and their cost.
+-- Laws of gates read back from quads: each by its code, all of them one after the other, and their cost.
 use Prim.Native.Nat.{ℕ, zero, suc, _+_, _*_, _≤_, _<_}
 use mathlib.Core.Path.{_≡_, refl, sym, ap, _∙_}
 use mathlib.Core.List.{List, [], _∷_, _++_}
@@ -10,7 +10,7 @@ use lib.Seq.{getD-at}
 use lib.Dec.{eqb, leb}
 use borrow.Author.Tests.{eq-eqb, ne-eqb}
 use Rattle.words.specs.Lists.{_∈_, same?}
-use Rattle.codes.specs.Codes.{pick, plain, rowOf, operationOf, codeOf}
+use Rattle.codes.specs.Codes.{plain, entryOf, operationOf, codeOf}
 use Rattle.codes.specs.CodeLaws.{code-unknown}
 use Rattle.codes.specs.declared.Code.{Code}
 use Rattle.codes.specs.declared.Kind.the-variants as kind
@@ -21,13 +21,13 @@ use Rattle.gates.specs.Gates.{word, choice, gateAt, arguments, Earlier, costOf,
 use Rattle.gates.specs.CostLaws.{costs-add, costs-most}
 use Rattle.needed.specs.Held.{choiceCode, ofForm, argumentsOf, gateOf, gateIn, gatesIn, codeCost}
 
--- what holds of every row of the table and of every plain code holds of the code of any number
-pub pick-each : (Q : Code → Type 0) (t : Bool) (a b : Code) → Q a → Q b → Q (pick t a b)
-pick-each Q true a b p q = p
-pick-each Q false a b p q = q
+-- what holds of every entry of the table and of every plain code holds of the code of any number
+pub cond-each : (Q : Code → Type 0) (t : Bool) (a b : Code) → Q a → Q b → Q (cond t a b)
+cond-each Q true a b p q = p
+cond-each Q false a b p q = q
 
 pub record EachCode (Q : Code → Type 0) : Type 0 where
-  pub of-row : (op : Operation) → Q (rowOf op)
+  pub of-entry : (op : Operation) → Q (entryOf op)
   pub of-end : Q (plain End kind.Word)
   pub of-assign : Q (plain Assign kind.Word)
   pub of-skip : Q (plain Skip kind.Word)
@@ -40,26 +40,26 @@ pub record EachCode (Q : Code → Type 0) : Type 0 where
 pub each-code : (Q : Code → Type 0) → EachCode Q → (b : ℕ) → Q (codeOf b)
 unfolding codeOf
 each-code Q e b =
-    pick-each Q (eqb b 0x00) _ _ (e .of-end)
-    (pick-each Q (eqb b 0x01) _ _ (e .of-assign)
-    (pick-each Q (eqb b 0x02) _ _ (e .of-skip)
-    (pick-each Q (eqb b 0x03) _ _ (e .of-branch)
-    (pick-each Q (eqb b 0x10) _ _ (e .of-variable)
-    (pick-each Q (eqb b 0x11) _ _ (e .of-word)
-    (pick-each Q (eqb b 0x12) _ _ (e .of-bit)
-    (pick-each Q (leb 0x20 b && leb b 0x27) _ _ (e .of-row (operationOf b)) (e .of-unknown))))))))
+    cond-each Q (eqb b 0x00) _ _ (e .of-end)
+    (cond-each Q (eqb b 0x01) _ _ (e .of-assign)
+    (cond-each Q (eqb b 0x02) _ _ (e .of-skip)
+    (cond-each Q (eqb b 0x03) _ _ (e .of-branch)
+    (cond-each Q (eqb b 0x10) _ _ (e .of-variable)
+    (cond-each Q (eqb b 0x11) _ _ (e .of-word)
+    (cond-each Q (eqb b 0x12) _ _ (e .of-bit)
+    (cond-each Q (leb 0x20 b && leb b 0x27) _ _ (e .of-entry (operationOf b)) (e .of-unknown))))))))
 
--- what holds of the rows holds of each operation's
-pub each-row : (Q : Code → Operation → Type 0) → Q (rowOf Sum) Sum → Q (rowOf Difference) Difference → Q (rowOf Product) Product
-    → Q (rowOf LessThan) LessThan → Q (rowOf Equal) Equal → Q (rowOf And) And → Q (rowOf Or) Or → Q (rowOf Not) Not → (op : Operation) → Q (rowOf op) op
-each-row Q a b c d e f g h Sum = a
-each-row Q a b c d e f g h Difference = b
-each-row Q a b c d e f g h Product = c
-each-row Q a b c d e f g h LessThan = d
-each-row Q a b c d e f g h Equal = e
-each-row Q a b c d e f g h And = f
-each-row Q a b c d e f g h Or = g
-each-row Q a b c d e f g h Not = h
+-- what holds of the entries holds of each operation's
+pub each-entry : (Q : Code → Operation → Type 0) → Q (entryOf Sum) Sum → Q (entryOf Difference) Difference → Q (entryOf Product) Product
+    → Q (entryOf LessThan) LessThan → Q (entryOf Equal) Equal → Q (entryOf And) And → Q (entryOf Or) Or → Q (entryOf Not) Not → (op : Operation) → Q (entryOf op) op
+each-entry Q a b c d e f g h Sum = a
+each-entry Q a b c d e f g h Difference = b
+each-entry Q a b c d e f g h Product = c
+each-entry Q a b c d e f g h LessThan = d
+each-entry Q a b c d e f g h Equal = e
+each-entry Q a b c d e f g h And = f
+each-entry Q a b c d e f g h Or = g
+each-entry Q a b c d e f g h Not = h
 
 -- a number that is no byte is no code, as FF is none
 pub code-above : (code : ℕ) → 256 ≤ code → codeOf 0xFF ≡ codeOf code
@@ -83,7 +83,7 @@ arguments-other code a b = each-code (λ r. arguments (ofForm (r .form) a (argum
   where
     each : EachCode (λ r. arguments (ofForm (r .form) a (argumentsOf r a b)) ≡ argumentsOf r a b)
     each = record {
-      of-row = each-row (λ r op. arguments (ofForm (r .form) a (argumentsOf r a b)) ≡ argumentsOf r a b) refl refl refl refl refl refl refl refl;
+      of-entry = each-entry (λ r op. arguments (ofForm (r .form) a (argumentsOf r a b)) ≡ argumentsOf r a b) refl refl refl refl refl refl refl refl;
       of-end = refl;
       of-assign = refl;
       of-skip = refl;
@@ -101,7 +101,7 @@ cost-code code a b c = go (eqb code choiceCode) (each-code (λ r. costOf (ofForm
   where
     each : EachCode (λ r. costOf (ofForm (r .form) a (argumentsOf r a b)) ≡ r .cost)
     each = record {
-      of-row = each-row (λ r op. costOf (ofForm (r .form) a (argumentsOf r a b)) ≡ r .cost) refl refl refl refl refl refl refl refl;
+      of-entry = each-entry (λ r op. costOf (ofForm (r .form) a (argumentsOf r a b)) ≡ r .cost) refl refl refl refl refl refl refl refl;
       of-end = refl;
       of-assign = refl;
       of-skip = refl;
@@ -117,44 +117,44 @@ cost-code code a b c = go (eqb code choiceCode) (each-code (λ r. costOf (ofForm
     go true e = refl
     go false e = e
 
--- The gates of the rows.
+-- The gates of the quads.
 
-pub gates-length : (rows : List ℕ) (n : ℕ) → length (gatesIn rows n) ≡ n
+pub gates-length : (quads : List ℕ) (n : ℕ) → length (gatesIn quads n) ≡ n
 unfolding gatesIn
-gates-length rows zero = refl
-gates-length rows (suc n) = length-append (gatesIn rows n) _ ∙ rw (gates-length rows n) (omega arith)
+gates-length quads zero = refl
+gates-length quads (suc n) = length-append (gatesIn quads n) _ ∙ rw (gates-length quads n) (omega arith)
 
-pub gates-at : (rows : List ℕ) (n i : ℕ) → i < n → gateAt (gatesIn rows n) i ≡ gateIn rows i
+pub gates-at : (quads : List ℕ) (n i : ℕ) → i < n → gateAt (gatesIn quads n) i ≡ gateIn quads i
 unfolding gatesIn
-gates-at rows zero i h = absurd (omega arith)
-gates-at rows (suc n) i h = go (same? i n) (λ l. gates-at rows n i l)
+gates-at quads zero i h = absurd (omega arith)
+gates-at quads (suc n) i h = go (same? i n) (λ l. gates-at quads n i l)
   where
-    go : (i ≡ n) ⊎ (i ≡ n → ⊥) → (i < n → gateAt (gatesIn rows n) i ≡ gateIn rows i) → gateAt (gatesIn rows n ++ (gateIn rows n ∷ [])) i ≡ gateIn rows i
-    go (inl e) ih = rw e (getD-at (gatesIn rows n) (gateIn rows n) [] (word 0) n (gates-length rows n))
-    go (inr m) ih = List·getD-append (gatesIn rows n) _ (word 0) i (rw (gates-length rows n) (omega arith)) ∙ ih (omega arith)
+    go : (i ≡ n) ⊎ (i ≡ n → ⊥) → (i < n → gateAt (gatesIn quads n) i ≡ gateIn quads i) → gateAt (gatesIn quads n ++ (gateIn quads n ∷ [])) i ≡ gateIn quads i
+    go (inl e) ih = rw e (getD-at (gatesIn quads n) (gateIn quads n) [] (word 0) n (gates-length quads n))
+    go (inr m) ih = List·getD-append (gatesIn quads n) _ (word 0) i (rw (gates-length quads n) (omega arith)) ∙ ih (omega arith)
 
--- the arguments of a gate of the rows come before it
-pub earlier-in : (rows : List ℕ) (n : ℕ) → Earlier (gatesIn rows n) → (i a : ℕ) → i < n → a ∈ arguments (gateIn rows i) → a < i
-earlier-in rows n e i a h m = e i a (rw (gates-at rows n i h) m)
+-- the arguments of a gate of the quads come before it
+pub earlier-in : (quads : List ℕ) (n : ℕ) → Earlier (gatesIn quads n) → (i a : ℕ) → i < n → a ∈ arguments (gateIn quads i) → a < i
+earlier-in quads n e i a h m = e i a (rw (gates-at quads n i h) m)
 
 -- one gate more, and its cost
-pub costs-more : (rows : List ℕ) (i : ℕ) → costs (gatesIn rows (suc i)) ≡ costs (gatesIn rows i) + codeCost (getD rows (4 * i) 0)
+pub costs-more : (quads : List ℕ) (i : ℕ) → costs (gatesIn quads (suc i)) ≡ costs (gatesIn quads i) + codeCost (getD quads (4 * i) 0)
 unfolding gatesIn gateIn
-costs-more rows i = costs-add (gatesIn rows i) _ ∙ rw (cost-code (getD rows (4 * i) 0) (getD rows (4 * i + 1) 0) (getD rows (4 * i + 2) 0) (getD rows (4 * i + 3) 0))
+costs-more quads i = costs-add (gatesIn quads i) _ ∙ rw (cost-code (getD quads (4 * i) 0) (getD quads (4 * i + 1) 0) (getD quads (4 * i + 2) 0) (getD quads (4 * i + 3) 0))
 
-pub costs-none : (rows : List ℕ) → costs (gatesIn rows 0) ≡ 0
+pub costs-none : (quads : List ℕ) → costs (gatesIn quads 0) ≡ 0
 unfolding gatesIn costs
-costs-none rows = refl
+costs-none quads = refl
 
-pub costs-below : (rows : List ℕ) (i : ℕ) → costs (gatesIn rows i) ≤ 40 * i
-costs-below rows i = rw (gates-length rows i) at (costs-most (gatesIn rows i))
+pub costs-below : (quads : List ℕ) (i : ℕ) → costs (gatesIn quads i) ≤ 40 * i
+costs-below quads i = rw (gates-length quads i) at (costs-most (gatesIn quads i))
 
 -- of a loop that adds them up: one turn, and its end
-pub costs-step : (rows : List ℕ) (i n k : ℕ) → n ≡ costs (gatesIn rows i) → k ≡ codeCost (getD rows (4 * i) 0) → n + k ≡ costs (gatesIn rows (i + 1))
-costs-step rows i n k p q = rw (p, q) (sym (ap (λ (j : ℕ). costs (gatesIn rows j)) (omega arith) ∙ costs-more rows i))
+pub costs-step : (quads : List ℕ) (i n k : ℕ) → n ≡ costs (gatesIn quads i) → k ≡ codeCost (getD quads (4 * i) 0) → n + k ≡ costs (gatesIn quads (i + 1))
+costs-step quads i n k p q = rw (p, q) (sym (ap (λ (j : ℕ). costs (gatesIn quads j)) (omega arith) ∙ costs-more quads i))
 
-pub costs-end : (rows : List ℕ) (count n i : ℕ) → (i ≤ count) × ((count ≤ 256) × (n ≡ costs (gatesIn rows i))) → count ≤ i → n ≡ costs (gatesIn rows count)
-costs-end rows count n i h l = h .1 .1 ∙ ap (λ (j : ℕ). costs (gatesIn rows j)) (omega (arith, h .0))
+pub costs-end : (quads : List ℕ) (count n i : ℕ) → (i ≤ count) × ((count ≤ 256) × (n ≡ costs (gatesIn quads i))) → count ≤ i → n ≡ costs (gatesIn quads count)
+costs-end quads count n i h l = h .1 .1 ∙ ap (λ (j : ℕ). costs (gatesIn quads j)) (omega (arith, h .0))
 
 pub cost-choice : (code : ℕ) → code ≡ choiceCode → codeCost code ≡ choiceCost
 unfolding codeCost

@@ -1,11 +1,11 @@
 pub mod Needed
 pub mod Pass
 pub mod Held
-pub mod Places
+pub mod Ranks
 pub mod HeldLaws
 pub mod ShapedLaws
-pub mod HeldRows
-pub mod PlaceLaws
+pub mod HeldQuads
+pub mod RankLaws
 pub mod MarkSteps
 pub mod GatherLaws
 pub mod NeededLaws
@@ -18,5 +18,5 @@ pub mod Passing
 pub mod PassingLaws
 pub mod HandSteps
 pub mod RulePreconditions
-pub mod RuleRows
+pub mod RuleQuads
 pub mod Examples

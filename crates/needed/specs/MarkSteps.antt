@@ -19,8 +19,8 @@ use Rattle.gates.specs.ConditionLaws.{condition-below}
 use Rattle.needed.specs.HandLaws.{inside-list}
 use Rattle.needed.specs.Held.{choiceCode, ofForm, argumentsOf, gateIn, gatesIn, codeAt, firstAt, secondAt, thirdAt}
 use Rattle.needed.specs.HeldLaws.{gate-choice, gate-other, gates-length, earlier-in}
-use Rattle.needed.specs.Places.{Marked, placeIn, placesOf, markOf, markedIn, Numbered}
-use Rattle.needed.specs.PlaceLaws.{place-none, place-at, places-length}
+use Rattle.needed.specs.Ranks.{Marked, rankIn, ranksOf, markOf, markedIn, NumberedBelow}
+use Rattle.needed.specs.RankLaws.{rank-none, rank-at, ranks-length}
 
 heads-more : (C : Gates) (k : Gate) → heads (C ++ (k ∷ [])) ≡ heads C ++ heads (k ∷ [])
 heads-more [] k = refl
@@ -41,17 +41,17 @@ heads-form Bit a l = refl
 heads-form (Apply op) a l = refl
 heads-form Unknown a l = refl
 
-module _ (rows : List ℕ) (i : ℕ) where
-  heads-choice : codeAt rows i ≡ choiceCode → heads (gatesIn rows (suc i)) ≡ heads (gatesIn rows i) ++ (firstAt rows i ∷ [])
+module _ (quads : List ℕ) (i : ℕ) where
+  heads-choice : codeAt quads i ≡ choiceCode → heads (gatesIn quads (suc i)) ≡ heads (gatesIn quads i) ++ (firstAt quads i ∷ [])
   unfolding gatesIn gateIn
-  heads-choice h = heads-more (gatesIn rows i) _ ∙ rw (gate-choice (codeAt rows i) (firstAt rows i) (secondAt rows i) (thirdAt rows i) h)
+  heads-choice h = heads-more (gatesIn quads i) _ ∙ rw (gate-choice (codeAt quads i) (firstAt quads i) (secondAt quads i) (thirdAt quads i) h)
 
-  heads-other : (codeAt rows i ≡ choiceCode → ⊥) → heads (gatesIn rows (suc i)) ≡ heads (gatesIn rows i)
+  heads-other : (codeAt quads i ≡ choiceCode → ⊥) → heads (gatesIn quads (suc i)) ≡ heads (gatesIn quads i)
   unfolding gatesIn gateIn
   heads-other h =
-      heads-more (gatesIn rows i) _
-      ∙ rw (gate-other (codeAt rows i) (firstAt rows i) (secondAt rows i) (thirdAt rows i) h, heads-form (codeOf (codeAt rows i) .form) (firstAt rows i) (argumentsOf (codeOf (codeAt rows i)) (firstAt rows i) (secondAt rows i)))
-      (append-nil (heads (gatesIn rows i)))
+      heads-more (gatesIn quads i) _
+      ∙ rw (gate-other (codeAt quads i) (firstAt quads i) (secondAt quads i) (thirdAt quads i) h, heads-form (codeOf (codeAt quads i) .form) (firstAt quads i) (argumentsOf (codeOf (codeAt quads i)) (firstAt quads i) (secondAt quads i)))
+      (append-nil (heads (gatesIn quads i)))
 
 -- The loop that marks: the marks of the gates below i are made.
 
@@ -64,20 +64,20 @@ getD-zeros (suc n) zero = refl
 getD-zeros (suc n) (suc g) = getD-zeros n g
 
 -- the condition of a choice comes before it
-pub head-before : (rows : List ℕ) (count i c : ℕ) → Earlier (gatesIn rows count) → i < count → codeAt rows i ≡ choiceCode → c ≡ firstAt rows i → c < i
+pub head-before : (quads : List ℕ) (count i c : ℕ) → Earlier (gatesIn quads count) → i < count → codeAt quads i ≡ choiceCode → c ≡ firstAt quads i → c < i
 unfolding gateIn
-head-before rows count i c e l h q =
-    earlier-in rows count e i c l (rw (gate-choice (codeAt rows i) (firstAt rows i) (secondAt rows i) (thirdAt rows i) h) (inl q))
+head-before quads count i c e l h q =
+    earlier-in quads count e i c l (rw (gate-choice (codeAt quads i) (firstAt quads i) (secondAt quads i) (thirdAt quads i) h) (inl q))
 
-pub record Marking (rows places : List ℕ) (count i : ℕ) : Type 0 where
+pub record Marking (quads ranks : List ℕ) (count i : ℕ) : Type 0 where
   pub below : i ≤ count
   pub room : count ≤ 256
-  pub earlier : Earlier (gatesIn rows count)
-  pub marked : Marked (gatesIn rows i) places
+  pub earlier : Earlier (gatesIn quads count)
+  pub marked : Marked (gatesIn quads i) ranks
 
-pub marking-start : (rows places : List ℕ) (count : ℕ) → (count ≤ 256) × Earlier (gatesIn rows count) → places ≡ replicate 256 0 → Marking rows places count 0
+pub marking-start : (quads ranks : List ℕ) (count : ℕ) → (count ≤ 256) × Earlier (gatesIn quads count) → ranks ≡ replicate 256 0 → Marking quads ranks count 0
 unfolding markOf gatesIn
-marking-start rows places count p e =
+marking-start quads ranks count p e =
     record {
       below = omega arith;
       room = p .0;
@@ -86,43 +86,43 @@ marking-start rows places count p e =
     }
 
 -- one turn, at a choice: its condition is a place
-pub marking-inside : (rows places : List ℕ) (count i c : ℕ) → Marking rows places count i → i < count → codeAt rows i ≡ choiceCode → c ≡ firstAt rows i → c < 256
-marking-inside rows places count i c m l h e = omega (arith, head-before rows count i c (m .earlier) l h e, m .room)
+pub marking-inside : (quads ranks : List ℕ) (count i c : ℕ) → Marking quads ranks count i → i < count → codeAt quads i ≡ choiceCode → c ≡ firstAt quads i → c < 256
+marking-inside quads ranks count i c m l h e = omega (arith, head-before quads count i c (m .earlier) l h e, m .room)
 
-pub marking-choice : (rows places new : List ℕ) (count i c : ℕ) → Marking rows places count i → i < count → codeAt rows i ≡ choiceCode → c ≡ firstAt rows i
-    → new ≡ set places c 1 → Marking rows new count (i + 1)
+pub marking-choice : (quads ranks new : List ℕ) (count i c : ℕ) → Marking quads ranks count i → i < count → codeAt quads i ≡ choiceCode → c ≡ firstAt quads i
+    → new ≡ set ranks c 1 → Marking quads new count (i + 1)
 unfolding markOf
-marking-choice rows places new count i c m l h e q =
+marking-choice quads ranks new count i c m l h e q =
     record {
       below = omega arith;
       room = m .room;
       earlier = m .earlier;
       marked = record {
-        size = ap length q ∙ length-set places c 1 ∙ m .marked .size;
-        marks = λ g. rw (q, more i, heads-choice rows i h, elem-more g (heads (gatesIn rows i)) (firstAt rows i), ← e) (go g (same? g c));
+        size = ap length q ∙ length-set ranks c 1 ∙ m .marked .size;
+        marks = λ g. rw (q, more i, heads-choice quads i h, elem-more g (heads (gatesIn quads i)) (firstAt quads i), ← e) (go g (same? g c));
       };
     }
   where
-    inside : c < length places
-    inside = rw (m .marked .size) (marking-inside rows places count i c m l h e)
+    inside : c < length ranks
+    inside = rw (m .marked .size) (marking-inside quads ranks count i c m l h e)
 
-    go : (g : ℕ) → (g ≡ c) ⊎ (g ≡ c → ⊥) → getD (set places c 1) g 0 ≡ bitOf (cond (eqb g c) true (elem g (heads (gatesIn rows i))))
-    go g (inl f) = rw (f, eq-eqb c c refl, getD-set-same places c 1 0 inside)
-    go g (inr n) = rw (ne-eqb g c n, getD-set-other places c g 1 0 n) (m .marked .marks g)
+    go : (g : ℕ) → (g ≡ c) ⊎ (g ≡ c → ⊥) → getD (set ranks c 1) g 0 ≡ bitOf (cond (eqb g c) true (elem g (heads (gatesIn quads i))))
+    go g (inl f) = rw (f, eq-eqb c c refl, getD-set-same ranks c 1 0 inside)
+    go g (inr n) = rw (ne-eqb g c n, getD-set-other ranks c g 1 0 n) (m .marked .marks g)
 
 -- one turn at another gate
-pub marking-other : (rows places new : List ℕ) (count i : ℕ) → Marking rows places count i → i < count → (codeAt rows i ≡ choiceCode → ⊥) → new ≡ places → Marking rows new count (i + 1)
+pub marking-other : (quads ranks new : List ℕ) (count i : ℕ) → Marking quads ranks count i → i < count → (codeAt quads i ≡ choiceCode → ⊥) → new ≡ ranks → Marking quads new count (i + 1)
 unfolding markOf
-marking-other rows places new count i m l h q =
+marking-other quads ranks new count i m l h q =
     record {
       below = omega arith;
       room = m .room;
       earlier = m .earlier;
-      marked = record { size = ap length q ∙ m .marked .size; marks = λ g. rw (q, more i, heads-other rows i h) (m .marked .marks g) };
+      marked = record { size = ap length q ∙ m .marked .size; marks = λ g. rw (q, more i, heads-other quads i h) (m .marked .marks g) };
     }
 
-pub marking-end : (rows places : List ℕ) (count i : ℕ) → Marking rows places count i → count ≤ i → Marked (gatesIn rows count) places
-marking-end rows places count i m l = let e : count ≡ i = omega (arith, m .below) in rw e (m .marked)
+pub marking-end : (quads ranks : List ℕ) (count i : ℕ) → Marking quads ranks count i → count ≤ i → Marked (gatesIn quads count) ranks
+marking-end quads ranks count i m l = let e : count ≡ i = omega (arith, m .below) in rw e (m .marked)
 
 -- The marked gates are the conditions.
 
@@ -135,44 +135,44 @@ unfolding markedIn conditions markOf
 marked-conditions C marks m =
     keep-same (λ g. not (eqb (getD marks g 0) 0)) (λ g. elem g (heads C)) (upto (length C)) (λ g k. rw (m .marks g) (test-mark (elem g (heads C))))
 
-marked-held : (rows marks : List ℕ) (count : ℕ) → Marked (gatesIn rows count) marks → markedIn marks count ≡ conditions (gatesIn rows count)
-marked-held rows marks count m = ap (markedIn marks) (sym (gates-length rows count)) ∙ marked-conditions (gatesIn rows count) marks m
+marked-held : (quads marks : List ℕ) (count : ℕ) → Marked (gatesIn quads count) marks → markedIn marks count ≡ conditions (gatesIn quads count)
+marked-held quads marks count m = ap (markedIn marks) (sym (gates-length quads count)) ∙ marked-conditions (gatesIn quads count) marks m
 
 -- none of them lies past the gates
-marks-above : (rows : List ℕ) (count n : ℕ) → Earlier (gatesIn rows count) → n ≤ count → (g : ℕ) → n ≤ g → elem g (heads (gatesIn rows n)) ≡ false
+marks-above : (quads : List ℕ) (count n : ℕ) → Earlier (gatesIn quads count) → n ≤ count → (g : ℕ) → n ≤ g → elem g (heads (gatesIn quads n)) ≡ false
 unfolding gatesIn
-marks-above rows count zero e l g h = refl
-marks-above rows count (suc n) e l g h = go (same? (codeAt rows n) choiceCode) (marks-above rows count n e (omega arith) g (omega arith))
+marks-above quads count zero e l g h = refl
+marks-above quads count (suc n) e l g h = go (same? (codeAt quads n) choiceCode) (marks-above quads count n e (omega arith) g (omega arith))
   where
-    go : (codeAt rows n ≡ choiceCode) ⊎ (codeAt rows n ≡ choiceCode → ⊥) → elem g (heads (gatesIn rows n)) ≡ false → elem g (heads (gatesIn rows (suc n))) ≡ false
+    go : (codeAt quads n ≡ choiceCode) ⊎ (codeAt quads n ≡ choiceCode → ⊥) → elem g (heads (gatesIn quads n)) ≡ false → elem g (heads (gatesIn quads (suc n))) ≡ false
     go (inl c) ih =
         rw (
-          heads-choice rows n c,
-          elem-more g (heads (gatesIn rows n)) (firstAt rows n),
-          ne-eqb g (firstAt rows n) (λ f. omega (arith, head-before rows count n (firstAt rows n) e l c refl)),
+          heads-choice quads n c,
+          elem-more g (heads (gatesIn quads n)) (firstAt quads n),
+          ne-eqb g (firstAt quads n) (λ f. omega (arith, head-before quads count n (firstAt quads n) e l c refl)),
         ) ih
-    go (inr c) ih = rw (heads-other rows n c) ih
+    go (inr c) ih = rw (heads-other quads n c) ih
 
 -- so the numbers are those of the conditions
-pub conditions-numbered : (rows marks places : List ℕ) (count : ℕ) → (count ≤ 256) × Earlier (gatesIn rows count) → Marked (gatesIn rows count) marks
-    → Numbered marks places count → places ≡ placesOf (gatesIn rows count) 256
+pub conditions-numbered : (quads marks ranks : List ℕ) (count : ℕ) → (count ≤ 256) × Earlier (gatesIn quads count) → Marked (gatesIn quads count) marks
+    → NumberedBelow marks ranks count → ranks ≡ ranksOf (gatesIn quads count) 256
 unfolding markOf
-conditions-numbered rows marks places count p m n =
-    ext-getD 0 places (placesOf C 256) (n .size ∙ m .size ∙ sym (places-length C 256))
-    (λ g h. let l : g < 256 = rw (n .size, m .size) at h in go g (inside-list C g) ∙ sym (place-at C 256 g l))
+conditions-numbered quads marks ranks count p m n =
+    ext-getD 0 ranks (ranksOf C 256) (n .size ∙ m .size ∙ sym (ranks-length C 256))
+    (λ g h. let l : g < 256 = rw (n .size, m .size) at h in go g (inside-list C g) ∙ sym (rank-at C 256 g l))
   where
     C : Gates
-    C = gatesIn rows count
+    C = gatesIn quads count
 
     same : markedIn marks count ≡ conditions C
-    same = marked-held rows marks count m
+    same = marked-held quads marks count m
 
-    go : (g : ℕ) → (g < length C) ⊎ (length C ≤ g) → getD places g 0 ≡ placeIn (conditions C) g
-    go g (inl h) = rw same at (n .below g (rw (gates-length rows count) at h))
+    go : (g : ℕ) → (g < length C) ⊎ (length C ≤ g) → getD ranks g 0 ≡ rankIn (conditions C) g
+    go g (inl h) = rw same at (n .below g (rw (gates-length quads count) at h))
     go g (inr h) =
-        let k : count ≤ g = rw (gates-length rows count) at h in
-        n .above g k ∙ m .marks g ∙ ap bitOf (marks-above rows count count (p .1) (omega arith) g k)
-        ∙ sym (place-none (conditions C) g (λ i. omega (arith, condition-below C g i)))
+        let k : count ≤ g = rw (gates-length quads count) at h in
+        n .above g k ∙ m .marks g ∙ ap bitOf (marks-above quads count count (p .1) (omega arith) g k)
+        ∙ sym (rank-none (conditions C) g (λ i. omega (arith, condition-below C g i)))
 
-pub conditions-counted : (rows marks : List ℕ) (count r : ℕ) → Marked (gatesIn rows count) marks → r ≡ length (markedIn marks count) → r ≡ length (conditions (gatesIn rows count))
-conditions-counted rows marks count r m e = e ∙ ap length (marked-held rows marks count m)
+pub conditions-counted : (quads marks : List ℕ) (count r : ℕ) → Marked (gatesIn quads count) marks → r ≡ length (markedIn marks count) → r ≡ length (conditions (gatesIn quads count))
+conditions-counted quads marks count r m e = e ∙ ap length (marked-held quads marks count m)

@@ -7,7 +7,7 @@ use Rattle.gates.specs.Gates.{Gates, gateAt, Earlier, conditions}
 use Rattle.gates.specs.Limits.{mostGates, mostConditions}
 use Rattle.settings.specs.Numbers.{numbers}
 use Rattle.needed.specs.Held.{gatesIn}
-use Rattle.needed.specs.Places.{placesOf}
+use Rattle.needed.specs.Ranks.{ranksOf}
 use Rattle.needed.specs.Pass.{hand, passSets}
 use Rattle.needed.specs.StepLaws.{addNumber}
 
@@ -24,9 +24,9 @@ handGate C i M = hand (numbers 64 (conditions C)) (gateAt C i) (getD M i 0) M
 unfoldable pub passGates : Gates → ℕ → List ℕ → List ℕ
 passGates C k M = passSets (numbers 64 (conditions C)) C k M
 
--- what the pass is given: gates in rows, at most 256, arguments before their gates, at most six conditions, and their numbers
-pub record Passable (rows places : List ℕ) (count : ℕ) : Type 0 where
+-- what the pass is given: gates in quads, at most 256, arguments before their gates, at most six conditions, and their numbers
+pub record Passable (quads ranks : List ℕ) (count : ℕ) : Type 0 where
   pub room : count ≤ mostGates
-  pub earlier : Earlier (gatesIn rows count)
-  pub few : length (conditions (gatesIn rows count)) ≤ mostConditions
-  pub placed : places ≡ placesOf (gatesIn rows count) mostGates
+  pub earlier : Earlier (gatesIn quads count)
+  pub few : length (conditions (gatesIn quads count)) ≤ mostConditions
+  pub placed : ranks ≡ ranksOf (gatesIn quads count) mostGates

@@ -106,44 +106,44 @@ wanting-end wanted M₀ M x w l = let e : x ≡ length wanted = omega (arith, w 
 
 -- The loop downwards over the gates.
 
-pub record Walking (rows places M₀ M : List ℕ) (count i : ℕ) : Type 0 where
+pub record WalkingBack (quads ranks M₀ M : List ℕ) (count i : ℕ) : Type 0 where
   pub low : i ≤ count
-  pub passable : Passable rows places count
-  pub rest : passGates (gatesIn rows count) i M ≡ passGates (gatesIn rows count) count M₀
+  pub passable : Passable quads ranks count
+  pub rest : passGates (gatesIn quads count) i M ≡ passGates (gatesIn quads count) count M₀
 
-pub walking-start : (rows places M : List ℕ) (count : ℕ) → Passable rows places count → Walking rows places M M count count
-walking-start rows places M count p = record { low = omega arith; passable = p; rest = refl }
+pub walking-start : (quads ranks M : List ℕ) (count : ℕ) → Passable quads ranks count → WalkingBack quads ranks M M count count
+walking-start quads ranks M count p = record { low = omega arith; passable = p; rest = refl }
 
 pass-step : (C : Gates) (i : ℕ) (M : List ℕ) → passGates C (suc i) M ≡ passGates C i (handGate C i M)
 unfolding passGates handGate numbers
 pass-step C i M = refl
 
-pub walking-step : (rows places M₀ M N : List ℕ) (count i : ℕ) → Walking rows places M₀ M count i → 0 < i → N ≡ handGate (gatesIn rows count) (i - 1) M
-    → Walking rows places M₀ N count (i - 1)
-walking-step rows places M₀ M N count zero w l q = absurd (omega arith)
-walking-step rows places M₀ M N count (suc i) w l q =
+pub walking-step : (quads ranks M₀ M N : List ℕ) (count i : ℕ) → WalkingBack quads ranks M₀ M count i → 0 < i → N ≡ handGate (gatesIn quads count) (i - 1) M
+    → WalkingBack quads ranks M₀ N count (i - 1)
+walking-step quads ranks M₀ M N count zero w l q = absurd (omega arith)
+walking-step quads ranks M₀ M N count (suc i) w l q =
     let e : suc i - 1 ≡ i = omega arith in
     record {
       low = omega (arith, w .low);
       passable = w .passable;
-      rest = rw e (ap (passGates (gatesIn rows count) i) (rw e at q) ∙ sym (pass-step (gatesIn rows count) i M) ∙ w .rest);
+      rest = rw e (ap (passGates (gatesIn quads count) i) (rw e at q) ∙ sym (pass-step (gatesIn quads count) i M) ∙ w .rest);
     }
 
-pub walking-end : (rows places M₀ M : List ℕ) (count i : ℕ) → Walking rows places M₀ M count i → i ≤ 0 → M ≡ passGates (gatesIn rows count) count M₀
+pub walking-end : (quads ranks M₀ M : List ℕ) (count i : ℕ) → WalkingBack quads ranks M₀ M count i → i ≤ 0 → M ≡ passGates (gatesIn quads count) count M₀
 unfolding passGates
-walking-end rows places M₀ M count zero w l = w .rest
-walking-end rows places M₀ M count (suc i) w l = absurd (omega arith)
+walking-end quads ranks M₀ M count zero w l = w .rest
+walking-end quads ranks M₀ M count (suc i) w l = absurd (omega arith)
 
 -- Both: the sets that are wanted, then the pass, give the preconditions, and empty sets past the gates.
 
-found-needed : (rows places wanted M₁ M₂ M₃ : List ℕ) (count : ℕ) → Passable rows places count → Inside count wanted
-    → M₁ ≡ replicate 256 0 → M₂ ≡ addNumbers wanted (whole 64) M₁ → M₃ ≡ passGates (gatesIn rows count) count M₂
-    → M₃ ≡ preconditionSets 6 (gatesIn rows count) wanted ++ replicate (256 - count) 0
+found-needed : (quads ranks wanted M₁ M₂ M₃ : List ℕ) (count : ℕ) → Passable quads ranks count → Inside count wanted
+    → M₁ ≡ replicate 256 0 → M₂ ≡ addNumbers wanted (whole 64) M₁ → M₃ ≡ passGates (gatesIn quads count) count M₂
+    → M₃ ≡ preconditionSets 6 (gatesIn quads count) wanted ++ replicate (256 - count) 0
 unfolding passGates preconditionSets numbers
-found-needed rows places wanted M₁ M₂ M₃ count p i e₁ e₂ e₃ =
-    let C = gatesIn rows count in
+found-needed quads ranks wanted M₁ M₂ M₃ count p i e₁ e₂ e₃ =
+    let C = gatesIn quads count in
     let S = numbers 64 (conditions C) in
-    let n : length C ≡ count = gates-length rows count in
+    let n : length C ≡ count = gates-length quads count in
     let r : length C + (256 - count) ≡ 256 = omega (arith, p .room) in
     e₃ ∙ ap (passSets S C count) (e₂ ∙ sym (add-all 64 (conditions C) wanted (whole 64) M₁) ∙ ap (addAll S wanted (whole 64)) (e₁ ∙ ap (λ (k : ℕ). replicate k 0) (sym r)))
     ∙ ap (λ (k : ℕ). passSets S C k (addAll S wanted (whole 64) (replicate (length C + (256 - count)) 0))) (sym n)
@@ -153,13 +153,13 @@ found-needed rows places wanted M₁ M₂ M₃ count p i e₁ e₂ e₃ =
 part-zero : (v : ℕ) (l : List ℕ) → take (v - 0) l ≡ take v l
 part-zero v l = rw sub-zero
 
-pub wanted-room : (rows places outputs : List ℕ) (count v : ℕ) → Passable rows places count → Inside count (take v outputs) → Inside 256 (take (v - 0) outputs)
-wanted-room rows places outputs count v p i a m = omega (arith, i a (rw (part-zero v outputs) at m), p .room)
+pub wanted-room : (quads ranks outputs : List ℕ) (count v : ℕ) → Passable quads ranks count → Inside count (take v outputs) → Inside 256 (take (v - 0) outputs)
+wanted-room quads ranks outputs count v p i a m = omega (arith, i a (rw (part-zero v outputs) at m), p .room)
 
-pub found-part : (rows places outputs M₁ M₂ M₃ : List ℕ) (count v : ℕ) → Passable rows places count → Inside count (take v outputs)
-    → M₁ ≡ replicate 256 0 → M₂ ≡ addNumbers (take (v - 0) outputs) (whole 64) M₁ → M₃ ≡ passGates (gatesIn rows count) count M₂
-    → M₃ ≡ preconditionSets 6 (gatesIn rows count) (take v outputs) ++ replicate (256 - count) 0
-found-part rows places outputs M₁ M₂ M₃ count v p i e₁ e₂ e₃ = found-needed rows places (take v outputs) M₁ M₂ M₃ count p i e₁ (rw (part-zero v outputs) at e₂) e₃
+pub found-part : (quads ranks outputs M₁ M₂ M₃ : List ℕ) (count v : ℕ) → Passable quads ranks count → Inside count (take v outputs)
+    → M₁ ≡ replicate 256 0 → M₂ ≡ addNumbers (take (v - 0) outputs) (whole 64) M₁ → M₃ ≡ passGates (gatesIn quads count) count M₂
+    → M₃ ≡ preconditionSets 6 (gatesIn quads count) (take v outputs) ++ replicate (256 - count) 0
+found-part quads ranks outputs M₁ M₂ M₃ count v p i e₁ e₂ e₃ = found-needed quads ranks (take v outputs) M₁ M₂ M₃ count p i e₁ (rw (part-zero v outputs) at e₂) e₃
 
 -- Reading the sets: the first are the preconditions, and so is the set of each gate.
 

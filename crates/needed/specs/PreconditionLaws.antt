@@ -69,7 +69,7 @@ module _ (C : Gates) (wanted : List ℕ) (earlier : Earlier C) (inside : (g : �
       → (sets.excludes (preconditionOf n C wanted g) (preconditionOf n C wanted h) ≡ true) ↔ Exclude C wanted g h
   exclude-right n few g h = (λ t. to (excludes-right (2 ^ n) _ _ (precondition-below n g) .0 t), λ x. excludes-right (2 ^ n) _ _ (precondition-below n g) .1 (back x))
     where
-      to : sets.Exclude (2 ^ n) (preconditionOf n C wanted g) (preconditionOf n C wanted h) → Exclude C wanted g h
+      to : sets.Disjoint (2 ^ n) (preconditionOf n C wanted g) (preconditionOf n C wanted h) → Exclude C wanted g h
       to x σ p q =
           let j : ℕ = numberOf (conditions C) σ in
           let l : j < 2 ^ n = omega (arith, numberOf-below (conditions C) σ, pow-mono few) in
@@ -78,5 +78,5 @@ module _ (C : Gates) (wanted : List ℕ) (earlier : Earlier C) (inside : (g : �
           (precondition-holds n few g .holds j l ∙ needed-over g _ σ same ∙ needed-complete C wanted σ earlier inside g p)
           (precondition-holds n few h .holds j l ∙ needed-over h _ σ same ∙ needed-complete C wanted σ earlier inside h q)
 
-      back : Exclude C wanted g h → sets.Exclude (2 ^ n) (preconditionOf n C wanted g) (preconditionOf n C wanted h)
+      back : Exclude C wanted g h → sets.Disjoint (2 ^ n) (preconditionOf n C wanted g) (preconditionOf n C wanted h)
       back x j l p q = x (settingOf (conditions C) j) (precondition-right n few g j l .0 p) (precondition-right n few h j l .0 q)

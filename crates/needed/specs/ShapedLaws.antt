@@ -5,7 +5,7 @@ use mathlib.Core.List.{List, [], _∷_, _++_, map}
 use mathlib.Core.Logic.{_⊎_, inl, inr}
 use lib.ListN.{length, getD}
 use Rattle.words.specs.Lists.{from}
-use Rattle.codes.specs.Codes.{rowOf}
+use Rattle.codes.specs.Codes.{entryOf}
 use Rattle.codes.specs.declared.Code.{Code}
 use Rattle.codes.specs.declared.Kind.{Kind}
 use Rattle.codes.specs.declared.Operation.{Operation}
@@ -30,7 +30,7 @@ shaped-add C k h g i = go (gate-add C k i)
     go (inl e) = rw e (h i)
     go (inr (e, f)) = rw f g
 
-apply-shaped : (op : Operation) (a b : ℕ) → rowOf op .arity ≡ 2 → ShapedGate (applyGate op a b)
+apply-shaped : (op : Operation) (a b : ℕ) → entryOf op .arity ≡ 2 → ShapedGate (applyGate op a b)
 apply-shaped op a b h = apply-cases ShapedGate op a b (sym h) (λ c. sym h)
 
 choices-shaped : (c : ℕ) (p q l : List ℕ) (m : Making) → Shaped (m .gates) → Shaped (choices c p q l m .gates)

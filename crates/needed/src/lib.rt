@@ -1,4 +1,4 @@
-// Document 01, "The plain circuit" and "Needed gates", over lent arrays: a gate is four numbers of `rows`, `count` gates at most 256.
+// Document 01, "The plain circuit" and "Needed gates", over lent arrays: a gate is four numbers of `quads`, `count` gates at most 256.
 // The lent arrays hold plain numbers; a gate's number in hand is a `GateId`.
 use gates::GateId;
 ghost use mathlib.Core.Path.{_≡_};
@@ -12,7 +12,7 @@ ghost use Rattle.gates.specs.Gates.{Earlier, costs, conditions};
 ghost use Rattle.gates.specs.Limits.{mostGates, mostConditions};
 ghost use Rattle.gates.specs.EarlierLaws.{Inside};
 ghost use Rattle.needed.specs.Held.{firstAt, secondAt, gatesIn, codeCost};
-ghost use Rattle.needed.specs.Places.{placesOf, Marked, markedIn, Numbered};
+ghost use Rattle.needed.specs.Ranks.{ranksOf, Marked, markedIn, NumberedBelow};
 ghost use Rattle.needed.specs.Pass.{preconditionSets};
 ghost use Rattle.needed.specs.StepLaws.{addNumber};
 ghost use Rattle.needed.specs.Passing.{addNumbers, handGate, passGates, Passable};
@@ -20,16 +20,16 @@ ghost use Rattle.needed.specs.Passing.{addNumbers, handGate, passGates, 
 // A choice's cost.
 pub const CHOICE_COST: usize = 3;
 
-// The gate whose number stands at a place of the rows, where an argument stands; a figure is never read so.
-pub fn argument(rows: &[u32; 1024], at: usize) -> GateId
-    requires { ⌜ (at < 1024) × (getD (now rows) at 0 < 256) ⌝ }
-    ensures { λ r. ⌜ r .0 ≡ getD (now (rows .entry)) at 0 ⌝ }
+// The gate whose number stands at a place of the quads, where an argument stands; a figure is never read so.
+pub fn argument(quads: &[u32; 1024], at: usize) -> GateId
+    requires { ⌜ (at < 1024) × (getD (now quads) at 0 < 256) ⌝ }
+    ensures { λ r. ⌜ r .0 ≡ getD (now (quads .entry)) at 0 ⌝ }
 {
-    GateId(rows[at] as u16)
+    GateId(quads[at] as u16)
 }
 
-// The code's row of the table of codes; a number that is no byte is no code, as FF is none.
-fn row(code: u32) -> codes::Code
+// What a code means, by the table of codes; a number that is no byte is no code, as FF is none.
+fn code_entry(code: u32) -> codes::Code
     ensures { λ r. ⌜ r ≡ codeOf code ⌝ }
 {
     if code < 256 {
@@ -46,58 +46,58 @@ fn cost_of(code: u32) -> usize
     if code == gates::CHOICE {
         CHOICE_COST
     } else {
-        row(code).cost as usize
+        code_entry(code).cost as usize
     }
 }
 
 // The cost of the circuit.
-pub fn cost(rows: &[u32; 1024], count: usize) -> usize
+pub fn cost(quads: &[u32; 1024], count: usize) -> usize
     requires { ⌜ count ≤ mostGates ⌝ }
-    ensures { λ r. ⌜ r ≡ costs (gatesIn (now (rows .entry)) count) ⌝ }
+    ensures { λ r. ⌜ r ≡ costs (gatesIn (now (quads .entry)) count) ⌝ }
 {
     let mut sum: usize = 0;
     let mut i: usize = 0;
     while i < count {
-        sum = sum + cost_of(rows[4 * i]);
+        sum = sum + cost_of(quads[4 * i]);
         i = i + 1;
     }
     sum
 }
 
-fn clear_places(places: &mut [u16; 256])
-    ensures { λ r. ⌜ now (places .exit) ≡ replicate 256 0 ⌝ }
+fn clear_ranks(ranks: &mut [u16; 256])
+    ensures { λ r. ⌜ now (ranks .exit) ≡ replicate 256 0 ⌝ }
 {
-    *places = [0u16; 256];
+    *ranks = [0u16; 256];
 }
 
 // Marks the gates that stand first in a choice gate, the others are 0.
-fn mark(rows: &[u32; 1024], count: usize, places: &mut [u16; 256])
-    requires { ⌜ (count ≤ mostGates) × Earlier (gatesIn (now rows) count) ⌝ }
-    ensures { λ r. ⌜ Marked (gatesIn (now (rows .entry)) count) (now (places .exit)) ⌝ }
+fn mark(quads: &[u32; 1024], count: usize, ranks: &mut [u16; 256])
+    requires { ⌜ (count ≤ mostGates) × Earlier (gatesIn (now quads) count) ⌝ }
+    ensures { λ r. ⌜ Marked (gatesIn (now (quads .entry)) count) (now (ranks .exit)) ⌝ }
 {
-    clear_places(places);
+    clear_ranks(ranks);
     let mut i: usize = 0;
     while i < count {
-        if rows[4 * i] == gates::CHOICE {
-            let c = argument(rows, 4 * i + 1);
+        if quads[4 * i] == gates::CHOICE {
+            let c = argument(quads, 4 * i + 1);
             let at = c.0 as usize;
-            places[at] = 1;
+            ranks[at] = 1;
         }
         i = i + 1;
     }
 }
 
 // Numbers the marked gates from 1, rising; gives how many they are.
-fn number_marked(count: usize, places: &mut [u16; 256]) -> usize
-    requires { ⌜ (count ≤ mostGates) × (length (now places) ≡ 256) ⌝ }
-    ensures { λ r. ⌜ (r ≡ length (markedIn (now (places .entry)) count)) × Numbered (now (places .entry)) (now (places .exit)) count ⌝ }
+fn number_marked(count: usize, ranks: &mut [u16; 256]) -> usize
+    requires { ⌜ (count ≤ mostGates) × (length (now ranks) ≡ 256) ⌝ }
+    ensures { λ r. ⌜ (r ≡ length (markedIn (now (ranks .entry)) count)) × NumberedBelow (now (ranks .entry)) (now (ranks .exit)) count ⌝ }
 {
     let mut t: u16 = 0;
     let mut g: usize = 0;
     while g < count {
-        if places[g] != 0 {
+        if ranks[g] != 0 {
             t = t + 1;
-            places[g] = t;
+            ranks[g] = t;
         }
         g = g + 1;
     }
@@ -105,25 +105,25 @@ fn number_marked(count: usize, places: &mut [u16; 256]) -> usize
 }
 
 // Numbers the conditions: t + 1 for the gate that is condition t, 0 for every other; gives how many they are.
-pub fn number_conditions(rows: &[u32; 1024], count: usize, places: &mut [u16; 256]) -> usize
-    requires { ⌜ (count ≤ mostGates) × Earlier (gatesIn (now rows) count) ⌝ }
-    ensures counted { λ r. ⌜ r ≡ length (conditions (gatesIn (now (rows .entry)) count)) ⌝ }
-    ensures placed { λ r. ⌜ now (places .exit) ≡ placesOf (gatesIn (now (rows .entry)) count) mostGates ⌝ }
+pub fn number_conditions(quads: &[u32; 1024], count: usize, ranks: &mut [u16; 256]) -> usize
+    requires { ⌜ (count ≤ mostGates) × Earlier (gatesIn (now quads) count) ⌝ }
+    ensures counted { λ r. ⌜ r ≡ length (conditions (gatesIn (now (quads .entry)) count)) ⌝ }
+    ensures placed { λ r. ⌜ now (ranks .exit) ≡ ranksOf (gatesIn (now (quads .entry)) count) mostGates ⌝ }
 {
-    mark(rows, count, places);
-    number_marked(count, places)
+    mark(quads, count, ranks);
+    number_marked(count, ranks)
 }
 
-// The gates that have a number, in rising order: of places that number the conditions, condition t is element t; zeros after them.
-pub fn condition_gates(places: &[u16; 256], count: usize) -> [u16; 6]
-    requires { ⌜ (count ≤ mostGates) × (length (markedIn (now places) count) ≤ mostConditions) ⌝ }
-    ensures { λ r. ⌜ r ≡ over (markedIn (now (places .entry)) count) (replicate mostConditions 0) ⌝ }
+// The gates that have a number, in rising order: of ranks that number the conditions, condition t is element t; zeros after them.
+pub fn condition_gates(ranks: &[u16; 256], count: usize) -> [u16; 6]
+    requires { ⌜ (count ≤ mostGates) × (length (markedIn (now ranks) count) ≤ mostConditions) ⌝ }
+    ensures { λ r. ⌜ r ≡ over (markedIn (now (ranks .entry)) count) (replicate mostConditions 0) ⌝ }
 {
     let mut gates = [0u16; 6];
     let mut t: usize = 0;
     let mut g: usize = 0;
     while g < count {
-        if places[g] != 0 {
+        if ranks[g] != 0 {
             gates[t] = g as u16;
             t = t + 1;
         }
@@ -155,17 +155,17 @@ fn want_all(wanted: &[u16], sets: &mut [u64; 256])
 }
 
 // An operation's set goes to its arguments, one or two of them; a start or a constant has none, and its figure is not read.
-fn hand_arguments(rows: &[u32; 1024], g: GateId, arity: u8, s: u64, sets: &mut [u64; 256])
-    requires { ⌜ (g .0 < 256) × Inside 256 (take arity (firstAt (now rows) (g .0) ∷ secondAt (now rows) (g .0) ∷ [])) ⌝ }
-    ensures { λ r. ⌜ now (sets .exit) ≡ addNumbers (take arity (firstAt (now (rows .entry)) (g .0) ∷ secondAt (now (rows .entry)) (g .0) ∷ [])) s (now (sets .entry)) ⌝ }
+fn hand_arguments(quads: &[u32; 1024], g: GateId, arity: u8, s: u64, sets: &mut [u64; 256])
+    requires { ⌜ (g .0 < 256) × Inside 256 (take arity (firstAt (now quads) (g .0) ∷ secondAt (now quads) (g .0) ∷ [])) ⌝ }
+    ensures { λ r. ⌜ now (sets .exit) ≡ addNumbers (take arity (firstAt (now (quads .entry)) (g .0) ∷ secondAt (now (quads .entry)) (g .0) ∷ [])) s (now (sets .entry)) ⌝ }
 {
     let i = g.0 as usize;
     if 0 < arity {
-        let a = argument(rows, 4 * i + 1);
+        let a = argument(quads, 4 * i + 1);
         add(sets, a, s);
     }
     if 1 < arity {
-        let b = argument(rows, 4 * i + 2);
+        let b = argument(quads, 4 * i + 2);
         add(sets, b, s);
     }
 }
@@ -181,43 +181,43 @@ fn hand_choice(sets: &mut [u64; 256], t: u8, c: GateId, a: GateId, b: GateId, s:
 }
 
 // The number of the condition that gate c is.
-fn place_of(places: &[u16; 256], c: GateId) -> u8
-    requires { ⌜ (c .0 < 256) × ((0 < getD (now places) (c .0) 0) × (getD (now places) (c .0) 0 ≤ 6)) ⌝ }
-    ensures { λ r. ⌜ r ≡ getD (now (places .entry)) (c .0) 0 - 1 ⌝ }
+fn rank_of(ranks: &[u16; 256], c: GateId) -> u8
+    requires { ⌜ (c .0 < 256) × ((0 < getD (now ranks) (c .0) 0) × (getD (now ranks) (c .0) 0 ≤ 6)) ⌝ }
+    ensures { λ r. ⌜ r ≡ getD (now (ranks .entry)) (c .0) 0 - 1 ⌝ }
 {
     let i = c.0 as usize;
-    (places[i] - 1) as u8
+    (ranks[i] - 1) as u8
 }
 
 // Gate g hands its set on to what it asks for.
-fn hand(rows: &[u32; 1024], count: usize, places: &[u16; 256], g: GateId, sets: &mut [u64; 256])
-    requires { ⌜ Passable (now rows) (now places) count × (g .0 < count) ⌝ }
-    ensures { λ r. ⌜ now (sets .exit) ≡ handGate (gatesIn (now (rows .entry)) count) (g .0) (now (sets .entry)) ⌝ }
+fn hand(quads: &[u32; 1024], count: usize, ranks: &[u16; 256], g: GateId, sets: &mut [u64; 256])
+    requires { ⌜ Passable (now quads) (now ranks) count × (g .0 < count) ⌝ }
+    ensures { λ r. ⌜ now (sets .exit) ≡ handGate (gatesIn (now (quads .entry)) count) (g .0) (now (sets .entry)) ⌝ }
 {
     let i = g.0 as usize;
-    let code = rows[4 * i];
+    let code = quads[4 * i];
     let s = sets[i];
     if code == gates::CHOICE {
-        let c = argument(rows, 4 * i + 1);
-        let a = argument(rows, 4 * i + 2);
-        let b = argument(rows, 4 * i + 3);
-        let t = place_of(places, c);
+        let c = argument(quads, 4 * i + 1);
+        let a = argument(quads, 4 * i + 2);
+        let b = argument(quads, 4 * i + 3);
+        let t = rank_of(ranks, c);
         hand_choice(sets, t, c, a, b, s);
     } else {
-        hand_arguments(rows, g, row(code).arity, s, sets);
+        hand_arguments(quads, g, code_entry(code).arity, s, sets);
     }
 }
 
 // The backward pass: each gate once, from the last to the first.
-fn pass(rows: &[u32; 1024], count: usize, places: &[u16; 256], sets: &mut [u64; 256])
-    requires { ⌜ Passable (now rows) (now places) count ⌝ }
-    ensures { λ r. ⌜ now (sets .exit) ≡ passGates (gatesIn (now (rows .entry)) count) count (now (sets .entry)) ⌝ }
+fn pass(quads: &[u32; 1024], count: usize, ranks: &[u16; 256], sets: &mut [u64; 256])
+    requires { ⌜ Passable (now quads) (now ranks) count ⌝ }
+    ensures { λ r. ⌜ now (sets .exit) ≡ passGates (gatesIn (now (quads .entry)) count) count (now (sets .entry)) ⌝ }
 {
     let mut i = count;
     while 0 < i {
         i = i - 1;
         let g = GateId(i as u16);
-        hand(rows, count, places, g, sets);
+        hand(quads, count, ranks, g, sets);
     }
 }
 
@@ -229,18 +229,18 @@ fn clear_sets(sets: &mut [u64; 256])
 
 // Every gate's precondition, whatever the sets held before.
 pub fn find_needed(
-    rows: &[u32; 1024],
+    quads: &[u32; 1024],
     count: usize,
-    places: &[u16; 256],
+    ranks: &[u16; 256],
     outputs: &[u16; 32],
     v: usize,
     sets: &mut [u64; 256],
 )
-    requires { ⌜ Passable (now rows) (now places) count × ((v ≤ 32) × Inside count (take v (now outputs))) ⌝ }
-    ensures { λ r. ⌜ now (sets .exit) ≡ preconditionSets mostConditions (gatesIn (now (rows .entry)) count) (take v (now (outputs .entry))) ++ replicate (mostGates - count) 0 ⌝ }
+    requires { ⌜ Passable (now quads) (now ranks) count × ((v ≤ 32) × Inside count (take v (now outputs))) ⌝ }
+    ensures { λ r. ⌜ now (sets .exit) ≡ preconditionSets mostConditions (gatesIn (now (quads .entry)) count) (take v (now (outputs .entry))) ++ replicate (mostGates - count) 0 ⌝ }
 {
     clear_sets(sets);
     let all = &outputs[..];
     want_all(&all[0..v], sets);
-    pass(rows, count, places, sets);
+    pass(quads, count, ranks, sets);
 }

@@ -8,7 +8,7 @@ use lib.ListN.{length, getD, take, length-set}
 use Rattle.words.specs.Lists.{keep, keep-in, upto, from-in, in-map}
 use Rattle.settings.specs.Sets.{restsOn, rests}
 use Rattle.needed.specs.Held.{codeAt}
-use Rattle.ordering.specs.Tables.{putBit, putAll}
+use Rattle.ordering.specs.Tables.{putBit, putEach}
 use Rattle.ordering.specs.Reads.{arityOf, argumentsAt, Into}
 use Rattle.ordering.specs.TableLaws.{puts-more}
 use Rattle.ordering.specs.ReadLaws.{arity-most, argument-in, arguments-more, arguments-all, keep-yes, keep-no}
@@ -17,43 +17,43 @@ put-length : (base q : ℕ) (w new : List ℕ) → new ≡ putBit base q w → l
 unfolding putBit
 put-length base q w new e = ap length e ∙ length-set w _ _
 
-puts-none : (base : ℕ) (w : List ℕ) → w ≡ putAll base [] w
-unfolding putAll
+puts-none : (base : ℕ) (w : List ℕ) → w ≡ putEach base [] w
+unfolding putEach
 puts-none base w = refl
 
 -- what the gates of a list wait for, one more put
-one-more : (base a q : ℕ) (group l m w₀ w new : List ℕ) → m ≡ l ++ (a ∷ []) → w ≡ putAll base (map (λ x. getD group x 0) l) w₀ → q ≡ getD group a 0
-    → new ≡ putBit base q w → new ≡ putAll base (map (λ x. getD group x 0) m) w₀
+one-more : (base a q : ℕ) (group l m w₀ w new : List ℕ) → m ≡ l ++ (a ∷ []) → w ≡ putEach base (map (λ x. getD group x 0) l) w₀ → q ≡ getD group a 0
+    → new ≡ putBit base q w → new ≡ putEach base (map (λ x. getD group x 0) m) w₀
 one-more base a q group l m w₀ w new e h f k =
     k ∙ ap (putBit base q) h ∙ puts-more base (map (λ x. getD group x 0) l) w₀ q
-    ∙ ap (λ (r : List ℕ). putAll base r w₀)
+    ∙ ap (λ (r : List ℕ). putEach base r w₀)
     (ap (λ (b : ℕ). map (λ x. getD group x 0) l ++ (b ∷ [])) f ∙ sym (map-append (λ x. getD group x 0) l (a ∷ [])) ∙ ap (map (λ x. getD group x 0)) (sym e))
 
 -- The arguments of gate i: those below place k are put.
-pub record Arguing (rows group waits₀ : List ℕ) (i base n : ℕ) (waits : List ℕ) (k : ℕ) : Type 0 where
+pub record Arguing (quads group waits₀ : List ℕ) (i base n : ℕ) (waits : List ℕ) (k : ℕ) : Type 0 where
   pub gate : i < 256
   pub room : base + 4 ≤ 1024
-  pub arity : n ≡ arityOf (codeAt rows i)
-  pub into : Into group (argumentsAt rows i)
+  pub arity : n ≡ arityOf (codeAt quads i)
+  pub into : Into group (argumentsAt quads i)
   pub below : k ≤ n
   pub size₀ : length waits₀ ≡ 1024
   pub size : length waits ≡ 1024
-  pub made : waits ≡ putAll base (map (λ a. getD group a 0) (take k (argumentsAt rows i))) waits₀
+  pub made : waits ≡ putEach base (map (λ a. getD group a 0) (take k (argumentsAt quads i))) waits₀
 
-module _ (rows group waits₀ : List ℕ) (i base n : ℕ) where
-  pub arguing-start : i < 256 → base + 4 ≤ 1024 → n ≡ arityOf (codeAt rows i) → length waits₀ ≡ 1024 → Into group (argumentsAt rows i) → Arguing rows group waits₀ i base n waits₀ 0
+module _ (quads group waits₀ : List ℕ) (i base n : ℕ) where
+  pub arguing-start : i < 256 → base + 4 ≤ 1024 → n ≡ arityOf (codeAt quads i) → length waits₀ ≡ 1024 → Into group (argumentsAt quads i) → Arguing quads group waits₀ i base n waits₀ 0
   arguing-start h r e s m =
       record { gate = h; room = r; arity = e; into = m; below = omega arith; size₀ = s; size = s; made = puts-none base waits₀ }
 
-  pub arguing-place : (waits : List ℕ) (k : ℕ) → Arguing rows group waits₀ i base n waits k → k < n → k < 3
-  arguing-place waits k g l = omega (arith, g .arity, arity-most (codeAt rows i))
+  pub arguing-place : (waits : List ℕ) (k : ℕ) → Arguing quads group waits₀ i base n waits k → k < n → k < 3
+  arguing-place waits k g l = omega (arith, g .arity, arity-most (codeAt quads i))
 
-  pub arguing-into : (waits : List ℕ) (k a : ℕ) → Arguing rows group waits₀ i base n waits k → k < n → a ≡ getD rows (4 * i + 1 + k) 0
+  pub arguing-into : (waits : List ℕ) (k a : ℕ) → Arguing quads group waits₀ i base n waits k → k < n → a ≡ getD quads (4 * i + 1 + k) 0
       → (a < 256) × (getD group a 0 < 256)
-  arguing-into waits k a g l e = g .into a (argument-in rows i k a (omega (arith, g .arity)) e)
+  arguing-into waits k a g l e = g .into a (argument-in quads i k a (omega (arith, g .arity)) e)
 
-  pub arguing-step : (waits new : List ℕ) (k a q : ℕ) → Arguing rows group waits₀ i base n waits k → k < n → a ≡ getD rows (4 * i + 1 + k) 0 → q ≡ getD group a 0
-      → new ≡ putBit base q waits → Arguing rows group waits₀ i base n new (k + 1)
+  pub arguing-step : (waits new : List ℕ) (k a q : ℕ) → Arguing quads group waits₀ i base n waits k → k < n → a ≡ getD quads (4 * i + 1 + k) 0 → q ≡ getD group a 0
+      → new ≡ putBit base q waits → Arguing quads group waits₀ i base n new (k + 1)
   arguing-step waits new k a q g l e f h =
       record {
         gate = g .gate;
@@ -63,14 +63,14 @@ module _ (rows group waits₀ : List ℕ) (i base n : ℕ) where
         below = omega arith;
         size₀ = g .size₀;
         size = put-length base q waits new h ∙ g .size;
-        made = one-more base a q group (take k (argumentsAt rows i)) (take (k + 1) (argumentsAt rows i)) waits₀ waits new
-            (arguments-more rows i k (omega (arith, g .arity)) ∙ ap (λ (b : ℕ). take k (argumentsAt rows i) ++ (b ∷ [])) (sym e)) (g .made) f h;
+        made = one-more base a q group (take k (argumentsAt quads i)) (take (k + 1) (argumentsAt quads i)) waits₀ waits new
+            (arguments-more quads i k (omega (arith, g .arity)) ∙ ap (λ (b : ℕ). take k (argumentsAt quads i) ++ (b ∷ [])) (sym e)) (g .made) f h;
       }
 
-  pub arguing-end : (waits : List ℕ) (k : ℕ) → Arguing rows group waits₀ i base n waits k → n ≤ k
-      → waits ≡ putAll base (map (λ a. getD group a 0) (argumentsAt rows i)) waits₀
+  pub arguing-end : (waits : List ℕ) (k : ℕ) → Arguing quads group waits₀ i base n waits k → n ≤ k
+      → waits ≡ putEach base (map (λ a. getD group a 0) (argumentsAt quads i)) waits₀
   arguing-end waits k g l =
-      g .made ∙ ap (λ (r : List ℕ). putAll base (map (λ a. getD group a 0) r) waits₀) (arguments-all rows i k (omega (arith, g .arity)))
+      g .made ∙ ap (λ (r : List ℕ). putEach base (map (λ a. getD group a 0) r) waits₀) (arguments-all quads i k (omega (arith, g .arity)))
 
 -- The conditions that s rests on: those below place t are put.
 pub record Resting (conds group : List ℕ) (s : ℕ) (waits₀ : List ℕ) (base : ℕ) (waits : List ℕ) (t : ℕ) : Type 0 where
@@ -79,7 +79,7 @@ pub record Resting (conds group : List ℕ) (s : ℕ) (waits₀ : List ℕ) (bas
   pub below : t ≤ 6
   pub size₀ : length waits₀ ≡ 1024
   pub size : length waits ≡ 1024
-  pub made : waits ≡ putAll base (map (λ a. getD group a 0) (map (λ u. getD conds u 0) (keep (restsOn 6 s) (upto t)))) waits₀
+  pub made : waits ≡ putEach base (map (λ a. getD group a 0) (map (λ u. getD conds u 0) (keep (restsOn 6 s) (upto t)))) waits₀
 
 module _ (conds group : List ℕ) (s : ℕ) (waits₀ : List ℕ) (base : ℕ) where
   pub resting-start : base + 4 ≤ 1024 → length waits₀ ≡ 1024 → Into group (map (λ u. getD conds u 0) (rests 6 s)) → Resting conds group s waits₀ base waits₀ 0
@@ -114,12 +114,12 @@ module _ (conds group : List ℕ) (s : ℕ) (waits₀ : List ℕ) (base : ℕ) w
         size₀ = g .size₀;
         size = ap length k ∙ g .size;
         made = k ∙ g .made
-            ∙ ap (λ (r : List ℕ). putAll base (map (λ a. getD group a 0) (map (λ u. getD conds u 0) r)) waits₀) (sym (keep-no (restsOn 6 s) t h));
+            ∙ ap (λ (r : List ℕ). putEach base (map (λ a. getD group a 0) (map (λ u. getD conds u 0) r)) waits₀) (sym (keep-no (restsOn 6 s) t h));
       }
 
   pub resting-end : (waits : List ℕ) (t : ℕ) → Resting conds group s waits₀ base waits t → 6 ≤ t
-      → waits ≡ putAll base (map (λ a. getD group a 0) (map (λ u. getD conds u 0) (rests 6 s))) waits₀
+      → waits ≡ putEach base (map (λ a. getD group a 0) (map (λ u. getD conds u 0) (rests 6 s))) waits₀
   unfolding rests
   resting-end waits t g l =
       let e : t ≡ 6 = omega (arith, g .below) in
-      g .made ∙ ap (λ (k : ℕ). putAll base (map (λ a. getD group a 0) (map (λ u. getD conds u 0) (keep (restsOn 6 s) (upto k)))) waits₀) e
+      g .made ∙ ap (λ (k : ℕ). putEach base (map (λ a. getD group a 0) (map (λ u. getD conds u 0) (keep (restsOn 6 s) (upto k)))) waits₀) e

@@ -15,7 +15,7 @@ use Rattle.gates.specs.FigureLaws.{map-same}
 use Rattle.needed.specs.Held.{gatesIn}
 use Rattle.needed.specs.HeldLaws.{gates-length, gates-at}
 use Rattle.plan.specs.Groups.{groups, members, restsOf, readsOf, waitsFor}
-use Rattle.ordering.specs.Tables.{Words, bitIn, putBit, putAll}
+use Rattle.ordering.specs.Tables.{HasWords, bitIn, putBit, putEach}
 use Rattle.ordering.specs.Reads.{argumentsAt, Into, Orderable}
 use Rattle.ordering.specs.Gathering.{Waiting, Left}
 use Rattle.ordering.specs.TableLaws.{clear-words, clear-bit, put-words, put-bit, puts-words, puts-bit, puts-append}
@@ -26,7 +26,7 @@ use Rattle.ordering.specs.WaitsLaws.{place-inside, reads-inside}
 pub record Listing (group : List ℕ) (count : ℕ) (left : List ℕ) (i : ℕ) : Type 0 where
   pub room : count ≤ 256
   pub below : i ≤ count
-  pub words : Words 4 left
+  pub words : HasWords 4 left
   pub holds : (q : ℕ) → q < 256 → bitIn 0 left q ≡ elem q (keep (λ p. eqb (getD group p 0) p) (upto i))
 
 module _ (group : List ℕ) (count : ℕ) where
@@ -75,37 +75,37 @@ below-no C sets group i p e =
     ap (λ (r : List ℕ). map group (flat (readsOf C sets (members (length C) group p)) r)) (keep-no (λ x. eqb (group x) p) i (ne-eqb (group i) p e))
 
 -- The table of waits: those on account of the gates below i.
-pub record Gathering (rows : List ℕ) (count : ℕ) (needs conds group joined waits : List ℕ) (i : ℕ) : Type 0 where
-  pub orderable : Orderable rows count conds group joined
+pub record GatheringWaits (quads : List ℕ) (count : ℕ) (needs conds group places waits : List ℕ) (i : ℕ) : Type 0 where
+  pub orderable : Orderable quads count conds group places
   pub below : i ≤ count
-  pub words : Words 1024 waits
-  pub holds : (p q : ℕ) → p < 256 → q < 256 → bitIn (4 * p) waits q ≡ elem q (waitsBelow (gatesIn rows count) needs (λ x. getD group x 0) i p)
+  pub words : HasWords 1024 waits
+  pub holds : (p q : ℕ) → p < 256 → q < 256 → bitIn (4 * p) waits q ≡ elem q (waitsBelow (gatesIn quads count) needs (λ x. getD group x 0) i p)
 
-module _ (rows : List ℕ) (count : ℕ) (needs conds group joined : List ℕ) where
+module _ (quads : List ℕ) (count : ℕ) (needs conds group places : List ℕ) where
   abbrev C : Gates
-  C = gatesIn rows count
+  C = gatesIn quads count
 
   abbrev g : ℕ → ℕ
   g = λ x. getD group x 0
 
-  pub gathering-start : (waits : List ℕ) → Orderable rows count conds group joined → waits ≡ replicate 1024 0 → Gathering rows count needs conds group joined waits 0
+  pub gathering-start : (waits : List ℕ) → Orderable quads count conds group places → waits ≡ replicate 1024 0 → GatheringWaits quads count needs conds group places waits 0
   unfolding waitsBelow
   gathering-start waits o e = record { orderable = o; below = omega arith; words = clear-words 1024 waits e; holds = λ p q h l. clear-bit 1024 (4 * p) q waits e }
 
-  module _ (waits : List ℕ) (i : ℕ) (s : Gathering rows count needs conds group joined waits i) (l : i < count) where
+  module _ (waits : List ℕ) (i : ℕ) (s : GatheringWaits quads count needs conds group places waits i) (l : i < count) where
     inside : i < length C
-    inside = rw (gates-length rows count) l
+    inside = rw (gates-length quads count) l
 
     group-low : (a : ℕ) → a < count → getD group a 0 < 256
     group-low a h = omega (arith, s .orderable .named a h .0, s .orderable .room)
 
-    arguments-here : arguments (gateAt C i) ≡ argumentsAt rows i
-    arguments-here = ap arguments (gates-at rows count i l) ∙ arguments-at rows i
+    arguments-here : arguments (gateAt C i) ≡ argumentsAt quads i
+    arguments-here = ap arguments (gates-at quads count i l) ∙ arguments-at quads i
 
     pub gathering-group : getD group i 0 < 256
     gathering-group = group-low i l
 
-    pub gathering-arguments : Into group (argumentsAt rows i)
+    pub gathering-arguments : Into group (argumentsAt quads i)
     gathering-arguments a m =
         let k : a < i = s .orderable .earlier i a (rw arguments-here m) in
         (omega (arith, s .orderable .room), group-low a (omega arith))
@@ -121,10 +121,10 @@ module _ (rows : List ℕ) (count : ℕ) (needs conds group joined : List ℕ) w
     gathering-conditions n e a m =
         let r = map-in (λ t. getD (conditions C) t 0) a (rests 6 (getD needs i 0)) (rw rests-here at (rw e at m)) in
         let k : a < length C = rw (r .2) (place-inside C (r .0) (omega (arith, inside))) in
-        let h : a < count = rw (gates-length rows count) at k in
+        let h : a < count = rw (gates-length quads count) at k in
         (omega (arith, s .orderable .room), group-low a h)
 
-    step : (new : List ℕ) → new ≡ putAll (4 * g i) (map g (readsOf C needs (members (length C) g (g i)) i)) waits → Gathering rows count needs conds group joined new (i + 1)
+    step : (new : List ℕ) → new ≡ putEach (4 * g i) (map g (readsOf C needs (members (length C) g (g i)) i)) waits → GatheringWaits quads count needs conds group places new (i + 1)
     step new e = record { orderable = s .orderable; below = omega arith; words = rw e (puts-words 1024 (4 * g i) reads waits (s .words)); holds = held }
       where
         reads : List ℕ
@@ -134,7 +134,7 @@ module _ (rows : List ℕ) (count : ℕ) (needs conds group joined : List ℕ) w
         low q m =
             let r = map-in g q (readsOf C needs (members (length C) g (g i)) i) m in
             let k : r .0 < length C = reads-inside C (s .orderable .earlier) needs (members (length C) g (g i)) i (r .0) inside (r .1) in
-            rw (r .2) (group-low (r .0) (omega (arith, k, gates-length rows count)))
+            rw (r .2) (group-low (r .0) (omega (arith, k, gates-length quads count)))
 
         held : (p q : ℕ) → p < 256 → q < 256 → bitIn (4 * p) new q ≡ elem q (waitsBelow C needs g (i + 1) p)
         held p q h k =
@@ -147,34 +147,34 @@ module _ (rows : List ℕ) (count : ℕ) (needs conds group joined : List ℕ) w
             go (inl f) = rw (f, eq-eqb (g i) (g i) refl, ← f, s .holds p q h k, below-yes C needs g i p (sym f), elem-joined q (waitsBelow C needs g i p) (map g (readsOf C needs (members (length C) g p) i)))
             go (inr f) = rw (ne-eqb p (g i) f, below-no C needs g i p (λ z. f (sym z))) (s .holds p q h k)
 
-    pub gathering-size : (base : ℕ) (m mid : List ℕ) → mid ≡ putAll base m waits → length mid ≡ 1024
+    pub gathering-size : (base : ℕ) (m mid : List ℕ) → mid ≡ putEach base m waits → length mid ≡ 1024
     gathering-size base m mid e = ap length e ∙ puts-words 1024 base m waits (s .words) .size
 
     -- a member of a group of one
-    pub gathering-alone : (new : List ℕ) (p : ℕ) → p ≡ getD group i 0 → getD joined i 0 ≡ 0 → new ≡ putAll (4 * p) (map (λ a. getD group a 0) (argumentsAt rows i)) waits
-        → Gathering rows count needs conds group joined new (i + 1)
-    gathering-alone new p e z h = step new (h ∙ rw e (ap (λ (r : List ℕ). putAll (4 * g i) (map g r) waits) reads))
+    pub gathering-alone : (new : List ℕ) (p : ℕ) → p ≡ getD group i 0 → getD places i 0 ≡ 0 → new ≡ putEach (4 * p) (map (λ a. getD group a 0) (argumentsAt quads i)) waits
+        → GatheringWaits quads count needs conds group places new (i + 1)
+    gathering-alone new p e z h = step new (h ∙ rw e (ap (λ (r : List ℕ). putEach (4 * g i) (map g r) waits) reads))
       where
-        reads : argumentsAt rows i ≡ readsOf C needs (members (length C) g (g i)) i
-        reads = rw (gates-length rows count, s .orderable .many i l, eq-eqb (getD joined i 0) 0 z, append-nil) (sym arguments-here)
+        reads : argumentsAt quads i ≡ readsOf C needs (members (length C) g (g i)) i
+        reads = rw (gates-length quads count, s .orderable .many i l, eq-eqb (getD places i 0) 0 z, append-nil) (sym arguments-here)
 
     -- a member of a larger group
-    pub gathering-joined : (mid new : List ℕ) (p n : ℕ) → p ≡ getD group i 0 → (getD joined i 0 ≡ 0 → ⊥) → n ≡ getD needs i 0
-        → mid ≡ putAll (4 * p) (map (λ a. getD group a 0) (argumentsAt rows i)) waits
-        → new ≡ putAll (4 * p) (map (λ a. getD group a 0) (map (λ t. getD conds t 0) (rests 6 n))) mid
-        → Gathering rows count needs conds group joined new (i + 1)
+    pub gathering-joined : (mid new : List ℕ) (p n : ℕ) → p ≡ getD group i 0 → (getD places i 0 ≡ 0 → ⊥) → n ≡ getD needs i 0
+        → mid ≡ putEach (4 * p) (map (λ a. getD group a 0) (argumentsAt quads i)) waits
+        → new ≡ putEach (4 * p) (map (λ a. getD group a 0) (map (λ t. getD conds t 0) (rests 6 n))) mid
+        → GatheringWaits quads count needs conds group places new (i + 1)
     gathering-joined mid new p n e z f h k =
         step new
-        (k ∙ rw (h, f, e) (puts-append (4 * g i) (map g (argumentsAt rows i)) (map g (map (λ t. getD conds t 0) (rests 6 (getD needs i 0)))) waits
-        ∙ ap (λ (r : List ℕ). putAll (4 * g i) r waits) (sym (map-append g (argumentsAt rows i) (map (λ t. getD conds t 0) (rests 6 (getD needs i 0)))) ∙ ap (map g) reads)))
+        (k ∙ rw (h, f, e) (puts-append (4 * g i) (map g (argumentsAt quads i)) (map g (map (λ t. getD conds t 0) (rests 6 (getD needs i 0)))) waits
+        ∙ ap (λ (r : List ℕ). putEach (4 * g i) r waits) (sym (map-append g (argumentsAt quads i) (map (λ t. getD conds t 0) (rests 6 (getD needs i 0)))) ∙ ap (map g) reads)))
       where
-        reads : argumentsAt rows i ++ map (λ t. getD conds t 0) (rests 6 (getD needs i 0)) ≡ readsOf C needs (members (length C) g (g i)) i
-        reads = rw (gates-length rows count, s .orderable .many i l, ne-eqb (getD joined i 0) 0 z, rests-here, arguments-here)
+        reads : argumentsAt quads i ++ map (λ t. getD conds t 0) (rests 6 (getD needs i 0)) ≡ readsOf C needs (members (length C) g (g i)) i
+        reads = rw (gates-length quads count, s .orderable .many i l, ne-eqb (getD places i 0) 0 z, rests-here, arguments-here)
 
-  pub gathering-end : (waits : List ℕ) (i : ℕ) → Gathering rows count needs conds group joined waits i → count ≤ i → Waiting C needs g waits
+  pub gathering-end : (waits : List ℕ) (i : ℕ) → GatheringWaits quads count needs conds group places waits i → count ≤ i → Waiting C needs g waits
   unfolding waitsBelow waitsFor
   gathering-end waits i s l =
       record { words = s .words; holds = λ p q h k. s .holds p q h k ∙ ap (λ (n : ℕ). elem q (map g (flat (readsOf C needs (members (length C) g p)) (keep (λ x. eqb (g x) p) (upto n))))) len }
     where
       len : i ≡ length C
-      len = omega (arith, s .below, gates-length rows count)
+      len = omega (arith, s .below, gates-length quads count)

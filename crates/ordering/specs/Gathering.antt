@@ -5,14 +5,14 @@ use mathlib.Core.List.{List}
 use Rattle.words.specs.Lists.{elem}
 use Rattle.gates.specs.Gates.{Gates}
 use Rattle.plan.specs.Groups.{groups, waitsFor}
-use Rattle.ordering.specs.Tables.{Words, bitIn}
+use Rattle.ordering.specs.Tables.{HasWords, bitIn}
 
 -- the table of waits: p's set holds the groups that p waits for
 pub record Waiting (C : Gates) (sets : List ℕ) (group : ℕ → ℕ) (waits : List ℕ) : Type 0 where
-  pub words : Words 1024 waits
+  pub words : HasWords 1024 waits
   pub holds : (p q : ℕ) → p < 256 → q < 256 → bitIn (4 * p) waits q ≡ elem q (waitsFor C sets group p)
 
 -- the set of groups left, at first: all of them
 pub record Left (group : ℕ → ℕ) (n : ℕ) (left : List ℕ) : Type 0 where
-  pub words : Words 4 left
+  pub words : HasWords 4 left
   pub holds : (q : ℕ) → q < 256 → bitIn 0 left q ≡ elem q (groups n group)

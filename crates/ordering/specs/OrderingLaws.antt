@@ -19,21 +19,21 @@ use Rattle.ordering.specs.declared.Order.the-variants.{Placed, Circle}
 use Rattle.ordering.specs.WaitsLaws.{waits-closed}
 use Rattle.ordering.specs.PlacingLaws.{Placing, placing-start, placing-circle, placing-end}
 
--- the loop's record for the gates of the rows
+-- the loop's record for the gates of the quads
 abbrev pub PlacingIn : List ℕ → ℕ → List ℕ → List ℕ → List ℕ → List ℕ → List ℕ → List ℕ → ℕ → ℕ → List ℕ → Type 0
-PlacingIn rows count needs group waits order₀ order left k first done =
-    Placing (waitsFor (gatesIn rows count) needs (λ x. getD group x 0)) (λ x. getD group x 0) count waits order₀ order left k first done
+PlacingIn quads count needs group waits order₀ order left k first done =
+    Placing (waitsFor (gatesIn quads count) needs (λ x. getD group x 0)) (λ x. getD group x 0) count waits order₀ order left k first done
 
-module _ (rows : List ℕ) (count : ℕ) (needs group : List ℕ) where
+module _ (quads : List ℕ) (count : ℕ) (needs group : List ℕ) where
   abbrev C : Gates
-  C = gatesIn rows count
+  C = gatesIn quads count
 
   abbrev g : ℕ → ℕ
   g = λ x. getD group x 0
 
-  pub ordering-start : (conds joined waits left order₀ : List ℕ) → Orderable rows count conds group joined → Waiting C needs g waits → Left g count left → length order₀ ≡ 256
-      → PlacingIn rows count needs group waits order₀ order₀ left 0 0 []
-  ordering-start conds joined waits left order₀ o w l s =
+  pub ordering-start : (conds places waits left order₀ : List ℕ) → Orderable quads count conds group places → Waiting C needs g waits → Left g count left → length order₀ ≡ 256
+      → PlacingIn quads count needs group waits order₀ order₀ left 0 0 []
+  ordering-start conds places waits left order₀ o w l s =
       placing-start (waitsFor C needs g) g count waits order₀ left
       record {
         room = o .room;
@@ -41,16 +41,16 @@ module _ (rows : List ℕ) (count : ℕ) (needs group : List ℕ) where
         lefts = l .words;
         holds = w .holds;
         remains = l .holds;
-        closed = λ p q m. rw (gates-length rows count) at (waits-closed C (o .earlier) needs g (λ x h. o .named x (rw (gates-length rows count) at h)) p q m);
+        closed = λ p q m. rw (gates-length quads count) at (waits-closed C (o .earlier) needs g (λ x h. o .named x (rw (gates-length quads count) at h)) p q m);
       }
       s
 
   -- the order in the loop's terms
   order-is : order C needs g ≡ schedule (waitsFor C needs g) (groups count g) (length (groups count g)) []
   unfolding order
-  order-is = ap (λ (n : ℕ). schedule (waitsFor C needs g) (groups n g) (length (groups n g)) []) (gates-length rows count)
+  order-is = ap (λ (n : ℕ). schedule (waitsFor C needs g) (groups n g) (length (groups n g)) []) (gates-length quads count)
 
-  module _ (waits order₀ new left : List ℕ) (k first : ℕ) (done : List ℕ) (s : PlacingIn rows count needs group waits order₀ new left k first done) where
+  module _ (waits order₀ new left : List ℕ) (k first : ℕ) (done : List ℕ) (s : PlacingIn quads count needs group waits order₀ new left k first done) where
     kept : schedule (waitsFor C needs g) (groups count g) (length (groups count g)) [] ≡ done → new ≡ over (reverse (order C needs g)) order₀
     kept e = s .written ∙ ap (λ (l : List ℕ). over (reverse l) order₀) (sym (order-is ∙ e))
 
@@ -59,10 +59,10 @@ module _ (rows : List ℕ) (count : ℕ) (needs group : List ℕ) where
     unfolding orderOf
     ordering-circle e l b =
         let r = placing-circle (waitsFor C needs g) g count waits order₀ new left k first done s e l b in
-        (rw (gates-length rows count, order-is, r .0, r .1), kept (r .0))
+        (rw (gates-length quads count, order-is, r .0, r .1), kept (r .0))
 
     pub ordering-end : count ≤ first → (Placed k ≡ orderOf C needs g) × (new ≡ over (reverse (order C needs g)) order₀)
     unfolding orderOf
     ordering-end l =
         let r = placing-end (waitsFor C needs g) g count waits order₀ new left k first done s l in
-        (rw (gates-length rows count, order-is, r .0, r .1 .0, r .1 .1), kept (r .0))
+        (rw (gates-length quads count, order-is, r .0, r .1 .0, r .1 .1), kept (r .0))

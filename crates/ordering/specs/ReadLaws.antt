@@ -15,7 +15,7 @@ use Rattle.codes.specs.Codes.{codeOf}
 use Rattle.codes.specs.declared.Code.{Code}
 use Rattle.gates.specs.Gates.{arguments}
 use Rattle.needed.specs.Held.{choiceCode, gateOf, gateIn, codeAt, firstAt, secondAt, thirdAt}
-use Rattle.needed.specs.HeldLaws.{EachCode, each-code, each-row, code-above, gate-choice, gate-other, arguments-other}
+use Rattle.needed.specs.HeldLaws.{EachCode, each-code, each-entry, code-above, gate-choice, gate-other, arguments-other}
 use Rattle.ordering.specs.Reads.{arityOf, argumentsAt}
 
 -- how many arguments, by the code
@@ -36,7 +36,7 @@ two-most code = each-code (λ r. r .arity ≤ 2) each code
   where
     each : EachCode (λ r. r .arity ≤ 2)
     each = record {
-      of-row = each-row (λ r op. r .arity ≤ 2) (omega arith) (omega arith) (omega arith) (omega arith) (omega arith) (omega arith) (omega arith) (omega arith);
+      of-entry = each-entry (λ r op. r .arity ≤ 2) (omega arith) (omega arith) (omega arith) (omega arith) (omega arith) (omega arith) (omega arith) (omega arith);
       of-end = omega arith;
       of-assign = omega arith;
       of-skip = omega arith;
@@ -62,47 +62,47 @@ take-first (suc (suc zero)) a b c h = refl
 take-first (suc (suc (suc n))) a b c h = absurd (omega arith)
 
 -- the arguments of gate i are those of its numbers
-pub arguments-at : (rows : List ℕ) (i : ℕ) → arguments (gateIn rows i) ≡ argumentsAt rows i
+pub arguments-at : (quads : List ℕ) (i : ℕ) → arguments (gateIn quads i) ≡ argumentsAt quads i
 unfolding gateIn argumentsAt arityOf
-arguments-at rows i = go (same? (codeAt rows i) choiceCode)
+arguments-at quads i = go (same? (codeAt quads i) choiceCode)
   where
-    go : (codeAt rows i ≡ choiceCode) ⊎ (codeAt rows i ≡ choiceCode → ⊥)
-        → arguments (gateOf (codeAt rows i) (firstAt rows i) (secondAt rows i) (thirdAt rows i))
-        ≡ take (cond (eqb (codeAt rows i) choiceCode) 3 (codeOf (codeAt rows i) .arity)) (firstAt rows i ∷ secondAt rows i ∷ thirdAt rows i ∷ [])
+    go : (codeAt quads i ≡ choiceCode) ⊎ (codeAt quads i ≡ choiceCode → ⊥)
+        → arguments (gateOf (codeAt quads i) (firstAt quads i) (secondAt quads i) (thirdAt quads i))
+        ≡ take (cond (eqb (codeAt quads i) choiceCode) 3 (codeOf (codeAt quads i) .arity)) (firstAt quads i ∷ secondAt quads i ∷ thirdAt quads i ∷ [])
     go (inl e) =
-        ap arguments (gate-choice (codeAt rows i) (firstAt rows i) (secondAt rows i) (thirdAt rows i) e) ∙ rw (eq-eqb (codeAt rows i) choiceCode e)
+        ap arguments (gate-choice (codeAt quads i) (firstAt quads i) (secondAt quads i) (thirdAt quads i) e) ∙ rw (eq-eqb (codeAt quads i) choiceCode e)
     go (inr n) =
-        ap arguments (gate-other (codeAt rows i) (firstAt rows i) (secondAt rows i) (thirdAt rows i) n)
-        ∙ arguments-other (codeAt rows i) (firstAt rows i) (secondAt rows i)
-        ∙ rw (ne-eqb (codeAt rows i) choiceCode n) (take-first (codeOf (codeAt rows i) .arity) (firstAt rows i) (secondAt rows i) (thirdAt rows i) (two-most (codeAt rows i)))
+        ap arguments (gate-other (codeAt quads i) (firstAt quads i) (secondAt quads i) (thirdAt quads i) n)
+        ∙ arguments-other (codeAt quads i) (firstAt quads i) (secondAt quads i)
+        ∙ rw (ne-eqb (codeAt quads i) choiceCode n) (take-first (codeOf (codeAt quads i) .arity) (firstAt quads i) (secondAt quads i) (thirdAt quads i) (two-most (codeAt quads i)))
 
 -- the argument at place k
-place-of : (rows : List ℕ) (i k : ℕ) → k < 3 → getD (firstAt rows i ∷ secondAt rows i ∷ thirdAt rows i ∷ []) k 0 ≡ getD rows (4 * i + 1 + k) 0
-place-of rows i zero h = ap (λ (j : ℕ). getD rows j 0) (omega arith)
-place-of rows i (suc zero) h = ap (λ (j : ℕ). getD rows j 0) (omega arith)
-place-of rows i (suc (suc zero)) h = ap (λ (j : ℕ). getD rows j 0) (omega arith)
-place-of rows i (suc (suc (suc k))) h = absurd (omega arith)
+place-of : (quads : List ℕ) (i k : ℕ) → k < 3 → getD (firstAt quads i ∷ secondAt quads i ∷ thirdAt quads i ∷ []) k 0 ≡ getD quads (4 * i + 1 + k) 0
+place-of quads i zero h = ap (λ (j : ℕ). getD quads j 0) (omega arith)
+place-of quads i (suc zero) h = ap (λ (j : ℕ). getD quads j 0) (omega arith)
+place-of quads i (suc (suc zero)) h = ap (λ (j : ℕ). getD quads j 0) (omega arith)
+place-of quads i (suc (suc (suc k))) h = absurd (omega arith)
 
-arguments-length : (rows : List ℕ) (i : ℕ) → length (argumentsAt rows i) ≡ arityOf (codeAt rows i)
+arguments-length : (quads : List ℕ) (i : ℕ) → length (argumentsAt quads i) ≡ arityOf (codeAt quads i)
 unfolding argumentsAt
-arguments-length rows i = length-take-le (arityOf (codeAt rows i)) (firstAt rows i ∷ secondAt rows i ∷ thirdAt rows i ∷ []) (arity-most (codeAt rows i))
+arguments-length quads i = length-take-le (arityOf (codeAt quads i)) (firstAt quads i ∷ secondAt quads i ∷ thirdAt quads i ∷ []) (arity-most (codeAt quads i))
 
-pub argument-at : (rows : List ℕ) (i k : ℕ) → k < arityOf (codeAt rows i) → getD (argumentsAt rows i) k 0 ≡ getD rows (4 * i + 1 + k) 0
+pub argument-at : (quads : List ℕ) (i k : ℕ) → k < arityOf (codeAt quads i) → getD (argumentsAt quads i) k 0 ≡ getD quads (4 * i + 1 + k) 0
 unfolding argumentsAt
-argument-at rows i k h =
-    getD-take (arityOf (codeAt rows i)) (firstAt rows i ∷ secondAt rows i ∷ thirdAt rows i ∷ []) k 0 h ∙ place-of rows i k (omega (arith, arity-most (codeAt rows i)))
+argument-at quads i k h =
+    getD-take (arityOf (codeAt quads i)) (firstAt quads i ∷ secondAt quads i ∷ thirdAt quads i ∷ []) k 0 h ∙ place-of quads i k (omega (arith, arity-most (codeAt quads i)))
 
-pub argument-in : (rows : List ℕ) (i k a : ℕ) → k < arityOf (codeAt rows i) → a ≡ getD rows (4 * i + 1 + k) 0 → a ∈ argumentsAt rows i
-argument-in rows i k a h e = rw (e ∙ sym (argument-at rows i k h)) (getD-in (argumentsAt rows i) k (rw (arguments-length rows i) h))
+pub argument-in : (quads : List ℕ) (i k a : ℕ) → k < arityOf (codeAt quads i) → a ≡ getD quads (4 * i + 1 + k) 0 → a ∈ argumentsAt quads i
+argument-in quads i k a h e = rw (e ∙ sym (argument-at quads i k h)) (getD-in (argumentsAt quads i) k (rw (arguments-length quads i) h))
 
-pub arguments-more : (rows : List ℕ) (i k : ℕ) → k < arityOf (codeAt rows i)
-    → take (k + 1) (argumentsAt rows i) ≡ take k (argumentsAt rows i) ++ (getD rows (4 * i + 1 + k) 0 ∷ [])
-arguments-more rows i k h =
+pub arguments-more : (quads : List ℕ) (i k : ℕ) → k < arityOf (codeAt quads i)
+    → take (k + 1) (argumentsAt quads i) ≡ take k (argumentsAt quads i) ++ (getD quads (4 * i + 1 + k) 0 ∷ [])
+arguments-more quads i k h =
     let e : k + 1 ≡ suc k = omega arith in
-    rw e (take-suc (argumentsAt rows i) k 0 (rw (arguments-length rows i) h) ∙ ap (λ (a : ℕ). take k (argumentsAt rows i) ++ (a ∷ [])) (argument-at rows i k h))
+    rw e (take-suc (argumentsAt quads i) k 0 (rw (arguments-length quads i) h) ∙ ap (λ (a : ℕ). take k (argumentsAt quads i) ++ (a ∷ [])) (argument-at quads i k h))
 
-pub arguments-all : (rows : List ℕ) (i k : ℕ) → arityOf (codeAt rows i) ≤ k → take k (argumentsAt rows i) ≡ argumentsAt rows i
-arguments-all rows i k h = take-all k (argumentsAt rows i) (rw (arguments-length rows i) h)
+pub arguments-all : (quads : List ℕ) (i k : ℕ) → arityOf (codeAt quads i) ≤ k → take k (argumentsAt quads i) ≡ argumentsAt quads i
+arguments-all quads i k h = take-all k (argumentsAt quads i) (rw (arguments-length quads i) h)
 
 -- one more of a kept or joined run
 kept-next : (p : ℕ → Bool) (n : ℕ) → keep p (upto (n + 1)) ≡ keep p (upto n) ++ cond (p n) (n ∷ []) []

@@ -16,14 +16,14 @@ use Rattle.plan.specs.Groups.{groups}
 use Rattle.plan.specs.GroupLaws.{group-of}
 use Rattle.plan.specs.Order.{allIn, ready, firstReady}
 use Rattle.plan.specs.CircleLaws.{allIn-each, allIn-back}
-use Rattle.ordering.specs.Tables.{Words, bitIn}
+use Rattle.ordering.specs.Tables.{HasWords, bitIn}
 use Rattle.ordering.specs.Search.{freeFrom, readyIn, searchFrom, nextReady, asNext}
 
 -- the tables hold the waits W of the groups of n gates, and which of them are left after those of done
 pub record Tabled (W : ℕ → List ℕ) (group : ℕ → ℕ) (n : ℕ) (waits left done : List ℕ) : Type 0 where
   pub room : n ≤ 256
-  pub waiting : Words 1024 waits
-  pub lefts : Words 4 left
+  pub waiting : HasWords 1024 waits
+  pub lefts : HasWords 4 left
   pub holds : (p q : ℕ) → p < 256 → q < 256 → bitIn (4 * p) waits q ≡ elem q (W p)
   pub remains : (q : ℕ) → q < 256 → bitIn 0 left q ≡ cond (elem q done) false (elem q (groups n group))
   pub closed : (p q : ℕ) → q ∈ W p → q ∈ groups n group
@@ -37,7 +37,7 @@ wait-bit : (waits : List ℕ) (p q : ℕ) → bitIn (4 * p) waits q ≡ bit (get
 unfolding bitIn
 wait-bit waits p q = refl
 
--- a row of words is free of what is left when each is
+-- a run of words is free of what is left when each is
 free-word : (waits left : List ℕ) (p w k : ℕ) → freeFrom waits left p w k ≡ true → (v : ℕ) → w ≤ v → v < w + k → excludes (getD waits (4 * p + v) 0) (getD left v 0) ≡ true
 unfolding freeFrom
 free-word waits left p w zero h v a b = absurd (omega arith)

@@ -21,7 +21,7 @@ pub record Searching (waits left : List ℕ) (first count p : ℕ) : Type 0 wher
   pub here : nextReady waits left first count ≡ searchFrom waits left p (count - p)
 
 -- p is left, and waits for none that is left as far as its words below w say
-pub record Testing (waits left : List ℕ) (first count p w : ℕ) : Type 0 where
+pub record TestingWords (waits left : List ℕ) (first count p w : ℕ) : Type 0 where
   pub search : Searching waits left first count p
   pub inside : p < count
   pub isLeft : bitIn 0 left p ≡ true
@@ -43,7 +43,7 @@ module _ (waits left : List ℕ) (first count : ℕ) where
   searching-past p s l e = step p s l (rw e)
 
   -- past a group that waits
-  pub searching-held : (p w : ℕ) → Testing waits left first count p w → w < 4 → excludes (getD waits (4 * p + w) 0) (getD left w 0) ≡ false
+  pub searching-held : (p w : ℕ) → TestingWords waits left first count p w → w < 4 → excludes (getD waits (4 * p + w) 0) (getD left w 0) ≡ false
       → Searching waits left first count (p + 1)
   unfolding readyIn
   searching-held p w t l e = step p (t .search) (t .inside) (rw (t .isLeft) (t .tested ∙ held))
@@ -51,17 +51,17 @@ module _ (waits left : List ℕ) (first count : ℕ) where
       held : freeFrom waits left p w (4 - w) ≡ false
       held = unfold freeFrom in rw (less 4 w l, e)
 
-  pub testing-start : (p : ℕ) → Searching waits left first count p → p < count → bitIn 0 left p ≡ true → Testing waits left first count p 0
+  pub testing-start : (p : ℕ) → Searching waits left first count p → p < count → bitIn 0 left p ≡ true → TestingWords waits left first count p 0
   testing-start p s l e = record { search = s; inside = l; isLeft = e; below = omega arith; tested = refl }
 
-  pub testing-next : (p w : ℕ) → Testing waits left first count p w → w < 4 → excludes (getD waits (4 * p + w) 0) (getD left w 0) ≡ true
-      → Testing waits left first count p (w + 1)
+  pub testing-next : (p w : ℕ) → TestingWords waits left first count p w → w < 4 → excludes (getD waits (4 * p + w) 0) (getD left w 0) ≡ true
+      → TestingWords waits left first count p (w + 1)
   unfolding freeFrom
   testing-next p w t l e =
       record { search = t .search; inside = t .inside; isLeft = t .isLeft; below = omega arith; tested = t .tested ∙ rw (less 4 w l, e) }
 
   -- a group left that waits for none that is
-  pub testing-end : (p w : ℕ) → Testing waits left first count p w → 4 ≤ w → Group (record { 0 = p }) ≡ nextReady waits left first count
+  pub testing-end : (p w : ℕ) → TestingWords waits left first count p w → 4 ≤ w → Group (record { 0 = p }) ≡ nextReady waits left first count
   unfolding searchFrom readyIn
   testing-end p w t l = sym (t .search .here ∙ rw (less count p (t .inside), t .isLeft, t .tested ∙ free))
     where

@@ -19,7 +19,7 @@ use Rattle.settings.specs.SetLaws.{union-below, or-false}
 use Rattle.settings.specs.FlipLaws.{flip-below}
 use Rattle.needed.specs.HandLaws.{inside-list}
 use Rattle.needed.specs.MarkSteps.{getD-zeros}
-use Rattle.ordering.specs.Tables.{bitIn, putBit, putAll, strikeBit, Words}
+use Rattle.ordering.specs.Tables.{bitIn, putBit, putEach, strikeBit, HasWords}
 
 -- a power of two has no other bit
 bit-pow-other : (t j : ℕ) → (j ≡ t → ⊥) → bit (2 ^ t) j ≡ false
@@ -35,7 +35,7 @@ or-true true = refl
 or-true false = refl
 
 -- a clear table
-pub clear-words : (n : ℕ) (w : List ℕ) → w ≡ replicate n 0 → Words n w
+pub clear-words : (n : ℕ) (w : List ℕ) → w ≡ replicate n 0 → HasWords n w
 clear-words n w e =
     record {
       size = ap length e ∙ length-replicate n 0;
@@ -47,7 +47,7 @@ unfolding bitIn
 clear-bit n base q w e = ap (λ (l : List ℕ). bit (getD l (base + q / 64) 0) (q % 64)) e ∙ ap (λ (x : ℕ). bit x (q % 64)) (getD-zeros n (base + q / 64)) ∙ bit-none (q % 64)
 
 -- a store of a number of 64 bits
-set-words : (n i x : ℕ) (w : List ℕ) → Words n w → x < 2 ^ 64 → Words n (set w i x)
+set-words : (n i x : ℕ) (w : List ℕ) → HasWords n w → x < 2 ^ 64 → HasWords n (set w i x)
 set-words n i x w h l = record { size = length-set w i x ∙ h .size; fits = λ j. go j (same? j i) (inside-list w i) }
   where
     go : (j : ℕ) → (j ≡ i) ⊎ (j ≡ i → ⊥) → (i < length w) ⊎ (length w ≤ i) → getD (set w i x) j 0 < 2 ^ 64
@@ -55,13 +55,13 @@ set-words n i x w h l = record { size = length-set w i x ∙ h .size; fits = λ 
     go j (inl e) (inl k) = rw (e, getD-set-same w i x 0 k) l
     go j (inl e) (inr k) = rw (set-out w i x k) (h .fits j)
 
-pub put-words : (n base q : ℕ) (w : List ℕ) → Words n w → Words n (putBit base q w)
+pub put-words : (n base q : ℕ) (w : List ℕ) → HasWords n w → HasWords n (putBit base q w)
 unfolding putBit
 put-words n base q w h =
     set-words n (base + q / 64) (union (getD w (base + q / 64) 0) (2 ^ (q % 64))) w h
     (union-below 64 (getD w (base + q / 64) 0) (2 ^ (q % 64)) (h .fits (base + q / 64)) (pow-lt {i = q % 64} {j = 64} (omega arith)))
 
-pub strike-words : (n q : ℕ) (w : List ℕ) → Words n w → Words n (strikeBit q w)
+pub strike-words : (n q : ℕ) (w : List ℕ) → HasWords n w → HasWords n (strikeBit q w)
 unfolding strikeBit
 strike-words n q w h =
     set-words n (q / 64) (flipBit (q % 64) (getD w (q / 64) 0)) w h (flip-below (q % 64) 64 (getD w (q / 64) 0) (omega arith) (h .fits (q / 64)))
@@ -151,14 +151,14 @@ strike-bit w size q l h q′ l′ = go (same? (q′ / 64) (q / 64)) (same? q′ 
         ∙ ap (unlike (bit old (q′ % 64))) (bit-pow-other (q % 64) (q′ % 64) (λ z. g (same-place q q′ f z))) ∙ unlike-false (bit old (q′ % 64)) ∙ sym (was q′ f))
 
 -- many puts in one set
-pub puts-words : (n base : ℕ) (l w : List ℕ) → Words n w → Words n (putAll base l w)
-unfolding putAll
+pub puts-words : (n base : ℕ) (l w : List ℕ) → HasWords n w → HasWords n (putEach base l w)
+unfolding putEach
 puts-words n base [] w h = h
 puts-words n base (q ∷ l) w h = puts-words n base l (putBit base q w) (put-words n base q w h)
 
-pub puts-bit : (n p : ℕ) (l w : List ℕ) → Words n w → 4 * p + 4 ≤ n → ((q : ℕ) → q ∈ l → q < 256) → (p′ q′ : ℕ) → q′ < 256
-    → bitIn (4 * p′) (putAll (4 * p) l w) q′ ≡ cond (eqb p′ p) (cond (elem q′ l) true (bitIn (4 * p′) w q′)) (bitIn (4 * p′) w q′)
-unfolding putAll
+pub puts-bit : (n p : ℕ) (l w : List ℕ) → HasWords n w → 4 * p + 4 ≤ n → ((q : ℕ) → q ∈ l → q < 256) → (p′ q′ : ℕ) → q′ < 256
+    → bitIn (4 * p′) (putEach (4 * p) l w) q′ ≡ cond (eqb p′ p) (cond (elem q′ l) true (bitIn (4 * p′) w q′)) (bitIn (4 * p′) w q′)
+unfolding putEach
 puts-bit n p [] w h room low p′ q′ l′ = split (eqb p′ p) (λ t. rw t) (λ t. rw t)
 puts-bit n p (q ∷ l) w h room low p′ q′ l′ =
     puts-bit n p l (putBit (4 * p) q w) (put-words n (4 * p) q w h) room (λ a m. low a (inr m)) p′ q′ l′
@@ -167,11 +167,11 @@ puts-bit n p (q ∷ l) w h room low p′ q′ l′ =
     (λ t. rw t (split (eqb q′ q) (λ u. rw u (split (elem q′ l) (λ v. rw v) (λ v. rw v))) (λ u. rw u)))
     (λ t. rw t))
 
-pub puts-append : (base : ℕ) (l m w : List ℕ) → putAll base m (putAll base l w) ≡ putAll base (l ++ m) w
-unfolding putAll
+pub puts-append : (base : ℕ) (l m w : List ℕ) → putEach base m (putEach base l w) ≡ putEach base (l ++ m) w
+unfolding putEach
 puts-append base [] m w = refl
 puts-append base (q ∷ l) m w = puts-append base l m (putBit base q w)
 
-pub puts-more : (base : ℕ) (l w : List ℕ) (q : ℕ) → putBit base q (putAll base l w) ≡ putAll base (l ++ (q ∷ [])) w
-unfolding putAll
+pub puts-more : (base : ℕ) (l w : List ℕ) (q : ℕ) → putBit base q (putEach base l w) ≡ putEach base (l ++ (q ∷ [])) w
+unfolding putEach
 puts-more base l w q = puts-append base l (q ∷ []) w

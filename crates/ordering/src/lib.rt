@@ -9,7 +9,7 @@ ghost use Rattle.words.specs.Buffers.{over};
 ghost use Rattle.settings.specs.Sets.{rests};
 ghost use Rattle.needed.specs.Held.{gatesIn};
 ghost use Rattle.plan.specs.Order as plan;
-ghost use Rattle.ordering.specs.Tables.{bitIn, putBit, putAll, strikeBit};
+ghost use Rattle.ordering.specs.Tables.{bitIn, putBit, putEach, strikeBit};
 ghost use Rattle.ordering.specs.Reads.{arityOf, argumentsAt, Into, Orderable, orderOf};
 ghost use Rattle.ordering.specs.Search.{nextReady};
 ghost use Rattle.ordering.specs.Gathering.{Waiting, Left};
@@ -97,15 +97,15 @@ fn wait_for(waits: &mut [u64], p: GateId, q: GateId)
 }
 
 // Group p waits for the groups of gate m's arguments, its own too.
-fn wait_arguments(rows: &[u32; 1024], group: &[u16; 256], m: GateId, p: GateId, waits: &mut [u64])
-    requires { ⌜ ((m .0 < 256) × (p .0 < 256)) × ((length (now waits) ≡ 1024) × Into (now group) (argumentsAt (now rows) (m .0))) ⌝ }
-    ensures { λ r. ⌜ now (waits .exit) ≡ putAll (4 * p .0) (map (λ a. getD (now (group .entry)) a 0) (argumentsAt (now (rows .entry)) (m .0))) (now (waits .entry)) ⌝ }
+fn wait_arguments(quads: &[u32; 1024], group: &[u16; 256], m: GateId, p: GateId, waits: &mut [u64])
+    requires { ⌜ ((m .0 < 256) × (p .0 < 256)) × ((length (now waits) ≡ 1024) × Into (now group) (argumentsAt (now quads) (m .0))) ⌝ }
+    ensures { λ r. ⌜ now (waits .exit) ≡ putEach (4 * p .0) (map (λ a. getD (now (group .entry)) a 0) (argumentsAt (now (quads .entry)) (m .0))) (now (waits .entry)) ⌝ }
 {
     let i = m.0 as usize;
-    let n = arity_of(rows[4 * i]);
+    let n = arity_of(quads[4 * i]);
     let mut k: usize = 0;
     while k < n {
-        let a = needed::argument(rows, 4 * i + 1 + k);
+        let a = needed::argument(quads, 4 * i + 1 + k);
         wait_for(waits, p, group_of(group, a));
         k = k + 1;
     }
@@ -114,7 +114,7 @@ fn wait_arguments(rows: &[u32; 1024], group: &[u16; 256], m: GateId, p: GateId, 
 // Group p waits for the groups of the conditions that a joined member rests on, its own too; s: when the member is needed.
 fn wait_conditions(conditions: &[u16; 6], group: &[u16; 256], s: u64, p: GateId, waits: &mut [u64])
     requires { ⌜ (p .0 < 256) × ((length (now waits) ≡ 1024) × Into (now group) (map (λ t. getD (now conditions) t 0) (rests 6 s))) ⌝ }
-    ensures { λ r. ⌜ now (waits .exit) ≡ putAll (4 * p .0) (map (λ a. getD (now (group .entry)) a 0) (map (λ t. getD (now (conditions .entry)) t 0) (rests 6 s))) (now (waits .entry)) ⌝ }
+    ensures { λ r. ⌜ now (waits .exit) ≡ putEach (4 * p .0) (map (λ a. getD (now (group .entry)) a 0) (map (λ t. getD (now (conditions .entry)) t 0) (rests 6 s))) (now (waits .entry)) ⌝ }
 {
     let mut t: u8 = 0;
     while t < settings::CONDITIONS {
@@ -129,23 +129,23 @@ fn wait_conditions(conditions: &[u16; 6], group: &[u16; 256], s: u64, p: GateId,
 
 // The waits of every group, in one pass over the gates, from a clear table.
 fn find_waits(
-    rows: &[u32; 1024],
+    quads: &[u32; 1024],
     count: usize,
     needs: &[u64; 256],
     conditions: &[u16; 6],
     group: &[u16; 256],
-    joined: &[u16; 256],
+    places: &[u16; 256],
     waits: &mut [u64],
 )
-    requires { ⌜ Orderable (now rows) count (now conditions) (now group) (now joined) × (now waits ≡ replicate 1024 0) ⌝ }
-    ensures { λ r. ⌜ Waiting (gatesIn (now (rows .entry)) count) (now (needs .entry)) (λ x. getD (now (group .entry)) x 0) (now (waits .exit)) ⌝ }
+    requires { ⌜ Orderable (now quads) count (now conditions) (now group) (now places) × (now waits ≡ replicate 1024 0) ⌝ }
+    ensures { λ r. ⌜ Waiting (gatesIn (now (quads .entry)) count) (now (needs .entry)) (λ x. getD (now (group .entry)) x 0) (now (waits .exit)) ⌝ }
 {
     let mut i: usize = 0;
     while i < count {
         let m = GateId(i as u16);
         let p = group_of(group, m);
-        wait_arguments(rows, group, m, p, waits);
-        if joined[i] != 0 {
+        wait_arguments(quads, group, m, p, waits);
+        if places[i] != 0 {
             wait_conditions(conditions, group, needs[i], p, waits);
         }
         i = i + 1;
@@ -195,20 +195,20 @@ fn next_ready(waits: &[u64], left: &[u64], from: usize, count: usize) -> Next
 
 // The groups in the order of writing. `from` is the first gate that may name an unwritten group: each turn passes it by, or writes the next ready group.
 pub fn order_groups(
-    rows: &[u32; 1024],
+    quads: &[u32; 1024],
     count: usize,
     needs: &[u64; 256],
     conditions: &[u16; 6],
     group: &[u16; 256],
-    joined: &[u16; 256],
+    places: &[u16; 256],
     order: &mut [u16; 256],
 ) -> Order
-    requires { ⌜ Orderable (now rows) count (now conditions) (now group) (now joined) × (length (now order) ≡ 256) ⌝ }
-    ensures answer { λ r. ⌜ r ≡ orderOf (gatesIn (now (rows .entry)) count) (now (needs .entry)) (λ x. getD (now (group .entry)) x 0) ⌝ }
-    ensures written { λ r. ⌜ now (order .exit) ≡ over (reverse (plan.order (gatesIn (now (rows .entry)) count) (now (needs .entry)) (λ x. getD (now (group .entry)) x 0))) (now (order .entry)) ⌝ }
+    requires { ⌜ Orderable (now quads) count (now conditions) (now group) (now places) × (length (now order) ≡ 256) ⌝ }
+    ensures answer { λ r. ⌜ r ≡ orderOf (gatesIn (now (quads .entry)) count) (now (needs .entry)) (λ x. getD (now (group .entry)) x 0) ⌝ }
+    ensures written { λ r. ⌜ now (order .exit) ≡ over (reverse (plan.order (gatesIn (now (quads .entry)) count) (now (needs .entry)) (λ x. getD (now (group .entry)) x 0))) (now (order .entry)) ⌝ }
 {
     let mut waits = [0u64; 1024];
-    find_waits(rows, count, needs, conditions, group, joined, &mut waits);
+    find_waits(quads, count, needs, conditions, group, places, &mut waits);
     let mut left = [0u64; 4];
     find_left(group, count, &mut left);
     let mut k: usize = 0;

@@ -10,7 +10,7 @@ use Rattle.codes.specs.declared.Operation.{Operation}
 use Rattle.gates.specs.Gates.{Gates, gateAt, operation}
 use Rattle.gates.specs.PlainCircuit.{gatesOf, gateCount}
 use Rattle.needed.specs.Needed.{wantedOf, Exclude}
-use Rattle.plan.specs.PlanFile.{mark, leastBytes, mostBytes, gatesCounted, groupsCounted, groupsIn, Each, Rising, Apart, Ends}
+use Rattle.plan.specs.PlanFile.{mark, leastBytes, mostBytes, gatesCounted, groupsCounted, groupsIn, EachGroup, Rising, Apart, Ends}
 use Rattle.plan.specs.Groups.{groupOf, Waits, Chain}
 
 -- "A plan is laid out when it has 9 to 1,024 bytes, this mark and version, the plain circuit's gate count, and as many groups as it counts,
@@ -21,8 +21,8 @@ pub record LaidOut (s p : List ℕ) : Type 0 where
   pub marked : take 5 p ≡ mark
   pub counted : gatesCounted p ≡ gateCount s
   pub ended : Ends (groupsCounted p) p leastBytes
-  pub joins : Each (λ G. 2 ≤ length G) (groupsIn p)
-  pub rising : Each Rising (groupsIn p)
+  pub joins : EachGroup (λ G. 2 ≤ length G) (groupsIn p)
+  pub rising : EachGroup Rising (groupsIn p)
 
 -- every gate that the group names exists, of n gates
 abbrev pub Exist : ℕ → List ℕ → Type 0
@@ -44,8 +44,8 @@ NoCircle C wanted group = (p : ℕ) → Chain (Waits C wanted group) p p → ⊥
 -- operation only, joins no two gates that some setting of the conditions needs together, and leaves no group waiting for itself by a chain
 pub record Acceptable (s p : List ℕ) : Type 0 where
   pub laid-out : LaidOut s p
-  pub exist : Each (Exist (gateCount s)) (groupsIn p)
+  pub exist : EachGroup (Exist (gateCount s)) (groupsIn p)
   pub once : Apart (groupsIn p)
-  pub one-costly : Each (OneCostly (gatesOf s)) (groupsIn p)
-  pub exclude : Each (NoTwoNeeded (gatesOf s) (wantedOf s)) (groupsIn p)
+  pub one-costly : EachGroup (OneCostly (gatesOf s)) (groupsIn p)
+  pub exclude : EachGroup (NoTwoNeeded (gatesOf s) (wantedOf s)) (groupsIn p)
   pub no-circle : NoCircle (gatesOf s) (wantedOf s) (groupOf (groupsIn p))

@@ -24,7 +24,7 @@ use Rattle.needed.specs.Pass.{rulePreconditions}
 use Rattle.needed.specs.RulePreconditions.{rule-earlier, wanted-inside, rule-exclude}
 use Rattle.circuit.specs.Whole.{ruleAnswer}
 use Rattle.circuit.specs.WholeLaws.{accepted}
-use Rattle.plan.specs.PlanFile.{mark, leastBytes, groupsCounted, groupsIn, Plan, Each, Rising}
+use Rattle.plan.specs.PlanFile.{mark, leastBytes, groupsCounted, groupsIn, Plan, EachGroup, Rising}
 use Rattle.plan.specs.Groups.{groupOf}
 use Rattle.plan.specs.Rows.{every, everyGroup, rises, Row, rows, firstFailing, planRow, planAnswer}
 use Rattle.plan.specs.Accepted.{Exist, Acceptable}
@@ -71,10 +71,10 @@ failing-first [] m f = absurd (f refl)
 failing-first (r ∷ l) m f = split (r .holds) (λ t. rw t (failing-first l m (rw t at f))) (λ t. rw t)
 
 -- 25 is two facts
-pub rising-exist : (n : ℕ) (Gs : Plan) → (everyGroup (λ G. rises G && every (λ g. ltb g n) G) Gs ≡ true) ↔ (Each Rising Gs × Each (Exist n) Gs)
+pub rising-exist : (n : ℕ) (Gs : Plan) → (everyGroup (λ G. rises G && every (λ g. ltb g n) G) Gs ≡ true) ↔ (EachGroup Rising Gs × EachGroup (Exist n) Gs)
 rising-exist n Gs = (to Gs, λ h. back Gs (h .0) (h .1))
   where
-    to : (Gs : Plan) → everyGroup (λ G. rises G && every (λ g. ltb g n) G) Gs ≡ true → Each Rising Gs × Each (Exist n) Gs
+    to : (Gs : Plan) → everyGroup (λ G. rises G && every (λ g. ltb g n) G) Gs ≡ true → EachGroup Rising Gs × EachGroup (Exist n) Gs
     to [] h = (tt, tt)
     to (G ∷ Gs) h =
         let r = both (rises G && every (λ g. ltb g n) G) _ h in
@@ -82,7 +82,7 @@ rising-exist n Gs = (to Gs, λ h. back Gs (h .0) (h .1))
         let u = to Gs (r .1) in
         ((rises-right G .0 (q .0), u .0), (exist-right n G .0 (q .1), u .1))
 
-    back : (Gs : Plan) → Each Rising Gs → Each (Exist n) Gs → everyGroup (λ G. rises G && every (λ g. ltb g n) G) Gs ≡ true
+    back : (Gs : Plan) → EachGroup Rising Gs → EachGroup (Exist n) Gs → everyGroup (λ G. rises G && every (λ g. ltb g n) G) Gs ≡ true
     back [] r x = refl
     back (G ∷ Gs) (r, u) (x, y) = and (and (rises-right G .1 r) (exist-right n G .1 x)) (back Gs u y)
 

@@ -6,7 +6,7 @@ use native.Mathlib.Omega.{arith}
 use lib.ListN.{length, getD, length-append}
 use Rattle.words.specs.Numbers.{bytesOf, numberAt}
 use Rattle.words.specs.NumberLaws.{length-bytes, number-found}
-use Rattle.plan.specs.PlanFile.{mark, leastBytes, gatesCounted, groupsCounted, Plan, numbersAt, groupAt, after, groupsFrom, groupsIn, Each, Ends}
+use Rattle.plan.specs.PlanFile.{mark, leastBytes, gatesCounted, groupsCounted, Plan, numbersAt, groupAt, after, groupsFrom, groupsIn, EachGroup, Ends}
 use Rattle.plan.specs.Layout.{Small, numbersBytes, groupsBytes, count, planBytes}
 
 numbers-found : (G a b : List ℕ) → Small G → numbersAt (length G) (a ++ (numbersBytes G ++ b)) (length a) ≡ G
@@ -34,7 +34,7 @@ seam : (a : List ℕ) (x : ℕ) (r : List ℕ) → getD (a ++ (x ∷ r)) (length
 seam [] x r = refl
 seam (y ∷ a) x r = seam a x r
 
-groups-found : (Gs : Plan) (a : List ℕ) → Each Small Gs
+groups-found : (Gs : Plan) (a : List ℕ) → EachGroup Small Gs
     → (groupsFrom (count Gs) (a ++ groupsBytes Gs) (length a) ≡ Gs) × Ends (count Gs) (a ++ groupsBytes Gs) (length a)
 groups-found [] a s = (refl, sym (length-append a [] ∙ none (length a)))
   where
@@ -82,7 +82,7 @@ groups-found (G ∷ Gs) a (s, u) = go (groups-found Gs (a ++ (length G ∷ numbe
     go (e, f) = (ap₂ (λ (H : List ℕ) (Hs : Plan). H ∷ Hs) here (rest ∙ e), (fits, subst⁻¹ (λ (at : ℕ). Ends (count Gs) X at) past (subst⁻¹ (λ (q : List ℕ). Ends (count Gs) q (length b)) whole f)))
 
 -- the plan of a gate count and groups that fit their bytes, taken apart
-pub plan-found : (n : ℕ) (Gs : Plan) → n < 256 ^ 2 → count Gs < 256 ^ 2 → Each Small Gs
+pub plan-found : (n : ℕ) (Gs : Plan) → n < 256 ^ 2 → count Gs < 256 ^ 2 → EachGroup Small Gs
     → (gatesCounted (planBytes n Gs) ≡ n) × (groupsCounted (planBytes n Gs) ≡ count Gs)
     × (groupsIn (planBytes n Gs) ≡ Gs) × Ends (groupsCounted (planBytes n Gs)) (planBytes n Gs) leastBytes
 unfolding groupsIn

@@ -9,7 +9,7 @@ use lib.Dec.{eqb}
 use borrow.Author.Tests.{eqb-true, eq-eqb}
 use lib.ListN.{length}
 use Rattle.words.specs.Lists.{_∈_, elem, elem→∈, ∈→elem, split, keep-in, keep-from, upto, from-in, from-below}
-use Rattle.plan.specs.PlanFile.{Plan, Each, Above, Rising, Listed, Apart}
+use Rattle.plan.specs.PlanFile.{Plan, EachGroup, Above, Rising, Listed, Apart}
 use Rattle.plan.specs.Groups.{smallest, groupOf, Named, groups, members}
 
 -- rising numbers: the first is the smallest
@@ -28,7 +28,7 @@ smallest-le (k ∷ l) r g (inl e) = omega arith
 smallest-le (k ∷ l) (a, r) g (inr m) = omega (arith, rising-first k l a r g m)
 
 -- a gate's group is its own number or a listed gate
-pub groupOf-kind : (Gs : Plan) → Each (λ G. 2 ≤ length G) Gs → (g : ℕ) → (groupOf Gs g ≡ g) ⊎ Listed Gs (groupOf Gs g)
+pub groupOf-kind : (Gs : Plan) → EachGroup (λ G. 2 ≤ length G) Gs → (g : ℕ) → (groupOf Gs g ≡ g) ⊎ Listed Gs (groupOf Gs g)
 groupOf-kind [] o g = inl refl
 groupOf-kind (G ∷ Gs) (s, o) g =
     split (elem g G) (λ t. rw t (inr (inl (smallest-in G s)))) (λ t. rw t (go (groupOf-kind Gs o g)))
@@ -37,7 +37,7 @@ groupOf-kind (G ∷ Gs) (s, o) g =
     go (inl e) = inl e
     go (inr h) = inr (inr h)
 
-pub groupOf-named : (Gs : Plan) → Each (λ G. 2 ≤ length G) Gs → Each Rising Gs → Apart Gs → Named (groupOf Gs)
+pub groupOf-named : (Gs : Plan) → EachGroup (λ G. 2 ≤ length G) Gs → EachGroup Rising Gs → Apart Gs → Named (groupOf Gs)
 groupOf-named [] o u a g = (omega arith, refl)
 groupOf-named (G ∷ Gs) (s, o) (r, u) (d, a) g =
     let ih : (groupOf Gs g ≤ g) × (groupOf Gs (groupOf Gs g) ≡ groupOf Gs g) = groupOf-named Gs o u a g in

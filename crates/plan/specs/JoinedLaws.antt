@@ -13,13 +13,13 @@ use Rattle.settings.specs.Settings.{Once}
 use Rattle.settings.specs.ListLaws.{from-once, keep-once}
 use Rattle.gates.specs.PlainCircuit.{gatesOf, gateCount}
 use Rattle.needed.specs.Needed.{wantedOf}
-use Rattle.plan.specs.PlanFile.{Plan, groupsIn, Each, Listed, Apart}
+use Rattle.plan.specs.PlanFile.{Plan, groupsIn, EachGroup, Listed, Apart}
 use Rattle.plan.specs.Groups.{smallest, groupOf, members}
 use Rattle.plan.specs.Accepted.{OneCostly, NoTwoNeeded, Acceptable}
 use Rattle.plan.specs.GroupLaws.{smallest-in, groupOf-kind, of-member}
 
 -- the name of a listed group is the name of no gate outside it
-pub foreign : (G : List ℕ) (Gs : Plan) → 2 ≤ length G → ((g : ℕ) → g ∈ G → Listed Gs g → ⊥) → Each (λ H. 2 ≤ length H) Gs → (b : ℕ) → elem b G ≡ false
+pub foreign : (G : List ℕ) (Gs : Plan) → 2 ≤ length G → ((g : ℕ) → g ∈ G → Listed Gs g → ⊥) → EachGroup (λ H. 2 ≤ length H) Gs → (b : ℕ) → elem b G ≡ false
     → groupOf Gs b ≡ smallest G → ⊥
 foreign G Gs s d o b t e = go (groupOf-kind Gs o b)
   where
@@ -28,7 +28,7 @@ foreign G Gs s d o b t e = go (groupOf-kind Gs o b)
     go (inr h) = d (smallest G) (smallest-in G s) (rw e at h)
 
 -- the gates of group q lie in one listed group, or are q alone
-pub group-lies : (P : List ℕ → Type 0) (Gs : Plan) → Each (λ G. 2 ≤ length G) Gs → Apart Gs → Each P Gs → (q : ℕ)
+pub group-lies : (P : List ℕ → Type 0) (Gs : Plan) → EachGroup (λ G. 2 ≤ length G) Gs → Apart Gs → EachGroup P Gs → (q : ℕ)
     → ((g : ℕ) → groupOf Gs g ≡ q → g ≡ q) ⊎ ((G : List ℕ) × P G × ((g : ℕ) → groupOf Gs g ≡ q → g ∈ G))
 group-lies P [] s a e q = inl (λ g h. h)
 group-lies P (G ∷ Gs) (s, u) (d, a) (e, f) q = go (same? (smallest G) q) (group-lies P Gs u a f q)
@@ -56,7 +56,7 @@ module _ (s p : List ℕ) (a : Acceptable s p) (q : ℕ) (many : 2 ≤ length (m
   abbrev ms : List ℕ
   ms = members (gateCount s) (groupOf (groupsIn p)) q
 
-  within : (P : List ℕ → Type 0) → Each P (groupsIn p) → (G : List ℕ) × P G × ((g : ℕ) → g ∈ ms → g ∈ G)
+  within : (P : List ℕ → Type 0) → EachGroup P (groupsIn p) → (G : List ℕ) × P G × ((g : ℕ) → g ∈ ms → g ∈ G)
   within P e = go (group-lies P (groupsIn p) (a .laid-out .joins) (a .once) e q)
     where
       names : (g : ℕ) → g ∈ ms → groupOf (groupsIn p) g ≡ q

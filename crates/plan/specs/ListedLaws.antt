@@ -8,7 +8,7 @@ use native.Mathlib.Omega.{arith}
 use lib.Dec.{eqb}
 use lib.ListN.{length}
 use Rattle.words.specs.Lists.{_∈_, elem, elem→∈, ∈→elem, split, keep, keep-from, from, from-below}
-use Rattle.plan.specs.PlanFile.{Plan, Each, Above, Rising, Listed, Apart}
+use Rattle.plan.specs.PlanFile.{Plan, EachGroup, Above, Rising, Listed, Apart}
 use Rattle.plan.specs.Groups.{smallest, groupOf, members}
 use Rattle.plan.specs.Accepted.{Exist}
 use Rattle.plan.specs.GroupLaws.{rising-first, smallest-in, member-of, of-member}
@@ -48,25 +48,25 @@ keep-rising p i (suc n) =
     split (p i) (λ t. rw t (above-all i (keep p (from (suc i) n)) (λ k m. omega (arith, from-below (suc i) n k (keep-from p (from (suc i) n) k m .0))), keep-rising p (suc i) n)) (λ t. rw t (keep-rising p (suc i) n))
 
 -- the group G stands in the plan
-abbrev pub Stands : Plan → List ℕ → Type 0
-Stands [] G = ⊥
-Stands (H ∷ Gs) G = (H ≡ G) ⊎ Stands Gs G
+abbrev pub StandsIn : Plan → List ℕ → Type 0
+StandsIn [] G = ⊥
+StandsIn (H ∷ Gs) G = (H ≡ G) ⊎ StandsIn Gs G
 
-pub stands-each : (P : List ℕ → Type 0) (Gs : Plan) (G : List ℕ) → Stands Gs G → Each P Gs → P G
+pub stands-each : (P : List ℕ → Type 0) (Gs : Plan) (G : List ℕ) → StandsIn Gs G → EachGroup P Gs → P G
 stands-each P (H ∷ Gs) G (inl e) (h, f) = rw e at h
 stands-each P (H ∷ Gs) G (inr s) (h, f) = stands-each P Gs G s f
 
-pub stands-listed : (Gs : Plan) (G : List ℕ) (g : ℕ) → Stands Gs G → g ∈ G → Listed Gs g
+pub stands-listed : (Gs : Plan) (G : List ℕ) (g : ℕ) → StandsIn Gs G → g ∈ G → Listed Gs g
 stands-listed (H ∷ Gs) G g (inl e) m = inl (rw e m)
 stands-listed (H ∷ Gs) G g (inr s) m = inr (stands-listed Gs G g s m)
 
 -- a listed group's gates have its name, and no others
-pub name-to : (Gs : Plan) (G : List ℕ) (g : ℕ) → Apart Gs → Stands Gs G → g ∈ G → groupOf Gs g ≡ smallest G
+pub name-to : (Gs : Plan) (G : List ℕ) (g : ℕ) → Apart Gs → StandsIn Gs G → g ∈ G → groupOf Gs g ≡ smallest G
 name-to (H ∷ Gs) G g (d, a) (inl e) m = rw (e, ∈→elem g G m)
 name-to (H ∷ Gs) G g (d, a) (inr s) m =
     split (elem g H) (λ t. absurd (d g (elem→∈ g H t) (stands-listed Gs G g s m))) (λ t. rw t (name-to Gs G g a s m))
 
-name-back : (Gs : Plan) (G : List ℕ) (g : ℕ) → Each (λ H. 2 ≤ length H) Gs → Apart Gs → Stands Gs G → groupOf Gs g ≡ smallest G → g ∈ G
+name-back : (Gs : Plan) (G : List ℕ) (g : ℕ) → EachGroup (λ H. 2 ≤ length H) Gs → Apart Gs → StandsIn Gs G → groupOf Gs g ≡ smallest G → g ∈ G
 name-back (H ∷ Gs) G g (o, u) (d, a) (inl e) h =
     split (elem g H) (λ t. rw e at (elem→∈ g H t)) (λ t. absurd (foreign H Gs o d u g t (rw t at h ∙ ap smallest (sym e))))
 name-back (H ∷ Gs) G g (o, u) (d, a) (inr s) h =
@@ -80,7 +80,7 @@ pub unlisted-name : (Gs : Plan) (g : ℕ) → (Listed Gs g → ⊥) → groupOf 
 unlisted-name [] g n = refl
 unlisted-name (H ∷ Gs) g n = split (elem g H) (λ t. absurd (n (inl (elem→∈ g H t)))) (λ t. rw t (unlisted-name Gs g (λ h. n (inr h))))
 
-listed-name : (Gs : Plan) (g : ℕ) → Each (λ H. 2 ≤ length H) Gs → Listed Gs g → Listed Gs (groupOf Gs g)
+listed-name : (Gs : Plan) (g : ℕ) → EachGroup (λ H. 2 ≤ length H) Gs → Listed Gs g → Listed Gs (groupOf Gs g)
 listed-name (H ∷ Gs) g (o, u) h =
     split (elem g H) (λ t. rw t (inl (smallest-in H o))) (λ t. rw t (inr (listed-name Gs g u (later t h))))
   where
@@ -101,9 +101,9 @@ listed? (H ∷ Gs) g = split (elem g H) (λ t. inl (inl (elem→∈ g H t))) (λ
     go t (inl h) = inl (inr h)
     go t (inr n) = inr (none t n)
 
-module _ (n : ℕ) (Gs : Plan) (two : Each (λ G. 2 ≤ length G) Gs) (rising : Each Rising Gs) (once : Apart Gs) where
+module _ (n : ℕ) (Gs : Plan) (two : EachGroup (λ G. 2 ≤ length G) Gs) (rising : EachGroup Rising Gs) (once : Apart Gs) where
   -- the members of a listed group, named by its smallest, are those listed
-  pub members-listed : Each (Exist n) Gs → (G : List ℕ) → Stands Gs G → members n (groupOf Gs) (smallest G) ≡ G
+  pub members-listed : EachGroup (Exist n) Gs → (G : List ℕ) → StandsIn Gs G → members n (groupOf Gs) (smallest G) ≡ G
   members-listed exist G s =
       rising-same (members n (groupOf Gs) (smallest G)) G (keep-rising (λ g. eqb (groupOf Gs g) (smallest G)) 0 n) (stands-each Rising Gs G s rising)
       (λ a m. name-back Gs G a two once s (of-member n (groupOf Gs) a (smallest G) m .1))

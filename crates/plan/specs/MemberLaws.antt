@@ -16,7 +16,7 @@ use Rattle.codes.specs.CodeLaws.{byte-operation}
 use Rattle.codes.specs.declared.Operation.{Operation}
 use Rattle.gates.specs.Gates.{Gate, start, word, bit, operation, choice, Gates, gateAt}
 use Rattle.needed.specs.Needed.{Exclude}
-use Rattle.plan.specs.PlanFile.{Plan, Each}
+use Rattle.plan.specs.PlanFile.{Plan, EachGroup}
 use Rattle.plan.specs.Rows.{every, everyGroup, isCostly, operationByte, alike, parted}
 use Rattle.plan.specs.Accepted.{OneCostly, NoTwoNeeded}
 use Rattle.plan.specs.RowLaws.{and, every-right}
@@ -66,22 +66,22 @@ module _ (C : Gates) where
       (λ g k. eq-eqb _ _ (ap operationByte (f m (inl refl) .1) ∙ sym (ap operationByte (f g (inr k) .1))))
 
   -- 27 and 28 of every group: its members are one costly operation
-  pub costly-right : (Gs : Plan) → Each (λ G. 2 ≤ length G) Gs
-      → ((everyGroup (every (λ g. isCostly (gateAt C g))) Gs ≡ true) × (everyGroup (alike C) Gs ≡ true)) ↔ Each (OneCostly C) Gs
+  pub costly-right : (Gs : Plan) → EachGroup (λ G. 2 ≤ length G) Gs
+      → ((everyGroup (every (λ g. isCostly (gateAt C g))) Gs ≡ true) × (everyGroup (alike C) Gs ≡ true)) ↔ EachGroup (OneCostly C) Gs
   costly-right Gs s = (λ h. to Gs s (h .0) (h .1), λ o. (back-27 Gs o, back-28 Gs o))
     where
-      to : (Gs : Plan) → Each (λ G. 2 ≤ length G) Gs → everyGroup (every (λ g. isCostly (gateAt C g))) Gs ≡ true → everyGroup (alike C) Gs ≡ true → Each (OneCostly C) Gs
+      to : (Gs : Plan) → EachGroup (λ G. 2 ≤ length G) Gs → everyGroup (every (λ g. isCostly (gateAt C g))) Gs ≡ true → everyGroup (alike C) Gs ≡ true → EachGroup (OneCostly C) Gs
       to [] s h a = tt
       to (G ∷ Gs) (s, t) h a =
           let r = both (every (λ g. isCostly (gateAt C g)) G) _ h in
           let q = both (alike C G) _ a in
           (one-costly-to G s (r .0) (q .0), to Gs t (r .1) (q .1))
 
-      back-27 : (Gs : Plan) → Each (OneCostly C) Gs → everyGroup (every (λ g. isCostly (gateAt C g))) Gs ≡ true
+      back-27 : (Gs : Plan) → EachGroup (OneCostly C) Gs → everyGroup (every (λ g. isCostly (gateAt C g))) Gs ≡ true
       back-27 [] o = refl
       back-27 (G ∷ Gs) (o, u) = and (one-costly-27 G o) (back-27 Gs u)
 
-      back-28 : (Gs : Plan) → Each (OneCostly C) Gs → everyGroup (alike C) Gs ≡ true
+      back-28 : (Gs : Plan) → EachGroup (OneCostly C) Gs → everyGroup (alike C) Gs ≡ true
       back-28 [] o = refl
       back-28 (G ∷ Gs) (o, u) = and (one-costly-28 G o) (back-28 Gs u)
 

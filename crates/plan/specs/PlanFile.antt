@@ -63,9 +63,9 @@ unfoldable pub groupsIn : List ℕ → Plan
 groupsIn p = groupsFrom (groupsCounted p) p leastBytes
 
 -- every group of a plan is so
-abbrev pub Each : (List ℕ → Type 0) → Plan → Type 0
-Each P [] = Unit {0}
-Each P (G ∷ Gs) = P G × Each P Gs
+abbrev pub EachGroup : (List ℕ → Type 0) → Plan → Type 0
+EachGroup P [] = Unit {0}
+EachGroup P (G ∷ Gs) = P G × EachGroup P Gs
 
 -- gate numbers rising
 abbrev pub Above : ℕ → List ℕ → Type 0

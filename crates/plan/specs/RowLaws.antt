@@ -9,7 +9,7 @@ use borrow.Author.Tests.{eqb-true, eq-eqb, leb-true, le-leb, ltb-true, lt-ltb}
 use lib.ListN.{length}
 use Rattle.words.specs.Lists.{_∈_, elem, elem→∈, ∈→elem, split}
 use Rattle.settings.specs.SetLaws.{both}
-use Rattle.plan.specs.PlanFile.{Plan, after, Each, Above, Rising, Listed, Apart, Ends, ends}
+use Rattle.plan.specs.PlanFile.{Plan, after, EachGroup, Above, Rising, Listed, Apart, Ends, ends}
 use Rattle.plan.specs.Rows.{every, everyGroup, same, above, rises, listed, apart}
 use Rattle.plan.specs.Accepted.{Exist}
 
@@ -30,14 +30,14 @@ every-right t l = (to l, back l)
     back [] h = refl
     back (b ∷ l) h = and (h b (inl refl)) (back l (λ a m. h a (inr m)))
 
-pub each-right : (t : List ℕ → Bool) (P : List ℕ → Type 0) → ((G : List ℕ) → (t G ≡ true) ↔ P G) → (Gs : Plan) → (everyGroup t Gs ≡ true) ↔ Each P Gs
+pub each-right : (t : List ℕ → Bool) (P : List ℕ → Type 0) → ((G : List ℕ) → (t G ≡ true) ↔ P G) → (Gs : Plan) → (everyGroup t Gs ≡ true) ↔ EachGroup P Gs
 each-right t P f Gs = (to Gs, back Gs)
   where
-    to : (Gs : Plan) → everyGroup t Gs ≡ true → Each P Gs
+    to : (Gs : Plan) → everyGroup t Gs ≡ true → EachGroup P Gs
     to [] h = tt
     to (G ∷ Gs) h = let r = both (t G) _ h in (f G .0 (r .0), to Gs (r .1))
 
-    back : (Gs : Plan) → Each P Gs → everyGroup t Gs ≡ true
+    back : (Gs : Plan) → EachGroup P Gs → everyGroup t Gs ≡ true
     back [] h = refl
     back (G ∷ Gs) (p, h) = and (f G .1 p) (back Gs h)
 

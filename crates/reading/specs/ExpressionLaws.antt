@@ -8,8 +8,8 @@ use mathlib.Core.Bool.{Bool, true, false}
 use lib.ListN.{length, getD}
 use lib.Dec.{ltb, leb, eqb}
 use borrow.Author.Tests.{le-ltb, lt-ltb, eq-eqb, ne-eqb}
-use Rattle.codes.specs.Codes.{codeOf, rowOf, sameKind}
-use Rattle.codes.specs.CodeLaws.{code-row}
+use Rattle.codes.specs.Codes.{codeOf, entryOf, sameKind}
+use Rattle.codes.specs.CodeLaws.{code-entry}
 use Rattle.codes.specs.declared.Kind.{Kind}
 use Rattle.codes.specs.declared.Kind.the-variants as kind
 use Rattle.codes.specs.declared.Operation.{Operation}
@@ -41,16 +41,16 @@ below-is (suc deep) s h = ap (λ (k : ℕ). readExpr k s) (sym (sub-one (suc dee
 
 -- the arguments of an operation, by what reads each
 module _ (argument : Kind → ℕ → Parsed Expr) (op : Operation) (at : ℕ) where
-  arguments-refused : {k p : ℕ} → Refused k p ≡ stepOf (argument (rowOf op .takes) at) → Refused k p ≡ stepOf (argumentsWith argument op at)
-  arguments-refused h = refused-then (argument (rowOf op .takes) at) _ h
+  arguments-refused : {k p : ℕ} → Refused k p ≡ stepOf (argument (entryOf op .takes) at) → Refused k p ≡ stepOf (argumentsWith argument op at)
+  arguments-refused h = refused-then (argument (entryOf op .takes) at) _ h
 
-  arguments-one : {n : ℕ} → Past n ≡ stepOf (argument (rowOf op .takes) at) → rowOf op .arity ≡ 1 → Past n ≡ stepOf (argumentsWith argument op at)
-  arguments-one h e = past-then (argument (rowOf op .takes) at) _ h (λ x. rw (eq-eqb _ _ e))
+  arguments-one : {n : ℕ} → Past n ≡ stepOf (argument (entryOf op .takes) at) → entryOf op .arity ≡ 1 → Past n ≡ stepOf (argumentsWith argument op at)
+  arguments-one h e = past-then (argument (entryOf op .takes) at) _ h (λ x. rw (eq-eqb _ _ e))
 
-  arguments-two : {n : ℕ} {r : Step} → Past n ≡ stepOf (argument (rowOf op .takes) at) → (rowOf op .arity ≡ 1 → ⊥) → r ≡ stepOf (argument (rowOf op .takes) n) → r ≡ stepOf (argumentsWith argument op at)
+  arguments-two : {n : ℕ} {r : Step} → Past n ≡ stepOf (argument (entryOf op .takes) at) → (entryOf op .arity ≡ 1 → ⊥) → r ≡ stepOf (argument (entryOf op .takes) n) → r ≡ stepOf (argumentsWith argument op at)
   arguments-two {n} h e g =
-      past-then (argument (rowOf op .takes) at) _ h
-      (λ x. rw (ne-eqb _ _ e) (then-parsed (argument (rowOf op .takes) n) (λ y. two op x y) g))
+      past-then (argument (entryOf op .takes) at) _ h
+      (λ x. rw (ne-eqb _ _ e) (then-parsed (argument (entryOf op .takes) n) (λ y. two op x y) g))
 
 module _ (deep : ℕ) (s : List ℕ) (want : Kind) (at : ℕ) where
   pub expr-short : length s ≤ at → Refused 4 (length s) ≡ stepOf (readExpr deep s want at)
@@ -67,11 +67,11 @@ module _ (deep : ℕ) (s : List ℕ) (want : Kind) (at : ℕ) where
 
     -- the code is an operation's
     module _ (op : Operation) (o : c .form ≡ Apply op) where
-      is-row : c ≡ rowOf op
-      is-row = code-row (getD s at 0) c op e o
+      is-entry : c ≡ entryOf op
+      is-entry = code-entry (getD s at 0) c op e o
 
-      gives : sameKind (c .gives) want ≡ sameKind (rowOf op .gives) want
-      gives = ap (λ (x : Code). sameKind (x .gives) want) is-row
+      gives : sameKind (c .gives) want ≡ sameKind (entryOf op .gives) want
+      gives = ap (λ (x : Code). sameKind (x .gives) want) is-entry
 
       pub expr-kind : sameKind (c .gives) want ≡ false → Refused 7 at ≡ stepOf (readExpr deep s want at)
       unfolding operationWith
@@ -89,18 +89,18 @@ module _ (deep : ℕ) (s : List ℕ) (want : Kind) (at : ℕ) where
               expr-as (Apply op) o
               ∙ (rw (sym gives ∙ k, some-left deep z) (ap (λ (g : Kind → ℕ → Parsed Expr). argumentsWith g op (at + 1)) (below-is deep s z)))
 
-          first : {r : Step} → r ≡ stepOf (readExpr (deep - 1) s (c .takes) (at + 1)) → r ≡ stepOf (readExpr (deep - 1) s (rowOf op .takes) (at + 1))
-          first h = h ∙ ap (λ (x : Code). stepOf (readExpr (deep - 1) s (x .takes) (at + 1))) is-row
+          first : {r : Step} → r ≡ stepOf (readExpr (deep - 1) s (c .takes) (at + 1)) → r ≡ stepOf (readExpr (deep - 1) s (entryOf op .takes) (at + 1))
+          first h = h ∙ ap (λ (x : Code). stepOf (readExpr (deep - 1) s (x .takes) (at + 1))) is-entry
 
           pub expr-refused : {n p : ℕ} → Refused n p ≡ stepOf (readExpr (deep - 1) s (c .takes) (at + 1)) → Refused n p ≡ stepOf (readExpr deep s want at)
           expr-refused h = arguments-refused (readExpr (deep - 1) s) op (at + 1) (first h) ∙ ap stepOf (sym expr-arguments)
 
           pub expr-one : {n : ℕ} → Past n ≡ stepOf (readExpr (deep - 1) s (c .takes) (at + 1)) → c .arity ≡ 1 → Past n ≡ stepOf (readExpr deep s want at)
-          expr-one h a = arguments-one (readExpr (deep - 1) s) op (at + 1) (first h) (ap (λ (x : Code). x .arity) (sym is-row) ∙ a) ∙ ap stepOf (sym expr-arguments)
+          expr-one h a = arguments-one (readExpr (deep - 1) s) op (at + 1) (first h) (ap (λ (x : Code). x .arity) (sym is-entry) ∙ a) ∙ ap stepOf (sym expr-arguments)
 
           pub expr-two : {n : ℕ} {r : Step} → Past n ≡ stepOf (readExpr (deep - 1) s (c .takes) (at + 1)) → (c .arity ≡ 1 → ⊥) → r ≡ stepOf (readExpr (deep - 1) s (c .takes) n) → r ≡ stepOf (readExpr deep s want at)
           expr-two {n} h a g =
-              arguments-two (readExpr (deep - 1) s) op (at + 1) (first h) (λ q. a (ap (λ (x : Code). x .arity) is-row ∙ q)) (g ∙ ap (λ (x : Code). stepOf (readExpr (deep - 1) s (x .takes) n)) is-row)
+              arguments-two (readExpr (deep - 1) s) op (at + 1) (first h) (λ q. a (ap (λ (x : Code). x .arity) is-entry ∙ q)) (g ∙ ap (λ (x : Code). stepOf (readExpr (deep - 1) s (x .takes) n)) is-entry)
               ∙ ap stepOf (sym expr-arguments)
 
 -- Reading goes forward.
@@ -132,16 +132,16 @@ module _ (argument : Kind → ℕ → Parsed Expr) (goes : (k : Kind) (a : ℕ) 
   second-forward : (t : Bool) (op : Operation) (x : Expr) (at n : ℕ) → at < n → Forward (secondWith t argument op x n) at
   second-forward true op x at n l = l
   second-forward false op x at n l =
-      forward-then (argument (rowOf op .takes) n) _ at (forward-later (argument (rowOf op .takes) n) at n l (goes (rowOf op .takes) n)) (λ y m h. h)
+      forward-then (argument (entryOf op .takes) n) _ at (forward-later (argument (entryOf op .takes) n) at n l (goes (entryOf op .takes) n)) (λ y m h. h)
 
   operation-forward : (op : Operation) (want : Kind) (deep at : ℕ) → Forward (operationWith argument op want deep at) at
   unfolding operationWith
   operation-forward op want deep at =
-      forward-unless (sameKind (rowOf op .gives) want) 7 at _ at
+      forward-unless (sameKind (entryOf op .gives) want) 7 at _ at
       (forward-unless (ltb 0 deep) 8 at _ at
-      (forward-then (argument (rowOf op .takes) (at + 1)) _ at
-      (forward-later (argument (rowOf op .takes) (at + 1)) at (at + 1) (omega arith) (goes (rowOf op .takes) (at + 1)))
-      (λ x n l. second-forward (eqb (rowOf op .arity) 1) op x at n l)))
+      (forward-then (argument (entryOf op .takes) (at + 1)) _ at
+      (forward-later (argument (entryOf op .takes) (at + 1)) at (at + 1) (omega arith) (goes (entryOf op .takes) (at + 1)))
+      (λ x n l. second-forward (eqb (entryOf op .arity) 1) op x at n l)))
 
   form-forward : (f : Form) (s : List ℕ) (want : Kind) (deep at : ℕ) → Forward (exprForm f s argument want deep at) at
   form-forward End s want deep at = tt

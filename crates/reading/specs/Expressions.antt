@@ -6,7 +6,7 @@ use mathlib.Core.Bool.{Bool, true, false}
 use lib.ListN.{length, getD}
 use lib.Dec.{ltb, leb, eqb}
 use Rattle.words.specs.Numbers.{numberAt}
-use Rattle.codes.specs.Codes.{codeOf, rowOf, sameKind}
+use Rattle.codes.specs.Codes.{codeOf, entryOf, sameKind}
 use Rattle.codes.specs.declared.Kind.{Kind}
 use Rattle.codes.specs.declared.Kind.the-variants as kind
 use Rattle.codes.specs.declared.Operation.{Operation}
@@ -45,16 +45,16 @@ readBit s want deep at =
 -- after its first argument an operation of arity 1 is whole
 abbrev pub secondWith : Bool → (Kind → ℕ → Parsed Expr) → Operation → Expr → ℕ → Parsed Expr
 secondWith true argument op x at = parsed (one op x) at
-secondWith false argument op x at = argument (rowOf op .takes) at >>= λ y next. parsed (two op x y) next
+secondWith false argument op x at = argument (entryOf op .takes) at >>= λ y next. parsed (two op x y) next
 
 abbrev pub argumentsWith : (Kind → ℕ → Parsed Expr) → Operation → ℕ → Parsed Expr
 argumentsWith argument op at =
-    argument (rowOf op .takes) at >>= λ x next. secondWith (eqb (rowOf op .arity) 1) argument op x next
+    argument (entryOf op .takes) at >>= λ x next. secondWith (eqb (entryOf op .arity) 1) argument op x next
 
 -- else an operation and its arguments, each read by `argument`
 unfoldable pub operationWith : (Kind → ℕ → Parsed Expr) → Operation → Kind → ℕ → ℕ → Parsed Expr
 operationWith argument op want deep at =
-    unless (sameKind (rowOf op .gives) want) 7 at
+    unless (sameKind (entryOf op .gives) want) 7 at
     (unless (ltb 0 deep) 8 at
     (argumentsWith argument op (at + 1)))
 

@@ -7,7 +7,7 @@ use lib.ListN.{length, getD}
 use lib.Dec.{ltb, leb, eqb}
 use borrow.Author.Tests.{eq-eqb, ne-eqb, ltb-true, leb-true}
 use Rattle.words.specs.Numbers.{numberAt}
-use Rattle.codes.specs.Codes.{codeOf, rowOf, sameKind}
+use Rattle.codes.specs.Codes.{codeOf, entryOf, sameKind}
 use Rattle.codes.specs.CodeLaws.{same-kind}
 use Rattle.codes.specs.declared.Kind.{Kind}
 use Rattle.codes.specs.declared.Kind.the-variants as kind
@@ -89,14 +89,14 @@ bit-read s want deep at h =
 -- an operation, before its arguments
 pub record OperationRead (deep : ℕ) (s : List ℕ) (op : Operation) (want : Kind) (at : ℕ) (m : Parsed Expr) : Type 0 where
   pub level : 0 < deep
-  pub kind : rowOf op .gives ≡ want
+  pub kind : entryOf op .gives ≡ want
   pub is : m ≡ argumentsWith (readExpr (deep - 1) s) op (at + 1)
 
 operation-read : (s : List ℕ) (op : Operation) (want : Kind) (deep at : ℕ) → IsRead (operationWith (below deep s) op want deep at) → OperationRead deep s op want at (operationWith (below deep s) op want deep at)
 unfolding operationWith
 operation-read s op want deep at h =
     let last = argumentsWith (below deep s) op (at + 1) in
-    let a = unless-read (sameKind (rowOf op .gives) want) 7 at (unless (ltb 0 deep) 8 at last) h in
+    let a = unless-read (sameKind (entryOf op .gives) want) 7 at (unless (ltb 0 deep) 8 at last) h in
     let b = unless-read (ltb 0 deep) 8 at last (a .1) in
     let l : 0 < deep = ltb-true 0 deep (b .0) in
     record { level = l; kind = same-kind _ _ (a .0); is = rw (a .0, b .0) (ap (λ (g : Kind → ℕ → Parsed Expr). argumentsWith g op (at + 1)) (below-is deep s (omega arith))) }
@@ -132,17 +132,17 @@ module _ (deep : ℕ) (s : List ℕ) (want : Kind) (at : ℕ) (h : IsRead (readE
 
 -- the arguments of an operation that was read
 module _ (argument : Kind → ℕ → Parsed Expr) (op : Operation) (at : ℕ) where
-  pub first-argument : IsRead (argumentsWith argument op at) → IsRead (argument (rowOf op .takes) at)
-  first-argument h = first-read (argument (rowOf op .takes) at) (λ x n. secondWith (eqb (rowOf op .arity) 1) argument op x n) h
+  pub first-argument : IsRead (argumentsWith argument op at) → IsRead (argument (entryOf op .takes) at)
+  first-argument h = first-read (argument (entryOf op .takes) at) (λ x n. secondWith (eqb (entryOf op .arity) 1) argument op x n) h
 
-  module _ (x : Expr) (n : ℕ) (p : argument (rowOf op .takes) at ≡ parsed x n) where
-    pub arguments-one : rowOf op .arity ≡ 1 → argumentsWith argument op at ≡ parsed (one op x) n
+  module _ (x : Expr) (n : ℕ) (p : argument (entryOf op .takes) at ≡ parsed x n) where
+    pub arguments-one : entryOf op .arity ≡ 1 → argumentsWith argument op at ≡ parsed (one op x) n
     arguments-one a = rw (p, eq-eqb _ _ a)
 
-    pub second-argument : (rowOf op .arity ≡ 1 → ⊥) → IsRead (argumentsWith argument op at) → IsRead (argument (rowOf op .takes) n)
+    pub second-argument : (entryOf op .arity ≡ 1 → ⊥) → IsRead (argumentsWith argument op at) → IsRead (argument (entryOf op .takes) n)
     second-argument a h =
-        let r = rest-read (argument (rowOf op .takes) at) (λ x n. secondWith (eqb (rowOf op .arity) 1) argument op x n) x n p h in
-        first-read (argument (rowOf op .takes) n) (λ y m. parsed (two op x y) m) (rw (ne-eqb _ _ a) at r)
+        let r = rest-read (argument (entryOf op .takes) at) (λ x n. secondWith (eqb (entryOf op .arity) 1) argument op x n) x n p h in
+        first-read (argument (entryOf op .takes) n) (λ y m. parsed (two op x y) m) (rw (ne-eqb _ _ a) at r)
 
-    pub arguments-two : (rowOf op .arity ≡ 1 → ⊥) → (y : Expr) (m : ℕ) → argument (rowOf op .takes) n ≡ parsed y m → argumentsWith argument op at ≡ parsed (two op x y) m
+    pub arguments-two : (entryOf op .arity ≡ 1 → ⊥) → (y : Expr) (m : ℕ) → argument (entryOf op .takes) n ≡ parsed y m → argumentsWith argument op at ≡ parsed (two op x y) m
     arguments-two a y m q = rw (p, ne-eqb _ _ a, q)

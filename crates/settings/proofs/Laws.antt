@@ -58,26 +58,26 @@ unfolding later
 later-none n on = let e : n - n ≡ 0 = omega arith in rw e
 
 -- m is 2 for each condition of `on` below t, multiplied
-pub record Sized (n on t m : ℕ) : Type 0 where
+pub record Doubled (n on t m : ℕ) : Type 0 where
   pub small : m ≤ 2 ^ t
   pub sized : m * 2 ^ length (later n on t) ≡ 2 ^ length (chosen n on)
 
-pub sized-start : (n on : ℕ) → Sized n on 0 1
+pub sized-start : (n on : ℕ) → Doubled n on 0 1
 sized-start n on = record { small = omega arith; sized = rw (later-all n on) (one-mul (2 ^ length (chosen n on))) }
 
-pub sized-in : (n on t m k : ℕ) → Sized n on t m → t < n → bit on t ≡ true → k ≡ m * 2 → Sized n on (t + 1) k
+pub sized-in : (n on t m k : ℕ) → Doubled n on t m → t < n → bit on t ≡ true → k ≡ m * 2 → Doubled n on (t + 1) k
 sized-in n on t m k z h e q = record {
   small = rw (q, add-one t) (omega (arith, z .small));
   sized = rw q (mul-assoc m 2 (2 ^ length (later n on (t + 1))) ∙ ap (λ (x : ℕ). m * x) (sym (rw (later-in n on t h e) (pow-succ' 2 _))) ∙ z .sized);
 }
 
-pub sized-out : (n on t m k : ℕ) → Sized n on t m → t < n → bit on t ≡ false → k ≡ m → Sized n on (t + 1) k
+pub sized-out : (n on t m k : ℕ) → Doubled n on t m → t < n → bit on t ≡ false → k ≡ m → Doubled n on (t + 1) k
 sized-out n on t m k z h e q = record {
   small = rw (q, add-one t) (omega (arith, z .small));
   sized = rw (q, sym (later-out n on t h e)) (z .sized);
 }
 
-pub sized-end : (n on t m : ℕ) → Sized n on t m → t ≡ n → m ≡ 2 ^ length (chosen n on)
+pub sized-end : (n on t m : ℕ) → Doubled n on t m → t ≡ n → m ≡ 2 ^ length (chosen n on)
 sized-end n on t m z e = sym (mul-one m) ∙ ap (λ (l : List ℕ). m * 2 ^ length l) (sym (ap (later n on) e ∙ later-none n on)) ∙ z .sized
 
 -- what is still to be put in from condition t on, where `left` has the bits not yet given

@@ -10,7 +10,7 @@ use lib.Bits.{bitAnd, bitXor, and-le-l, and-le-r, or-lt}
 use borrow.Author.Tests.{eqb-true, eqb-false, ne-eqb, not-true}
 use Rattle.words.specs.Lists.{split, same-test}
 use Rattle.settings.specs.Settings.{bit, unlike}
-use Rattle.settings.specs.Sets.{has, empty, collect, whole, union, given, without, Exclude, excludes, flipBit, RestsOn, restsOn, movers}
+use Rattle.settings.specs.Sets.{has, empty, collect, whole, union, given, without, Disjoint, excludes, flipBit, MovedBy, restsOn, movers}
 use Rattle.settings.specs.BitLaws.{bit-and, bit-or, bit-xor, bit-none, bit-shift, some-bit, collect-below, collect-has}
 use Rattle.settings.specs.FlipLaws.{flip-below, flip-flip, flip-add, bit-flip}
 use Rattle.settings.specs.ListLaws.{anyBelow-some, anyBelow-has}
@@ -89,14 +89,14 @@ unlike-sym false true = refl
 unlike-sym false false = refl
 
 -- the test of exclusion says whether the two sets of N settings exclude each other
-pub excludes-right : (N s t : ℕ) → s < 2 ^ N → (excludes s t ≡ true) ↔ Exclude N s t
+pub excludes-right : (N s t : ℕ) → s < 2 ^ N → (excludes s t ≡ true) ↔ Disjoint N s t
 excludes-right N s t h = (to, back)
   where
-    to : excludes s t ≡ true → Exclude N s t
+    to : excludes s t ≡ true → Disjoint N s t
     to e j l p q =
         false≢true (sym (bit-none j) ∙ ap (λ (x : ℕ). bit x j) (sym (eqb-true (bitAnd s t) 0 e)) ∙ bit-and s t j ∙ ap₂ _&&_ p q)
 
-    back : Exclude N s t → excludes s t ≡ true
+    back : Disjoint N s t → excludes s t ≡ true
     back f =
         split (excludes s t) (λ e. e)
         (λ e.
@@ -105,7 +105,7 @@ excludes-right N s t h = (to, back)
         absurd (f (r .0) (r .1) (b .0) (b .1)))
 
 -- the test "rests on" says whether the set rests on the condition
-pub restsOn-right : (n s t : ℕ) → (restsOn n s t ≡ true) ↔ RestsOn n s t
+pub restsOn-right : (n s t : ℕ) → (restsOn n s t ≡ true) ↔ MovedBy n s t
 unfolding restsOn
 restsOn-right n s t = (
   λ e. let r = anyBelow-some (λ j. unlike (has s j) (has s (flipBit t j))) (2 ^ n) e in (r .0, r .1, unlike-means _ _ (r .2)),

@@ -44,8 +44,8 @@ abbrev pub without : ℕ → ℕ → ℕ → ℕ
 without N t s = bitAnd s (lacking N t)
 
 -- two sets exclude each other: no setting, of N, is in both
-abbrev pub Exclude : ℕ → ℕ → ℕ → Type 0
-Exclude N s t = (j : ℕ) → j < N → has s j ≡ true → has t j ≡ true → ⊥
+abbrev pub Disjoint : ℕ → ℕ → ℕ → Type 0
+Disjoint N s t = (j : ℕ) → j < N → has s j ≡ true → has t j ≡ true → ⊥
 
 -- the same as a test
 abbrev pub excludes : ℕ → ℕ → Bool
@@ -56,8 +56,8 @@ abbrev pub flipBit : ℕ → ℕ → ℕ
 flipBit t j = bitXor j (2 ^ t)
 
 -- a set of settings of n conditions rests on condition t: changing bit t alone moves some setting in or out
-abbrev pub RestsOn : ℕ → ℕ → ℕ → Type 0
-RestsOn n s t = (j : ℕ) × (j < 2 ^ n) × (has s j ≡ has s (flipBit t j) → ⊥)
+abbrev pub MovedBy : ℕ → ℕ → ℕ → Type 0
+MovedBy n s t = (j : ℕ) × (j < 2 ^ n) × (has s j ≡ has s (flipBit t j) → ⊥)
 
 -- the same as a test
 unfoldable pub restsOn : ℕ → ℕ → ℕ → Bool

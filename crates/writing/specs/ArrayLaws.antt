@@ -1,4 +1,4 @@
--- What the arrays of an accepted plan hold: the rule's gates in rows, each gate's group, where it stands in the plan, the order of writing. Assumes nothing.
+-- What the arrays of an accepted plan hold: the rule's gates in quads, each gate's group, where it stands in the plan, the order of writing. Assumes nothing.
 use Prim.Native.Nat.{ℕ, _*_, _≤_, _<_}
 use mathlib.Core.Path.{_≡_, sym, ap, _∙_}
 use mathlib.Core.List.{List, map}
@@ -10,15 +10,15 @@ use Rattle.words.specs.Lists.{_∈_, same?, upto}
 use Rattle.gates.specs.Gates.{Gate, gateAt, arguments}
 use Rattle.gates.specs.Limits.{mostGates}
 use Rattle.gates.specs.PlainCircuit.{gatesOf, gateCount}
-use Rattle.gates.specs.Rows.{rowsOf}
+use Rattle.gates.specs.Quads.{quadsOf}
 use Rattle.needed.specs.Held.{Shaped}
-use Rattle.needed.specs.HeldRows.{rows-length}
+use Rattle.needed.specs.HeldQuads.{quads-length}
 use Rattle.needed.specs.ShapedLaws.{rule-shaped}
 use Rattle.needed.specs.Pass.{rulePreconditions}
 use Rattle.circuit.specs.Whole.{ruleAnswer}
-use Rattle.circuit.specs.Shown.{padded, shownRows}
-use Rattle.circuit.specs.ShownLaws.{accepted-shows}
-use Rattle.circuit.specs.ShownParts.{padded-at}
+use Rattle.circuit.specs.Built.{padded, builtQuads}
+use Rattle.circuit.specs.BuiltLaws.{accepted-builds}
+use Rattle.circuit.specs.BuiltParts.{padded-at}
 use Rattle.plan.specs.PlanFile.{groupsIn}
 use Rattle.plan.specs.Groups.{groupOf, members}
 use Rattle.plan.specs.Rows.{planAnswer}
@@ -44,11 +44,11 @@ module _ (s p : List ℕ) (h : planAnswer s p .number ≡ 0) where
   pub gates-shaped : Shaped (gatesOf s)
   gates-shaped = let (b, n, read) = planned-read s p h in rule-shaped s b n read
 
-  -- the rows begin with the rule's
-  pub rows-held : take (4 * length (gatesOf s)) (shownRows s) ≡ rowsOf s (gatesOf s)
-  rows-held =
-      ap (λ (l : List ℕ). take (4 * length (gatesOf s)) (padded (4 * mostGates) l)) (accepted-shows s rule-taken (rowsOf s (gatesOf s)))
-      ∙ take-at (rowsOf s (gatesOf s)) _ (4 * length (gatesOf s)) (rows-length s (gatesOf s))
+  -- the quads begin with the rule's
+  pub quads-held : take (4 * length (gatesOf s)) (builtQuads s) ≡ quadsOf s (gatesOf s)
+  quads-held =
+      ap (λ (l : List ℕ). take (4 * length (gatesOf s)) (padded (4 * mostGates) l)) (accepted-builds s rule-taken (quadsOf s (gatesOf s)))
+      ∙ take-at (quadsOf s (gatesOf s)) _ (4 * length (gatesOf s)) (quads-length s (gatesOf s))
 
   -- each gate's group, and its place in the plan
   pub group-is : (a : ℕ) → a < gateCount s → getD (checkedGroups s p) a 0 ≡ groupOf (groupsIn p) a
@@ -68,14 +68,14 @@ module _ (s p : List ℕ) (h : planAnswer s p .number ≡ 0) where
 
   -- the members of a group, as the arrays give them
   pub members-are : (q : ℕ) → q < gateCount s → groupOf (groupsIn p) q ≡ q
-      → membersAt p (shownRows s) (gateCount s) (rulePreconditions s) (checkedGroups s p) (checkedPlaces s p) q ≡ members (gateCount s) (groupOf (groupsIn p)) q
+      → membersAt p (builtQuads s) (gateCount s) (rulePreconditions s) (checkedGroups s p) (checkedPlaces s p) q ≡ members (gateCount s) (groupOf (groupsIn p)) q
   members-are q l e = go (same? (placeOf p q) 0)
     where
       a : Acceptable s p
       a = plan-taken
 
       go : (placeOf p q ≡ 0) ⊎ (placeOf p q ≡ 0 → ⊥)
-          → membersAt p (shownRows s) (gateCount s) (rulePreconditions s) (checkedGroups s p) (checkedPlaces s p) q ≡ members (gateCount s) (groupOf (groupsIn p)) q
+          → membersAt p (builtQuads s) (gateCount s) (rulePreconditions s) (checkedGroups s p) (checkedPlaces s p) q ≡ members (gateCount s) (groupOf (groupsIn p)) q
       go (inl z) =
           rw (place-is q l, eq-eqb (placeOf p q) 0 z)
           (sym (place-alone (gateCount s) p (a .laid-out .joins) (a .laid-out .rising) (a .once) q l z))

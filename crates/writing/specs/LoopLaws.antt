@@ -10,7 +10,7 @@ use Rattle.gates.specs.Limits.{mostGates}
 use Rattle.fused.specs.Records.{Record, recordsCost}
 use Rattle.fused.specs.CircuitFile.{recordsBytes}
 use Rattle.fused.specs.SizeLaws.{bytes-append}
-use Rattle.emitting.specs.Emitted.{wireIn, emitIn, Sized}
+use Rattle.emitting.specs.Emitted.{wireIn, emitIn, Measured}
 use Rattle.emitting.specs.FillLaws.{pieces, Filling, filling-start, filling-room, filling-fits, filling-length, filling-step, filling-end}
 use Rattle.emitting.specs.LoopLaws.{filling-same}
 use Rattle.writing.specs.Staged.{Stage, turnRecords, stage, Turnable}
@@ -20,43 +20,43 @@ use Rattle.writing.specs.TurnLaws.{stage-more, turn-is, turn-measurable,
 -- Measuring.
 
 -- i groups are measured
-pub record Measuring (p rows needs joined ord : List ℕ) (groups wires bytes cost i : ℕ) : Type 0 where
+pub record Measuring (p quads needs places ord : List ℕ) (groups wires bytes cost i : ℕ) : Type 0 where
   pub below : i ≤ groups
-  pub measures : Measures p rows needs joined ord groups
-  pub summed : (count : ℕ) (group conds : List ℕ) → Turnable p rows count needs group joined conds ord groups → Sum p rows count needs group joined ord i wires bytes cost
+  pub measures : Measures p quads needs places ord groups
+  pub summed : (count : ℕ) (group conds : List ℕ) → Turnable p quads count needs group places conds ord groups → Sum p quads count needs group places ord i wires bytes cost
 
-module _ (p rows needs joined ord : List ℕ) (groups : ℕ) where
-  none : (count : ℕ) (group : List ℕ) → Sum p rows count needs group joined ord 0 0 0 0
+module _ (p quads needs places ord : List ℕ) (groups : ℕ) where
+  none : (count : ℕ) (group : List ℕ) → Sum p quads count needs group places ord 0 0 0 0
   unfolding stage recordsCost
   none count group = record { wired = refl; long = refl; costs = refl }
 
-  pub measuring-start : Measures p rows needs joined ord groups → Measuring p rows needs joined ord groups 0 0 0 0
+  pub measuring-start : Measures p quads needs places ord groups → Measuring p quads needs places ord groups 0 0 0 0
   measuring-start m = record { below = omega arith; measures = m; summed = λ count group conds t. none count group }
 
-  module _ (wires bytes cost i g : ℕ) (l : Measuring p rows needs joined ord groups wires bytes cost i) (h : i < groups) (eg : g ≡ getD ord i 0) where
+  module _ (wires bytes cost i g : ℕ) (l : Measuring p quads needs places ord groups wires bytes cost i) (h : i < groups) (eg : g ≡ getD ord i 0) where
     pub measuring-inside : g < mostGates
     measuring-inside = rw eg (l .measures .turnable .inside i h)
 
-    module _ (at : ℕ) (ea : at ≡ getD joined g 0) where
-      pub measuring-group : Measurable rows p at (getD ord i 0)
-      measuring-group = let m = l .measures in turn-measurable p rows (m .count) needs (m .group) joined ord (m .conds) groups (m .turnable) i g at h eg ea
+    module _ (at : ℕ) (ea : at ≡ getD places g 0) where
+      pub measuring-group : Measurable quads p at (getD ord i 0)
+      measuring-group = let m = l .measures in turn-measurable p quads (m .count) needs (m .group) places ord (m .conds) groups (m .turnable) i g at h eg ea
 
-      module _ (a b c : ℕ) (z : Sized rows needs (membersOf p at (getD ord i 0)) a b c) where
+      module _ (a b c : ℕ) (z : Measured quads needs (membersOf p at (getD ord i 0)) a b c) where
         pub measuring-small : (wires + a ≤ 640) × (bytes + b ≤ 8832) × (cost + c ≤ 10240)
         measuring-small =
             let m = l .measures in
-            turn-small p rows (m .count) needs (m .group) joined ord (m .conds) groups (m .turnable) i g at h eg ea wires bytes cost a b c (l .summed (m .count) (m .group) (m .conds) (m .turnable)) z
+            turn-small p quads (m .count) needs (m .group) places ord (m .conds) groups (m .turnable) i g at h eg ea wires bytes cost a b c (l .summed (m .count) (m .group) (m .conds) (m .turnable)) z
 
-        pub measuring-step : Measuring p rows needs joined ord groups (wires + a) (bytes + b) (cost + c) (i + 1)
+        pub measuring-step : Measuring p quads needs places ord groups (wires + a) (bytes + b) (cost + c) (i + 1)
         measuring-step =
             record {
               below = omega (arith, h);
               measures = l .measures;
-              summed = λ count group conds t. turn-sum p rows count needs group joined ord conds groups t i g at h eg ea wires bytes cost a b c (l .summed count group conds t) z;
+              summed = λ count group conds t. turn-sum p quads count needs group places ord conds groups t i g at h eg ea wires bytes cost a b c (l .summed count group conds t) z;
             }
 
-  pub measuring-end : (wires bytes cost i : ℕ) → Measuring p rows needs joined ord groups wires bytes cost i → groups ≤ i
-      → (count : ℕ) (group conds : List ℕ) → Turnable p rows count needs group joined conds ord groups → Sum p rows count needs group joined ord groups wires bytes cost
+  pub measuring-end : (wires bytes cost i : ℕ) → Measuring p quads needs places ord groups wires bytes cost i → groups ≤ i
+      → (count : ℕ) (group conds : List ℕ) → Turnable p quads count needs group places conds ord groups → Sum p quads count needs group places ord groups wires bytes cost
   measuring-end wires bytes cost i l h count group conds t =
       let e : groups ≡ i = omega (arith, h, l .below) in
       let s = l .summed count group conds t in
@@ -64,60 +64,60 @@ module _ (p rows needs joined ord : List ℕ) (groups : ℕ) where
 
 -- Writing: piece i is what turn i writes.
 
-module _ (p rows : List ℕ) (count : ℕ) (needs group joined ord : List ℕ) where
+module _ (p quads : List ℕ) (count : ℕ) (needs group places ord : List ℕ) where
   abbrev pub turnPiece : ℕ → List ℕ
-  turnPiece i = recordsBytes (turnRecords p rows count needs group joined (stage p rows count needs group joined ord i) (getD ord i 0))
+  turnPiece i = recordsBytes (turnRecords p quads count needs group places (stage p quads count needs group places ord i) (getD ord i 0))
 
-  pub turn-pieces : (i : ℕ) → pieces turnPiece i ≡ recordsBytes (stage p rows count needs group joined ord i .records)
+  pub turn-pieces : (i : ℕ) → pieces turnPiece i ≡ recordsBytes (stage p quads count needs group places ord i .records)
   unfolding pieces stage
   turn-pieces zero = refl
   turn-pieces (suc i) =
       ap (λ (b : List ℕ). b ++ turnPiece i) (turn-pieces i)
-      ∙ sym (bytes-append (stage p rows count needs group joined ord i .records) (turnRecords p rows count needs group joined (stage p rows count needs group joined ord i) (getD ord i 0)))
+      ∙ sym (bytes-append (stage p quads count needs group places ord i .records) (turnRecords p quads count needs group places (stage p quads count needs group places ord i) (getD ord i 0)))
 
   -- i groups are written: n wires, and the wire of each
-  pub record Putting (groups : ℕ) (out out₀ wires : List ℕ) (at n i : ℕ) : Type 0 where
+  pub record PuttingGroups (groups : ℕ) (out out₀ wires : List ℕ) (at n i : ℕ) : Type 0 where
     pub filling : Filling turnPiece out out₀ groups at i
-    pub counted : n ≡ length (stage p rows count needs group joined ord i .records)
-    pub wired : wires ≡ stage p rows count needs group joined ord i .wires
+    pub counted : n ≡ length (stage p quads count needs group places ord i .records)
+    pub wired : wires ≡ stage p quads count needs group places ord i .wires
 
-  pub putting-start : (groups : ℕ) (out wires : List ℕ) → length (recordsBytes (stage p rows count needs group joined ord groups .records)) ≤ length out → wires ≡ replicate mostGates 0
-      → Putting groups out out wires 0 0 0
+  pub putting-start : (groups : ℕ) (out wires : List ℕ) → length (recordsBytes (stage p quads count needs group places ord groups .records)) ≤ length out → wires ≡ replicate mostGates 0
+      → PuttingGroups groups out out wires 0 0 0
   unfolding stage
   putting-start groups out wires h e = record { filling = filling-start turnPiece out groups (rw (turn-pieces groups) h); counted = refl; wired = e }
 
-  module _ (groups : ℕ) (out out₀ wires : List ℕ) (at n i : ℕ) (l : Putting groups out out₀ wires at n i) where
-    module _ (h : i < groups) (g place : ℕ) (eg : g ≡ getD ord i 0) (ea : place ≡ getD joined g 0) where
-      piece-is : recordsBytes (emitIn rows count needs (wireIn group wires) n (membersOf p place (getD ord i 0))) ≡ turnPiece i
-      piece-is = ap (λ (R : List Record). recordsBytes R) (turn-is p rows count needs group joined ord i g place n wires eg ea (l .wired) (l .counted))
+  module _ (groups : ℕ) (out out₀ wires : List ℕ) (at n i : ℕ) (l : PuttingGroups groups out out₀ wires at n i) where
+    module _ (h : i < groups) (g place : ℕ) (eg : g ≡ getD ord i 0) (ea : place ≡ getD places g 0) where
+      piece-is : recordsBytes (emitIn quads count needs (wireIn group wires) n (membersOf p place (getD ord i 0))) ≡ turnPiece i
+      piece-is = ap (λ (R : List Record). recordsBytes R) (turn-is p quads count needs group places ord i g place n wires eg ea (l .wired) (l .counted))
 
-      pub putting-fits : (at + length (recordsBytes (emitIn rows count needs (wireIn group wires) n (membersOf p place (getD ord i 0)))) ≤ length out) × (length out ≡ length out₀)
+      pub putting-fits : (at + length (recordsBytes (emitIn quads count needs (wireIn group wires) n (membersOf p place (getD ord i 0)))) ≤ length out) × (length out ≡ length out₀)
       putting-fits = (rw piece-is (filling-fits turnPiece out out₀ groups at i (l .filling) h), filling-length turnPiece out out₀ groups at i (l .filling) h)
 
-      pub putting-room : length (recordsBytes (emitIn rows count needs (wireIn group wires) n (membersOf p place (getD ord i 0)))) ≤ length (take (length out - at) (drop at out))
+      pub putting-room : length (recordsBytes (emitIn quads count needs (wireIn group wires) n (membersOf p place (getD ord i 0)))) ≤ length (take (length out - at) (drop at out))
       putting-room = rw piece-is (filling-room turnPiece out out₀ groups at i (l .filling) h)
 
-      pub putting-step : (conds : List ℕ) → Turnable p rows count needs group joined conds ord groups → (k u : ℕ) (ys : List ℕ)
-          → k ≡ length (recordsBytes (emitIn rows count needs (wireIn group wires) n (membersOf p place (getD ord i 0))))
-          → ys ≡ over (recordsBytes (emitIn rows count needs (wireIn group wires) n (membersOf p place (getD ord i 0)))) (take (length out - at) (drop at out))
-          → u ≡ wiresOf p place → Putting groups (putMid at (length out - at) out ys) out₀ (set wires g (n + u - 1)) (at + k) (n + u) (i + 1)
+      pub putting-step : (conds : List ℕ) → Turnable p quads count needs group places conds ord groups → (k u : ℕ) (ys : List ℕ)
+          → k ≡ length (recordsBytes (emitIn quads count needs (wireIn group wires) n (membersOf p place (getD ord i 0))))
+          → ys ≡ over (recordsBytes (emitIn quads count needs (wireIn group wires) n (membersOf p place (getD ord i 0)))) (take (length out - at) (drop at out))
+          → u ≡ wiresOf p place → PuttingGroups groups (putMid at (length out - at) out ys) out₀ (set wires g (n + u - 1)) (at + k) (n + u) (i + 1)
       putting-step conds t k u ys q r z =
-          let S : Stage = stage p rows count needs group joined ord i in
-          let T : List Record = turnRecords p rows count needs group joined S (getD ord i 0) in
+          let S : Stage = stage p quads count needs group places ord i in
+          let T : List Record = turnRecords p quads count needs group places S (getD ord i 0) in
           let E : length T ≡ u =
-          sym (ap (λ (R : List Record). length R) (turn-is p rows count needs group joined ord i g place n wires eg ea (l .wired) (l .counted)))
-          ∙ turn-wires p rows count needs group joined ord conds groups t i g place h eg ea (wireIn group wires) n ∙ sym z in
+          sym (ap (λ (R : List Record). length R) (turn-is p quads count needs group places ord i g place n wires eg ea (l .wired) (l .counted)))
+          ∙ turn-wires p quads count needs group places ord conds groups t i g place h eg ea (wireIn group wires) n ∙ sym z in
           record {
             filling = filling-step turnPiece out out₀ groups at i (l .filling) h k ys (rw piece-is at q) (rw piece-is at r);
-            counted = rw (turn-length p rows count needs group joined ord conds groups t i g place h eg ea, z) (ap (λ (m : ℕ). m + wiresOf p place) (l .counted));
-            wired = rw (stage-more p rows count needs group joined ord i, l .wired, eg, l .counted, E);
+            counted = rw (turn-length p quads count needs group places ord conds groups t i g place h eg ea, z) (ap (λ (m : ℕ). m + wiresOf p place) (l .counted));
+            wired = rw (stage-more p quads count needs group places ord i, l .wired, eg, l .counted, E);
           }
 
     pub putting-same : groups ≤ i → length out ≡ length out₀
     putting-same h = filling-same turnPiece out out₀ groups at i (l .filling) h
 
-    pub putting-end : groups ≤ i → (at ≡ length (recordsBytes (stage p rows count needs group joined ord groups .records)))
-        × ((out ≡ over (recordsBytes (stage p rows count needs group joined ord groups .records)) out₀) × (wires ≡ stage p rows count needs group joined ord groups .wires))
+    pub putting-end : groups ≤ i → (at ≡ length (recordsBytes (stage p quads count needs group places ord groups .records)))
+        × ((out ≡ over (recordsBytes (stage p quads count needs group places ord groups .records)) out₀) × (wires ≡ stage p quads count needs group places ord groups .wires))
     putting-end h =
         let e : groups ≡ i = omega (arith, h, l .filling .below) in
         let f = rw (turn-pieces groups) at (filling-end turnPiece out out₀ groups at i (l .filling) h) in

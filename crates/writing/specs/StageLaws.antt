@@ -13,8 +13,8 @@ use Rattle.gates.specs.Limits.{mostGates}
 use Rattle.gates.specs.EarlierLaws.{Inside}
 use Rattle.gates.specs.PlainCircuit.{gatesOf, gateCount}
 use Rattle.needed.specs.Pass.{rulePreconditions}
-use Rattle.circuit.specs.Shown.{shownRows, shownNeeds}
-use Rattle.circuit.specs.ShownParts.{shown-room, shown-earlier, shown-need}
+use Rattle.circuit.specs.Built.{builtQuads, builtNeeds}
+use Rattle.circuit.specs.BuiltParts.{built-room, built-earlier, built-need}
 use Rattle.plan.specs.PlanFile.{groupsIn}
 use Rattle.plan.specs.Groups.{groupOf, members, restsOf, readsOf}
 use Rattle.plan.specs.GroupLaws.{of-member}
@@ -29,7 +29,7 @@ use Rattle.fused.specs.WrittenLaws.{waits-argument, waits-rests, written-none, 
 use Rattle.emitting.specs.Emitted.{wireIn, emitIn}
 use Rattle.emitting.specs.EmitLaws.{emit-in, emit-same}
 use Rattle.writing.specs.Staged.{Stage, turnRecords, stage}
-use Rattle.writing.specs.ArrayLaws.{rule-taken, gates-shaped, rows-held, group-is, turn-is, members-are, members-two}
+use Rattle.writing.specs.ArrayLaws.{rule-taken, gates-shaped, quads-held, group-is, turn-is, members-are, members-two}
 use Rattle.writing.specs.DoneLaws.{doneAt, done-next, next-group, next-waits, next-once}
 
 -- preconditions that two lists give alike emit the same records
@@ -58,7 +58,7 @@ module _ (s p : List ℕ) (h : planAnswer s p .number ≡ 0) where
   table = checkedGroups s p
 
   abbrev turned : ℕ → Stage
-  turned i = stage p (shownRows s) (gateCount s) (shownNeeds s) (checkedGroups s p) (checkedPlaces s p) (checkedOrder s p) i
+  turned i = stage p (builtQuads s) (gateCount s) (builtNeeds s) (checkedGroups s p) (checkedPlaces s p) (checkedOrder s p) i
 
   abbrev after : ℕ → Written
   after i = written s C sets group (doneAt s p i)
@@ -78,14 +78,14 @@ module _ (s p : List ℕ) (h : planAnswer s p .number ≡ 0) where
 
   -- the records of turn i are the group's
   turn-same : (i : ℕ) → i < length (writingOrder s p) → Same i
-      → turnRecords p (shownRows s) (gateCount s) (shownNeeds s) table (checkedPlaces s p) (turned i) (getD (checkedOrder s p) i 0)
+      → turnRecords p (builtQuads s) (gateCount s) (builtNeeds s) table (checkedPlaces s p) (turned i) (getD (checkedOrder s p) i 0)
       ≡ groupRecords s C sets group (after i) (getD (writingOrder s p) i 0)
   turn-same i l m =
-      ap (turnRecords p (shownRows s) (gateCount s) (shownNeeds s) table (checkedPlaces s p) (turned i)) (turn-is s p h i)
-      ∙ ap (emitIn (shownRows s) (gateCount s) (shownNeeds s) (wireIn table (turned i .wires)) (length (turned i .records))) (members-are s p h q (g .0) (g .1))
-      ∙ ap (λ (k : ℕ). emitIn (shownRows s) (gateCount s) (shownNeeds s) (wireIn table (turned i .wires)) k ms) (ap length (m .records))
-      ∙ emit-in s (shownRows s) C (gates-shaped s p h) (rows-held s p h) (shownNeeds s) (wireIn table (turned i .wires)) (length (after i .records)) ms (members-below q)
-      ∙ emit-alike s C (shownNeeds s) sets (shown-need s (rule-taken s p h)) (wireIn table (turned i .wires)) (length (after i .records)) ms
+      ap (turnRecords p (builtQuads s) (gateCount s) (builtNeeds s) table (checkedPlaces s p) (turned i)) (turn-is s p h i)
+      ∙ ap (emitIn (builtQuads s) (gateCount s) (builtNeeds s) (wireIn table (turned i .wires)) (length (turned i .records))) (members-are s p h q (g .0) (g .1))
+      ∙ ap (λ (k : ℕ). emitIn (builtQuads s) (gateCount s) (builtNeeds s) (wireIn table (turned i .wires)) k ms) (ap length (m .records))
+      ∙ emit-in s (builtQuads s) C (gates-shaped s p h) (quads-held s p h) (builtNeeds s) (wireIn table (turned i .wires)) (length (after i .records)) ms (members-below q)
+      ∙ emit-alike s C (builtNeeds s) sets (built-need s (rule-taken s p h)) (wireIn table (turned i .wires)) (length (after i .records)) ms
       ∙ emit-same s C sets (wireIn table (turned i .wires)) (λ a. after i .wire (group a)) (length (after i .records)) ms arguing resting (members-two s p h q)
     where
       q : ℕ
@@ -99,12 +99,12 @@ module _ (s p : List ℕ) (h : planAnswer s p .number ≡ 0) where
 
       arguing : (k a : ℕ) → k ∈ ms → a ∈ arguments (gateAt C k) → wireIn table (turned i .wires) a ≡ after i .wire (group a)
       arguing k a j b =
-          wire-same i m a (omega (arith, shown-earlier s (rule-taken s p h) k a b, members-below q k j)) (next-waits s p i l (group a) (waits-argument C sets group q k a j b))
+          wire-same i m a (omega (arith, built-earlier s (rule-taken s p h) k a b, members-below q k j)) (next-waits s p i l (group a) (waits-argument C sets group q k a j b))
 
       resting : 2 ≤ length ms → (k a : ℕ) → k ∈ ms → a ∈ restsOf C sets k → wireIn table (turned i .wires) a ≡ after i .wire (group a)
       resting many k a j b =
           wire-same i m a
-          (reads-inside C (shown-earlier s (rule-taken s p h)) sets ms k a (members-below q k j) (read many k a b))
+          (reads-inside C (built-earlier s (rule-taken s p h)) sets ms k a (members-below q k j) (read many k a b))
           (next-waits s p i l (group a) (waits-rests C sets group q k a j many b))
         where
           read : 2 ≤ length ms → (k a : ℕ) → a ∈ restsOf C sets k → a ∈ readsOf C sets ms k
@@ -128,7 +128,7 @@ module _ (s p : List ℕ) (h : planAnswer s p .number ≡ 0) where
       q = getD (writingOrder s p) i 0
 
       new : List Record
-      new = turnRecords p (shownRows s) (gateCount s) (shownNeeds s) table (checkedPlaces s p) (turned i) (getD (checkedOrder s p) i 0)
+      new = turnRecords p (builtQuads s) (gateCount s) (builtNeeds s) table (checkedPlaces s p) (turned i) (getD (checkedOrder s p) i 0)
 
       grown : turned i .records ++ new ≡ written s C sets group (q ∷ doneAt s p i) .records
       grown = ap₂ (λ (a b : List Record). a ++ b) (m .records) (turn-same i l m) ∙ sym (written-more s C sets group q (doneAt s p i))
@@ -138,7 +138,7 @@ module _ (s p : List ℕ) (h : planAnswer s p .number ≡ 0) where
           ap (λ (k : ℕ). k - 1) (sym (length-append (turned i .records) new) ∙ ap length grown) ∙ sym (wire-last s C sets group q (doneAt s p i))
 
       room : q < length (turned i .wires)
-      room = omega (arith, next-group s p i l .0, shown-room s (rule-taken s p h), m .size)
+      room = omega (arith, next-group s p i l .0, built-room s (rule-taken s p h), m .size)
 
       stored : (x : ℕ) → getD (set (turned i .wires) q (length (turned i .records) + length new - 1)) x 0
           ≡ getD (set (turned i .wires) (getD (checkedOrder s p) i 0) (length (turned i .records) + length new - 1)) x 0

@@ -9,22 +9,22 @@ use Rattle.gates.specs.Limits.{mostGates}
 use Rattle.plan.specs.PlanFile.{groupAt}
 use Rattle.fused.specs.Records.{Record, recordsCost}
 use Rattle.fused.specs.CircuitFile.{recordsBytes}
-use Rattle.emitting.specs.Emitted.{wireIn, emitIn, Writable, Joining}
+use Rattle.emitting.specs.Emitted.{wireIn, emitIn, Writable, JoinWritable}
 
 -- after some turns: the records written, and the wire of each group written, at the place of its name
 pub record Stage : Type 0 where
   pub records : List Record
   pub wires : List ℕ
 
--- p: the plan, rows: count gates, needs: their preconditions, group: each gate's group, joined: the place in the plan of each gate's group, 0 for a group alone
-module _ (p rows : List ℕ) (count : ℕ) (needs group joined : List ℕ) where
+-- p: the plan, quads: count gates, needs: their preconditions, group: each gate's group, places: the place in the plan of each gate's group, 0 for a group alone
+module _ (p quads : List ℕ) (count : ℕ) (needs group places : List ℕ) where
   -- the members of group q: those listed at its place, itself alone where it has none
   abbrev pub membersAt : ℕ → List ℕ
-  membersAt q = cond (eqb (getD joined q 0) 0) (q ∷ []) (groupAt p (getD joined q 0))
+  membersAt q = cond (eqb (getD places q 0) 0) (q ∷ []) (groupAt p (getD places q 0))
 
   -- the records of group q, after those of a stage
   abbrev pub turnRecords : Stage → ℕ → List Record
-  turnRecords w q = emitIn rows count needs (wireIn group (w .wires)) (length (w .records)) (membersAt q)
+  turnRecords w q = emitIn quads count needs (wireIn group (w .wires)) (length (w .records)) (membersAt q)
 
   -- one group more; its wire is its last record's
   abbrev pub turn : Stage → ℕ → Stage
@@ -42,8 +42,8 @@ module _ (p rows : List ℕ) (count : ℕ) (needs group joined : List ℕ) where
   pub record Turnable (conds ord : List ℕ) (groups : ℕ) : Type 0 where
     pub few : groups ≤ mostGates
     pub inside : (i : ℕ) → i < groups → getD ord i 0 < mostGates
-    pub alone : (i : ℕ) → i < groups → getD joined (getD ord i 0) 0 ≡ 0 → Writable rows group (getD ord i 0)
-    pub joins : (i : ℕ) → i < groups → (getD joined (getD ord i 0) 0 ≡ 0 → ⊥) → Joining rows p conds group count (getD joined (getD ord i 0) 0)
+    pub alone : (i : ℕ) → i < groups → getD places (getD ord i 0) 0 ≡ 0 → Writable quads group (getD ord i 0)
+    pub joins : (i : ℕ) → i < groups → (getD places (getD ord i 0) 0 ≡ 0 → ⊥) → JoinWritable quads p conds group count (getD places (getD ord i 0) 0)
     pub below : count ≤ mostGates
     pub member : (i : ℕ) → i < groups → getD ord i 0 < count
     pub wired : (i : ℕ) → i ≤ groups → length (stage ord i .records) ≤ 640

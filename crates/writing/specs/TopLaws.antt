@@ -19,9 +19,9 @@ use Rattle.gates.specs.EarlierLaws.{Inside}
 use Rattle.gates.specs.FigureLaws.{map-same}
 use Rattle.gates.specs.PlainCircuit.{gatesOf, outputsOf, gateCount}
 use Rattle.needed.specs.Pass.{rulePreconditions}
-use Rattle.circuit.specs.Shown.{padded, shownRows, shownNeeds, shownOutputs, shownConditions}
-use Rattle.circuit.specs.ShownLaws.{accepted-shows}
-use Rattle.circuit.specs.ShownParts.{shown-room, shown-earlier, shown-condition, shown-outputs-length, shown-outputs-inside, shown-variables}
+use Rattle.circuit.specs.Built.{padded, builtQuads, builtNeeds, builtOutputs, builtConditions}
+use Rattle.circuit.specs.BuiltLaws.{accepted-builds}
+use Rattle.circuit.specs.BuiltParts.{built-room, built-earlier, built-condition, built-outputs-length, built-outputs-inside, built-variables}
 use Rattle.plan.specs.PlanFile.{groupsIn, groupAt, after}
 use Rattle.plan.specs.Groups.{groupOf, members}
 use Rattle.plan.specs.Order.{order}
@@ -36,11 +36,11 @@ use Rattle.fused.specs.FusedCircuit.{written, fused, recordsOf, wireOf, outputW
 use Rattle.fused.specs.FitStarts.{StartGate, rule-starting}
 use Rattle.fused.specs.PlannedLaws.{planned-read, planned-named, planned-group}
 use Rattle.fused.specs.SizeBounds.{plan-written}
-use Rattle.emitting.specs.Emitted.{wireIn, Writable, Joining}
+use Rattle.emitting.specs.Emitted.{wireIn, Writable, JoinWritable}
 use Rattle.emitting.specs.HeldLaws.{SmallGate, writable-held, joining-held}
 use Rattle.emitting.specs.MemberLaws.{length-group}
 use Rattle.writing.specs.Staged.{stage, Turnable}
-use Rattle.writing.specs.ArrayLaws.{rule-taken, plan-taken, gates-shaped, rows-held, group-is, place-is, turn-is, members-two}
+use Rattle.writing.specs.ArrayLaws.{rule-taken, plan-taken, gates-shaped, quads-held, group-is, place-is, turn-is, members-two}
 use Rattle.writing.specs.DoneLaws.{doneAt, done-once, done-all, next-group}
 use Rattle.writing.specs.StageLaws.{stage-same}
 
@@ -58,18 +58,18 @@ module _ (s p : List ℕ) (h : planAnswer s p .number ≡ 0) where
   pub table-named : (a : ℕ) → a < length (gatesOf s) → getD (checkedGroups s p) a 0 < mostGates
   table-named a l =
       let r : (group a ≤ a) × (group (group a) ≡ group a) = planned-named s p h a in
-      rw (group-is s p h a l) (omega (arith, r .0, shown-room s (rule-taken s p h)))
+      rw (group-is s p h a l) (omega (arith, r .0, built-room s (rule-taken s p h)))
 
   -- the rule is bytes
   module _ (bytes : Bytes s) where
     small : (g : ℕ) → SmallGate (gateAt (gatesOf s) g)
     small g =
         let (b, n, read) = planned-read s p h in
-        small-gate (kindOfGate (kindAt s) (gatesOf s)) (variables s) (gateAt (gatesOf s) g) (plain-fits s bytes b n read g) (rule-starting s b n read g) (shown-variables s (rule-taken s p h))
+        small-gate (kindOfGate (kindAt s) (gatesOf s)) (variables s) (gateAt (gatesOf s) g) (plain-fits s bytes b n read g) (rule-starting s b n read g) (built-variables s (rule-taken s p h))
 
-    turn-alone : (q : ℕ) → q < gateCount s → Writable (shownRows s) (checkedGroups s p) q
+    turn-alone : (q : ℕ) → q < gateCount s → Writable (builtQuads s) (checkedGroups s p) q
     turn-alone q l =
-        writable-held s (shownRows s) (gatesOf s) (gates-shaped s p h) (rows-held s p h) (shown-room s (rule-taken s p h)) (shown-earlier s (rule-taken s p h)) (checkedGroups s p) table-named q l (small q)
+        writable-held s (builtQuads s) (gatesOf s) (gates-shaped s p h) (quads-held s p h) (built-room s (rule-taken s p h)) (built-earlier s (rule-taken s p h)) (checkedGroups s p) table-named q l (small q)
 
   -- a group of two or more, at its place in the plan
   module _ (q : ℕ) (l : q < gateCount s) (e : group q ≡ q) (z : placeOf p q ≡ 0 → ⊥) where
@@ -88,11 +88,11 @@ module _ (s p : List ℕ) (h : planAnswer s p .number ≡ 0) where
     unfolding groupsIn
     exists = stands-each (Exist (gateCount s)) (groupsIn p) (groupAt p (placeOf p q)) (placed-group p q (a .laid-out .ended) z .stands) (a .exist)
 
-    turn-joined : Joining (shownRows s) p (shownConditions s) (checkedGroups s p) (gateCount s) (placeOf p q)
+    turn-joined : JoinWritable (builtQuads s) p (builtConditions s) (checkedGroups s p) (gateCount s) (placeOf p q)
     turn-joined =
-        joining-held s (shownRows s) (gatesOf s) (gates-shaped s p h) (rows-held s p h) (shown-room s (rule-taken s p h)) (shown-earlier s (rule-taken s p h)) (checkedGroups s p) table-named
-        p (placeOf p q) (shownConditions s) (placed-group p q (a .laid-out .ended) z .lies) (rw (sym (length-group p (placeOf p q))) two) exists
-        (λ m i. members-two s p h q (rw listed two) m (rw listed i)) (λ t _. shown-condition s (rule-taken s p h) t)
+        joining-held s (builtQuads s) (gatesOf s) (gates-shaped s p h) (quads-held s p h) (built-room s (rule-taken s p h)) (built-earlier s (rule-taken s p h)) (checkedGroups s p) table-named
+        p (placeOf p q) (builtConditions s) (placed-group p q (a .laid-out .ended) z .lies) (rw (sym (length-group p (placeOf p q))) two) exists
+        (λ m i. members-two s p h q (rw listed two) m (rw listed i)) (λ t _. built-condition s (rule-taken s p h) t)
 
 module _ (s p : List ℕ) (h : planAnswer s p .number ≡ 0) where
   abbrev last : ℕ
@@ -104,25 +104,25 @@ module _ (s p : List ℕ) (h : planAnswer s p .number ≡ 0) where
         arith,
         length-reverse (order (gatesOf s) (rulePreconditions s) (groupOf (groupsIn p))),
         order-length (gatesOf s) (rulePreconditions s) (groupOf (groupsIn p)),
-        shown-room s (rule-taken s p h),
+        built-room s (rule-taken s p h),
       )
 
   next-below : (i : ℕ) → i < last → getD (checkedOrder s p) i 0 < gateCount s
   next-below i l = rw (turn-is s p h i) (next-group s p i l .0)
 
   pub plan-turnable : Bytes s
-      → Turnable p (shownRows s) (gateCount s) (shownNeeds s) (checkedGroups s p) (checkedPlaces s p) (shownConditions s) (checkedOrder s p) (length (writingOrder s p))
+      → Turnable p (builtQuads s) (gateCount s) (builtNeeds s) (checkedGroups s p) (checkedPlaces s p) (builtConditions s) (checkedOrder s p) (length (writingOrder s p))
   plan-turnable bytes =
       record {
         few = last-few;
-        inside = λ i l. omega (arith, next-below i l, shown-room s (rule-taken s p h));
+        inside = λ i l. omega (arith, next-below i l, built-room s (rule-taken s p h));
         alone = λ i l z. turn-alone s p h bytes (getD (checkedOrder s p) i 0) (next-below i l);
         joins = λ i l z.
             let q = getD (checkedOrder s p) i 0 in
             let e : groupOf (groupsIn p) q ≡ q = rw (turn-is s p h i) (next-group s p i l .1) in
             let at = place-is s p h q (next-below i l) in
             rw at (turn-joined s p h q (next-below i l) e (λ k. z (at ∙ k)));
-        below = shown-room s (rule-taken s p h);
+        below = built-room s (rule-taken s p h);
         member = next-below;
         wired = λ i l. rw (stage-same s p h i l .records) (plan-written s p h (doneAt s p i) (done-once s p i) .0);
         long = λ i l. rw (stage-same s p h i l .records) (plan-written s p h (doneAt s p i) (done-once s p i) .1);
@@ -130,31 +130,31 @@ module _ (s p : List ℕ) (h : planAnswer s p .number ≡ 0) where
       }
 
   -- what stands after the last turn
-  pub last-records : stage p (shownRows s) (gateCount s) (shownNeeds s) (checkedGroups s p) (checkedPlaces s p) (checkedOrder s p) (length (writingOrder s p)) .records ≡ recordsOf s p
+  pub last-records : stage p (builtQuads s) (gateCount s) (builtNeeds s) (checkedGroups s p) (checkedPlaces s p) (checkedOrder s p) (length (writingOrder s p)) .records ≡ recordsOf s p
   unfolding fused
   last-records =
       stage-same s p h last (omega arith) .records
       ∙ ap (λ (d : List ℕ). written s (gatesOf s) (rulePreconditions s) (groupOf (groupsIn p)) d .records) (done-all s p)
 
   wire-last : (a : ℕ) → a < gateCount s
-      → wireIn (checkedGroups s p) (stage p (shownRows s) (gateCount s) (shownNeeds s) (checkedGroups s p) (checkedPlaces s p) (checkedOrder s p) last .wires) a ≡ wireOf s p a
+      → wireIn (checkedGroups s p) (stage p (builtQuads s) (gateCount s) (builtNeeds s) (checkedGroups s p) (checkedPlaces s p) (checkedOrder s p) last .wires) a ≡ wireOf s p a
   unfolding fused
   wire-last a l =
       let m = stage-same s p h last (omega arith) in
       let d : groupOf (groupsIn p) a ∈ doneAt s p last = rw (done-all s p) (planned-group s p h a l) in
-      ap (λ (q : ℕ). getD (stage p (shownRows s) (gateCount s) (shownNeeds s) (checkedGroups s p) (checkedPlaces s p) (checkedOrder s p) last .wires) q 0) (group-is s p h a l)
+      ap (λ (q : ℕ). getD (stage p (builtQuads s) (gateCount s) (builtNeeds s) (checkedGroups s p) (checkedPlaces s p) (checkedOrder s p) last .wires) q 0) (group-is s p h a l)
       ∙ m .wires (groupOf (groupsIn p) a) d
       ∙ ap (λ (d : List ℕ). written s (gatesOf s) (rulePreconditions s) (groupOf (groupsIn p)) d .wire (groupOf (groupsIn p) a)) (done-all s p)
 
-  outputs-are : take (variables s) (shownOutputs s) ≡ outputsOf s
+  outputs-are : take (variables s) (builtOutputs s) ≡ outputsOf s
   outputs-are =
-      ap (λ (l : List ℕ). take (variables s) (padded mostVariables l)) (accepted-shows s (rule-taken s p h) (outputsOf s))
-      ∙ take-at (outputsOf s) _ (variables s) (shown-outputs-length s (rule-taken s p h))
+      ap (λ (l : List ℕ). take (variables s) (padded mostVariables l)) (accepted-builds s (rule-taken s p h) (outputsOf s))
+      ∙ take-at (outputsOf s) _ (variables s) (built-outputs-length s (rule-taken s p h))
 
   pub last-outputs : map (wireIn (checkedGroups s p)
-      (stage p (shownRows s) (gateCount s) (shownNeeds s) (checkedGroups s p) (checkedPlaces s p) (checkedOrder s p) (length (writingOrder s p)) .wires)) (take (variables s) (shownOutputs s))
+      (stage p (builtQuads s) (gateCount s) (builtNeeds s) (checkedGroups s p) (checkedPlaces s p) (checkedOrder s p) (length (writingOrder s p)) .wires)) (take (variables s) (builtOutputs s))
       ≡ outputWires s p
   last-outputs =
-      ap (map (wireIn (checkedGroups s p) (stage p (shownRows s) (gateCount s) (shownNeeds s) (checkedGroups s p) (checkedPlaces s p) (checkedOrder s p) last .wires))) outputs-are
-      ∙ map-same (wireIn (checkedGroups s p) (stage p (shownRows s) (gateCount s) (shownNeeds s) (checkedGroups s p) (checkedPlaces s p) (checkedOrder s p) last .wires)) (wireOf s p) (outputsOf s)
-      (λ a m. wire-last a (shown-outputs-inside s (rule-taken s p h) a m))
+      ap (map (wireIn (checkedGroups s p) (stage p (builtQuads s) (gateCount s) (builtNeeds s) (checkedGroups s p) (checkedPlaces s p) (checkedOrder s p) last .wires))) outputs-are
+      ∙ map-same (wireIn (checkedGroups s p) (stage p (builtQuads s) (gateCount s) (builtNeeds s) (checkedGroups s p) (checkedPlaces s p) (checkedOrder s p) last .wires)) (wireOf s p) (outputsOf s)
+      (λ a m. wire-last a (built-outputs-inside s (rule-taken s p h) a m))

@@ -16,9 +16,9 @@ use Rattle.gates.specs.PlainCircuit.{outputsOf, gateCount, costBefore}
 use Rattle.gates.specs.Limits.{mostGates}
 use Rattle.circuit.specs.Whole.{ruleAnswer}
 use Rattle.circuit.specs.WholeLaws.{Accepted, accepted}
-use Rattle.circuit.specs.Shown.{ifAccepted}
-use Rattle.circuit.specs.ShownLaws.{accepted-shows}
-use Rattle.circuit.specs.ShownParts.{padded-length, shown-output-inside, shown-outputs-length, shown-room, shown-variables}
+use Rattle.circuit.specs.Built.{ifAccepted}
+use Rattle.circuit.specs.BuiltLaws.{accepted-builds}
+use Rattle.circuit.specs.BuiltParts.{padded-length, built-output-inside, built-outputs-length, built-room, built-variables}
 use Rattle.plan.specs.Rows.{planAnswer}
 use Rattle.plan.specs.AcceptedLaws.{answer-accepted, plan-accepted, row-right}
 use Rattle.checking.specs.Checked.{writingOrder}
@@ -96,9 +96,9 @@ module _ (s p : List ℕ) (c : Checked) (k : Handed s p c) where
     groups-are = k .1 .1 .1 .1 .1 .1 .1 .1 ∙ ap length (accepted-lists s p taken (writingOrder s p))
 
     abbrev last : Stage
-    last = stage p (c .rows) (c .answer .gates) (c .needs) (c .group) (c .joined) (c .order) (c .groups)
+    last = stage p (c .quads) (c .answer .gates) (c .needs) (c .group) (c .places) (c .order) (c .groups)
 
-    pub arrays-turnable : Bytes s → Turnable p (c .rows) (c .answer .gates) (c .needs) (c .group) (c .joined) (c .conditions) (c .order) (c .groups)
+    pub arrays-turnable : Bytes s → Turnable p (c .quads) (c .answer .gates) (c .needs) (c .group) (c .places) (c .conditions) (c .order) (c .groups)
     arrays-turnable bytes =
         rw (k .1 .0, k .1 .1 .0, k .1 .1 .1 .1 .0, k .1 .1 .1 .1 .1 .0, k .1 .1 .1 .1 .1 .1 .0, k .1 .1 .1 .1 .1 .1 .1 .0, gates-are, groups-are) (plan-turnable s p taken bytes)
 
@@ -108,45 +108,45 @@ module _ (s p : List ℕ) (c : Checked) (k : Handed s p c) where
 
     -- what is measured
     pub measured : (wires bytes cost : ℕ)
-        → ((count : ℕ) (group conds : List ℕ) → Turnable p (c .rows) count (c .needs) group (c .joined) conds (c .order) (c .groups)
-        → Sum p (c .rows) count (c .needs) group (c .joined) (c .order) (c .groups) wires bytes cost)
-        → Bytes s → Sum p (c .rows) (c .answer .gates) (c .needs) (c .group) (c .joined) (c .order) (c .groups) wires bytes cost
+        → ((count : ℕ) (group conds : List ℕ) → Turnable p (c .quads) count (c .needs) group (c .places) conds (c .order) (c .groups)
+        → Sum p (c .quads) count (c .needs) group (c .places) (c .order) (c .groups) wires bytes cost)
+        → Bytes s → Sum p (c .quads) (c .answer .gates) (c .needs) (c .group) (c .places) (c .order) (c .groups) wires bytes cost
     measured wires bytes cost f b = f (c .answer .gates) (c .group) (c .conditions) (arrays-turnable b)
 
-    pub records-are : stage p (c .rows) (c .answer .gates) (c .needs) (c .group) (c .joined) (c .order) (c .groups) .records ≡ recordsOf s p
+    pub records-are : stage p (c .quads) (c .answer .gates) (c .needs) (c .group) (c .places) (c .order) (c .groups) .records ≡ recordsOf s p
     records-are =
         rw (k .1 .0, k .1 .1 .0, k .1 .1 .1 .1 .1 .0, k .1 .1 .1 .1 .1 .1 .0, k .1 .1 .1 .1 .1 .1 .1 .0, gates-are, groups-are) (last-records s p taken)
 
-    pub outputs-are : map (wireIn (c .group) (stage p (c .rows) (c .answer .gates) (c .needs) (c .group) (c .joined) (c .order) (c .groups) .wires)) (take (variables s) (c .outputs)) ≡ outputWires s p
+    pub outputs-are : map (wireIn (c .group) (stage p (c .quads) (c .answer .gates) (c .needs) (c .group) (c .places) (c .order) (c .groups) .wires)) (take (variables s) (c .outputs)) ≡ outputWires s p
     outputs-are =
         rw (k .1 .0, k .1 .1 .0, k .1 .1 .1 .0, k .1 .1 .1 .1 .1 .0, k .1 .1 .1 .1 .1 .1 .0, k .1 .1 .1 .1 .1 .1 .1 .0, gates-are, groups-are) (last-outputs s p taken)
 
     abbrev records : List Record
-    records = stage p (c .rows) (c .answer .gates) (c .needs) (c .group) (c .joined) (c .order) (c .groups) .records
+    records = stage p (c .quads) (c .answer .gates) (c .needs) (c .group) (c .places) (c .order) (c .groups) .records
 
     -- the file that the arrays give is the one that the rules fix
-    pub file-is : fileIn p (c .rows) (c .answer .gates) (c .needs) (c .group) (c .joined) (c .order) (c .groups) (variables s) (c .outputs) ≡ fusedFile s p
+    pub file-is : fileIn p (c .quads) (c .answer .gates) (c .needs) (c .group) (c .places) (c .order) (c .groups) (variables s) (c .outputs) ≡ fusedFile s p
     unfolding fusedFile
     file-is = ap₂ (fileBytes (variables s)) records-are outputs-are
 
     outputs-held : length (c .outputs) ≡ 32
     outputs-held =
-        let e = accepted-shows s (rule-taken s p taken) (outputsOf s) in
-        let few : length (ifAccepted s (outputsOf s)) ≤ mostVariables = rw e (omega (arith, shown-outputs-length s (rule-taken s p taken), shown-variables s (rule-taken s p taken))) in
+        let e = accepted-builds s (rule-taken s p taken) (outputsOf s) in
+        let few : length (ifAccepted s (outputsOf s)) ≤ mostVariables = rw e (omega (arith, built-outputs-length s (rule-taken s p taken), built-variables s (rule-taken s p taken))) in
         ap length (k .1 .1 .1 .0) ∙ padded-length mostVariables (ifAccepted s (outputsOf s)) few
 
     pub outputs-placed : OutputsPlaced (c .outputs) (variables s) (c .group)
     outputs-placed = record {
       held = outputs-held;
-      few = shown-variables s (rule-taken s p taken);
+      few = built-variables s (rule-taken s p taken);
       placed = λ x l.
-          let o : getD (c .outputs) x 0 < gateCount s = rw (k .1 .1 .1 .0) (shown-output-inside s (rule-taken s p taken) x l) in
+          let o : getD (c .outputs) x 0 < gateCount s = rw (k .1 .1 .1 .0) (built-output-inside s (rule-taken s p taken) x l) in
           let g : getD (c .group) (getD (c .outputs) x 0) 0 < mostGates = rw (k .1 .1 .1 .1 .1 .0) (table-named s p taken (getD (c .outputs) x 0) o) in
-          (omega (arith, o, shown-room s (rule-taken s p taken)), g);
+          (omega (arith, o, built-room s (rule-taken s p taken)), g);
     }
 
     -- its size, from what is measured
-    module _ (wires bytes cost : ℕ) (m : Sum p (c .rows) (c .answer .gates) (c .needs) (c .group) (c .joined) (c .order) (c .groups) wires bytes cost) where
+    module _ (wires bytes cost : ℕ) (m : Sum p (c .quads) (c .answer .gates) (c .needs) (c .group) (c .places) (c .order) (c .groups) wires bytes cost) where
       wires-are : wires ≡ length (recordsOf s p)
       wires-are = m .wired ∙ ap length records-are
 
@@ -169,12 +169,12 @@ module _ (s p : List ℕ) (c : Checked) (k : Handed s p c) where
 
       -- what writing the file asks for
       pub file-ready : Bytes s → (d : List ℕ) → 8 + bytes + 2 * variables s ≤ length d
-          → (length (fileIn p (c .rows) (c .answer .gates) (c .needs) (c .group) (c .joined) (c .order) (c .groups) (variables s) (c .outputs)) ≤ length d)
-          × (Turnable p (c .rows) (c .answer .gates) (c .needs) (c .group) (c .joined) (c .conditions) (c .order) (c .groups)
-          × ((wires ≡ length (stage p (c .rows) (c .answer .gates) (c .needs) (c .group) (c .joined) (c .order) (c .groups) .records))
+          → (length (fileIn p (c .quads) (c .answer .gates) (c .needs) (c .group) (c .places) (c .order) (c .groups) (variables s) (c .outputs)) ≤ length d)
+          × (Turnable p (c .quads) (c .answer .gates) (c .needs) (c .group) (c .places) (c .conditions) (c .order) (c .groups)
+          × ((wires ≡ length (stage p (c .quads) (c .answer .gates) (c .needs) (c .group) (c .places) (c .order) (c .groups) .records))
           × OutputsPlaced (c .outputs) (variables s) (c .group)))
       file-ready b d l =
-          let e : length (fileIn p (c .rows) (c .answer .gates) (c .needs) (c .group) (c .joined) (c .order) (c .groups) (variables s) (c .outputs)) ≡ length (fusedFile s p) = ap length file-is in
+          let e : length (fileIn p (c .quads) (c .answer .gates) (c .needs) (c .group) (c .places) (c .order) (c .groups) (variables s) (c .outputs)) ≡ length (fusedFile s p) = ap length file-is in
           let n : length (fusedFile s p) ≤ length d = omega (arith, l, size-is) in
           (rw e n, (arrays-turnable b, (m .wired, outputs-placed)))
 
@@ -186,7 +186,7 @@ module _ (s p : List ℕ) (c : Checked) (k : Handed s p c) where
 
       -- the file, and nothing after it touched
       pub file-writes : (d new : List ℕ) (size : ℕ) → size ≡ 8 + bytes + 2 * variables s → size ≤ length d
-          → new ≡ over (fileIn p (c .rows) (c .answer .gates) (c .needs) (c .group) (c .joined) (c .order) (c .groups) (variables s) (c .outputs)) d
+          → new ≡ over (fileIn p (c .quads) (c .answer .gates) (c .needs) (c .group) (c .places) (c .order) (c .groups) (variables s) (c .outputs)) d
           → (success (c .answer .gates) wires size (c .answer .before) cost ≡ writeAnswer s p (length d)) × (new ≡ writtenOver s p d)
       file-writes d new size e l w =
           let n : length (fusedFile s p) ≤ length d = omega (arith, l, e, size-is) in

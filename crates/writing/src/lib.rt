@@ -13,7 +13,7 @@ ghost use Rattle.gates.specs.Limits.{mostGates};
 ghost use Rattle.answers.specs.Answers.{success};
 ghost use Rattle.fused.specs.CircuitFile.{mark, wiresBytes, recordsBytes};
 ghost use Rattle.fused.specs.Answers.{writeAnswer, writtenOver};
-ghost use Rattle.emitting.specs.Emitted.{wireIn, emitIn, Sized};
+ghost use Rattle.emitting.specs.Emitted.{wireIn, emitIn, Measured};
 ghost use Rattle.writing.specs.Staged.{stage, Turnable};
 ghost use Rattle.writing.specs.Turns.{membersOf, wiresOf, Measurable, Puttable, Measures, Sum, OutputsPlaced, fileIn};
 
@@ -21,29 +21,29 @@ ghost use Rattle.writing.specs.Turns.{membersOf, wiresOf, Measurable, Pu
 const HEAD: usize = 8;
 
 // The size of group q, listed at the place `at` of the plan, or alone where the place is 0.
-fn size_group(plan: &[u8], at: usize, rows: &[u32; 1024], needs: &[u64; 256], q: GateId) -> Size
-    requires { ⌜ Measurable (now rows) (now plan) at (q .0) ⌝ }
-    ensures { λ r. ⌜ Sized (now (rows .entry)) (now (needs .entry)) (membersOf (now (plan .entry)) at (q .0)) (r .wires) (r .bytes) (r .cost) ⌝ }
+fn size_group(plan: &[u8], at: usize, quads: &[u32; 1024], needs: &[u64; 256], q: GateId) -> Size
+    requires { ⌜ Measurable (now quads) (now plan) at (q .0) ⌝ }
+    ensures { λ r. ⌜ Measured (now (quads .entry)) (now (needs .entry)) (membersOf (now (plan .entry)) at (q .0)) (r .wires) (r .bytes) (r .cost) ⌝ }
 {
     if at == 0 {
-        return measuring::size_alone(rows, q);
+        return measuring::size_alone(quads, q);
     }
-    measuring::size_joined(plan, at, rows, needs)
+    measuring::size_joined(plan, at, quads, needs)
 }
 
-// The size of the groups in the order of writing; `joined` gives each one's place in the plan.
+// The size of the groups in the order of writing; `places` gives each one's place in the plan.
 fn measure(
     plan: &[u8],
-    rows: &[u32; 1024],
+    quads: &[u32; 1024],
     needs: &[u64; 256],
-    joined: &[u16; 256],
+    places: &[u16; 256],
     order: &[u16; 256],
     groups: usize,
 ) -> Size
-    requires { ⌜ Measures (now plan) (now rows) (now needs) (now joined) (now order) groups ⌝ }
+    requires { ⌜ Measures (now plan) (now quads) (now needs) (now places) (now order) groups ⌝ }
     ensures { λ r. ⌜ ((count : ℕ) (group conds : List ℕ)
-        → Turnable (now (plan .entry)) (now (rows .entry)) count (now (needs .entry)) group (now (joined .entry)) conds (now (order .entry)) groups
-        → Sum (now (plan .entry)) (now (rows .entry)) count (now (needs .entry)) group (now (joined .entry)) (now (order .entry)) groups (r .wires) (r .bytes) (r .cost)) ⌝ }
+        → Turnable (now (plan .entry)) (now (quads .entry)) count (now (needs .entry)) group (now (places .entry)) conds (now (order .entry)) groups
+        → Sum (now (plan .entry)) (now (quads .entry)) count (now (needs .entry)) group (now (places .entry)) (now (order .entry)) groups (r .wires) (r .bytes) (r .cost)) ⌝ }
 {
     let mut wires: usize = 0;
     let mut bytes: usize = 0;
@@ -51,8 +51,8 @@ fn measure(
     let mut i: usize = 0;
     while i < groups {
         let q = order[i];
-        let at = words::wide16(joined[words::wide16(q)]);
-        let size = size_group(plan, at, rows, needs, GateId(q));
+        let at = words::wide16(places[words::wide16(q)]);
+        let size = size_group(plan, at, quads, needs, GateId(q));
         wires = wires + size.wires;
         bytes = bytes + size.bytes;
         cost = cost + size.cost;
@@ -79,27 +79,27 @@ fn put_group(
     at: usize,
     q: GateId,
     first: WireId,
-    rows: &[u32; 1024],
+    quads: &[u32; 1024],
     count: usize,
     needs: &[u64; 256],
     conditions: &[u16; 6],
     group: &[u16; 256],
     wires: &[u16; 256],
 ) -> usize
-    requires { ⌜ (length (recordsBytes (emitIn (now rows) count (now needs) (wireIn (now group) (now wires)) (first .0) (membersOf (now plan) at (q .0)))) ≤ length (now out))
-        × Puttable (now rows) (now plan) (now conditions) (now group) count at (q .0) (first .0) ⌝ }
-    ensures counted { λ r. ⌜ r ≡ length (recordsBytes (emitIn (now (rows .entry)) count (now (needs .entry)) (wireIn (now (group .entry)) (now (wires .entry))) (first .0) (membersOf (now (plan .entry)) at (q .0)))) ⌝ }
-    ensures written { λ r. ⌜ now (out .exit) ≡ over (recordsBytes (emitIn (now (rows .entry)) count (now (needs .entry)) (wireIn (now (group .entry)) (now (wires .entry))) (first .0) (membersOf (now (plan .entry)) at (q .0)))) (now (out .entry)) ⌝ }
+    requires { ⌜ (length (recordsBytes (emitIn (now quads) count (now needs) (wireIn (now group) (now wires)) (first .0) (membersOf (now plan) at (q .0)))) ≤ length (now out))
+        × Puttable (now quads) (now plan) (now conditions) (now group) count at (q .0) (first .0) ⌝ }
+    ensures counted { λ r. ⌜ r ≡ length (recordsBytes (emitIn (now (quads .entry)) count (now (needs .entry)) (wireIn (now (group .entry)) (now (wires .entry))) (first .0) (membersOf (now (plan .entry)) at (q .0)))) ⌝ }
+    ensures written { λ r. ⌜ now (out .exit) ≡ over (recordsBytes (emitIn (now (quads .entry)) count (now (needs .entry)) (wireIn (now (group .entry)) (now (wires .entry))) (first .0) (membersOf (now (plan .entry)) at (q .0)))) (now (out .entry)) ⌝ }
 {
     if at == 0 {
-        return emitting::put_alone(out, rows, group, wires, q);
+        return emitting::put_alone(out, quads, group, wires, q);
     }
     emitting::put_joined(
         out,
         plan,
         at,
         first,
-        rows,
+        quads,
         count,
         needs,
         conditions,
@@ -113,21 +113,21 @@ fn put_group(
 fn put_records(
     out: &mut [u8],
     plan: &[u8],
-    rows: &[u32; 1024],
+    quads: &[u32; 1024],
     count: usize,
     needs: &[u64; 256],
     conditions: &[u16; 6],
     group: &[u16; 256],
-    joined: &[u16; 256],
+    places: &[u16; 256],
     order: &[u16; 256],
     groups: usize,
     wires: &mut [u16; 256],
 ) -> usize
-    requires { ⌜ (length (recordsBytes (stage (now plan) (now rows) count (now needs) (now group) (now joined) (now order) groups .records)) ≤ length (now out))
-        × (Turnable (now plan) (now rows) count (now needs) (now group) (now joined) (now conditions) (now order) groups × (now wires ≡ replicate mostGates 0)) ⌝ }
-    ensures counted { λ r. ⌜ r ≡ length (recordsBytes (stage (now (plan .entry)) (now (rows .entry)) count (now (needs .entry)) (now (group .entry)) (now (joined .entry)) (now (order .entry)) groups .records)) ⌝ }
-    ensures written { λ r. ⌜ now (out .exit) ≡ over (recordsBytes (stage (now (plan .entry)) (now (rows .entry)) count (now (needs .entry)) (now (group .entry)) (now (joined .entry)) (now (order .entry)) groups .records)) (now (out .entry)) ⌝ }
-    ensures wired { λ r. ⌜ now (wires .exit) ≡ stage (now (plan .entry)) (now (rows .entry)) count (now (needs .entry)) (now (group .entry)) (now (joined .entry)) (now (order .entry)) groups .wires ⌝ }
+    requires { ⌜ (length (recordsBytes (stage (now plan) (now quads) count (now needs) (now group) (now places) (now order) groups .records)) ≤ length (now out))
+        × (Turnable (now plan) (now quads) count (now needs) (now group) (now places) (now conditions) (now order) groups × (now wires ≡ replicate mostGates 0)) ⌝ }
+    ensures counted { λ r. ⌜ r ≡ length (recordsBytes (stage (now (plan .entry)) (now (quads .entry)) count (now (needs .entry)) (now (group .entry)) (now (places .entry)) (now (order .entry)) groups .records)) ⌝ }
+    ensures written { λ r. ⌜ now (out .exit) ≡ over (recordsBytes (stage (now (plan .entry)) (now (quads .entry)) count (now (needs .entry)) (now (group .entry)) (now (places .entry)) (now (order .entry)) groups .records)) (now (out .entry)) ⌝ }
+    ensures wired { λ r. ⌜ now (wires .exit) ≡ stage (now (plan .entry)) (now (quads .entry)) count (now (needs .entry)) (now (group .entry)) (now (places .entry)) (now (order .entry)) groups .wires ⌝ }
 {
     let mut at: usize = 0;
     let mut n: u16 = 0;
@@ -135,14 +135,14 @@ fn put_records(
     while i < groups {
         let q = order[i];
         let g = words::wide16(q);
-        let place = words::wide16(joined[g]);
+        let place = words::wide16(places[g]);
         let k = put_group(
             &mut out[at..],
             plan,
             place,
             GateId(q),
             WireId(n),
-            rows,
+            quads,
             count,
             needs,
             conditions,
@@ -196,33 +196,33 @@ fn put_file(
     v: u8,
     wired: u16,
     plan: &[u8],
-    rows: &[u32; 1024],
+    quads: &[u32; 1024],
     count: usize,
     needs: &[u64; 256],
     conditions: &[u16; 6],
     outputs: &[u16; 32],
     group: &[u16; 256],
-    joined: &[u16; 256],
+    places: &[u16; 256],
     order: &[u16; 256],
     groups: usize,
 )
-    requires { ⌜ (length (fileIn (now plan) (now rows) count (now needs) (now group) (now joined) (now order) groups v (now outputs)) ≤ length (now out))
-        × (Turnable (now plan) (now rows) count (now needs) (now group) (now joined) (now conditions) (now order) groups
-        × ((wired ≡ length (stage (now plan) (now rows) count (now needs) (now group) (now joined) (now order) groups .records))
+    requires { ⌜ (length (fileIn (now plan) (now quads) count (now needs) (now group) (now places) (now order) groups v (now outputs)) ≤ length (now out))
+        × (Turnable (now plan) (now quads) count (now needs) (now group) (now places) (now conditions) (now order) groups
+        × ((wired ≡ length (stage (now plan) (now quads) count (now needs) (now group) (now places) (now order) groups .records))
         × OutputsPlaced (now outputs) v (now group))) ⌝ }
-    ensures { λ r. ⌜ now (out .exit) ≡ over (fileIn (now (plan .entry)) (now (rows .entry)) count (now (needs .entry)) (now (group .entry)) (now (joined .entry)) (now (order .entry)) groups v (now (outputs .entry))) (now (out .entry)) ⌝ }
+    ensures { λ r. ⌜ now (out .exit) ≡ over (fileIn (now (plan .entry)) (now (quads .entry)) count (now (needs .entry)) (now (group .entry)) (now (places .entry)) (now (order .entry)) groups v (now (outputs .entry))) (now (out .entry)) ⌝ }
 {
     put_head(out, v, wired);
     let mut wires = [0u16; 256];
     let n = put_records(
         &mut out[HEAD..],
         plan,
-        rows,
+        quads,
         count,
         needs,
         conditions,
         group,
-        joined,
+        places,
         order,
         groups,
         &mut wires,
@@ -256,16 +256,16 @@ pub fn write(rule: &[u8], plan: &[u8], out: &mut [u8]) -> Answer
     if answer.number != 0 {
         return answer;
     }
-    let rows = checked.rows;
+    let quads = checked.quads;
     let needs = checked.needs;
     let outputs = checked.outputs;
     let conditions = checked.conditions;
     let group = checked.group;
-    let joined = checked.joined;
+    let places = checked.places;
     let order = checked.order;
     let groups = checked.groups;
     let v = rule[5];
-    let size = measure(plan, &rows, &needs, &joined, &order, groups);
+    let size = measure(plan, &quads, &needs, &places, &order, groups);
     let bytes = HEAD + size.bytes + 2 * (v as usize);
     if out.len() < bytes {
         return answers::refused(50, 0);
@@ -275,13 +275,13 @@ pub fn write(rule: &[u8], plan: &[u8], out: &mut [u8]) -> Answer
         v,
         size.wires as u16,
         plan,
-        &rows,
+        &quads,
         answer.gates,
         &needs,
         &conditions,
         &outputs,
         &group,
-        &joined,
+        &places,
         &order,
         groups,
     );

@@ -3,7 +3,7 @@ use mathlib.Core.Path.{refl}
 use lib.ListN.{length-take}
 use denote.Ref.{now}
 use Rattle.reading.specs.FirstStatement.{rule-read}
-use Rattle.circuit.specs.ShownLaws.{ready-room, ready-variables, ready-passable, ready-wanted, ready-few, ready-rows, ready-needs, ready-outputs, ready-conditions}
+use Rattle.circuit.specs.BuiltLaws.{ready-room, ready-variables, ready-passable, ready-wanted, ready-few, ready-quads, ready-needs, ready-outputs, ready-conditions}
 use borrow.Author.Needs.{needs}
 use Rattle.circuit.proofs.filled.Statement.{statement}
 use Rattle.circuit.proofs.filled.Tie as tie
@@ -38,7 +38,7 @@ condition-gates-requires c κs = ready-few _ _ _ _ _ (c .before .before .before 
 returns : tie.Need-returns
 returns c =
     let p = c .before .before .before .before .before .before .before .before .before .before .before .before .before .before .before .pre in
-    (refl, (ready-rows _ _ _ _ _ p _ (c .before .before .before .before .before .before .before .copy32 .ensures), (ready-needs _ _ _ _ _ p _ (c .before .before .before .before .before .before .before .before .before .before .before .find-needed .ensures), (ready-outputs _ _ _ _ _ p _ (c .before .before .copy16 .ensures), ready-conditions _ _ _ _ _ p _ (c .condition-gates .ensures)))))
+    (refl, (ready-quads _ _ _ _ _ p _ (c .before .before .before .before .before .before .before .copy32 .ensures), (ready-needs _ _ _ _ _ p _ (c .before .before .before .before .before .before .before .before .before .before .before .find-needed .ensures), (ready-outputs _ _ _ _ _ p _ (c .before .before .copy16 .ensures), ready-conditions _ _ _ _ _ p _ (c .condition-gates .ensures)))))
 
 pub filled-spec : {M : Type 1} → statement M
 filled-spec =

@@ -1,7 +1,7 @@
 use mathlib.Core.Logic.{⊎-elim, inl, inr}
 use native.Mathlib.Omega.{arith}
 use mathlib.Core.Path.{ap, sym, _∙_}
-use Rattle.codes.specs.Codes.{rowOf, codeOf}
+use Rattle.codes.specs.Codes.{entryOf, codeOf}
 use Rattle.codes.specs.CodeLaws.{code-operation, code-unknown}
 use borrow.Author.Needs.{needs}
 use Rattle.codes.proofs.code_of.Statement.{statement}
@@ -36,7 +36,7 @@ unfolding codeOf
 returns-7 c = rw (c .before .match .keys7) (c .plain-code7 .ensures)
 
 returns-8 : tie.Need-returns-8
-returns-8 c = c .row-of .ensures ∙ ap rowOf (c .before .operation-of .ensures) ∙ sym (code-operation _ (c .before .before .before .if1 .left) (omega (arith, c .before .before .if2 .taken)))
+returns-8 c = c .entry-of .ensures ∙ ap entryOf (c .before .operation-of .ensures) ∙ sym (code-operation _ (c .before .before .before .if1 .left) (omega (arith, c .before .before .if2 .taken)))
 
 returns-9 : tie.Need-returns-9
 returns-9 c =

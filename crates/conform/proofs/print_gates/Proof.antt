@@ -4,10 +4,10 @@ use Rattle.conform.proofs.print_gates.Statement.{statement}
 use Rattle.conform.proofs.print_gates.Tie as tie
 
 abbrev Inv-loop : tie.InvT-loop
-Inv-loop rows needs count g₀ g = g ≤ 256
+Inv-loop quads needs count g₀ g = g ≤ 256
 
 abbrev μ-loop : tie.MeasureT-loop
-μ-loop rows needs count g₀ g = 256 - g
+μ-loop quads needs count g₀ g = 256 - g
 
 pub print-gates-spec : {M : Type 1} → statement M
 print-gates-spec =

@@ -11,7 +11,7 @@ use Rattle.reading.specs.Expressions.{readExpr}
 use Rattle.reading.specs.ExpressionLaws.{expr-forward}
 use Rattle.reading.specs.Blocks.{branchWith, statementForm, readStatement, readBlock}
 use Rattle.reading.specs.FuelLaws.{block-forward, statement-forward}
-use Rattle.direct.specs.Walking.{Amid}
+use Rattle.direct.specs.Walking.{AmidBlock}
 use Rattle.direct.specs.BlockLaws.{statement-taken, statement-ran, skip-ran, branch-level, test-taken, first-taken, second-taken, branch-yes, branch-no, amid-start, amid-inside, amid-end, amid-taken, amid-more}
 use borrow.Author.Needs.{needs}
 use Prim.Native.Nat.{ℕ, _+_, _-_, _*_, _<_, _≤_}
@@ -56,7 +56,7 @@ run-statement-below t =
     run-statement.Pre
 
 abbrev run-block-Inv-loop : run-block-lts.InvT-loop
-run-block-Inv-loop s at nest figures₀ here₀ figures here = (at ≤ here) × Amid s nest at figures₀ here figures
+run-block-Inv-loop s at nest figures₀ here₀ figures here = (at ≤ here) × AmidBlock s nest at figures₀ here figures
 
 abbrev run-block-μ-loop : run-block-lts.MeasureT-loop
 run-block-μ-loop s at nest figures₀ here₀ figures here = length s - here

@@ -14,7 +14,7 @@ cast-put-binary c = record { fits = omega (arith, first-member _ _ _ _ _ (c .bef
 
 returns : tie.Need-returns
 returns c = let a = c .before .before .before .before .before .before .before .before .before .before .before .before .before .before .before .args in
-    fused-put (a .rows .now) (wireIn (a .group .now) (a .wires .now)) (a .first .0) (a .plan .now) (a .at) _ _ _ _ _ _ _ (c .before .before .before .before .before .before .before .before .before .before .before .before .before .before .before .pre .0) (c .before .before .before .before .before .before .before .before .before .before .before .put-picks .ensures .0) (c .before .before .before .before .before .before .before .before .member .ensures) refl refl (c .before .before .before .before .before .before .before .before .before .before .before .put-picks .ensures .1) (c .before .before .put-binary .ensures)
+    fused-put (a .quads .now) (wireIn (a .group .now) (a .wires .now)) (a .first .0) (a .plan .now) (a .at) _ _ _ _ _ _ _ (c .before .before .before .before .before .before .before .before .before .before .before .before .before .before .before .pre .0) (c .before .before .before .before .before .before .before .before .before .before .before .put-picks .ensures .0) (c .before .before .before .before .before .before .before .before .member .ensures) refl refl (c .before .before .before .before .before .before .before .before .before .before .before .put-picks .ensures .1) (c .before .before .put-binary .ensures)
 
 pub put-fused-spec : {M : Type 1} → statement M
 put-fused-spec =

@@ -8,10 +8,10 @@ use Rattle.emitting.proofs.put_pairs.Statement.{statement}
 use Rattle.emitting.proofs.put_pairs.Tie as tie
 
 abbrev Inv-loop : tie.InvT-loop
-Inv-loop out₀ plan at first rows k group wires size n₀ i₀ out n i = PairFilling rows (wireIn group wires) (first .0) k plan at out out₀ n i
+Inv-loop out₀ plan at first quads k group wires size n₀ i₀ out n i = PairFilling quads (wireIn group wires) (first .0) k plan at out out₀ n i
 
 abbrev μ-loop : tie.MeasureT-loop
-μ-loop out₀ plan at first rows k group wires size n₀ i₀ out n i = size - i
+μ-loop out₀ plan at first quads k group wires size n₀ i₀ out n i = size - i
 
 shared-slice-read-size : tie.Need-shared-slice-read-size Inv-loop μ-loop
 shared-slice-read-size c = omega (arith, c .before .before .before .pre .1 .0 .lies .within)

@@ -1,5 +1,5 @@
 use borrow.Author.Needs.{needs}
-use Rattle.emitting.specs.PieceLaws.{Counting, counting-start, counting-in, counting-out, counting-end}
+use Rattle.emitting.specs.PieceLaws.{CountingRests, counting-start, counting-in, counting-out, counting-end}
 use mathlib.Core.Logic.{⊎-elim}
 use mathlib.Core.Path.{sym, _∙_}
 use Prim.Native.Nat.{_-_}
@@ -7,7 +7,7 @@ use Rattle.emitting.proofs.rested.Statement.{statement}
 use Rattle.emitting.proofs.rested.Tie as tie
 
 abbrev Inv-loop : tie.InvT-loop
-Inv-loop s n₀ t₀ n t = Counting s n t
+Inv-loop s n₀ t₀ n t = CountingRests s n t
 
 abbrev μ-loop : tie.MeasureT-loop
 μ-loop s n₀ t₀ n t = 6 - t

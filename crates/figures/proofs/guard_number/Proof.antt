@@ -1,11 +1,11 @@
 use borrow.Author.Needs.{needs}
 use native.Mathlib.Omega.{arith}
-use Rattle.figures.specs.StepLaws.{Counting, counting-start, counting-few, counting-one, counting-none, wire-inside, counted}
+use Rattle.figures.specs.StepLaws.{CountingWires, counting-start, counting-few, counting-one, counting-none, wire-inside, counted}
 use Rattle.figures.proofs.guard_number.Statement.{statement}
 use Rattle.figures.proofs.guard_number.Tie as tie
 
 abbrev Inv-loop : tie.InvT-loop
-Inv-loop file at count figures j₀ t₀ j t = Counting file figures at count t j
+Inv-loop file at count figures j₀ t₀ j t = CountingWires file figures at count t j
 
 abbrev μ-loop : tie.MeasureT-loop
 μ-loop file at count figures j₀ t₀ j t = t

@@ -3,13 +3,13 @@ use borrow.Author.Needs.{needs}
 use native.Mathlib.Omega.{arith}
 use mathlib.Core.Path.{_≡_, _∙_}
 use Rattle.figures.specs.WorkingLaws.{amid-start, amid-workable, amid-below, amid-inside, amid-more, amid-end}
-use Rattle.figures.specs.Working.{Amid}
+use Rattle.figures.specs.Working.{AmidRecords}
 use Rattle.fused.specs.FileFigures.{wireCount}
 use Rattle.figures.proofs.work_out.Statement.{statement}
 use Rattle.figures.proofs.work_out.Tie as tie
 
 abbrev Inv-loop : tie.InvT-loop
-Inv-loop file inputs figures₀ count at₀ i₀ figures at i = Amid file inputs figures₀ figures at i × (count ≡ wireCount file)
+Inv-loop file inputs figures₀ count at₀ i₀ figures at i = AmidRecords file inputs figures₀ figures at i × (count ≡ wireCount file)
 
 abbrev μ-loop : tie.MeasureT-loop
 μ-loop file inputs figures₀ count at₀ i₀ figures at i = count - i

@@ -3,15 +3,15 @@ use borrow.Author.Tests.{not-true, not-false}
 use Rattle.needed.specs.Held.{gatesIn}
 use Rattle.grouping.specs.Tests.{joinTest}
 use Rattle.grouping.specs.Walks.{Ahead}
-use Rattle.grouping.specs.GroupLaws.{lie-inside, Testing, testing-start, testing-fails, testing-step, testing-end, readable-lie, ahead-start, ahead-fits, ahead-step}
+use Rattle.grouping.specs.GroupLaws.{lie-inside, TestingGroups, testing-start, testing-fails, testing-step, testing-end, readable-lie, ahead-start, ahead-fits, ahead-step}
 use Rattle.grouping.proofs.every_join.Statement.{statement}
 use Rattle.grouping.proofs.every_join.Tie as tie
 
 abbrev Inv-loop : tie.InvT-loop
-Inv-loop row plan rows count needs unchecked₀ at₀ unchecked at = Ahead count plan unchecked at × Testing (joinTest (gatesIn rows count) needs row) plan unchecked at
+Inv-loop row plan quads count needs unchecked₀ at₀ unchecked at = Ahead count plan unchecked at × TestingGroups (joinTest (gatesIn quads count) needs row) plan unchecked at
 
 abbrev μ-loop : tie.MeasureT-loop
-μ-loop row plan rows count needs unchecked₀ at₀ unchecked at = unchecked
+μ-loop row plan quads count needs unchecked₀ at₀ unchecked at = unchecked
 
 groups-counted-requires : tie.Need-groups-counted-requires Inv-loop μ-loop
 groups-counted-requires c κs = c .before .pre .least

@@ -1,12 +1,12 @@
 use borrow.Author.Needs.{needs}
 use borrow.Author.Tests.{not-true, not-false}
 use Rattle.grouping.specs.Tests.{shapeTest}
-use Rattle.grouping.specs.GroupLaws.{lie-here, lie-inside, Testing, testing-start, testing-fails, testing-step, testing-end}
+use Rattle.grouping.specs.GroupLaws.{lie-here, lie-inside, TestingGroups, testing-start, testing-fails, testing-step, testing-end}
 use Rattle.grouping.proofs.every_shape.Statement.{statement}
 use Rattle.grouping.proofs.every_shape.Tie as tie
 
 abbrev Inv-loop : tie.InvT-loop
-Inv-loop row plan count left₀ at₀ left at = Testing (shapeTest row count) plan left at
+Inv-loop row plan count left₀ at₀ left at = TestingGroups (shapeTest row count) plan left at
 
 abbrev μ-loop : tie.MeasureT-loop
 μ-loop row plan count left₀ at₀ left at = left

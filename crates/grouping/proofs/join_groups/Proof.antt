@@ -3,15 +3,15 @@ use native.Mathlib.Omega.{arith}
 use mathlib.Core.Bool.{false≢true}
 use borrow.Author.Tests.{not-true, not-false}
 use Rattle.grouping.specs.GroupLaws.{lie-inside, ahead-fits}
-use Rattle.grouping.specs.JoinLaws.{Joining, joining-start, joining-fails, joining-step, joining-end}
+use Rattle.grouping.specs.JoinLaws.{JoiningGroups, joining-start, joining-fails, joining-step, joining-end}
 use Rattle.grouping.proofs.join_groups.Statement.{statement}
 use Rattle.grouping.proofs.join_groups.Tie as tie
 
 abbrev Inv-loop : tie.InvT-loop
-Inv-loop plan count group₀ joined₀ left₀ at₀ group joined left at = Joining count plan group joined left at
+Inv-loop plan count group₀ places₀ left₀ at₀ group places left at = JoiningGroups count plan group places left at
 
 abbrev μ-loop : tie.MeasureT-loop
-μ-loop plan count group₀ joined₀ left₀ at₀ group joined left at = left
+μ-loop plan count group₀ places₀ left₀ at₀ group places left at = left
 
 number-gates-requires : tie.Need-number-gates-requires Inv-loop μ-loop
 number-gates-requires c κs = c .before .before .pre .room

@@ -4,15 +4,15 @@ use mathlib.Core.Path.{refl}
 use mathlib.Core.Bool.{false≢true}
 use Prim.Native.Nat.{_-_}
 use Rattle.grouping.specs.MemberLaws.{walk-byte}
-use Rattle.grouping.specs.PutLaws.{Putting, putting-start, putting-fails, putting-step, putting-free, putting-groups, putting-places}
+use Rattle.grouping.specs.PutLaws.{PuttingMembers, putting-start, putting-fails, putting-step, putting-free, putting-groups, putting-places}
 use Rattle.grouping.proofs.join_members.Statement.{statement}
 use Rattle.grouping.proofs.join_members.Tie as tie
 
 abbrev Inv-loop : tie.InvT-loop
-Inv-loop plan at count group₀ joined₀ size first k₀ group joined k = Putting count plan at (first .0) group₀ joined₀ group joined k
+Inv-loop plan at count group₀ places₀ size first k₀ group places k = PuttingMembers count plan at (first .0) group₀ places₀ group places k
 
 abbrev μ-loop : tie.MeasureT-loop
-μ-loop plan at count group₀ joined₀ size first k₀ group joined k = size - k
+μ-loop plan at count group₀ places₀ size first k₀ group places k = size - k
 
 size-at-requires : tie.Need-size-at-requires Inv-loop μ-loop
 size-at-requires c κs = omega (arith, c .before .pre .lies)
@@ -35,11 +35,11 @@ returns c = (putting-fails _ _ _ _ _ _ _ _ _ _ (c .before .before .before .befor
 element-write-group : tie.Need-element-write-group Inv-loop μ-loop
 element-write-group c = walk-byte _ _ _ _ _ (c .before .before .before .before .before .loop .inv .walk) (omega (arith, c .before .before .before .before .loop-test .taken, c .before .before .before .before .before .before .before .size-at .ensures)) (c .before .before .before .member2 .ensures)
 
-cast-joined : tie.Need-cast-joined Inv-loop μ-loop
-cast-joined c = record { fits = omega (arith, c .before .before .before .before .before .loop .inv .walk .fits .lies, c .before .before .before .before .before .loop .inv .walk .fits .short) }
+cast-places : tie.Need-cast-places Inv-loop μ-loop
+cast-places c = record { fits = omega (arith, c .before .before .before .before .before .loop .inv .walk .fits .lies, c .before .before .before .before .before .loop .inv .walk .fits .short) }
 
-element-write-joined : tie.Need-element-write-joined Inv-loop μ-loop
-element-write-joined c = walk-byte _ _ _ _ _ (c .before .before .before .before .before .loop .inv .walk) (omega (arith, c .before .before .before .before .loop-test .taken, c .before .before .before .before .before .before .before .size-at .ensures)) (c .before .before .before .member2 .ensures)
+element-write-places : tie.Need-element-write-places Inv-loop μ-loop
+element-write-places c = walk-byte _ _ _ _ _ (c .before .before .before .before .before .loop .inv .walk) (omega (arith, c .before .before .before .before .loop-test .taken, c .before .before .before .before .before .before .before .size-at .ensures)) (c .before .before .before .member2 .ensures)
 
 loop-again : tie.Need-loop-again Inv-loop μ-loop
 loop-again c = putting-step _ _ _ _ _ _ _ _ _ _ (c .before .before .before .before .before .loop .inv) (omega (arith, c .before .before .before .before .loop-test .taken, c .before .before .before .before .before .before .before .size-at .ensures)) (c .before .before .before .member2 .ensures) _ _ (c .if1 .left) refl refl
@@ -63,9 +63,9 @@ join-members-spec =
     returns
     (λ c. search needs)
     element-write-group
-    cast-joined
+    cast-places
     (λ c. search needs)
-    element-write-joined
+    element-write-places
     (λ c. search needs)
     (λ c. search needs)
     loop-again

@@ -9,10 +9,10 @@ use Rattle.grouping.proofs.members_hold.Statement.{statement}
 use Rattle.grouping.proofs.members_hold.Tie as tie
 
 abbrev Inv-loop : tie.InvT-loop
-Inv-loop row plan at rows count size first k₀ k = Holding rows row count plan at (first .0) k
+Inv-loop row plan at quads count size first k₀ k = Holding quads row count plan at (first .0) k
 
 abbrev μ-loop : tie.MeasureT-loop
-μ-loop row plan at rows count size first k₀ k = size - k
+μ-loop row plan at quads count size first k₀ k = size - k
 
 size-at-requires : tie.Need-size-at-requires Inv-loop μ-loop
 size-at-requires c κs = omega (arith, c .before .pre .lies)

@@ -2,12 +2,12 @@ use borrow.Author.Needs.{needs}
 use native.Mathlib.Omega.{arith}
 use mathlib.Core.Path.{refl}
 use Prim.Native.Nat.{_-_}
-use Rattle.grouping.specs.TableLaws.{Counting, counting-start, counting-step, counting-end}
+use Rattle.grouping.specs.TableLaws.{CountingGates, counting-start, counting-step, counting-end}
 use Rattle.grouping.proofs.number_gates.Statement.{statement}
 use Rattle.grouping.proofs.number_gates.Tie as tie
 
 abbrev Inv-loop : tie.InvT-loop
-Inv-loop count group₀ g₀ group g = Counting count group g
+Inv-loop count group₀ g₀ group g = CountingGates count group g
 
 abbrev μ-loop : tie.MeasureT-loop
 μ-loop count group₀ g₀ group g = count - g

@@ -112,27 +112,27 @@ make-expr-sub-make-expr-2 t c =
 
 make-expr-make-expr-requires-2 : (t : ℕ) → make-expr-lts.Need-make-expr-requires-2 (make-expr-claims t) (make-expr-at t) make-expr.Post
 make-expr-make-expr-requires-2 t c κs =
-    let a = c .before .before .before .before .before .before .before .before .before .before .before .args in let h = c .before .before .before .before .before .before .before .before .before .before .before .pre .1 .1 in let code = c .before .before .before .before .before .before .before .before .code-of .result in let is = c .before .before .before .before .before .before .before .before .code-of .ensures in let l = level (a .deep) (now (a .s)) (a .want) (a .at) h code is (c .before .before .before .before .before .before .form .given .0 .0) (c .before .before .before .before .before .before .form .given .1) in (omega arith, (c .before .before .before .before .before .before .before .before .before .before .before .pre .1 .0, second-taken (a .deep) (now (a .s)) (a .want) (a .at) h code is (c .before .before .before .before .before .before .form .given .0 .0) (c .before .before .before .before .before .before .form .given .1) (now (a .present)) (now (a .rows)) (a .count) (c .before .before .before .make-expr .result .gate .0) (c .before .before .before .make-expr .result .next) (c .before .before .before .make-expr .result .count) _ (c .before .before .before .make-expr .ensures) (c .before .if1 .left)))
+    let a = c .before .before .before .before .before .before .before .before .before .before .before .args in let h = c .before .before .before .before .before .before .before .before .before .before .before .pre .1 .1 in let code = c .before .before .before .before .before .before .before .before .code-of .result in let is = c .before .before .before .before .before .before .before .before .code-of .ensures in let l = level (a .deep) (now (a .s)) (a .want) (a .at) h code is (c .before .before .before .before .before .before .form .given .0 .0) (c .before .before .before .before .before .before .form .given .1) in (omega arith, (c .before .before .before .before .before .before .before .before .before .before .before .pre .1 .0, second-taken (a .deep) (now (a .s)) (a .want) (a .at) h code is (c .before .before .before .before .before .before .form .given .0 .0) (c .before .before .before .before .before .before .form .given .1) (now (a .present)) (now (a .quads)) (a .count) (c .before .before .before .make-expr .result .gate .0) (c .before .before .before .make-expr .result .next) (c .before .before .before .make-expr .result .count) _ (c .before .before .before .make-expr .ensures) (c .before .if1 .left)))
 
 make-expr-returns : (t : ℕ) → make-expr-lts.Need-returns (make-expr-claims t) (make-expr-at t) make-expr.Post
 make-expr-returns t c =
-    let a = c .before .before .before .before .before .before .before .args in let h = c .before .before .before .before .before .before .before .pre .1 .1 in let code = c .before .before .before .before .code-of .result in let is = c .before .before .before .before .code-of .ensures in let v = as-variable (a .deep) (now (a .s)) (a .want) (a .at) h code is (c .before .before .enum-told .given .1) in made-variable (now (a .s)) (readExpr (a .deep) (now (a .s)) (a .want) (a .at)) (now (a .present)) (now (a .rows)) (a .count) (getD (now (a .s)) (a .at + 1) 0) (a .at + 2) (v .is) (v .range)
+    let a = c .before .before .before .before .before .before .before .args in let h = c .before .before .before .before .before .before .before .pre .1 .1 in let code = c .before .before .before .before .code-of .result in let is = c .before .before .before .before .code-of .ensures in let v = as-variable (a .deep) (now (a .s)) (a .want) (a .at) h code is (c .before .before .enum-told .given .1) in made-variable (now (a .s)) (readExpr (a .deep) (now (a .s)) (a .want) (a .at)) (now (a .present)) (now (a .quads)) (a .count) (getD (now (a .s)) (a .at + 1) 0) (a .at + 2) (v .is) (v .range)
 
 make-expr-returns-2 : (t : ℕ) → make-expr-lts.Need-returns-2 (make-expr-claims t) (make-expr-at t) make-expr.Post
 make-expr-returns-2 t c =
-    let a = c .before .before .before .before .before .before .before .before .args in let h = c .before .before .before .before .before .before .before .before .pre .1 .1 in let code = c .before .before .before .before .before .code-of .result in let is = c .before .before .before .before .before .code-of .ensures in let v = as-word (a .deep) (now (a .s)) (a .want) (a .at) h code is (c .before .before .before .enum-told2 .given .1) in made-word (now (a .s)) (readExpr (a .deep) (now (a .s)) (a .want) (a .at)) (now (a .present)) (now (a .rows)) (a .count) (c .before .before .read32 .result) (a .at + 5) (c .push .result) (c .push .last .0) (v .is ∙ ap (λ (n : ℕ). parsed (word n) (a .at + 5)) (sym (c .before .before .read32 .ensures))) (c .push .ensures)
+    let a = c .before .before .before .before .before .before .before .before .args in let h = c .before .before .before .before .before .before .before .before .pre .1 .1 in let code = c .before .before .before .before .before .code-of .result in let is = c .before .before .before .before .before .code-of .ensures in let v = as-word (a .deep) (now (a .s)) (a .want) (a .at) h code is (c .before .before .before .enum-told2 .given .1) in made-word (now (a .s)) (readExpr (a .deep) (now (a .s)) (a .want) (a .at)) (now (a .present)) (now (a .quads)) (a .count) (c .before .before .read32 .result) (a .at + 5) (c .push .result) (c .push .last .0) (v .is ∙ ap (λ (n : ℕ). parsed (word n) (a .at + 5)) (sym (c .before .before .read32 .ensures))) (c .push .ensures)
 
 make-expr-returns-3 : (t : ℕ) → make-expr-lts.Need-returns-3 (make-expr-claims t) (make-expr-at t) make-expr.Post
 make-expr-returns-3 t c =
-    let a = c .before .before .before .before .before .before .before .before .args in let h = c .before .before .before .before .before .before .before .before .pre .1 .1 in let code = c .before .before .before .before .before .code-of .result in let is = c .before .before .before .before .before .code-of .ensures in let v = as-bit (a .deep) (now (a .s)) (a .want) (a .at) h code is (c .before .before .before .enum-told3 .given .1) in made-bit (now (a .s)) (readExpr (a .deep) (now (a .s)) (a .want) (a .at)) (now (a .present)) (now (a .rows)) (a .count) (getD (now (a .s)) (a .at + 1) 0) (a .at + 2) (c .push2 .result) (c .push2 .last .0) (v .is) (c .push2 .ensures)
+    let a = c .before .before .before .before .before .before .before .before .args in let h = c .before .before .before .before .before .before .before .before .pre .1 .1 in let code = c .before .before .before .before .before .code-of .result in let is = c .before .before .before .before .before .code-of .ensures in let v = as-bit (a .deep) (now (a .s)) (a .want) (a .at) h code is (c .before .before .before .enum-told3 .given .1) in made-bit (now (a .s)) (readExpr (a .deep) (now (a .s)) (a .want) (a .at)) (now (a .present)) (now (a .quads)) (a .count) (getD (now (a .s)) (a .at + 1) 0) (a .at + 2) (c .push2 .result) (c .push2 .last .0) (v .is) (c .push2 .ensures)
 
 make-expr-returns-4 : (t : ℕ) → make-expr-lts.Need-returns-4 (make-expr-claims t) (make-expr-at t) make-expr.Post
 make-expr-returns-4 t c =
-    let a = c .before .before .before .before .before .before .before .before .before .before .before .before .before .before .args in let h = c .before .before .before .before .before .before .before .before .before .before .before .before .before .before .pre .1 .1 in let code = c .before .before .before .before .before .before .before .before .before .before .before .code-of .result in let is = c .before .before .before .before .before .before .before .before .before .before .before .code-of .ensures in made-one (a .deep) (now (a .s)) (a .want) (a .at) h code is (c .before .before .before .before .before .before .before .before .before .form .given .0 .0) (c .before .before .before .before .before .before .before .before .before .form .given .1) (now (a .present)) (now (a .rows)) (a .count) (c .before .before .before .before .before .before .make-expr .result .gate .0) (c .before .before .before .before .before .before .make-expr .result .next) (c .before .before .before .before .before .before .make-expr .result .count) _ (c .before .before .before .before .before .before .make-expr .ensures) (c .before .before .byte-of .result) (c .push3 .result) (c .push3 .last .0) (c .before .before .before .before .if1 .taken) (c .before .before .byte-of .ensures) (c .push3 .ensures)
+    let a = c .before .before .before .before .before .before .before .before .before .before .before .before .before .before .args in let h = c .before .before .before .before .before .before .before .before .before .before .before .before .before .before .pre .1 .1 in let code = c .before .before .before .before .before .before .before .before .before .before .before .code-of .result in let is = c .before .before .before .before .before .before .before .before .before .before .before .code-of .ensures in made-one (a .deep) (now (a .s)) (a .want) (a .at) h code is (c .before .before .before .before .before .before .before .before .before .form .given .0 .0) (c .before .before .before .before .before .before .before .before .before .form .given .1) (now (a .present)) (now (a .quads)) (a .count) (c .before .before .before .before .before .before .make-expr .result .gate .0) (c .before .before .before .before .before .before .make-expr .result .next) (c .before .before .before .before .before .before .make-expr .result .count) _ (c .before .before .before .before .before .before .make-expr .ensures) (c .before .before .byte-of .result) (c .push3 .result) (c .push3 .last .0) (c .before .before .before .before .if1 .taken) (c .before .before .byte-of .ensures) (c .push3 .ensures)
 
 make-expr-returns-5 : (t : ℕ) → make-expr-lts.Need-returns-5 (make-expr-claims t) (make-expr-at t) make-expr.Post
 make-expr-returns-5 t c =
-    let a = c .before .before .before .before .before .before .before .before .before .before .before .before .before .before .args in let h = c .before .before .before .before .before .before .before .before .before .before .before .before .before .before .pre .1 .1 in let code = c .before .before .before .before .before .before .before .before .before .before .before .code-of .result in let is = c .before .before .before .before .before .before .before .before .before .before .before .code-of .ensures in made-two (a .deep) (now (a .s)) (a .want) (a .at) h code is (c .before .before .before .before .before .before .before .before .before .form .given .0 .0) (c .before .before .before .before .before .before .before .before .before .form .given .1) (now (a .present)) (now (a .rows)) (a .count) (c .before .before .before .before .before .before .make-expr .result .gate .0) (c .before .before .before .before .before .before .make-expr .result .next) (c .before .before .before .before .before .before .make-expr .result .count) _ (c .before .before .before .before .before .before .make-expr .ensures) (c .before .before .before .before .if1 .left) (c .before .before .make-expr2 .result .gate .0) (c .before .before .make-expr2 .result .next) (c .before .before .make-expr2 .result .count) _ (c .before .before .make-expr2 .ensures) (c .apply-gate .result) (c .apply-gate .last .0) (c .apply-gate .ensures)
+    let a = c .before .before .before .before .before .before .before .before .before .before .before .before .before .before .args in let h = c .before .before .before .before .before .before .before .before .before .before .before .before .before .before .pre .1 .1 in let code = c .before .before .before .before .before .before .before .before .before .before .before .code-of .result in let is = c .before .before .before .before .before .before .before .before .before .before .before .code-of .ensures in made-two (a .deep) (now (a .s)) (a .want) (a .at) h code is (c .before .before .before .before .before .before .before .before .before .form .given .0 .0) (c .before .before .before .before .before .before .before .before .before .form .given .1) (now (a .present)) (now (a .quads)) (a .count) (c .before .before .before .before .before .before .make-expr .result .gate .0) (c .before .before .before .before .before .before .make-expr .result .next) (c .before .before .before .before .before .before .make-expr .result .count) _ (c .before .before .before .before .before .before .make-expr .ensures) (c .before .before .before .before .if1 .left) (c .before .before .make-expr2 .result .gate .0) (c .before .before .make-expr2 .result .next) (c .before .before .make-expr2 .result .count) _ (c .before .before .make-expr2 .ensures) (c .apply-gate .result) (c .apply-gate .last .0) (c .apply-gate .ensures)
 
 pub +make-expr-spec : {M : Type 1} → statement M
 +make-expr-spec = close μ-make-expr λ t. make-expr-lts.spec (make-expr-claims t) (make-expr-at t)

@@ -1,7 +1,7 @@
 use mathlib.Core.Path.{_≡_, sym, _∙_}
 use mathlib.Core.Bool.{true, false}
 use Rattle.gates.specs.PlainCircuit.{turned}
-use Rattle.making.specs.RowLaws.{two-applied}
+use Rattle.making.specs.QuadLaws.{two-applied}
 use borrow.Author.Needs.{needs}
 use Rattle.making.proofs.apply_gate.Statement.{statement}
 use Rattle.making.proofs.apply_gate.Tie as tie

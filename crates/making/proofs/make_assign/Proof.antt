@@ -42,7 +42,7 @@ only-requires : tie.Need-only-requires
 only-requires c κs = let a = c .before .before .before .before .before .before .args in let r = assign-read (now (a .s)) (a .at) (c .before .before .before .before .before .before .pre .1) in omega (arith, r .range, c .before .before .before .before .before .before .pre .0 .few)
 
 returns : tie.Need-returns
-returns c = let a = c .before .before .before .before .before .before .before .args in made-assign (now (a .s)) (a .at) (c .before .before .before .before .before .before .before .pre .1) (c .before .before .before .before .before .before .before .pre .0 .few) (now (a .present)) (now (a .rows)) (a .count) (c .before .make-expr .result .next) (c .before .make-expr .result .gate .0) (c .before .make-expr .result .count) (c .only .result) _ (c .before .before .before .before .kind-at .result) (c .before .before .before .before .kind-at .ensures) (c .before .make-expr .ensures) (λ x. ap (λ (k : ℕ). has k x) (c .only .ensures) ∙ only-bit (getD (now (a .s)) (a .at + 1) 0) x)
+returns c = let a = c .before .before .before .before .before .before .before .args in made-assign (now (a .s)) (a .at) (c .before .before .before .before .before .before .before .pre .1) (c .before .before .before .before .before .before .before .pre .0 .few) (now (a .present)) (now (a .quads)) (a .count) (c .before .make-expr .result .next) (c .before .make-expr .result .gate .0) (c .before .make-expr .result .count) (c .only .result) _ (c .before .before .before .before .kind-at .result) (c .before .before .before .before .kind-at .ensures) (c .before .make-expr .ensures) (λ x. ap (λ (k : ℕ). has k x) (c .only .ensures) ∙ only-bit (getD (now (a .s)) (a .at + 1) 0) x)
 
 pub make-assign-spec : {M : Type 1} → statement M
 make-assign-spec =

@@ -1,5 +1,5 @@
 use denote.Ref.{now}
-use Rattle.making.specs.RowLaws.{push-full, push-stores}
+use Rattle.making.specs.QuadLaws.{push-full, push-stores}
 use borrow.Author.Needs.{needs}
 use Rattle.making.proofs.push.Statement.{statement}
 use Rattle.making.proofs.push.Tie as tie
@@ -24,7 +24,7 @@ returns c = push-full _ _ _ (c .if1 .taken)
 -- src/lib.rt:43:5
 -- src/lib.rt:32:1
 returns-2 : tie.Need-returns-2
-returns-2 c = let a = c .before .args in push-stores (now (a .rows)) (a .count) (a .code) (a .a) (a .b) (a .c) (c .if1 .left)
+returns-2 c = let a = c .before .args in push-stores (now (a .quads)) (a .count) (a .code) (a .a) (a .b) (a .c) (c .if1 .left)
 
 pub push-spec : {M : Type 1} → statement M
 push-spec =

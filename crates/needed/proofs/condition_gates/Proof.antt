@@ -2,15 +2,15 @@ use borrow.Author.Needs.{needs}
 use native.Mathlib.Omega.{arith}
 use mathlib.Core.Logic.{⊎-elim}
 use Prim.Native.Nat.{_-_}
-use Rattle.needed.specs.GatherLaws.{Gathering, gathering-start, gathering-fits, gathering-one, gathering-none, gathering-end}
+use Rattle.needed.specs.GatherLaws.{GatheringConditions, gathering-start, gathering-fits, gathering-one, gathering-none, gathering-end}
 use Rattle.needed.proofs.condition_gates.Statement.{statement}
 use Rattle.needed.proofs.condition_gates.Tie as tie
 
 abbrev Inv-loop : tie.InvT-loop
-Inv-loop places count gates₀ t₀ g₀ gates t g = Gathering places gates count g t
+Inv-loop ranks count gates₀ t₀ g₀ gates t g = GatheringConditions ranks gates count g t
 
 abbrev μ-loop : tie.MeasureT-loop
-μ-loop places count gates₀ t₀ g₀ gates t g = count - g
+μ-loop ranks count gates₀ t₀ g₀ gates t g = count - g
 
 loop-holds : tie.Need-loop-holds Inv-loop μ-loop
 loop-holds c = gathering-start _ _ (c .pre)

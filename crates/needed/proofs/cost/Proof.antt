@@ -9,11 +9,11 @@ use Rattle.needed.proofs.cost.Statement.{statement}
 use Rattle.needed.proofs.cost.Tie as tie
 
 abbrev Inv-loop : tie.InvT-loop
-Inv-loop rows count sum₀ i₀ sum i =
-    (i ≤ count) × ((count ≤ 256) × (sum ≡ costs (gatesIn rows i)))
+Inv-loop quads count sum₀ i₀ sum i =
+    (i ≤ count) × ((count ≤ 256) × (sum ≡ costs (gatesIn quads i)))
 
 abbrev μ-loop : tie.MeasureT-loop
-μ-loop rows count sum₀ i₀ sum i = count - i
+μ-loop quads count sum₀ i₀ sum i = count - i
 
 loop-holds : tie.Need-loop-holds Inv-loop μ-loop
 loop-holds c = (search needs, (c .pre, sym (costs-none _)))
@@ -21,7 +21,7 @@ loop-holds c = (search needs, (c .pre, sym (costs-none _)))
 add-sum : tie.Need-add-sum Inv-loop μ-loop
 add-sum c =
     let l = c .before .before .before .loop in
-    record { fits = omega (arith, l .inv .0, costs-step _ _ _ _ (l .inv .1 .1) (c .cost-of .ensures), costs-below (c .before .before .before .before .args .rows .now) (l .i + 1)) }
+    record { fits = omega (arith, l .inv .0, costs-step _ _ _ _ (l .inv .1 .1) (c .cost-of .ensures), costs-below (c .before .before .before .before .args .quads .now) (l .i + 1)) }
 
 loop-again : tie.Need-loop-again Inv-loop μ-loop
 loop-again c =

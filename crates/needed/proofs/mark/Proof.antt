@@ -8,22 +8,22 @@ use Rattle.needed.proofs.mark.Statement.{statement}
 use Rattle.needed.proofs.mark.Tie as tie
 
 abbrev Inv-loop : tie.InvT-loop
-Inv-loop rows count places₀ i₀ places i = Marking rows places count i
+Inv-loop quads count ranks₀ i₀ ranks i = Marking quads ranks count i
 
 abbrev μ-loop : tie.MeasureT-loop
-μ-loop rows count places₀ i₀ places i = count - i
+μ-loop quads count ranks₀ i₀ ranks i = count - i
 
 loop-holds : tie.Need-loop-holds Inv-loop μ-loop
-loop-holds c = marking-start _ _ _ (c .before .before .pre) (c .clear-places .ensures)
+loop-holds c = marking-start _ _ _ (c .before .before .pre) (c .clear-ranks .ensures)
 
 argument-requires : tie.Need-argument-requires Inv-loop μ-loop
 argument-requires c κs = (search needs, marking-inside _ _ _ _ _ (c .before .before .before .loop .inv) (c .before .before .loop-test .taken) (c .if1 .taken) refl)
 
-mul-places : tie.Need-mul-places Inv-loop μ-loop
-mul-places c = record { fits = omega (arith, marking-inside _ _ _ _ _ (c .before .before .before .before .before .loop .inv) (c .before .before .before .before .loop-test .taken) (c .before .before .if1 .taken) (c .before .argument .ensures)) }
+mul-ranks : tie.Need-mul-ranks Inv-loop μ-loop
+mul-ranks c = record { fits = omega (arith, marking-inside _ _ _ _ _ (c .before .before .before .before .before .loop .inv) (c .before .before .before .before .loop-test .taken) (c .before .before .if1 .taken) (c .before .argument .ensures)) }
 
-element-write-places : tie.Need-element-write-places Inv-loop μ-loop
-element-write-places c = marking-inside _ _ _ _ _ (c .before .before .before .before .before .loop .inv) (c .before .before .before .before .loop-test .taken) (c .before .before .if1 .taken) (c .before .argument .ensures)
+element-write-ranks : tie.Need-element-write-ranks Inv-loop μ-loop
+element-write-ranks c = marking-inside _ _ _ _ _ (c .before .before .before .before .before .loop .inv) (c .before .before .before .before .loop-test .taken) (c .before .before .if1 .taken) (c .before .argument .ensures)
 
 loop-again : tie.Need-loop-again Inv-loop μ-loop
 loop-again c =
@@ -52,8 +52,8 @@ mark-spec =
     (λ c. search needs)
     argument-requires
     (λ c. search needs)
-    mul-places
-    element-write-places
+    mul-ranks
+    element-write-ranks
     (λ c. search needs)
     (λ c. search needs)
     loop-again

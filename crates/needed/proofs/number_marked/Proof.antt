@@ -2,15 +2,15 @@ use borrow.Author.Needs.{needs}
 use native.Mathlib.Omega.{arith}
 use mathlib.Core.Logic.{⊎-elim}
 use Prim.Native.Nat.{_-_}
-use Rattle.needed.specs.PlaceLaws.{Numbering, numbering-start, numbering-fits, numbering-one, numbering-none, numbering-end}
+use Rattle.needed.specs.RankLaws.{Numbering, numbering-start, numbering-fits, numbering-one, numbering-none, numbering-end}
 use Rattle.needed.proofs.number_marked.Statement.{statement}
 use Rattle.needed.proofs.number_marked.Tie as tie
 
 abbrev Inv-loop : tie.InvT-loop
-Inv-loop count places₀ t₀ g₀ places t g = Numbering places₀ places count g t
+Inv-loop count ranks₀ t₀ g₀ ranks t g = Numbering ranks₀ ranks count g t
 
 abbrev μ-loop : tie.MeasureT-loop
-μ-loop count places₀ t₀ g₀ places t g = count - g
+μ-loop count ranks₀ t₀ g₀ ranks t g = count - g
 
 loop-holds : tie.Need-loop-holds Inv-loop μ-loop
 loop-holds c = numbering-start _ _ (c .pre)

@@ -1,14 +1,14 @@
 use borrow.Author.Needs.{needs}
 use native.Mathlib.Omega.{arith}
-use Rattle.needed.specs.PassingLaws.{Walking, walking-start, walking-step, walking-end}
+use Rattle.needed.specs.PassingLaws.{WalkingBack, walking-start, walking-step, walking-end}
 use Rattle.needed.proofs.pass.Statement.{statement}
 use Rattle.needed.proofs.pass.Tie as tie
 
 abbrev Inv-loop : tie.InvT-loop
-Inv-loop rows count places sets₀ i₀ sets i = Walking rows places sets₀ sets count i
+Inv-loop quads count ranks sets₀ i₀ sets i = WalkingBack quads ranks sets₀ sets count i
 
 abbrev μ-loop : tie.MeasureT-loop
-μ-loop rows count places sets₀ i₀ sets i = i
+μ-loop quads count ranks sets₀ i₀ sets i = i
 
 loop-holds : tie.Need-loop-holds Inv-loop μ-loop
 loop-holds c = walking-start _ _ _ _ (c .pre)

@@ -4,15 +4,15 @@ use borrow.Author.Needs.{needs}
 use native.Mathlib.Omega.{arith}
 use Prim.Native.Nat.{_-_}
 use Rattle.ordering.specs.TableLaws.{clear-words}
-use Rattle.ordering.specs.GatherLaws.{Gathering, gathering-start, gathering-group, gathering-size, gathering-arguments, gathering-conditions, gathering-alone, gathering-joined, gathering-end}
+use Rattle.ordering.specs.GatherLaws.{GatheringWaits, gathering-start, gathering-group, gathering-size, gathering-arguments, gathering-conditions, gathering-alone, gathering-joined, gathering-end}
 use Rattle.ordering.proofs.find_waits.Statement.{statement}
 use Rattle.ordering.proofs.find_waits.Tie as tie
 
 abbrev Inv-loop : tie.InvT-loop
-Inv-loop rows count needs conditions group joined waits₀ i₀ waits i = Gathering rows count needs conditions group joined waits i
+Inv-loop quads count needs conditions group places waits₀ i₀ waits i = GatheringWaits quads count needs conditions group places waits i
 
 abbrev μ-loop : tie.MeasureT-loop
-μ-loop rows count needs conditions group joined waits₀ i₀ waits i = count - i
+μ-loop quads count needs conditions group places waits₀ i₀ waits i = count - i
 
 loop-holds : tie.Need-loop-holds Inv-loop μ-loop
 loop-holds c = gathering-start _ _ _ _ _ _ _ (c .before .pre .0) (c .before .pre .1)

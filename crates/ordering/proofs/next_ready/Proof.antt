@@ -3,12 +3,12 @@ use mathlib.Core.Logic.{⊎-elim}
 use mathlib.Core.Path.{sym, _∙_}
 use borrow.Author.Needs.{needs}
 use Prim.Native.Nat.{_-_}
-use Rattle.ordering.specs.SearchLaws.{Searching, Testing, searching-start, searching-past, searching-held, searching-end, testing-start, testing-next, testing-end}
+use Rattle.ordering.specs.SearchLaws.{Searching, TestingWords, searching-start, searching-past, searching-held, searching-end, testing-start, testing-next, testing-end}
 use Rattle.ordering.proofs.next_ready.Statement.{statement}
 use Rattle.ordering.proofs.next_ready.Tie as tie
 
 abbrev Inv-waits : tie.InvT-waits
-Inv-waits waits left from count p w₀ w = Testing waits left from count p w
+Inv-waits waits left from count p w₀ w = TestingWords waits left from count p w
 
 abbrev μ-waits : tie.MeasureT-waits
 μ-waits waits left from count p w₀ w = 4 - w

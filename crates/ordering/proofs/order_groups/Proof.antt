@@ -9,10 +9,10 @@ use Rattle.ordering.proofs.order_groups.Statement.{statement}
 use Rattle.ordering.proofs.order_groups.Tie as tie
 
 abbrev Inv-loop : tie.InvT-loop
-Inv-loop rows count needs conditions group joined order₀ waits left₀ k₀ from₀ order left k from = (done : List ℕ) × PlacingIn rows count needs group waits order₀ order left k from done
+Inv-loop quads count needs conditions group places order₀ waits left₀ k₀ from₀ order left k from = (done : List ℕ) × PlacingIn quads count needs group waits order₀ order left k from done
 
 abbrev μ-loop : tie.MeasureT-loop
-μ-loop rows count needs conditions group joined order₀ waits left₀ k₀ from₀ order left k from = (count - from) + (256 - k)
+μ-loop quads count needs conditions group places order₀ waits left₀ k₀ from₀ order left k from = (count - from) + (256 - k)
 
 slice-aggregate-find-waits : tie.Need-slice-aggregate-find-waits Inv-loop μ-loop
 slice-aggregate-find-waits c = refl

@@ -7,10 +7,10 @@ use Rattle.ordering.proofs.wait_arguments.Statement.{statement}
 use Rattle.ordering.proofs.wait_arguments.Tie as tie
 
 abbrev Inv-loop : tie.InvT-loop
-Inv-loop rows group p waits₀ i n k₀ waits k = Arguing rows group waits₀ i (4 * p .0) n waits k
+Inv-loop quads group p waits₀ i n k₀ waits k = Arguing quads group waits₀ i (4 * p .0) n waits k
 
 abbrev μ-loop : tie.MeasureT-loop
-μ-loop rows group p waits₀ i n k₀ waits k = n - k
+μ-loop quads group p waits₀ i n k₀ waits k = n - k
 
 loop-holds : tie.Need-loop-holds Inv-loop μ-loop
 loop-holds c = arguing-start _ _ _ _ _ _ (c .before .before .before .before .pre .0 .0) (omega (arith, c .before .before .before .before .pre .0 .1)) (c .arity-of .ensures) (c .before .before .before .before .pre .1 .0) (c .before .before .before .before .pre .1 .1)

@@ -3,13 +3,13 @@ use mathlib.Core.Logic.{⊎-elim}
 use Prim.Native.Nat.{_≤_, _-_}
 use native.Mathlib.Omega.{arith}
 use lib.Pow.{pow-mono}
-use Rattle.settings.proofs.Laws.{Sized, sized-start, sized-in, sized-out, sized-end}
+use Rattle.settings.proofs.Laws.{Doubled, sized-start, sized-in, sized-out, sized-end}
 use borrow.Author.Needs.{needs}
 use Rattle.settings.proofs.size.Statement.{statement}
 use Rattle.settings.proofs.size.Tie as tie
 
 abbrev Inv-loop : tie.InvT-loop
-Inv-loop on n₀ t₀ n t = (t ≤ 6) × Sized 6 on t n
+Inv-loop on n₀ t₀ n t = (t ≤ 6) × Doubled 6 on t n
 
 abbrev μ-loop : tie.MeasureT-loop
 μ-loop on n₀ t₀ n t = 6 - t

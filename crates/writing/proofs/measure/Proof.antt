@@ -6,10 +6,10 @@ use Rattle.writing.proofs.measure.Statement.{statement}
 use Rattle.writing.proofs.measure.Tie as tie
 
 abbrev Inv-loop : tie.InvT-loop
-Inv-loop plan rows needs joined order groups wires₀ bytes₀ cost₀ i₀ wires bytes cost i = Measuring plan rows needs joined order groups wires bytes cost i
+Inv-loop plan quads needs places order groups wires₀ bytes₀ cost₀ i₀ wires bytes cost i = Measuring plan quads needs places order groups wires bytes cost i
 
 abbrev μ-loop : tie.MeasureT-loop
-μ-loop plan rows needs joined order groups wires₀ bytes₀ cost₀ i₀ wires bytes cost i = groups - i
+μ-loop plan quads needs places order groups wires₀ bytes₀ cost₀ i₀ wires bytes cost i = groups - i
 
 loop-holds : tie.Need-loop-holds Inv-loop μ-loop
 loop-holds c = measuring-start _ _ _ _ _ _ (c .before .pre)

@@ -1,4 +1,4 @@
-use Rattle.writing.specs.LoopLaws.{Putting, putting-start, putting-fits, putting-room, putting-step, putting-same, putting-end}
+use Rattle.writing.specs.LoopLaws.{PuttingGroups, putting-start, putting-fits, putting-room, putting-step, putting-same, putting-end}
 use Rattle.writing.specs.TurnLaws.{turn-listed, turn-fits, turn-puttable}
 use lib.ListN.{length}
 use Prim.Native.Nat.{_≤_, _+_, _-_}
@@ -8,10 +8,10 @@ use Rattle.writing.proofs.put_records.Statement.{statement}
 use Rattle.writing.proofs.put_records.Tie as tie
 
 abbrev Inv-loop : tie.InvT-loop
-Inv-loop out₀ plan rows count needs conditions group joined order groups wires₀ at₀ n₀ i₀ out wires at n i = Putting plan rows count needs group joined order groups out out₀ wires at n i
+Inv-loop out₀ plan quads count needs conditions group places order groups wires₀ at₀ n₀ i₀ out wires at n i = PuttingGroups plan quads count needs group places order groups out out₀ wires at n i
 
 abbrev μ-loop : tie.MeasureT-loop
-μ-loop out₀ plan rows count needs conditions group joined order groups wires₀ at₀ n₀ i₀ out wires at n i = groups - i
+μ-loop out₀ plan quads count needs conditions group places order groups wires₀ at₀ n₀ i₀ out wires at n i = groups - i
 
 loop-holds : tie.Need-loop-holds Inv-loop μ-loop
 loop-holds c = putting-start _ _ _ _ _ _ _ _ _ _ (c .before .before .pre .0) (c .before .before .pre .1 .1)

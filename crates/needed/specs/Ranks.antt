@@ -15,28 +15,28 @@ next zero = 0
 next (suc t) = suc (suc t)
 
 -- t + 1 where g stands at place t of the list, 0 where it stands nowhere
-unfoldable pub placeIn : List ℕ → ℕ → ℕ
-placeIn [] g = 0
-placeIn (c ∷ cs) g = cond (eqb g c) 1 (next (placeIn cs g))
+unfoldable pub rankIn : List ℕ → ℕ → ℕ
+rankIn [] g = 0
+rankIn (c ∷ cs) g = cond (eqb g c) 1 (next (rankIn cs g))
 
 -- of gates 0 to n - 1: t + 1 for condition t, 0 for a gate that is none
-unfoldable pub placesOf : Gates → ℕ → List ℕ
-placesOf C n = map (placeIn (conditions C)) (upto n)
+unfoldable pub ranksOf : Gates → ℕ → List ℕ
+ranksOf C n = map (rankIn (conditions C)) (upto n)
 
 -- before they are numbered: 1 for a gate that stands first in a choice gate, else 0
 unfoldable pub markOf : Gates → ℕ → ℕ
 markOf C g = bitOf (elem g (heads C))
 
-pub record Marked (C : Gates) (places : List ℕ) : Type 0 where
-  pub size : length places ≡ 256
-  pub marks : (g : ℕ) → getD places g 0 ≡ markOf C g
+pub record Marked (C : Gates) (ranks : List ℕ) : Type 0 where
+  pub size : length ranks ≡ 256
+  pub marks : (g : ℕ) → getD ranks g 0 ≡ markOf C g
 
 -- the marked gates below n, rising
 unfoldable pub markedIn : List ℕ → ℕ → List ℕ
 markedIn marks n = keep (λ g. not (eqb (getD marks g 0) 0)) (upto n)
 
 -- the marked gates below n were numbered, the others stayed
-pub record Numbered (marks places : List ℕ) (n : ℕ) : Type 0 where
-  pub size : length places ≡ length marks
-  pub below : (g : ℕ) → g < n → getD places g 0 ≡ placeIn (markedIn marks n) g
-  pub above : (g : ℕ) → n ≤ g → getD places g 0 ≡ getD marks g 0
+pub record NumberedBelow (marks ranks : List ℕ) (n : ℕ) : Type 0 where
+  pub size : length ranks ≡ length marks
+  pub below : (g : ℕ) → g < n → getD ranks g 0 ≡ rankIn (markedIn marks n) g
+  pub above : (g : ℕ) → n ≤ g → getD ranks g 0 ≡ getD marks g 0

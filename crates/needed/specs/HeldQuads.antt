@@ -1,4 +1,4 @@
--- Rows that hold a circuit read back as that circuit: so what code gives for the gates of the rows it gives for the plain circuit of a rule.
+-- Quads that hold a circuit read back as that circuit: so what code gives for the gates of the quads it gives for the plain circuit of a rule.
 use Prim.Native.Nat.{ℕ, zero, suc, _+_, _*_, _≤_, _<_}
 use mathlib.Core.Path.{_≡_, refl, sym, ap, _∙_}
 use mathlib.Core.List.{List, [], _∷_}
@@ -6,7 +6,7 @@ use native.Mathlib.Nat.{add-zero}
 use native.Mathlib.Omega.{arith}
 use lib.ListN.{length, getD, take, length-append, List·getD-append}
 use lib.Seq.{getD-append-add, getD-take, take-suc, take-length}
-use Rattle.codes.specs.Codes.{rowOf, operationOf, codeOf, byteOf}
+use Rattle.codes.specs.Codes.{entryOf, operationOf, codeOf, byteOf}
 use Rattle.codes.specs.declared.Code.{Code}
 use Rattle.codes.specs.declared.Kind.{Kind}
 use Rattle.codes.specs.declared.Kind.the-variants as kind
@@ -17,34 +17,34 @@ use Rattle.reading.specs.Header.{kindAt}
 use Rattle.reading.specs.Tree.{Block}
 use Rattle.reading.specs.Rule.{readRule}
 use Rattle.gates.specs.Gates.{Gate, start, word, bit, operation, choice, Gates, gateAt}
-use Rattle.gates.specs.Rows.{startCode, fourOf, rowsOf}
+use Rattle.gates.specs.Quads.{startCode, quadOf, quadsOf}
 use Rattle.gates.specs.PlainCircuit.{gatesOf, gateCount}
 use Rattle.needed.specs.Held.{gateOf, gateIn, gatesIn, ShapedGate, Shaped}
 use Rattle.needed.specs.ShapedLaws.{rule-shaped}
 
 -- The numbers of gate i.
 
-four-length : (s : List ℕ) (g : Gate) → length (fourOf s g) ≡ 4
+four-length : (s : List ℕ) (g : Gate) → length (quadOf s g) ≡ 4
 four-length s (start x) = refl
 four-length s (word n) = refl
 four-length s (bit b) = refl
 four-length s (operation op l) = refl
 four-length s (choice c a b) = refl
 
-pub rows-length : (s : List ℕ) (C : Gates) → length (rowsOf s C) ≡ 4 * length C
-unfolding rowsOf
-rows-length s [] = refl
-rows-length s (g ∷ C) = rw (length-append, four-length s g, rows-length s C) (omega arith)
+pub quads-length : (s : List ℕ) (C : Gates) → length (quadsOf s C) ≡ 4 * length C
+unfolding quadsOf
+quads-length s [] = refl
+quads-length s (g ∷ C) = rw (length-append, four-length s g, quads-length s C) (omega arith)
 
-rows-at : (s : List ℕ) (C : Gates) (i k : ℕ) → i < length C → k < 4 → getD (rowsOf s C) (4 * i + k) 0 ≡ getD (fourOf s (gateAt C i)) k 0
-unfolding rowsOf
-rows-at s [] i k h l = absurd (omega arith)
-rows-at s (g ∷ C) zero k h l =
+quads-at : (s : List ℕ) (C : Gates) (i k : ℕ) → i < length C → k < 4 → getD (quadsOf s C) (4 * i + k) 0 ≡ getD (quadOf s (gateAt C i)) k 0
+unfolding quadsOf
+quads-at s [] i k h l = absurd (omega arith)
+quads-at s (g ∷ C) zero k h l =
     let e : 4 * 0 + k ≡ k = omega arith in
-    rw e (List·getD-append (fourOf s g) (rowsOf s C) 0 k (rw (four-length s g) l))
-rows-at s (g ∷ C) (suc i) k h l =
-    let e : 4 * suc i + k ≡ length (fourOf s g) + (4 * i + k) = rw (four-length s g) (omega arith) in
-    rw e (getD-append-add (fourOf s g) (rowsOf s C) (4 * i + k) 0 ∙ rows-at s C i k (omega arith) l)
+    rw e (List·getD-append (quadOf s g) (quadsOf s C) 0 k (rw (four-length s g) l))
+quads-at s (g ∷ C) (suc i) k h l =
+    let e : 4 * suc i + k ≡ length (quadOf s g) + (4 * i + k) = rw (four-length s g) (omega arith) in
+    rw e (getD-append-add (quadOf s g) (quadsOf s C) (4 * i + k) 0 ∙ quads-at s C i k (omega arith) l)
 
 -- Each gate reads back.
 
@@ -64,7 +64,7 @@ one-back op [] h = absurd (omega arith)
 one-back op (a ∷ []) h = refl
 one-back op (a ∷ b ∷ l) h = absurd (omega arith)
 
-operation-back : (op : Operation) (l : List ℕ) → length l ≡ rowOf op .arity → gateOf (byteOf op) (getD l 0 0) (getD l 1 0) 0 ≡ operation op l
+operation-back : (op : Operation) (l : List ℕ) → length l ≡ entryOf op .arity → gateOf (byteOf op) (getD l 0 0) (getD l 1 0) 0 ≡ operation op l
 unfolding gateOf codeOf operationOf
 operation-back Sum l h = pair-back Sum l h
 operation-back Difference l h = pair-back Difference l h
@@ -76,7 +76,7 @@ operation-back Or l h = pair-back Or l h
 operation-back Not l h = one-back Not l h
 
 -- the gate of a gate's four numbers
-gate-back : (s : List ℕ) (g : Gate) → ShapedGate g → gateOf (getD (fourOf s g) 0 0) (getD (fourOf s g) 1 0) (getD (fourOf s g) 2 0) (getD (fourOf s g) 3 0) ≡ g
+gate-back : (s : List ℕ) (g : Gate) → ShapedGate g → gateOf (getD (quadOf s g) 0 0) (getD (quadOf s g) 1 0) (getD (quadOf s g) 2 0) (getD (quadOf s g) 3 0) ≡ g
 unfolding gateOf codeOf
 gate-back s (start x) h = start-back (kindAt s x) x
 gate-back s (word n) h = refl
@@ -86,26 +86,26 @@ gate-back s (choice c a b) h = refl
 
 -- All of them.
 
-module _ (s rows : List ℕ) (C : Gates) (shaped : Shaped C) (held : take (4 * length C) rows ≡ rowsOf s C) where
-  pub number-at : (i k : ℕ) → i < length C → k < 4 → getD rows (4 * i + k) 0 ≡ getD (fourOf s (gateAt C i)) k 0
+module _ (s quads : List ℕ) (C : Gates) (shaped : Shaped C) (held : take (4 * length C) quads ≡ quadsOf s C) where
+  pub number-at : (i k : ℕ) → i < length C → k < 4 → getD quads (4 * i + k) 0 ≡ getD (quadOf s (gateAt C i)) k 0
   number-at i k h l =
-      sym (getD-take (4 * length C) rows (4 * i + k) 0 (omega arith)) ∙ ap (λ (r : List ℕ). getD r (4 * i + k) 0) held ∙ rows-at s C i k h l
+      sym (getD-take (4 * length C) quads (4 * i + k) 0 (omega arith)) ∙ ap (λ (r : List ℕ). getD r (4 * i + k) 0) held ∙ quads-at s C i k h l
 
-  pub gate-held : (i : ℕ) → i < length C → gateIn rows i ≡ gateAt C i
+  pub gate-held : (i : ℕ) → i < length C → gateIn quads i ≡ gateAt C i
   unfolding gateIn
   gate-held i h =
-      let zero-at : getD rows (4 * i) 0 ≡ getD (fourOf s (gateAt C i)) 0 0 = ap (λ (k : ℕ). getD rows k 0) (sym (add-zero (4 * i))) ∙ number-at i 0 h (omega arith) in
+      let zero-at : getD quads (4 * i) 0 ≡ getD (quadOf s (gateAt C i)) 0 0 = ap (λ (k : ℕ). getD quads k 0) (sym (add-zero (4 * i))) ∙ number-at i 0 h (omega arith) in
       rw (zero-at, number-at i 1 h (omega arith), number-at i 2 h (omega arith), number-at i 3 h (omega arith)) (gate-back s (gateAt C i) (shaped i))
 
-  first-held : (n : ℕ) → n ≤ length C → gatesIn rows n ≡ take n C
+  first-held : (n : ℕ) → n ≤ length C → gatesIn quads n ≡ take n C
   unfolding gatesIn
   first-held zero h = refl
   first-held (suc n) h = rw (first-held n (omega arith), gate-held n h) (sym (take-suc C n (word 0) h))
 
-  pub gates-held : gatesIn rows (length C) ≡ C
+  pub gates-held : gatesIn quads (length C) ≡ C
   gates-held = first-held (length C) (omega arith) ∙ take-length C
 
--- rows that hold a rule's plain circuit read back as it
-pub rule-held : (s : List ℕ) (b : Block) (n : ℕ) → readRule s ≡ parsed b n → (rows : List ℕ)
-    → take (4 * gateCount s) rows ≡ rowsOf s (gatesOf s) → gatesIn rows (gateCount s) ≡ gatesOf s
-rule-held s b n read rows held = gates-held s rows (gatesOf s) (rule-shaped s b n read) held
+-- quads that hold a rule's plain circuit read back as it
+pub rule-held : (s : List ℕ) (b : Block) (n : ℕ) → readRule s ≡ parsed b n → (quads : List ℕ)
+    → take (4 * gateCount s) quads ≡ quadsOf s (gatesOf s) → gatesIn quads (gateCount s) ≡ gatesOf s
+rule-held s b n read quads held = gates-held s quads (gatesOf s) (rule-shaped s b n read) held

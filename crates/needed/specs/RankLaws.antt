@@ -13,43 +13,43 @@ use borrow.Author.Tests.{eq-eqb, ne-eqb, eqb-true, eqb-false}
 use Rattle.words.specs.Lists.{_∈_, split, same?, keep, keep-from, from, upto, from-below, length-from, from-more, keep-more}
 use Rattle.settings.specs.ListLaws.{length-keep}
 use Rattle.gates.specs.Gates.{Gates, conditions}
-use Rattle.needed.specs.Places.{placeIn, placesOf, markedIn, Numbered}
+use Rattle.needed.specs.Ranks.{rankIn, ranksOf, markedIn, NumberedBelow}
 
 -- Where a gate stands.
 
-pub place-none : (l : List ℕ) (g : ℕ) → (g ∈ l → ⊥) → placeIn l g ≡ 0
-unfolding placeIn
-place-none [] g h = refl
-place-none (c ∷ l) g h = rw (ne-eqb g c (λ e. h (inl e)), place-none l g (λ m. h (inr m)))
+pub rank-none : (l : List ℕ) (g : ℕ) → (g ∈ l → ⊥) → rankIn l g ≡ 0
+unfolding rankIn
+rank-none [] g h = refl
+rank-none (c ∷ l) g h = rw (ne-eqb g c (λ e. h (inl e)), rank-none l g (λ m. h (inr m)))
 
-pub place-last : (l : List ℕ) (g : ℕ) → (g ∈ l → ⊥) → placeIn (l ++ (g ∷ [])) g ≡ suc (length l)
-unfolding placeIn
-place-last [] g h = rw (eq-eqb g g refl)
-place-last (c ∷ l) g h = rw (ne-eqb g c (λ e. h (inl e)), place-last l g (λ m. h (inr m)))
+pub rank-last : (l : List ℕ) (g : ℕ) → (g ∈ l → ⊥) → rankIn (l ++ (g ∷ [])) g ≡ suc (length l)
+unfolding rankIn
+rank-last [] g h = rw (eq-eqb g g refl)
+rank-last (c ∷ l) g h = rw (ne-eqb g c (λ e. h (inl e)), rank-last l g (λ m. h (inr m)))
 
-pub place-before : (l : List ℕ) (g h : ℕ) → (h ≡ g → ⊥) → placeIn (l ++ (g ∷ [])) h ≡ placeIn l h
-unfolding placeIn
-place-before [] g h n = rw (ne-eqb h g n)
-place-before (c ∷ l) g h n = rw (place-before l g h n)
+pub rank-before : (l : List ℕ) (g h : ℕ) → (h ≡ g → ⊥) → rankIn (l ++ (g ∷ [])) h ≡ rankIn l h
+unfolding rankIn
+rank-before [] g h n = rw (ne-eqb h g n)
+rank-before (c ∷ l) g h n = rw (rank-before l g h n)
 
 -- a gate of the list stands at a place below its length
 pub record Found (l : List ℕ) (g : ℕ) : Type 0 where
   pub at : ℕ
-  pub place : placeIn l g ≡ suc at
+  pub rank : rankIn l g ≡ suc at
   pub inside : at < length l
   pub same : getD l at 0 ≡ g
 
-pub place-found : (l : List ℕ) (g : ℕ) → g ∈ l → Found l g
-unfolding placeIn
-place-found [] g m = absurd m
-place-found (c ∷ l) g m = split (eqb g c) (λ e. record { at = 0; place = rw e; inside = omega arith; same = sym (eqb-true g c e) }) (λ e. later e (place-found l g (other e m)))
+pub rank-found : (l : List ℕ) (g : ℕ) → g ∈ l → Found l g
+unfolding rankIn
+rank-found [] g m = absurd m
+rank-found (c ∷ l) g m = split (eqb g c) (λ e. record { at = 0; rank = rw e; inside = omega arith; same = sym (eqb-true g c e) }) (λ e. later e (rank-found l g (other e m)))
   where
     other : eqb g c ≡ false → g ∈ (c ∷ l) → g ∈ l
     other e (inl f) = absurd (eqb-false g c e f)
     other e (inr k) = k
 
     later : eqb g c ≡ false → Found l g → Found (c ∷ l) g
-    later e f = record { at = suc (f .at); place = rw (e, f .place); inside = omega (arith, f .inside); same = f .same }
+    later e f = record { at = suc (f .at); rank = rw (e, f .rank); inside = omega (arith, f .inside); same = f .same }
 
 -- The numbers of all gates.
 
@@ -58,13 +58,13 @@ getD-run f i zero g h = absurd (omega arith)
 getD-run f i (suc n) zero h = ap f (sym (add-zero i))
 getD-run f i (suc n) (suc g) h = getD-run f (suc i) n g (omega arith) ∙ ap f (omega arith)
 
-pub place-at : (C : Gates) (n g : ℕ) → g < n → getD (placesOf C n) g 0 ≡ placeIn (conditions C) g
-unfolding placesOf
-place-at C n g h = getD-run (placeIn (conditions C)) 0 n g h ∙ ap (placeIn (conditions C)) (zero-add g)
+pub rank-at : (C : Gates) (n g : ℕ) → g < n → getD (ranksOf C n) g 0 ≡ rankIn (conditions C) g
+unfolding ranksOf
+rank-at C n g h = getD-run (rankIn (conditions C)) 0 n g h ∙ ap (rankIn (conditions C)) (zero-add g)
 
-pub places-length : (C : Gates) (n : ℕ) → length (placesOf C n) ≡ n
-unfolding placesOf
-places-length C n = length-map (upto n) (placeIn (conditions C)) ∙ length-from 0 n
+pub ranks-length : (C : Gates) (n : ℕ) → length (ranksOf C n) ≡ n
+unfolding ranksOf
+ranks-length C n = length-map (upto n) (rankIn (conditions C)) ∙ length-from 0 n
 
 -- Marked gates, one after the other.
 
@@ -92,12 +92,12 @@ marked-count marks n = rw (length-from 0 n) at (length-keep (λ g. not (eqb (get
 
 -- The loop that numbers them: what holds at gate g, t gates being numbered.
 
-pub record Numbering (marks places : List ℕ) (count g t : ℕ) : Type 0 where
+pub record Numbering (marks ranks : List ℕ) (count g t : ℕ) : Type 0 where
   pub low : g ≤ count
   pub room : count ≤ 256
   pub full : length marks ≡ 256
   pub count-so-far : t ≡ length (markedIn marks g)
-  pub numbered : Numbered marks places g
+  pub numbered : NumberedBelow marks ranks g
 
 pub numbering-start : (marks : List ℕ) (count : ℕ) → (count ≤ 256) × (length marks ≡ 256) → Numbering marks marks count 0 0
 unfolding markedIn
@@ -110,41 +110,41 @@ numbering-start marks count p =
       numbered = record { size = refl; below = λ g h. absurd (omega arith); above = λ g h. refl };
     }
 
-pub numbering-fits : (marks places : List ℕ) (count g t : ℕ) → Numbering marks places count g t → t ≤ 256
-numbering-fits marks places count g t n = omega (arith, n .low, n .room, n .count-so-far, marked-count marks g)
+pub numbering-fits : (marks ranks : List ℕ) (count g t : ℕ) → Numbering marks ranks count g t → t ≤ 256
+numbering-fits marks ranks count g t n = omega (arith, n .low, n .room, n .count-so-far, marked-count marks g)
 
 more : (k : ℕ) → k + 1 ≡ suc k
 more k = omega arith
 
-pub numbering-one : (marks places new : List ℕ) (count g t u : ℕ) → Numbering marks places count g t → g < count → (getD places g 0 ≡ 0 → ⊥)
-    → new ≡ set places g (t + 1) → u ≡ t + 1 → Numbering marks new count (g + 1) u
-numbering-one marks places new count g t u n l h q r =
+pub numbering-one : (marks ranks new : List ℕ) (count g t u : ℕ) → Numbering marks ranks count g t → g < count → (getD ranks g 0 ≡ 0 → ⊥)
+    → new ≡ set ranks g (t + 1) → u ≡ t + 1 → Numbering marks new count (g + 1) u
+numbering-one marks ranks new count g t u n l h q r =
     rw (q, r) (record {
       low = omega arith;
       room = n .room;
       full = n .full;
       count-so-far = rw (more g, one, length-append) (omega (arith, n .count-so-far));
       numbered = record {
-        size = length-set places g (t + 1) ∙ n .numbered .size;
+        size = length-set ranks g (t + 1) ∙ n .numbered .size;
         below = λ k b. rw (more g, one) (below k (omega arith) (same? k g));
-        above = λ k b. getD-set-other places g k (t + 1) 0 (λ e. omega arith) ∙ n .numbered .above k (omega arith);
+        above = λ k b. getD-set-other ranks g k (t + 1) 0 (λ e. omega arith) ∙ n .numbered .above k (omega arith);
       };
     })
   where
     one : markedIn marks (suc g) ≡ markedIn marks g ++ (g ∷ [])
     one = marked-one marks g (λ e. h (n .numbered .above g (omega arith) ∙ e))
 
-    inside : g < length places
+    inside : g < length ranks
     inside = rw (n .numbered .size, n .full) (omega (arith, n .room))
 
-    below : (k : ℕ) → k < suc g → (k ≡ g) ⊎ (k ≡ g → ⊥) → getD (set places g (t + 1)) k 0 ≡ placeIn (markedIn marks g ++ (g ∷ [])) k
+    below : (k : ℕ) → k < suc g → (k ≡ g) ⊎ (k ≡ g → ⊥) → getD (set ranks g (t + 1)) k 0 ≡ rankIn (markedIn marks g ++ (g ∷ [])) k
     below k b (inl e) =
-        rw (e, getD-set-same places g (t + 1) 0 inside, place-last (markedIn marks g) g (λ m. omega (arith, marked-below marks g g m)), n .count-so-far) (omega arith)
-    below k b (inr m) = rw (getD-set-other places g k (t + 1) 0 m, place-before (markedIn marks g) g k m) (n .numbered .below k (omega arith))
+        rw (e, getD-set-same ranks g (t + 1) 0 inside, rank-last (markedIn marks g) g (λ m. omega (arith, marked-below marks g g m)), n .count-so-far) (omega arith)
+    below k b (inr m) = rw (getD-set-other ranks g k (t + 1) 0 m, rank-before (markedIn marks g) g k m) (n .numbered .below k (omega arith))
 
-pub numbering-none : (marks places new : List ℕ) (count g t u : ℕ) → Numbering marks places count g t → g < count → getD places g 0 ≡ 0
-    → new ≡ places → u ≡ t → Numbering marks new count (g + 1) u
-numbering-none marks places new count g t u n l h q r =
+pub numbering-none : (marks ranks new : List ℕ) (count g t u : ℕ) → Numbering marks ranks count g t → g < count → getD ranks g 0 ≡ 0
+    → new ≡ ranks → u ≡ t → Numbering marks new count (g + 1) u
+numbering-none marks ranks new count g t u n l h q r =
     let none : markedIn marks (g + 1) ≡ markedIn marks g =
     ap (markedIn marks) (more g) ∙ marked-none marks g (sym (n .numbered .above g (omega arith)) ∙ h) ∙ append-nil (markedIn marks g) in
     rw (q, r) (record {
@@ -155,10 +155,10 @@ numbering-none marks places new count g t u n l h q r =
       numbered = record { size = n .numbered .size; below = λ k b. rw none (below k b (same? k g)); above = λ k b. n .numbered .above k (omega arith) };
     })
   where
-    below : (k : ℕ) → k < g + 1 → (k ≡ g) ⊎ (k ≡ g → ⊥) → getD places k 0 ≡ placeIn (markedIn marks g) k
-    below k b (inl e) = rw (e, place-none (markedIn marks g) g (λ m. omega (arith, marked-below marks g g m))) h
+    below : (k : ℕ) → k < g + 1 → (k ≡ g) ⊎ (k ≡ g → ⊥) → getD ranks k 0 ≡ rankIn (markedIn marks g) k
+    below k b (inl e) = rw (e, rank-none (markedIn marks g) g (λ m. omega (arith, marked-below marks g g m))) h
     below k b (inr m) = n .numbered .below k (omega arith)
 
-pub numbering-end : (marks places : List ℕ) (count g t r : ℕ) → Numbering marks places count g t → count ≤ g → r ≡ t
-    → (r ≡ length (markedIn marks count)) × Numbered marks places count
-numbering-end marks places count g t r n l q = let e : count ≡ g = omega (arith, n .low) in rw e (q ∙ n .count-so-far, n .numbered)
+pub numbering-end : (marks ranks : List ℕ) (count g t r : ℕ) → Numbering marks ranks count g t → count ≤ g → r ≡ t
+    → (r ≡ length (markedIn marks count)) × NumberedBelow marks ranks count
+numbering-end marks ranks count g t r n l q = let e : count ≡ g = omega (arith, n .low) in rw e (q ∙ n .count-so-far, n .numbered)

@@ -1,4 +1,4 @@
--- Laws of the plain circuit shown. Assumes nothing.
+-- Laws of the plain circuit built. Assumes nothing.
 use Prim.Native.Nat.{ℕ, zero, suc, _-_, _*_, _≤_}
 use native.Mathlib.Omega.{arith}
 use mathlib.Core.Path.{_≡_, sym, ap, subst⁻¹, _∙_}
@@ -16,34 +16,34 @@ use Rattle.gates.specs.Limits.{mostGates, mostConditions}
 use Rattle.gates.specs.Gates.{conditions}
 use Rattle.gates.specs.PlainCircuit.{gatesOf, outputsOf, gateCount}
 use Rattle.gates.specs.EarlierLaws.{Inside}
-use Rattle.gates.specs.Rows.{rowsOf}
+use Rattle.gates.specs.Quads.{quadsOf}
 use Rattle.making.specs.RuleMade.{RuleMade}
 use Rattle.needed.specs.Pass.{preconditionSets, rulePreconditions}
 use Rattle.needed.specs.Held.{gatesIn}
-use Rattle.needed.specs.HeldRows.{rule-held}
-use Rattle.needed.specs.Places.{placesOf, markedIn}
+use Rattle.needed.specs.HeldQuads.{rule-held}
+use Rattle.needed.specs.Ranks.{ranksOf, markedIn}
 use Rattle.needed.specs.GatherLaws.{conditions-gathered}
 use Rattle.needed.specs.Passing.{Passable}
 use Rattle.needed.specs.PassingLaws.{sets-length}
-use Rattle.needed.specs.RuleRows.{rows-passable, rows-wanted, rows-preconditions}
+use Rattle.needed.specs.RuleQuads.{quads-passable, quads-wanted, quads-preconditions}
 use Rattle.circuit.specs.Whole.{ruleAnswer}
 use Rattle.circuit.specs.WholeLaws.{Accepted}
-use Rattle.circuit.specs.Shown.{padded, ifAccepted, shownRows, shownNeeds, shownOutputs, shownConditions}
-use Rattle.circuit.specs.Making.{Ready}
+use Rattle.circuit.specs.Built.{padded, ifAccepted, builtQuads, builtNeeds, builtOutputs, builtConditions}
+use Rattle.circuit.specs.Making.{MadeWhole}
 
--- a refused rule shows nothing, an accepted one the list
+-- of a refused rule nothing is built, of an accepted one the list
 pub refused-shows : (s : List ℕ) → (ruleAnswer s .number ≡ 0 → ⊥) → (l : List ℕ) → ifAccepted s l ≡ []
 unfolding ifAccepted
 refused-shows s h l = rw (ne-eqb (ruleAnswer s .number) 0 h)
 
-pub accepted-shows : (s : List ℕ) → ruleAnswer s .number ≡ 0 → (l : List ℕ) → ifAccepted s l ≡ l
+pub accepted-builds : (s : List ℕ) → ruleAnswer s .number ≡ 0 → (l : List ℕ) → ifAccepted s l ≡ l
 unfolding ifAccepted
-accepted-shows s h l = rw (eq-eqb (ruleAnswer s .number) 0 h)
+accepted-builds s h l = rw (eq-eqb (ruleAnswer s .number) 0 h)
 
-pub shown-nothing : (s : List ℕ) (a answer : Answer) (rows needs outputs conds : List ℕ) → a ≡ ruleAnswer s → (a .number ≡ 0 → ⊥)
-    → (answer ≡ a) × ((rows ≡ replicate 1024 0) × ((needs ≡ replicate 256 0) × ((outputs ≡ replicate 32 0) × (conds ≡ replicate 6 0))))
-    → (answer ≡ ruleAnswer s) × ((rows ≡ shownRows s) × ((needs ≡ shownNeeds s) × ((outputs ≡ shownOutputs s) × (conds ≡ shownConditions s))))
-shown-nothing s a answer rows needs outputs conds e h r =
+pub built-nothing : (s : List ℕ) (a answer : Answer) (quads needs outputs conds : List ℕ) → a ≡ ruleAnswer s → (a .number ≡ 0 → ⊥)
+    → (answer ≡ a) × ((quads ≡ replicate 1024 0) × ((needs ≡ replicate 256 0) × ((outputs ≡ replicate 32 0) × (conds ≡ replicate 6 0))))
+    → (answer ≡ ruleAnswer s) × ((quads ≡ builtQuads s) × ((needs ≡ builtNeeds s) × ((outputs ≡ builtOutputs s) × (conds ≡ builtConditions s))))
+built-nothing s a answer quads needs outputs conds e h r =
     let n = refused-shows s (λ z. h (ap (λ (b : Answer). b .number) e ∙ z)) in
     (r .0 ∙ e, (r .1 .0 ∙ rw n, (r .1 .1 .0 ∙ rw n, (r .1 .1 .1 .0 ∙ rw n, r .1 .1 .1 .1 ∙ rw n))))
 
@@ -57,12 +57,12 @@ pub over-zeros : (l : List ℕ) (n : ℕ) → over l (replicate n 0) ≡ padded 
 unfolding over
 over-zeros l n = ap (λ (z : List ℕ). l ++ z) (drop-same 0 (length l) n)
 
--- what is shown of a rule whose circuit is made
-module _ (s rows present places : List ℕ) (count : ℕ) (ready : Ready s rows present places count) where
+-- what is built of a rule whose circuit is made
+module _ (s quads present ranks : List ℕ) (count : ℕ) (ready : MadeWhole s quads present ranks count) where
   acc : Accepted s
   acc = ready .accepted
 
-  made : RuleMade s rows present count
+  made : RuleMade s quads present count
   made = ready .made
 
   counted : count ≡ gateCount s
@@ -74,34 +74,34 @@ module _ (s rows present places : List ℕ) (count : ℕ) (ready : Ready s rows 
   pub ready-variables : variables s ≤ mostVariables
   ready-variables = rule-read s (acc .read) .header .few
 
-  placed : places ≡ placesOf (gatesIn rows (gateCount s)) mostGates
-  placed = ready .placed ready-room ∙ ap (λ (n : ℕ). placesOf (gatesIn rows n) mostGates) counted
+  placed : ranks ≡ ranksOf (gatesIn quads (gateCount s)) mostGates
+  placed = ready .placed ready-room ∙ ap (λ (n : ℕ). ranksOf (gatesIn quads n) mostGates) counted
 
-  held : take (4 * gateCount s) rows ≡ rowsOf s (gatesOf s)
-  held = ap (λ (n : ℕ). take (4 * n) rows) (sym counted) ∙ made .lie (acc .gates)
+  held : take (4 * gateCount s) quads ≡ quadsOf s (gatesOf s)
+  held = ap (λ (n : ℕ). take (4 * n) quads) (sym counted) ∙ made .lie (acc .gates)
 
-  pub ready-passable : Passable rows places count
+  pub ready-passable : Passable quads ranks count
   ready-passable =
       let r = is-read (readRule s) (acc .read) in
-      subst⁻¹ (Passable rows places) counted (rows-passable s (r .0) (r .1) (r .2) rows held places (acc .gates) (acc .conds) placed)
+      subst⁻¹ (Passable quads ranks) counted (quads-passable s (r .0) (r .1) (r .2) quads held ranks (acc .gates) (acc .conds) placed)
 
   pub ready-wanted : Inside count (take (variables s) present)
   ready-wanted =
       let r = is-read (readRule s) (acc .read) in
-      subst⁻¹ (λ (n : ℕ). Inside n (take (variables s) present)) counted (rows-wanted s (r .0) (r .1) (r .2) rows held (take (variables s) present) (made .outputs (acc .gates)))
+      subst⁻¹ (λ (n : ℕ). Inside n (take (variables s) present)) counted (quads-wanted s (r .0) (r .1) (r .2) quads held (take (variables s) present) (made .outputs (acc .gates)))
 
   -- the conditions' gates are those that have a number
-  same-conditions : markedIn places count ≡ conditions (gatesOf s)
+  same-conditions : markedIn ranks count ≡ conditions (gatesOf s)
   same-conditions =
       let r = is-read (readRule s) (acc .read) in
-      conditions-gathered rows places count ready-room (ready .placed ready-room)
-      ∙ ap (λ (n : ℕ). conditions (gatesIn rows n)) counted ∙ ap conditions (rule-held s (r .0) (r .1) (r .2) rows held)
+      conditions-gathered quads ranks count ready-room (ready .placed ready-room)
+      ∙ ap (λ (n : ℕ). conditions (gatesIn quads n)) counted ∙ ap conditions (rule-held s (r .0) (r .1) (r .2) quads held)
 
-  pub ready-few : (count ≤ mostGates) × (length (markedIn places count) ≤ mostConditions)
+  pub ready-few : (count ≤ mostGates) × (length (markedIn ranks count) ≤ mostConditions)
   ready-few = (ready-room, rw same-conditions (acc .conds))
 
   accepted-is : (l : List ℕ) → ifAccepted s l ≡ l
-  accepted-is = accepted-shows s (ap (λ (b : Answer). b .number) (acc .answer))
+  accepted-is = accepted-builds s (ap (λ (b : Answer). b .number) (acc .answer))
 
   -- numbers copied to the start of zeros
   copied : (from l shown : List ℕ) (n size : ℕ) → take n from ≡ l → shown ≡ over (take (n - 0) (drop 0 from)) (replicate size 0) → shown ≡ padded size (ifAccepted s l)
@@ -110,23 +110,23 @@ module _ (s rows present places : List ℕ) (count : ℕ) (ready : Ready s rows 
       e ∙ ap (λ (m : ℕ). over (take m from) (replicate size 0)) z ∙ ap (λ (k : List ℕ). over k (replicate size 0)) q
       ∙ over-zeros l size ∙ ap (padded size) (sym (accepted-is l))
 
-  pub ready-rows : (shown : List ℕ) → shown ≡ over (take (4 * count - 0) (drop 0 rows)) (replicate 1024 0) → shown ≡ shownRows s
-  ready-rows shown e = copied rows (rowsOf s (gatesOf s)) shown (4 * count) 1024 (made .lie (acc .gates)) e
+  pub ready-quads : (shown : List ℕ) → shown ≡ over (take (4 * count - 0) (drop 0 quads)) (replicate 1024 0) → shown ≡ builtQuads s
+  ready-quads shown e = copied quads (quadsOf s (gatesOf s)) shown (4 * count) 1024 (made .lie (acc .gates)) e
 
-  pub ready-outputs : (shown : List ℕ) → shown ≡ over (take (variables s - 0) (drop 0 present)) (replicate 32 0) → shown ≡ shownOutputs s
+  pub ready-outputs : (shown : List ℕ) → shown ≡ over (take (variables s - 0) (drop 0 present)) (replicate 32 0) → shown ≡ builtOutputs s
   ready-outputs shown e = copied present (outputsOf s) shown (variables s) 32 (made .outputs (acc .gates)) e
 
-  pub ready-conditions : (shown : List ℕ) → shown ≡ over (markedIn places count) (replicate mostConditions 0) → shown ≡ shownConditions s
+  pub ready-conditions : (shown : List ℕ) → shown ≡ over (markedIn ranks count) (replicate mostConditions 0) → shown ≡ builtConditions s
   ready-conditions shown e =
       e ∙ ap (λ (l : List ℕ). over l (replicate mostConditions 0)) same-conditions
       ∙ over-zeros (conditions (gatesOf s)) mostConditions ∙ ap (padded mostConditions) (sym (accepted-is (conditions (gatesOf s))))
 
-  pub ready-needs : (needs : List ℕ) → needs ≡ preconditionSets mostConditions (gatesIn rows count) (take (variables s) present) ++ replicate (mostGates - count) 0 → needs ≡ shownNeeds s
+  pub ready-needs : (needs : List ℕ) → needs ≡ preconditionSets mostConditions (gatesIn quads count) (take (variables s) present) ++ replicate (mostGates - count) 0 → needs ≡ builtNeeds s
   ready-needs needs e =
       let r = is-read (readRule s) (acc .read) in
-      let sets : preconditionSets mostConditions (gatesIn rows count) (take (variables s) present) ≡ rulePreconditions s
-      = ap (λ (n : ℕ). preconditionSets mostConditions (gatesIn rows n) (take (variables s) present)) counted
-      ∙ rows-preconditions s (r .0) (r .1) (r .2) rows held (take (variables s) present) (made .outputs (acc .gates)) in
+      let sets : preconditionSets mostConditions (gatesIn quads count) (take (variables s) present) ≡ rulePreconditions s
+      = ap (λ (n : ℕ). preconditionSets mostConditions (gatesIn quads n) (take (variables s) present)) counted
+      ∙ quads-preconditions s (r .0) (r .1) (r .2) quads held (take (variables s) present) (made .outputs (acc .gates)) in
       e ∙ ap (λ (l : List ℕ). l ++ replicate (mostGates - count) 0) sets
       ∙ ap (λ (n : ℕ). rulePreconditions s ++ replicate (mostGates - n) 0) (counted ∙ sym (sets-length mostConditions (gatesOf s) (outputsOf s)))
       ∙ ap (padded mostGates) (sym (accepted-is (rulePreconditions s)))

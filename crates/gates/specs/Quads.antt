@@ -17,14 +17,14 @@ startCode kind.Word = 0x00
 startCode kind.Bit = 0x01
 
 -- the four numbers of a gate; s is the rule, for the kind of a starting value
-abbrev pub fourOf : List ℕ → Gate → List ℕ
-fourOf s (start x) = startCode (kindAt s x) ∷ x ∷ 0 ∷ 0 ∷ []
-fourOf s (gate.word n) = 0x11 ∷ n ∷ 0 ∷ 0 ∷ []
-fourOf s (gate.bit b) = 0x12 ∷ b ∷ 0 ∷ 0 ∷ []
-fourOf s (operation op l) = byteOf op ∷ getD l 0 0 ∷ getD l 1 0 ∷ 0 ∷ []
-fourOf s (choice c a b) = 0x30 ∷ c ∷ a ∷ b ∷ []
+abbrev pub quadOf : List ℕ → Gate → List ℕ
+quadOf s (start x) = startCode (kindAt s x) ∷ x ∷ 0 ∷ 0 ∷ []
+quadOf s (gate.word n) = 0x11 ∷ n ∷ 0 ∷ 0 ∷ []
+quadOf s (gate.bit b) = 0x12 ∷ b ∷ 0 ∷ 0 ∷ []
+quadOf s (operation op l) = byteOf op ∷ getD l 0 0 ∷ getD l 1 0 ∷ 0 ∷ []
+quadOf s (choice c a b) = 0x30 ∷ c ∷ a ∷ b ∷ []
 
 -- those of all gates, in order of making
-unfoldable pub rowsOf : List ℕ → Gates → List ℕ
-rowsOf s [] = []
-rowsOf s (k ∷ C) = fourOf s k ++ rowsOf s C
+unfoldable pub quadsOf : List ℕ → Gates → List ℕ
+quadsOf s [] = []
+quadsOf s (k ∷ C) = quadOf s k ++ quadsOf s C

@@ -1,14 +1,14 @@
 use borrow.Author.Needs.{needs}
 use mathlib.Core.Path.{_∙_}
 use Rattle.needed.specs.HeldLaws.{code-above}
-use Rattle.needed.proofs.row.Statement.{statement}
-use Rattle.needed.proofs.row.Tie as tie
+use Rattle.needed.proofs.code_entry.Statement.{statement}
+use Rattle.needed.proofs.code_entry.Tie as tie
 
 returns-2 : tie.Need-returns-2
 returns-2 c = c .code-of2 .ensures ∙ code-above _ (c .before .if1 .left)
 
-pub row-spec : {M : Type 1} → statement M
-row-spec =
+pub code-entry-spec : {M : Type 1} → statement M
+code-entry-spec =
     tie.close
     (tie.spec
     (λ c. search needs)

@@ -1,0 +1,95 @@
+-- What is built of an accepted rule, part by part: its gates, their preconditions, its conditions and its outputs. Assumes nothing.
+use Prim.Native.Nat.{ℕ, zero, suc, _-_, _*_, _<_, _≤_}
+use native.Mathlib.Omega.{arith}
+use mathlib.Core.Path.{_≡_, refl, ap, _∙_}
+use mathlib.Core.List.{List, [], _∷_, _++_}
+use lib.ListN.{length, getD, take, replicate, length-append, length-replicate}
+use lib.Seq.{take-at}
+use Rattle.words.specs.Lists.{getD-in}
+use Rattle.answers.specs.ParsingLaws.{is-read}
+use Rattle.answers.specs.declared.Answer.{Answer}
+use Rattle.reading.specs.Limits.{mostVariables}
+use Rattle.reading.specs.Header.{variables}
+use Rattle.reading.specs.Rule.{readRule}
+use Rattle.reading.specs.FirstStatement.{rule-read}
+use Rattle.gates.specs.Limits.{mostGates, mostConditions}
+use Rattle.gates.specs.Gates.{Earlier, conditions}
+use Rattle.gates.specs.PlainCircuit.{plainCircuit, gatesOf, outputsOf, gateCount}
+use Rattle.gates.specs.EarlierLaws.{Inside}
+use Rattle.gates.specs.SoundLaws.{Sound}
+use Rattle.gates.specs.StartLaws.{plain-sound}
+use Rattle.gates.specs.Quads.{quadsOf}
+use Rattle.needed.specs.Pass.{rulePreconditions}
+use Rattle.needed.specs.Held.{gatesIn}
+use Rattle.needed.specs.HeldQuads.{quads-length, rule-held}
+use Rattle.needed.specs.MarkSteps.{getD-zeros}
+use Rattle.circuit.specs.Whole.{ruleAnswer}
+use Rattle.circuit.specs.WholeLaws.{Accepted, accepted}
+use Rattle.circuit.specs.Built.{padded, ifAccepted, builtQuads, builtNeeds, builtOutputs, builtConditions}
+use Rattle.circuit.specs.BuiltLaws.{accepted-builds}
+
+zeros-after : (l : List ℕ) (n i : ℕ) → getD (l ++ replicate n 0) i 0 ≡ getD l i 0
+zeros-after [] n i = getD-zeros n i
+zeros-after (a ∷ l) n zero = refl
+zeros-after (a ∷ l) n (suc i) = zeros-after l n i
+
+-- zeros after a list change no element that is read
+pub padded-at : (room : ℕ) (l : List ℕ) (i : ℕ) → getD (padded room l) i 0 ≡ getD l i 0
+padded-at room l i = zeros-after l (room - length l) i
+
+pub padded-length : (room : ℕ) (l : List ℕ) → length l ≤ room → length (padded room l) ≡ room
+padded-length room l h = rw (length-append, length-replicate {A = ℕ} (room - length l) 0) (omega arith)
+
+-- an accepted rule
+module _ (s : List ℕ) (h : ruleAnswer s .number ≡ 0) where
+  acc : Accepted s
+  acc = accepted s h
+
+  sound : Sound (variables s) (plainCircuit s)
+  sound = let r = is-read (readRule s) (acc .read) in plain-sound s (r .0) (r .1) (r .2)
+
+  part-at : (room : ℕ) (l : List ℕ) (i : ℕ) → getD (padded room (ifAccepted s l)) i 0 ≡ getD l i 0
+  part-at room l i = padded-at room (ifAccepted s l) i ∙ ap (λ (k : List ℕ). getD k i 0) (accepted-builds s h l)
+
+  -- its limits
+  pub built-count : ruleAnswer s .gates ≡ gateCount s
+  built-count = ap (λ (a : Answer). a .gates) (acc .answer)
+
+  pub built-room : gateCount s ≤ mostGates
+  built-room = acc .gates
+
+  -- its gates
+  pub built-gates : gatesIn (builtQuads s) (gateCount s) ≡ gatesOf s
+  built-gates =
+      let r = is-read (readRule s) (acc .read) in
+      let l = quadsOf s (gatesOf s) in
+      rule-held s (r .0) (r .1) (r .2) (builtQuads s)
+      (ap (λ (k : List ℕ). take (4 * gateCount s) (padded 1024 k)) (accepted-builds s h l)
+      ∙ take-at l (replicate (1024 - length l) 0) (4 * gateCount s) (quads-length s (gatesOf s)))
+
+  pub built-earlier : Earlier (gatesOf s)
+  built-earlier = sound .earlier
+
+  -- gate g's precondition
+  pub built-need : (g : ℕ) → getD (builtNeeds s) g 0 ≡ getD (rulePreconditions s) g 0
+  built-need g = part-at mostGates (rulePreconditions s) g
+
+  -- condition t's gate
+  pub built-condition : (t : ℕ) → getD (builtConditions s) t 0 ≡ getD (conditions (gatesOf s)) t 0
+  built-condition t = part-at mostConditions (conditions (gatesOf s)) t
+
+  -- variable x's last gate
+  pub built-output : (x : ℕ) → getD (builtOutputs s) x 0 ≡ getD (outputsOf s) x 0
+  built-output x = part-at mostVariables (outputsOf s) x
+
+  pub built-outputs-length : length (outputsOf s) ≡ variables s
+  built-outputs-length = sound .count
+
+  pub built-outputs-inside : Inside (gateCount s) (outputsOf s)
+  built-outputs-inside = sound .inside
+
+  pub built-output-inside : (x : ℕ) → x < variables s → getD (builtOutputs s) x 0 < gateCount s
+  built-output-inside x l = rw (built-output x) (built-outputs-inside (getD (outputsOf s) x 0) (getD-in (outputsOf s) x (rw built-outputs-length l)))
+
+  pub built-variables : variables s ≤ mostVariables
+  built-variables = rule-read s (acc .read) .header .few
