@@ -49,17 +49,17 @@ bytes-refused : (m : Parsed Block) (whole : Answer) → (answerOf (stepOf m) .nu
 bytes-refused (parsed b n) whole h = absurd (h refl)
 bytes-refused (refused k p) whole h = refl
 
-bytes-read : (m : Parsed Block) → ByteRows m → answerOf (stepOf m) .number ≡ 0 → IsRead m
-bytes-read (parsed b n) r h = tt
-bytes-read (refused k p) r h = absurd (omega arith)
+bytes-read : (s : List ℕ) (m : Parsed Block) → ByteRows s m → answerOf (stepOf m) .number ≡ 0 → IsRead m
+bytes-read s (parsed b n) r h = tt
+bytes-read s (refused k p) r h = absurd (omega (arith, r .least))
 
 bytes-whole : (m : Parsed Block) (whole : Answer) → IsRead m → afterBytes (stepOf m) whole ≡ whole
 bytes-whole (parsed b n) whole h = refl
 bytes-whole (refused k p) whole h = absurd h
 
-bytes-zero : (m : Parsed Block) (whole : Answer) → ByteRows m → afterBytes (stepOf m) whole .number ≡ 0 → IsRead m
-bytes-zero (parsed b n) whole r h = tt
-bytes-zero (refused k p) whole r h = absurd (omega arith)
+bytes-zero : (s : List ℕ) (m : Parsed Block) (whole : Answer) → ByteRows s m → afterBytes (stepOf m) whole .number ≡ 0 → IsRead m
+bytes-zero s (parsed b n) whole r h = tt
+bytes-zero s (refused k p) whole r h = absurd (omega (arith, r .least))
 
 module _ (s : List ℕ) (a : Answer) (e : a ≡ answerOf (stepOf (readRule s))) where
   -- a refusal byte by byte is the rule's answer
@@ -68,7 +68,7 @@ module _ (s : List ℕ) (a : Answer) (e : a ≡ answerOf (stepOf (readRule s))) 
   answer-refused h = e ∙ bytes-refused (readRule s) _ (λ z. h (ap (λ (b : Answer). b .number) e ∙ z))
 
   pub answer-read : a .number ≡ 0 → IsRead (readRule s)
-  answer-read h = bytes-read (readRule s) (rule-rows s) (ap (λ (b : Answer). b .number) (sym e) ∙ h)
+  answer-read h = bytes-read s (readRule s) (rule-rows s) (ap (λ (b : Answer). b .number) (sym e) ∙ h)
 
 -- a rule that was read is answered by what it is, read whole
 pub answer-whole : (s : List ℕ) → IsRead (readRule s) → ruleAnswer s ≡ wholeWithin mostGates mostConditions (gatesOf s) (length s)
@@ -85,7 +85,7 @@ pub record Accepted (s : List ℕ) : Type 0 where
 pub accepted : (s : List ℕ) → ruleAnswer s .number ≡ 0 → Accepted s
 unfolding ruleAnswer
 accepted s h =
-    let r = bytes-zero (readRule s) _ (rule-rows s) h in
+    let r = bytes-zero s (readRule s) _ (rule-rows s) h in
     let w = whole-within mostGates mostConditions (gatesOf s) (length s) (ap (λ (b : Answer). b .number) (sym (answer-whole s r)) ∙ h) in
     record {
       read = r;

@@ -1,18 +1,20 @@
--- Every refusal of reading is a row of document 01's table: its number is 1 to 9. Assumes nothing.
-use Prim.Native.Nat.{ℕ, zero, suc, _+_, _-_, _≤_}
+-- Laws of refusals byte by byte: each is a row of document 01's table, its number 1 to 9 and its place where that row lies. Assumes nothing.
+use Prim.Native.Nat.{ℕ, zero, suc, _+_, _-_, _≤_, _<_}
 use native.Mathlib.Omega.{arith}
-use mathlib.Core.Path.{_≡_, subst}
+use mathlib.Core.Path.{_≡_, refl, sym, ap, subst}
 use mathlib.Core.List.{List, [], _∷_}
-use mathlib.Core.Bool.{Bool, true, false}
+use mathlib.Core.Bool.{Bool, true, false, _&&_, and-eq-true-iff}
 use lib.ListN.{length, getD}
 use lib.Dec.{ltb, leb, eqb}
+use borrow.Author.Tests.{ltb-true, leb-true, leb-false}
 use Rattle.codes.specs.Codes.{codeOf, entryOf, sameKind}
 use Rattle.codes.specs.declared.Kind.{Kind}
 use Rattle.codes.specs.declared.Kind.the-variants as kind
 use Rattle.codes.specs.declared.Operation.{Operation}
 use Rattle.codes.specs.declared.Form.{Form}
 use Rattle.codes.specs.declared.Form.the-variants.{End, Assign, Skip, Branch, Variable, Word, Bit, Apply, Unknown}
-use Rattle.answers.specs.Parsing.{Parsed, parsed, refused, unless, _>>=_, readMark}
+use Rattle.answers.specs.Parsing.{Parsed, parsed, refused, stepOf, unless, _>>=_, readMark}
+use Rattle.answers.specs.ParsingLaws.{mark-past}
 use Rattle.reading.specs.Limits.{leastBytes, mostBytes, mostVariables, lastKind, deepest, nested}
 use Rattle.reading.specs.Header.{mark, variables, kindAt, readCount, readKinds, readHeader}
 use Rattle.reading.specs.Tree.{Expr, Block}
@@ -20,150 +22,180 @@ use Rattle.reading.specs.Expressions.{readVariable, readWord, readBit, s
 use Rattle.reading.specs.Blocks.{readAssign, branchWith, statementForm, statementWith, closedOr, blockWith, blockFuel, readBlock}
 use Rattle.reading.specs.Rule.{readRule}
 
--- a refusal's number is a row
-abbrev pub ByteRow : ℕ → Type 0
-ByteRow number = (1 ≤ number) × (number ≤ 9)
+-- a refusal byte by byte: 1 lies at 0, 4 at the file's length, every other on a byte of the file
+pub record ByteRow (s : List ℕ) (number place : ℕ) : Type 0 where
+  pub least : 1 ≤ number
+  pub most : number ≤ 9
+  pub sized : number ≡ 1 → place ≡ 0
+  pub ended : number ≡ 4 → place ≡ length s
+  pub inside : (number ≡ 1 → ⊥) → (number ≡ 4 → ⊥) → place < length s
 
-abbrev pub ByteRows : {A : Type 0} → Parsed A → Type 0
-ByteRows (parsed a n) = Unit {0}
-ByteRows (refused number place) = ByteRow number
+-- any list of bytes, and what is read of it
+module _ (s : List ℕ) where
+  abbrev pub ByteRows : {A : Type 0} → Parsed A → Type 0
+  ByteRows (parsed a n) = Unit {0}
+  ByteRows (refused number place) = ByteRow s number place
 
-test : {A : Type 0} (t : Bool) (k p : ℕ) (m : Parsed A) → ByteRow k → ByteRows m → ByteRows (unless t k p m)
-test true k p m r h = h
-test false k p m r h = r
+  -- the three sorts of rows
+  by-size : ByteRow s 1 0
+  by-size = record { least = omega arith; most = omega arith; sized = λ e. refl; ended = λ e. absurd (omega arith); inside = λ n m. absurd (n refl) }
 
-after : {A B : Type 0} (m : Parsed A) (f : A → ℕ → Parsed B) → ByteRows m → ((a : A) (n : ℕ) → ByteRows (f a n)) → ByteRows (m >>= f)
-after (parsed a n) f h g = g a n
-after (refused k p) f h g = h
+  at-end : ByteRow s 4 (length s)
+  at-end = record { least = omega arith; most = omega arith; sized = λ e. absurd (omega arith); ended = λ e. refl; inside = λ n m. absurd (m refl) }
 
--- expressions
-variable-rows : (s : List ℕ) (want : Kind) (deep at : ℕ) → ByteRows (readVariable s want deep at)
-unfolding readVariable
-variable-rows s want deep at =
-    test (ltb 0 deep) 8 at _ (omega arith)
-    (test (ltb (at + 1) (length s)) 4 (length s) _ (omega arith)
-    (test (ltb (getD s (at + 1) 0) (variables s)) 6 (at + 1) _ (omega arith)
-    (test (sameKind (kindAt s (getD s (at + 1) 0)) want) 7 (at + 1) _ (omega arith) tt)))
+  on-byte : (k p : ℕ) → (leb 2 k && leb k 9) ≡ true → (k ≡ 4 → ⊥) → p < length s → ByteRow s k p
+  on-byte k p t n i =
+      let h = and-eq-true-iff (leb 2 k) (leb k 9) .0 t in
+      let lo : 2 ≤ k = leb-true 2 k (h .0) in
+      record { least = omega arith; most = leb-true k 9 (h .1); sized = λ e. absurd (omega arith); ended = λ e. absurd (n e); inside = λ _ _. i }
 
-word-rows : (s : List ℕ) (want : Kind) (deep at : ℕ) → ByteRows (readWord s want deep at)
-unfolding readWord
-word-rows s want deep at =
-    test (sameKind kind.Word want) 7 at _ (omega arith)
-    (test (ltb 0 deep) 8 at _ (omega arith)
-    (test (leb 5 (length s - at)) 4 (length s) _ (omega arith) tt))
+  test : {A : Type 0} (t : Bool) (k p : ℕ) (m : Parsed A) → (t ≡ false → ByteRow s k p) → (t ≡ true → ByteRows m) → ByteRows (unless t k p m)
+  test true k p m r h = h refl
+  test false k p m r h = r refl
 
-bit-rows : (s : List ℕ) (want : Kind) (deep at : ℕ) → ByteRows (readBit s want deep at)
-unfolding readBit
-bit-rows s want deep at =
-    test (sameKind kind.Bit want) 7 at _ (omega arith)
-    (test (ltb 0 deep) 8 at _ (omega arith)
-    (test (ltb (at + 1) (length s)) 4 (length s) _ (omega arith)
-    (test (leb (getD s (at + 1) 0) 1) 5 (at + 1) _ (omega arith) tt)))
+  after : {A B : Type 0} (m : Parsed A) (f : A → ℕ → Parsed B) → ByteRows m → ((a : A) (n : ℕ) → m ≡ parsed a n → ByteRows (f a n)) → ByteRows (m >>= f)
+  after (parsed a n) f h g = g a n refl
+  after (refused k p) f h g = h
 
-module _ (argument : Kind → ℕ → Parsed Expr) (rows : (k : Kind) (a : ℕ) → ByteRows (argument k a)) where
-  second-rows : (t : Bool) (op : Operation) (x : Expr) (n : ℕ) → ByteRows (secondWith t argument op x n)
-  second-rows true op x n = tt
-  second-rows false op x n = after (argument (entryOf op .takes) n) _ (rows (entryOf op .takes) n) (λ y m. tt)
+  -- 4 where a byte is wanted past the end; else what follows may go by that byte
+  wanted : {A : Type 0} (at : ℕ) (m : Parsed A) → (at < length s → ByteRows m) → ByteRows (unless (ltb at (length s)) 4 (length s) m)
+  wanted at m h = test (ltb at (length s)) 4 (length s) m (λ e. at-end) (λ e. h (ltb-true at (length s) e))
 
-  operation-rows : (op : Operation) (want : Kind) (deep at : ℕ) → ByteRows (operationWith argument op want deep at)
-  unfolding operationWith
-  operation-rows op want deep at =
-      test (sameKind (entryOf op .gives) want) 7 at _ (omega arith)
-      (test (ltb 0 deep) 8 at _ (omega arith)
-      (after (argument (entryOf op .takes) (at + 1)) _ (rows (entryOf op .takes) (at + 1)) (λ x n. second-rows (eqb (entryOf op .arity) 1) op x n)))
+  -- a test whose row lies on a byte of the file
+  tested : {A : Type 0} (t : Bool) (k p : ℕ) (m : Parsed A) → (leb 2 k && leb k 9) ≡ true → (k ≡ 4 → ⊥) → p < length s → ByteRows m → ByteRows (unless t k p m)
+  tested t k p m r n i h = test t k p m (λ e. on-byte k p r n i) (λ e. h)
 
-  form-rows : (f : Form) (s : List ℕ) (want : Kind) (deep at : ℕ) → ByteRows (exprForm f s argument want deep at)
-  form-rows End s want deep at = omega arith
-  form-rows Assign s want deep at = omega arith
-  form-rows Skip s want deep at = omega arith
-  form-rows Branch s want deep at = omega arith
-  form-rows Variable s want deep at = variable-rows s want deep at
-  form-rows Word s want deep at = word-rows s want deep at
-  form-rows Bit s want deep at = bit-rows s want deep at
-  form-rows (Apply op) s want deep at = operation-rows op want deep at
-  form-rows Unknown s want deep at = omega arith
+  -- expressions, their code at `at`
+  variable-rows : (want : Kind) (deep at : ℕ) → at < length s → ByteRows (readVariable s want deep at)
+  unfolding readVariable
+  variable-rows want deep at i =
+      tested (ltb 0 deep) 8 at _ refl (λ e. omega arith) i
+      (wanted (at + 1) _
+      (λ j. tested (ltb (getD s (at + 1) 0) (variables s)) 6 (at + 1) _ refl (λ e. omega arith) j
+      (tested (sameKind (kindAt s (getD s (at + 1) 0)) want) 7 (at + 1) _ refl (λ e. omega arith) j tt)))
 
-  with-rows : (s : List ℕ) (want : Kind) (deep at : ℕ) → ByteRows (exprWith argument s want deep at)
-  unfolding exprWith
-  with-rows s want deep at = test (ltb at (length s)) 4 (length s) _ (omega arith) (form-rows (codeOf (getD s at 0) .form) s want deep at)
+  word-rows : (want : Kind) (deep at : ℕ) → at < length s → ByteRows (readWord s want deep at)
+  unfolding readWord
+  word-rows want deep at i =
+      tested (sameKind kind.Word want) 7 at _ refl (λ e. omega arith) i
+      (tested (ltb 0 deep) 8 at _ refl (λ e. omega arith) i (test (leb 5 (length s - at)) 4 (length s) _ (λ e. at-end) (λ e. tt)))
 
-expr-rows : (deep : ℕ) (s : List ℕ) (want : Kind) (at : ℕ) → ByteRows (readExpr deep s want at)
-unfolding readExpr
-expr-rows zero s want at = with-rows (λ k a. refused 8 a) (λ k a. omega arith) s want 0 at
-expr-rows (suc deep) s want at = with-rows (readExpr deep s) (λ k a. expr-rows deep s k a) s want (suc deep) at
+  bit-rows : (want : Kind) (deep at : ℕ) → at < length s → ByteRows (readBit s want deep at)
+  unfolding readBit
+  bit-rows want deep at i =
+      tested (sameKind kind.Bit want) 7 at _ refl (λ e. omega arith) i
+      (tested (ltb 0 deep) 8 at _ refl (λ e. omega arith) i
+      (wanted (at + 1) _ (λ j. tested (leb (getD s (at + 1) 0) 1) 5 (at + 1) _ refl (λ e. omega arith) j tt)))
 
--- statements and blocks
-assign-rows : (s : List ℕ) (at : ℕ) → ByteRows (readAssign s at)
-unfolding readAssign
-assign-rows s at =
-    let e = readExpr deepest s (kindAt s (getD s (at + 1) 0)) (at + 2) in
-    test (ltb (at + 1) (length s)) 4 (length s) _ (omega arith)
-    (test (ltb (getD s (at + 1) 0) (variables s)) 6 (at + 1) _ (omega arith)
-    (after e _ (expr-rows deepest s (kindAt s (getD s (at + 1) 0)) (at + 2)) (λ e n. tt)))
+  -- where a level is left, arguments are read
+  module _ (argument : Kind → ℕ → Parsed Expr) (deep : ℕ) (rows : 0 < deep → (k : Kind) (a : ℕ) → ByteRows (argument k a)) where
+    second-rows : 0 < deep → (t : Bool) (op : Operation) (x : Expr) (n : ℕ) → ByteRows (secondWith t argument op x n)
+    second-rows l true op x n = tt
+    second-rows l false op x n = after (argument (entryOf op .takes) n) _ (rows l (entryOf op .takes) n) (λ y m e. tt)
 
-module _ (block : ℕ → ℕ → Parsed Block) (rows : (k a : ℕ) → ByteRows (block k a)) (s : List ℕ) where
-  branch-rows : (nest at : ℕ) → ByteRows (branchWith block s nest at)
-  unfolding branchWith
-  branch-rows nest at =
-      test (ltb 0 nest) 8 at _ (omega arith)
-      (after (readExpr deepest s kind.Bit (at + 1)) _ (expr-rows deepest s kind.Bit (at + 1))
-      (λ c n. after (block (nest - 1) n) _ (rows (nest - 1) n) (λ x m. after (block (nest - 1) m) _ (rows (nest - 1) m) (λ y l. tt))))
+    operation-rows : (op : Operation) (want : Kind) (at : ℕ) → at < length s → ByteRows (operationWith argument op want deep at)
+    unfolding operationWith
+    operation-rows op want at i =
+        tested (sameKind (entryOf op .gives) want) 7 at _ refl (λ e. omega arith) i
+        (test (ltb 0 deep) 8 at _ (λ e. on-byte 8 at refl (λ z. omega arith) i)
+        (λ e. let l : 0 < deep = ltb-true 0 deep e in
+        after (argument (entryOf op .takes) (at + 1)) _ (rows l (entryOf op .takes) (at + 1)) (λ x n q. second-rows l (eqb (entryOf op .arity) 1) op x n)))
 
-  statement-form-rows : (f : Form) (nest at : ℕ) → ByteRows (statementForm f block s nest at)
-  statement-form-rows End nest at = omega arith
-  statement-form-rows Assign nest at = assign-rows s at
-  statement-form-rows Skip nest at = tt
-  statement-form-rows Branch nest at = branch-rows nest at
-  statement-form-rows Variable nest at = omega arith
-  statement-form-rows Word nest at = omega arith
-  statement-form-rows Bit nest at = omega arith
-  statement-form-rows (Apply op) nest at = omega arith
-  statement-form-rows Unknown nest at = omega arith
+    form-rows : (f : Form) (want : Kind) (at : ℕ) → at < length s → ByteRows (exprForm f s argument want deep at)
+    form-rows End want at i = on-byte 5 at refl (λ e. omega arith) i
+    form-rows Assign want at i = on-byte 5 at refl (λ e. omega arith) i
+    form-rows Skip want at i = on-byte 5 at refl (λ e. omega arith) i
+    form-rows Branch want at i = on-byte 5 at refl (λ e. omega arith) i
+    form-rows Variable want at i = variable-rows want deep at i
+    form-rows Word want at i = word-rows want deep at i
+    form-rows Bit want at i = bit-rows want deep at i
+    form-rows (Apply op) want at i = operation-rows op want at i
+    form-rows Unknown want at i = on-byte 5 at refl (λ e. omega arith) i
 
-  closed-rows : (t : Bool) (nest at : ℕ) → ByteRows (closedOr t block s nest at)
-  unfolding statementWith
-  closed-rows true nest at = tt
-  closed-rows false nest at =
-      after (statementForm (codeOf (getD s at 0) .form) block s nest at) _ (statement-form-rows (codeOf (getD s at 0) .form) nest at)
-      (λ x n. after (block nest n) _ (rows nest n) (λ b m. tt))
+    with-rows : (want : Kind) (at : ℕ) → ByteRows (exprWith argument s want deep at)
+    unfolding exprWith
+    with-rows want at = wanted at _ (form-rows (codeOf (getD s at 0) .form) want at)
 
-  block-with-rows : (nest at : ℕ) → ByteRows (blockWith block s nest at)
-  unfolding blockWith
-  block-with-rows nest at = test (ltb at (length s)) 4 (length s) _ (omega arith) (closed-rows (eqb (getD s at 0) 0x00) nest at)
+  expr-rows : (deep : ℕ) (want : Kind) (at : ℕ) → ByteRows (readExpr deep s want at)
+  unfolding readExpr
+  expr-rows zero want at = with-rows (λ k a. refused 8 a) 0 (λ l k a. absurd (omega arith)) want at
+  expr-rows (suc deep) want at = with-rows (readExpr deep s) (suc deep) (λ l k a. expr-rows deep k a) want at
 
-fuel-rows : (fuel : ℕ) (s : List ℕ) (nest at : ℕ) → ByteRows (blockFuel fuel s nest at)
-unfolding blockFuel
-fuel-rows zero s nest at = omega arith
-fuel-rows (suc fuel) s nest at = block-with-rows (blockFuel fuel s) (λ k a. fuel-rows fuel s k a) s nest at
+  -- statements and blocks
+  assign-rows : (at : ℕ) → ByteRows (readAssign s at)
+  unfolding readAssign
+  assign-rows at =
+      wanted (at + 1) _
+      (λ j. tested (ltb (getD s (at + 1) 0) (variables s)) 6 (at + 1) _ refl (λ e. omega arith) j
+      (after (readExpr deepest s (kindAt s (getD s (at + 1) 0)) (at + 2)) _ (expr-rows deepest (kindAt s (getD s (at + 1) 0)) (at + 2)) (λ e n q. tt)))
 
--- the header and the whole
-mark-rows : (m : List ℕ) (s : List ℕ) (at : ℕ) → ByteRows (readMark 2 m s at)
-unfolding readMark
-mark-rows [] s at = tt
-mark-rows (b ∷ m) s at = test (eqb (getD s at 0) b) 2 at _ (omega arith) (mark-rows m s (at + 1))
+  module _ (block : ℕ → ℕ → Parsed Block) (rows : (k a : ℕ) → ByteRows (block k a)) where
+    branch-rows : (nest at : ℕ) → at < length s → ByteRows (branchWith block s nest at)
+    unfolding branchWith
+    branch-rows nest at i =
+        tested (ltb 0 nest) 8 at _ refl (λ e. omega arith) i
+        (after (readExpr deepest s kind.Bit (at + 1)) _ (expr-rows deepest kind.Bit (at + 1))
+        (λ c n p. after (block (nest - 1) n) _ (rows (nest - 1) n) (λ x m q. after (block (nest - 1) m) _ (rows (nest - 1) m) (λ y l r. tt))))
 
-kinds-rows : (n : ℕ) (s : List ℕ) (at : ℕ) → ByteRows (readKinds n s at)
-unfolding readKinds
-kinds-rows zero s at = tt
-kinds-rows (suc n) s at =
-    test (ltb at (length s)) 4 (length s) _ (omega arith) (test (leb (getD s at 0) lastKind) 3 at _ (omega arith) (kinds-rows n s (at + 1)))
+    statement-rows : (f : Form) (nest at : ℕ) → at < length s → ByteRows (statementForm f block s nest at)
+    statement-rows End nest at i = on-byte 5 at refl (λ e. omega arith) i
+    statement-rows Assign nest at i = assign-rows at
+    statement-rows Skip nest at i = tt
+    statement-rows Branch nest at i = branch-rows nest at i
+    statement-rows Variable nest at i = on-byte 5 at refl (λ e. omega arith) i
+    statement-rows Word nest at i = on-byte 5 at refl (λ e. omega arith) i
+    statement-rows Bit nest at i = on-byte 5 at refl (λ e. omega arith) i
+    statement-rows (Apply op) nest at i = on-byte 5 at refl (λ e. omega arith) i
+    statement-rows Unknown nest at i = on-byte 5 at refl (λ e. omega arith) i
 
-count-rows : (s : List ℕ) (at : ℕ) → ByteRows (readCount s at)
-unfolding readCount
-count-rows s at = test (ltb 0 (getD s at 0)) 3 at _ (omega arith) (test (leb (getD s at 0) mostVariables) 3 at _ (omega arith) tt)
+    closed-rows : (t : Bool) (nest at : ℕ) → at < length s → ByteRows (closedOr t block s nest at)
+    unfolding statementWith
+    closed-rows true nest at i = tt
+    closed-rows false nest at i =
+        after (statementForm (codeOf (getD s at 0) .form) block s nest at) _ (statement-rows (codeOf (getD s at 0) .form) nest at i)
+        (λ x n p. after (block nest n) _ (rows nest n) (λ b m q. tt))
 
-header-rows : (s : List ℕ) → ByteRows (readHeader s)
-unfolding readHeader
-header-rows s = after (readMark 2 mark s 0) _ (mark-rows mark s 0) (λ u at. after (readCount s at) _ (count-rows s at) (λ v at. kinds-rows v s at))
+    block-rows : (nest at : ℕ) → ByteRows (blockWith block s nest at)
+    unfolding blockWith
+    block-rows nest at = wanted at _ (closed-rows (eqb (getD s at 0) 0x00) nest at)
 
-pub rule-rows : (s : List ℕ) → ByteRows (readRule s)
-unfolding readRule readBlock
-rule-rows s =
-    test (leb leastBytes (length s)) 1 0 _ (omega arith)
-    (test (leb (length s) mostBytes) 1 0 _ (omega arith)
-    (after (readHeader s) _ (header-rows s)
-    (λ u at. after (blockFuel (suc (length s)) s nested at) _ (fuel-rows (suc (length s)) s nested at) (λ b n. test (leb (length s) n) 9 n _ (omega arith) tt))))
+  fuel-rows : (fuel nest at : ℕ) → ByteRows (blockFuel fuel s nest at)
+  unfolding blockFuel
+  fuel-rows zero nest at = at-end
+  fuel-rows (suc fuel) nest at = block-rows (blockFuel fuel s) (λ k a. fuel-rows fuel k a) nest at
 
--- so a rule that is answered by number 0 was read
-pub row-of : (s : List ℕ) {number place : ℕ} → readRule s ≡ refused number place → ByteRow number
-row-of s e = subst ByteRows e (rule-rows s)
+  -- the header and the whole
+  mark-rows : (m : List ℕ) (at : ℕ) → at + length m ≤ length s → ByteRows (readMark 2 m s at)
+  unfolding readMark
+  mark-rows [] at i = tt
+  mark-rows (b ∷ m) at i = tested (eqb (getD s at 0) b) 2 at _ refl (λ e. omega arith) (omega arith) (mark-rows m (at + 1) (omega arith))
+
+  kinds-rows : (n at : ℕ) → ByteRows (readKinds n s at)
+  unfolding readKinds
+  kinds-rows zero at = tt
+  kinds-rows (suc n) at = wanted at _ (λ i. tested (leb (getD s at 0) lastKind) 3 at _ refl (λ e. omega arith) i (kinds-rows n (at + 1)))
+
+  count-rows : (at : ℕ) → at < length s → ByteRows (readCount s at)
+  unfolding readCount
+  count-rows at i =
+      tested (ltb 0 (getD s at 0)) 3 at _ refl (λ e. omega arith) i (tested (leb (getD s at 0) mostVariables) 3 at _ refl (λ e. omega arith) i tt)
+
+  header-rows : leastBytes ≤ length s → ByteRows (readHeader s)
+  unfolding readHeader
+  header-rows six =
+      after (readMark 2 mark s 0) _ (mark-rows mark 0 (omega arith))
+      (λ u at e. let five : at ≡ 5 = mark-past 2 mark s 0 (sym (ap stepOf e)) in
+      after (readCount s at) _ (count-rows at (omega arith)) (λ v k q. kinds-rows v k))
+
+  pub rule-rows : ByteRows (readRule s)
+  unfolding readRule readBlock
+  rule-rows =
+      test (leb leastBytes (length s)) 1 0 _ (λ e. by-size)
+      (λ six. test (leb (length s) mostBytes) 1 0 _ (λ e. by-size)
+      (λ e. after (readHeader s) _ (header-rows (leb-true leastBytes (length s) six))
+      (λ u at p. after (blockFuel (suc (length s)) s nested at) _ (fuel-rows (suc (length s)) nested at)
+      (λ b n q. test (leb (length s) n) 9 n _ (λ f. on-byte 9 n refl (λ z. omega arith) (leb-false (length s) n f)) (λ f. tt)))))
+
+-- so a refused rule is refused by a row of the table
+pub row-of : (s : List ℕ) {number place : ℕ} → readRule s ≡ refused number place → ByteRow s number place
+row-of s e = subst (ByteRows s) e (rule-rows s)
