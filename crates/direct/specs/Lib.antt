@@ -5,5 +5,6 @@ pub mod ExprLaws
 pub mod BlockLaws
 pub mod ResultLaws
 pub mod InputLaws
+pub mod RangeLaws
 pub mod DirectLaws
 pub mod Examples

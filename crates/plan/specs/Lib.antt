@@ -3,6 +3,7 @@ pub mod Groups
 pub mod Layout
 pub mod Order
 pub mod Rows
+pub mod RangeLaws
 pub mod Accepted
 pub mod CircleLaws
 pub mod OrderLaws

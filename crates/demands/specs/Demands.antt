@@ -1,0 +1,117 @@
+-- The demands, sentence by sentence, and the change requests that have landed; each sentence is quoted above its theorems.
+-- s is a rule's bytes, p a plan's. That every operation ends, with the answers and bytes named here, is what it promises: crates/linnet/src/lib.rt.
+use Prim.Native.Nat.{ℕ}
+use mathlib.Core.Path.{_≡_}
+use mathlib.Core.List.{List, map}
+use mathlib.Core.Logic.{_↔_}
+use lib.ListN.{length, take, drop}
+use Rattle.words.specs.Numbers.{Bytes}
+use Rattle.answers.specs.ParsingLaws.{IsRead}
+use Rattle.answers.specs.declared.Answer.{Answer}
+use Rattle.reading.specs.Header.{variables}
+use Rattle.reading.specs.Rule.{readRule}
+use Rattle.gates.specs.Running.{runRule}
+use Rattle.gates.specs.Gates.{figureAt}
+use Rattle.gates.specs.PlainCircuit.{gatesOf, outputsOf}
+use Rattle.gates.specs.OnlyOrder.{OnlyOrder}
+use Rattle.circuit.specs.Whole.{ruleAnswer}
+use Rattle.direct.specs.Direct.{runAnswer, runResults}
+use Rattle.plan.specs.Rows.{planAnswer}
+use Rattle.plan.specs.Accepted.{Acceptable}
+use Rattle.plan.specs.AcceptedLaws as laws
+use Rattle.fused.specs.Records.{ReadsEarlier}
+use Rattle.fused.specs.CircuitFile.{fusedFile}
+use Rattle.fused.specs.FileFigures.{fileRecords, fileFigures}
+use Rattle.fused.specs.Answers.{fusedAnswer, writeAnswer, writtenOver}
+use Rattle.fused.specs.Demand3 as figures
+use Rattle.fused.specs.OnlyOrderLaws as order
+use Rattle.running.specs.FusedRun.{fusedResults}
+use Rattle.demands.specs.Table.{Answered}
+use Rattle.demands.specs.AnsweredLaws as answers
+use Rattle.demands.specs.FusedRunLaws as runs
+
+-- Demand 1. "Whatever arrives as rule, plan or inputs: the tool ends; it takes it, or refuses with the number and place of document 01's table":
+pub rule-answered : (s : List ℕ) → Answered (length s) (ruleAnswer s)
+rule-answered = answers.rule-answered
+
+pub run-answered : (s inputs results : List ℕ) → Answered (length s) (runAnswer (ruleAnswer s) s inputs (length results))
+run-answered s inputs results = answers.run-answered (length s) (ruleAnswer s) s inputs (length results) (rule-answered s)
+
+pub plan-answered : (s p : List ℕ) → Answered (length s) (planAnswer s p)
+plan-answered = answers.plan-answered
+
+pub write-answered : (s p buffer : List ℕ) → Answered (length s) (writeAnswer s p (length buffer))
+write-answered s p buffer = answers.write-answered s p (length buffer)
+
+pub fused-run-answered : (s p inputs results : List ℕ) → Answered (length s) (runAnswer (fusedAnswer s p) s inputs (length results))
+fused-run-answered s p inputs results = answers.run-answered (length s) (fusedAnswer s p) s inputs (length results) (answers.fused-answered s p)
+
+-- "a refusal writes no byte of a lent buffer."
+pub run-untouched : (s inputs results : List ℕ) → (runAnswer (ruleAnswer s) s inputs (length results) .number ≡ 0 → ⊥)
+    → runResults (ruleAnswer s) s inputs results ≡ results
+run-untouched s = answers.run-untouched (ruleAnswer s) s
+
+pub write-untouched : (s p buffer : List ℕ) → (writeAnswer s p (length buffer) .number ≡ 0 → ⊥) → writtenOver s p buffer ≡ buffer
+write-untouched = answers.write-untouched
+
+pub fused-run-untouched : (s p inputs results : List ℕ) → (runAnswer (fusedAnswer s p) s inputs (length results) .number ≡ 0 → ⊥)
+    → fusedResults s p inputs results ≡ results
+fused-run-untouched = answers.fused-untouched
+
+-- Demand 2. "The plain circuit gives every variable what the rule gives when run statement by statement",
+pub plain-figures : (s inputs : List ℕ) → IsRead (readRule s) → length inputs ≡ variables s
+    → map (figureAt inputs (gatesOf s)) (outputsOf s) ≡ runRule s inputs
+plain-figures = runs.plain-figures
+
+-- "and every file is, byte for byte, the one the rules fix."
+pub file-fixed : (s p buffer : List ℕ) → writeAnswer s p (length buffer) .number ≡ 0
+    → (take (writeAnswer s p (length buffer) .bytes) (writtenOver s p buffer) ≡ fusedFile s p)
+    × (drop (writeAnswer s p (length buffer) .bytes) (writtenOver s p buffer) ≡ drop (length (fusedFile s p)) buffer)
+file-fixed = runs.file-written
+
+-- Demand 3. "A plan is accepted exactly when it is laid out, names existing gates once, joins one costly operation a group, joins no two gates that some setting
+-- needs together, and leaves no group waiting for itself, conditions of joined gates counted."
+pub plan-accepted : (s p : List ℕ) → (planAnswer s p .number ≡ 0) ↔ ((ruleAnswer s .number ≡ 0) × Acceptable s p)
+plan-accepted = laws.plan-accepted
+
+-- "Then every record reads only earlier wires,"
+pub reads-earlier : (s p : List ℕ) → planAnswer s p .number ≡ 0 → Bytes s → ReadsEarlier (fileRecords (fusedFile s p))
+reads-earlier = runs.file-earlier
+
+-- "and the file's own records"
+pub file-run : (s p : List ℕ) → Bytes s → planAnswer s p .number ≡ 0 → (inputs : List ℕ) → length inputs ≡ variables s
+    → fileFigures (fusedFile s p) inputs ≡ runRule s inputs
+file-run = figures.file-run
+
+-- "and every run of it give every variable the figure of a direct run": it writes what the direct run writes,
+pub same-results : (s p : List ℕ) → planAnswer s p .number ≡ 0 → Bytes s → (inputs results : List ℕ)
+    → fusedResults s p inputs results ≡ runResults (ruleAnswer s) s inputs results
+same-results = runs.same-results
+
+-- is refused with the same number exactly where the direct run is,
+pub same-number : (s p : List ℕ) → planAnswer s p .number ≡ 0 → (inputs : List ℕ) (room : ℕ)
+    → runAnswer (fusedAnswer s p) s inputs room .number ≡ runAnswer (ruleAnswer s) s inputs room .number
+same-number = runs.same-number
+
+-- and with a refused plan answers what the plan's check answers.
+pub plan-number : (s p : List ℕ) → (planAnswer s p .number ≡ 0 → ⊥) → (inputs : List ℕ) (room : ℕ)
+    → runAnswer (fusedAnswer s p) s inputs room ≡ planAnswer s p
+plan-number = runs.plan-number
+
+-- Document 02, C-12. "Two accepted rules that differ only in the order of two variables that are themselves the two arguments of such an operation
+-- must give the same bytes with the same plan." If the first is accepted, the second is;
+pub one-rule : (s t : List ℕ) → OnlyOrder s t → ruleAnswer s .number ≡ 0 → ruleAnswer s ≡ ruleAnswer t
+one-rule = order.same-rule
+
+-- every plan is answered the same, its file is the same, and so is all of a lent buffer, on a refusal too.
+pub one-check : (s t : List ℕ) → OnlyOrder s t → ruleAnswer s .number ≡ 0 → (p : List ℕ) → planAnswer s p ≡ planAnswer t p
+one-check = order.same-plan
+
+pub one-file : (s t : List ℕ) → OnlyOrder s t → ruleAnswer s .number ≡ 0 → (p : List ℕ) → fusedFile s p ≡ fusedFile t p
+one-file = order.same-file
+
+pub one-answer : (s t : List ℕ) → OnlyOrder s t → ruleAnswer s .number ≡ 0 → (p : List ℕ) (room : ℕ) → writeAnswer s p room ≡ writeAnswer t p room
+one-answer = order.same-answer
+
+pub one-buffer : (s t : List ℕ) → OnlyOrder s t → ruleAnswer s .number ≡ 0 → (p buffer : List ℕ) → writtenOver s p buffer ≡ writtenOver t p buffer
+one-buffer = order.same-over

@@ -1,0 +1,97 @@
+-- Laws of a fused run beside a direct run of the same rule and inputs, and of a written file. Assumes nothing.
+use Prim.Native.Nat.{ℕ}
+use native.Mathlib.Omega.{arith}
+use mathlib.Core.Path.{_≡_, refl, sym, ap, subst, _∙_}
+use mathlib.Core.List.{List, map}
+use lib.Dec.{eqb, leb}
+use lib.ListN.{length, take, drop}
+use lib.Seq.{take-at, drop-at}
+use borrow.Author.Tests.{eq-eqb, eqb-true, eqb-false, leb-true}
+use Rattle.words.specs.Lists.{split}
+use Rattle.words.specs.Buffers.{over}
+use Rattle.words.specs.Numbers.{Bytes}
+use Rattle.answers.specs.ParsingLaws.{IsRead, is-read}
+use Rattle.answers.specs.declared.Answer.{Answer}
+use Rattle.reading.specs.Header.{variables}
+use Rattle.reading.specs.Rule.{readRule}
+use Rattle.gates.specs.Running.{runRule}
+use Rattle.gates.specs.Gates.{figureAt}
+use Rattle.gates.specs.PlainCircuit.{gatesOf, outputsOf}
+use Rattle.gates.specs.OutputLaws.{output-figures}
+use Rattle.gates.specs.StartLaws.{read-run}
+use Rattle.circuit.specs.Whole.{ruleAnswer}
+use Rattle.direct.specs.Inputs.{inputRow}
+use Rattle.direct.specs.Direct.{runAnswer, runResults}
+use Rattle.direct.specs.DirectLaws.{rule-answer, inputs-answer, run-answer}
+use Rattle.plan.specs.Rows.{planAnswer}
+use Rattle.plan.specs.AcceptedLaws.{plan-accepted}
+use Rattle.fused.specs.CircuitFile.{fusedFile}
+use Rattle.fused.specs.Records.{ReadsEarlier}
+use Rattle.fused.specs.FileFigures.{fileRecords}
+use Rattle.fused.specs.FitPlan.{fused-found}
+use Rattle.fused.specs.Demand3.{reads-earlier, output-earlier}
+use Rattle.fused.specs.Answers.{fusedCounts, fusedAnswer, writeAnswer, writtenOver}
+use Rattle.running.specs.FusedRun.{fusedResults}
+use Rattle.running.specs.RunLaws.{fused-refused, fused-accepted}
+use Rattle.running.specs.Demand3Run.{fused-results}
+
+-- the plain circuit beside the direct run
+pub plain-figures : (s inputs : List ℕ) → IsRead (readRule s) → length inputs ≡ variables s → map (figureAt inputs (gatesOf s)) (outputsOf s) ≡ runRule s inputs
+plain-figures s inputs h l =
+    let r = is-read (readRule s) h in
+    output-figures s (r .0) (r .1) (r .2) inputs l ∙ sym (read-run s (r .0) (r .1) (r .2) inputs)
+
+-- two answers that come before the inputs and are both number 0: the inputs decide alike
+module _ (a b : Answer) (x : a .number ≡ 0) (y : b .number ≡ 0) (s inputs : List ℕ) where
+  pub numbers-same : (room : ℕ) → runAnswer a s inputs room .number ≡ runAnswer b s inputs room .number
+  numbers-same room =
+      split (eqb (inputRow s inputs room) 0)
+      (λ t. let z = eqb-true _ _ t in
+      ap (λ (c : Answer). c .number) (run-answer a s inputs x room z) ∙ x ∙ sym y ∙ ap (λ (c : Answer). c .number) (sym (run-answer b s inputs y room z)))
+      (λ t. let n = eqb-false _ _ t in
+      ap (λ (c : Answer). c .number) (inputs-answer a s inputs x room n ∙ sym (inputs-answer b s inputs y room n)))
+
+  pub results-same : (results : List ℕ) → runResults a s inputs results ≡ runResults b s inputs results
+  unfolding runResults
+  results-same results = rw (numbers-same (length results))
+
+module _ (s p : List ℕ) where
+  -- a plan that is accepted: the rule is, and so is the fused circuit
+  module _ (h : planAnswer s p .number ≡ 0) where
+    rule-zero : ruleAnswer s .number ≡ 0
+    rule-zero = plan-accepted s p .0 h .0
+
+    fused-zero : fusedAnswer s p .number ≡ 0
+    unfolding fusedCounts
+    fused-zero = ap (λ (c : Answer). c .number) (fused-accepted s p h)
+
+    pub same-number : (inputs : List ℕ) (room : ℕ) → runAnswer (fusedAnswer s p) s inputs room .number ≡ runAnswer (ruleAnswer s) s inputs room .number
+    same-number inputs room = numbers-same (fusedAnswer s p) (ruleAnswer s) fused-zero rule-zero s inputs room
+
+    pub same-results : Bytes s → (inputs results : List ℕ) → fusedResults s p inputs results ≡ runResults (ruleAnswer s) s inputs results
+    same-results bytes inputs results =
+        fused-results s p bytes inputs results ∙ results-same (fusedAnswer s p) (ruleAnswer s) fused-zero rule-zero s inputs results
+
+    -- the records that the file's bytes give
+    pub file-earlier : Bytes s → ReadsEarlier (fileRecords (fusedFile s p))
+    file-earlier bytes =
+        let e = reads-earlier s p h in
+        subst ReadsEarlier (sym (fused-found s p h bytes e (output-earlier s p h) .0)) e
+
+  -- a plan that is refused
+  pub plan-number : (planAnswer s p .number ≡ 0 → ⊥) → (inputs : List ℕ) (room : ℕ) → runAnswer (fusedAnswer s p) s inputs room ≡ planAnswer s p
+  plan-number n inputs room =
+      let e = fused-refused s p n in
+      rule-answer (fusedAnswer s p) s inputs (λ z. n (ap (λ (a : Answer). a .number) (sym e) ∙ z)) room ∙ e
+
+  -- a file that is written: its bytes, and nothing after them
+  pub file-written : (buffer : List ℕ) → writeAnswer s p (length buffer) .number ≡ 0
+      → (take (writeAnswer s p (length buffer) .bytes) (writtenOver s p buffer) ≡ fusedFile s p)
+      × (drop (writeAnswer s p (length buffer) .bytes) (writtenOver s p buffer) ≡ drop (length (fusedFile s p)) buffer)
+  unfolding writtenOver writeAnswer fusedCounts over
+  file-written buffer h =
+      split (eqb (planAnswer s p .number) 0)
+      (λ t. split (leb (length (fusedFile s p)) (length buffer))
+      (λ u. rw (t, u) (take-at (fusedFile s p) _ (length (fusedFile s p)) refl, drop-at (fusedFile s p) _ (length (fusedFile s p)) refl))
+      (λ u. let z : 50 ≡ 0 = rw (t, u) at h in absurd (omega arith)))
+      (λ t. absurd (eqb-false _ _ t (rw t at h)))

@@ -1,0 +1,4 @@
+pub mod Table
+pub mod AnsweredLaws
+pub mod FusedRunLaws
+pub mod Demands
