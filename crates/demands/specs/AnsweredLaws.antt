@@ -1,25 +1,18 @@
 -- Laws of answers: each takes what arrived, or refuses by a row of the table; and a refusal leaves a lent buffer as it was. Assumes nothing.
-use Prim.Native.Nat.{ℕ, _≤_, _<_}
+use Prim.Native.Nat.{ℕ, _≤_}
 use native.Mathlib.Omega.{arith}
-use mathlib.Core.Path.{_≡_, refl, sym, ap, subst, subst⁻¹, _∙_}
+use mathlib.Core.Path.{_≡_, refl, subst⁻¹}
 use mathlib.Core.List.{List}
 use mathlib.Core.Logic.{_⊎_, inl, inr}
 use lib.Dec.{eqb, leb}
-use lib.ListN.{length, take, drop}
-use lib.Seq.{take-at, drop-at}
-use borrow.Author.Tests.{ne-eqb, eq-eqb, eqb-true, eqb-false}
+use lib.ListN.{length}
+use borrow.Author.Tests.{ne-eqb, eqb-true, eqb-false}
 use Rattle.words.specs.Lists.{split, same?}
-use Rattle.words.specs.Buffers.{over}
 use Rattle.answers.specs.Answers.{refusal}
-use Rattle.answers.specs.Parsing.{Parsed, parsed, refused, stepOf}
 use Rattle.answers.specs.declared.Answer.{Answer}
-use Rattle.reading.specs.Tree.{Block}
-use Rattle.reading.specs.Rule.{readRule}
-use Rattle.reading.specs.RowLaws.{ByteRow, ByteRows, rule-rows}
-use Rattle.gates.specs.Gates.{Gates, conditions}
-use Rattle.gates.specs.Limits.{mostGates, mostConditions}
-use Rattle.gates.specs.PlainCircuit.{gatesOf}
-use Rattle.circuit.specs.Whole.{wholeWithin, afterBytes, ruleAnswer}
+use Rattle.reading.specs.RowLaws.{ByteRow}
+use Rattle.circuit.specs.Whole.{ruleAnswer}
+use Rattle.circuit.specs.WholeLaws.{RuleCases, rule-cases}
 use Rattle.direct.specs.Inputs.{inputRow}
 use Rattle.direct.specs.RangeLaws.{input-range}
 use Rattle.direct.specs.Direct.{runAnswer, runResults}
@@ -49,21 +42,15 @@ byte-row s number place r = go (same? number 1) (same? number 4)
     go (inr n) (inl e) = rw (e, r .ended e) pastEnd
     go (inr n) (inr m) = let lo : 2 ≤ number = omega (arith, r .least) in onByte lo (r .most) m (r .inside n m)
 
--- rows 10 and 11
-whole-answered : (C : Gates) (size : ℕ) → Answered size (wholeWithin mostGates mostConditions C size)
-unfolding wholeWithin
-whole-answered C size =
-    split (leb (length C) mostGates)
-    (λ t. split (leb (length (conditions C)) mostConditions) (λ u. rw (t, u) (inl (refl, refl))) (λ u. rw (t, u) (refused-by overConditions)))
-    (λ t. rw t (refused-by overGates))
-
+-- rows 1 to 11
 pub rule-answered : (s : List ℕ) → Answered (length s) (ruleAnswer s)
-unfolding ruleAnswer
-rule-answered s = go (readRule s) (rule-rows s)
+rule-answered s = go (ruleAnswer s) (rule-cases s)
   where
-    go : (m : Parsed Block) → ByteRows s m → Answered (length s) (afterBytes (stepOf m) (wholeWithin mostGates mostConditions (gatesOf s) (length s)))
-    go (parsed b n) r = whole-answered (gatesOf s) (length s)
-    go (refused number place) r = refused-by (byte-row s number place r)
+    go : (a : Answer) → RuleCases s a → Answered (length s) a
+    go a (inl (number, place, r, e)) = same-answered (length s) e (refused-by (byte-row s number place r))
+    go a (inr (inl e)) = same-answered (length s) e (refused-by overGates)
+    go a (inr (inr (inl e))) = same-answered (length s) e (refused-by overConditions)
+    go a (inr (inr (inr e))) = inl e
 
 -- rows 40 to 42, after an answer that stands before the inputs
 pub run-answered : (size : ℕ) (before : Answer) (s inputs : List ℕ) (room : ℕ) → Answered size before → Answered size (runAnswer before s inputs room)
