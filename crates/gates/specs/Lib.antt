@@ -2,7 +2,6 @@ pub mod Running
 pub mod Limits
 pub mod Gates
 pub mod PlainCircuit
-pub mod OnlyOrder
 pub mod Quads
 pub mod GateKinds
 pub mod ApplyLaws

@@ -32,9 +32,9 @@ module _ (s : List ℕ) where
 
   opens : (t : Statement) (at : ℕ) (rest : List ℕ) → drop at s ≡ statementBytes t ++ rest → Open at
   unfolding statementBytes
-  opens (assign x e) at rest h = open-by at 0x01 (x ∷ (exprBytes e ++ rest)) (omega arith) h
+  opens (assign x e) at rest h = open-by at 0x01 _ (omega arith) h
   opens skip at rest h = open-by at 0x02 rest (omega arith) h
-  opens (branch c x y) at rest h = open-by at 0x03 ((exprBytes c ++ (blockBytes x ++ blockBytes y)) ++ rest) (omega arith) h
+  opens (branch c x y) at rest h = open-by at 0x03 _ (omega arith) h
 
   then-back : (nest at : ℕ) (t : Statement) (n : ℕ) (b : Block) (m : ℕ) → Open at → readStatement s nest at ≡ parsed t n
       → readBlock s nest n ≡ parsed b m → readBlock s nest at ≡ parsed (then t b) m

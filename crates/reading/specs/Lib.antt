@@ -20,5 +20,10 @@ pub mod BackExprLaws
 pub mod BackLaws
 pub mod BackRuleLaws
 pub mod RuleFormat
+pub mod OnlyOrder
+pub mod Standing
+pub mod StandingLaws
+pub mod OrderLaws
+pub mod OrderBytes
 pub mod RowLaws
 pub mod Examples
