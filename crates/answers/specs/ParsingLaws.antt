@@ -3,12 +3,12 @@
 use Prim.Native.Nat.{ℕ, _+_, _<_, _≤_}
 use native.Mathlib.Omega.{arith}
 use native.Mathlib.Numerals.{add-one}
-use mathlib.Core.Path.{_≡_, refl, ap, subst, subst⁻¹}
-use mathlib.Core.List.{List, [], _∷_}
+use mathlib.Core.Path.{_≡_, refl, ap, subst, subst⁻¹, _∙_}
+use mathlib.Core.List.{List, [], _∷_, _++_}
 use lib.ListN.{length, getD, drop, drop-of-length-le}
 use lib.Dec.{eqb, ltb}
 use lib.Seq.{drop-cons}
-use borrow.Author.Tests.{eq-eqb, ne-eqb, le-ltb, lt-ltb}
+use borrow.Author.Tests.{eq-eqb, ne-eqb, le-ltb, lt-ltb, eqb-true}
 use mathlib.Core.Bool.{Bool, true, false}
 use Rattle.answers.specs.Parsing.{Parsed, parsed, refused, stepOf, unless, _>>=_, readMark}
 use Rattle.answers.specs.declared.Step.{Step}
@@ -35,11 +35,6 @@ then-parsed (refused k p) f h = h
 pub past-unless : {A : Type 0} (t : Bool) (k p : ℕ) (m : Parsed A) {n : ℕ} → Past n ≡ stepOf (unless t k p m) → (t ≡ true) × (Past n ≡ stepOf m)
 past-unless true k p m h = (refl, h)
 past-unless false k p m h = let z : _≡_ {A = ℕ} 0 1 = cc in absurd (omega arith)
-
--- a step past the whole: both parts are past
-pub past-parts : {A B : Type 0} (m : Parsed A) (f : A → ℕ → Parsed B) {k : ℕ} → Past k ≡ stepOf (m >>= f) → (a : A) × (n : ℕ) × (m ≡ parsed a n) × (Past k ≡ stepOf (f a n))
-past-parts (parsed a n) f h = (a, n, refl, h)
-past-parts (refused j p) f h = let z : _≡_ {A = ℕ} 0 1 = cc in absurd (omega arith)
 
 -- a test of what is left, as the code makes it
 pub none-left : (n : ℕ) → n ≡ 0 → ltb 0 n ≡ false
@@ -130,6 +125,32 @@ pub then-same : {A B : Type 0} (m : Parsed A) (f g : A → ℕ → Parsed B) (at
 then-same (parsed a n) f g at h e = e a n h
 then-same (refused k p) f g at h e = refl
 
+-- Finds: a fact of what was read and of the place after it.
+
+pub data Finds {A : Type 0} (P : A → ℕ → Type 0) : Parsed A → Type 0 where
+  found : {a : A} {n : ℕ} → P a n → Finds P (parsed a n)
+  none : {k p : ℕ} → Finds P (refused k p)
+
+module _ {A : Type 0} {P : A → ℕ → Type 0} where
+  pub finds-parsed : {a : A} {n : ℕ} → Finds P (parsed a n) → P a n
+  finds-parsed (found h) = h
+
+  pub finds-read : (m : Parsed A) {a : A} {n : ℕ} → Finds P m → m ≡ parsed a n → P a n
+  finds-read m h e = finds-parsed (subst (Finds P) e h)
+
+  pub finds-unless : (t : Bool) (k p : ℕ) (m : Parsed A) → (t ≡ true → Finds P m) → Finds P (unless t k p m)
+  finds-unless true k p m h = h refl
+  finds-unless false k p m h = none
+
+  pub finds-map : {Q : A → ℕ → Type 0} {m : Parsed A} → ((a : A) (n : ℕ) → P a n → Q a n) → Finds P m → Finds Q m
+  finds-map g (found {a = a} {n = n} h) = found (g a n h)
+  finds-map g none = none
+
+pub finds-then : {A B : Type 0} {P : A → ℕ → Type 0} {Q : B → ℕ → Type 0} (m : Parsed A) (f : A → ℕ → Parsed B)
+    → Finds P m → ((a : A) (n : ℕ) → P a n → Finds Q (f a n)) → Finds Q (m >>= f)
+finds-then (parsed a n) f h g = g a n (finds-parsed h)
+finds-then (refused k p) f h g = none
+
 -- A mark, byte by byte.
 
 module _ (number : ℕ) (mark s : List ℕ) (at : ℕ) (inside : at < length mark) where
@@ -158,3 +179,14 @@ mark-past number (b ∷ mark) s at h =
     let u = past-unless (eqb (getD s at 0) b) number at (readMark number mark s (at + 1)) h in
     let r = mark-past number mark s (at + 1) (u .1) in
     omega arith
+
+-- and its bytes stand there
+pub mark-found : (number : ℕ) (mark s : List ℕ) (at : ℕ) → at + length mark ≤ length s
+    → Finds (λ u n. (n ≡ at + length mark) × (drop at s ≡ mark ++ drop n s)) (readMark number mark s at)
+unfolding readMark
+mark-found number [] s at h = found {n = at} (omega arith, refl)
+mark-found number (b ∷ mark) s at h =
+    finds-unless (eqb (getD s at 0) b) number at _
+    (λ t. let inside : at < length s = omega arith in
+    let here : drop at s ≡ b ∷ drop (at + 1) s = rw (drop-cons s at 0 inside, eqb-true (getD s at 0) b t, add-one at) in
+    finds-map (λ u n r. (omega (arith, r .0), here ∙ ap (λ (l : List ℕ). b ∷ l) (r .1))) (mark-found number mark s (at + 1) (omega arith)))

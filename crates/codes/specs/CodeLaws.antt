@@ -1,12 +1,12 @@
 -- Laws of kinds and code bytes. Assumes nothing.
 use Prim.Native.Nat.{ℕ, suc, _<_, _≤_}
 use native.Mathlib.Omega.{arith}
-use mathlib.Core.Path.{_≡_, refl, sym, ap, _∙_}
+use mathlib.Core.Path.{_≡_, refl, sym, ap, subst⁻¹, _∙_}
 use mathlib.Core.Logic.{_⊎_, inl, inr}
 use mathlib.Core.Bool.{Bool, true, false, _&&_, false≢true, cond}
 use lib.Dec.{eqb, leb}
-use borrow.Author.Tests.{ne-eqb, le-leb, lt-leb}
-use Rattle.words.specs.Lists.{same?}
+use borrow.Author.Tests.{ne-eqb, le-leb, lt-leb, eqb-true, leb-true}
+use Rattle.words.specs.Lists.{same?, split}
 use Rattle.codes.specs.Codes.{kindOf, sameKind, plain, entryOf, operationOf, byteOf, codeOf}
 use Rattle.codes.specs.declared.Kind.{Kind}
 use Rattle.codes.specs.declared.Kind.the-variants as kind
@@ -131,3 +131,51 @@ byte-operation Equal = refl
 byte-operation And = refl
 byte-operation Or = refl
 byte-operation Not = refl
+
+-- and its code is that operation's entry
+pub code-back : (op : Operation) → codeOf (byteOf op) ≡ entryOf op
+unfolding codeOf operationOf
+code-back Sum = refl
+code-back Difference = refl
+code-back Product = refl
+code-back LessThan = refl
+code-back Equal = refl
+code-back And = refl
+code-back Or = refl
+code-back Not = refl
+
+-- the byte that opens a form
+abbrev pub Opens : ℕ → Form → Type 0
+Opens b End = b ≡ 0x00
+Opens b Assign = b ≡ 0x01
+Opens b Skip = b ≡ 0x02
+Opens b Branch = b ≡ 0x03
+Opens b Variable = b ≡ 0x10
+Opens b Word = b ≡ 0x11
+Opens b Bit = b ≡ 0x12
+Opens b (Apply op) = b ≡ byteOf op
+Opens b Unknown = Unit {0}
+
+opens-plain : (b c : ℕ) (f : Form) (k : Kind) (rest : Code) → (b ≡ c → Opens b f) → Opens b (rest .form) → Opens b (cond (eqb b c) (plain f k) rest .form)
+opens-plain b c f k rest h r = split (eqb b c) (λ t. rw t (h (eqb-true b c t))) (λ t. rw t r)
+
+opens-table : (b : ℕ) → Opens b (cond (leb 0x20 b && leb b 0x27) (entryOf (operationOf b)) (plain Unknown kind.Word) .form)
+opens-table b =
+    split (leb 0x20 b)
+    (λ l. split (leb b 0x27)
+    (λ h. rw (l, h) (subst⁻¹ (Opens b) (entry-form (operationOf b)) (sym (byte-back b (leb-true _ _ l) (leb-true _ _ h)))))
+    (λ h. rw (l, h) tt))
+    (λ l. rw l tt)
+
+-- so the form of a code tells its byte
+pub code-opens : (b : ℕ) → Opens b (codeOf b .form)
+unfolding codeOf
+code-opens b =
+    opens-plain b 0x00 End kind.Word _ (λ e. e)
+    (opens-plain b 0x01 Assign kind.Word _ (λ e. e)
+    (opens-plain b 0x02 Skip kind.Word _ (λ e. e)
+    (opens-plain b 0x03 Branch kind.Word _ (λ e. e)
+    (opens-plain b 0x10 Variable kind.Word _ (λ e. e)
+    (opens-plain b 0x11 Word kind.Word _ (λ e. e)
+    (opens-plain b 0x12 Bit kind.Bit _ (λ e. e)
+    (opens-table b)))))))

@@ -14,7 +14,7 @@ use Rattle.codes.specs.Codes.{sameKind}
 use Rattle.codes.specs.declared.Kind.{Kind}
 use Rattle.codes.specs.declared.Kind.the-variants as kind
 use Rattle.reading.specs.Header.{variables, kindAt}
-use Rattle.gates.specs.Kinds.{Fits}
+use Rattle.reading.specs.Kinds.{Fits}
 use Rattle.gates.specs.KindLaws.{FiguresFit}
 use Rattle.gates.specs.RunLaws.{or-none}
 use Rattle.direct.specs.Inputs.{aboveBit, someAbove, inputRow}

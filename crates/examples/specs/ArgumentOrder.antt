@@ -20,7 +20,7 @@ use Rattle.reading.specs.Examples.{r1}
 use Rattle.gates.specs.Gates.{gateAt, conditions, costs}
 use Rattle.gates.specs.Gates as gate
 use Rattle.gates.specs.PlainCircuit.{applyGate, makeExpr, assignsIn, assigns, choices, makeStatement, makeBlock, plainCircuit, gatesOf}
-use Rattle.gates.specs.OnlyOrder.{OnlyOrder, same, turned, assign, branch, end, then}
+use Rattle.reading.specs.OnlyOrder.{OnlyOrder, same, turned, assign, branch, end, then}
 use Rattle.needed.specs.Pass.{preconditions, preconditionSets}
 use Rattle.circuit.specs.Whole.{wholeWithin, ruleAnswer}
 use Rattle.plan.specs.PlanFile.{groupsIn}

@@ -3,7 +3,7 @@
 use Prim.Native.Nat.{ℕ}
 use mathlib.Core.Path.{_≡_}
 use mathlib.Core.List.{List}
-use Rattle.gates.specs.OnlyOrder.{OnlyOrder}
+use Rattle.reading.specs.OnlyOrder.{OnlyOrder}
 use Rattle.circuit.specs.Whole.{ruleAnswer}
 use Rattle.plan.specs.Rows.{planAnswer}
 use Rattle.fused.specs.CircuitFile.{fusedFile}

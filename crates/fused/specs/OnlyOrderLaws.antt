@@ -9,7 +9,7 @@ use Rattle.reading.specs.Header.{variables, kindAt}
 use Rattle.reading.specs.Rule.{readRule}
 use Rattle.gates.specs.Gates.{Gate, start, word, bit, operation, choice, Gates, gateAt, costs, conditions}
 use Rattle.gates.specs.PlainCircuit.{Making, gatesOf}
-use Rattle.gates.specs.OnlyOrder.{OnlyOrder}
+use Rattle.reading.specs.OnlyOrder.{OnlyOrder}
 use Rattle.gates.specs.OnlyOrderLaws.{same-variables, same-kind, second-read, same-plain}
 use Rattle.gates.specs.Limits.{mostGates, mostConditions}
 use Rattle.needed.specs.Needed.{wantedOf}

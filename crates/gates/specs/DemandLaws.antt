@@ -14,7 +14,7 @@ use Rattle.reading.specs.Tree.{Expr, variable, word, bit, one, two, Statement, 
 use Rattle.gates.specs.Running.{isOne, figureOf, runStatement, runBlock}
 use Rattle.gates.specs.Gates.{Gates, figure, runAt}
 use Rattle.gates.specs.Gates as gate
-use Rattle.gates.specs.Kinds.{Typed, TypedStatement, TypedBlock}
+use Rattle.reading.specs.Kinds.{Typed, TypedStatement, TypedBlock}
 use Rattle.gates.specs.PlainCircuit.{Making, Made, makeExpr, choices, assignedIn, asBefore, makeStatement, makeBlock, conditionMade, firstMade, secondMade}
 use Rattle.gates.specs.ApplyLaws.{apply-figure}
 use Rattle.gates.specs.FigureLaws.{figure-same, runAt-last}

@@ -14,7 +14,7 @@ use Rattle.codes.specs.declared.Operation.{Operation}
 use Rattle.reading.specs.Tree.{Expr, variable, word, bit, one, two}
 use Rattle.gates.specs.Gates.{Gate, start, operation, choice, Gates, gateAt, arguments, Earlier, runAt}
 use Rattle.gates.specs.Gates as gate
-use Rattle.gates.specs.Kinds.{Typed, Words}
+use Rattle.reading.specs.Kinds.{Typed, WordsFit}
 use Rattle.gates.specs.GateKinds.{gateKind, GateFits}
 use Rattle.gates.specs.PlainCircuit.{Making, Made, add, applyGate, makeExpr, choose, choices, asBefore}
 use Rattle.gates.specs.FigureLaws.{runAt-append, runAt-last}
@@ -75,7 +75,7 @@ module _ (v : ℕ) (kinds : ℕ → Kind) where
   add-kinded : (C : Gates) (g : Gate) (k : Kind) → Earlier C → Fit C → Inside (length C) (arguments g) → GateFits (at C) g → gateKind kinds (at C) g ≡ k → Kinded k (add C g)
   add-kinded C g k e f i h n = record { stands = runAt-last kind.Word (gateKind kinds) C g ∙ n; fit = fit-add C g e f i h }
 
-  pub expr-kinded : (e : Expr) (k : Kind) → Typed v kinds e k → Words v kinds e k → (m : Making) → Sound v m → Fit (m .gates)
+  pub expr-kinded : (e : Expr) (k : Kind) → Typed v kinds e k → WordsFit e k → (m : Making) → Sound v m → Fit (m .gates)
       → PresentGives kind.Word (gateKind kinds) m kinds → Kinded k (makeExpr e (m .present) (m .gates))
   unfolding makeExpr
   expr-kinded (variable x) k (h, t) w m s f a = record { stands = a x (omega (arith, s .count)) ∙ t; fit = f }

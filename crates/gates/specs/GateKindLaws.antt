@@ -16,7 +16,7 @@ use Rattle.reading.specs.Tree.{Statement, assign, skip, branch, Block, end, the
 use Rattle.reading.specs.Rule.{readRule}
 use Rattle.gates.specs.Running.{runBlock}
 use Rattle.gates.specs.Gates.{start, Gates, gateAt, figureAt}
-use Rattle.gates.specs.Kinds.{Fits, TypedStatement, TypedBlock, WordsStatement, WordsBlock}
+use Rattle.reading.specs.Kinds.{Fits, TypedStatement, TypedBlock, WordsStatement, WordsBlock}
 use Rattle.gates.specs.GateKinds.{gateKind, kindOfGate, GateFits, GatesFit}
 use Rattle.gates.specs.PlainCircuit.{Making, Made, makeExpr, choices, assignedIn, asBefore, makeStatement, makeBlock, conditionMade, firstMade, secondMade, starts, plainCircuit, gatesOf, outputsOf}
 use Rattle.gates.specs.PlainLaws.{extends-trans, expr-extends}
@@ -24,7 +24,7 @@ use Rattle.gates.specs.SoundLaws.{Sound, sound-again, assigned-below, Pa
 use Rattle.gates.specs.HoldLaws.{PresentGives, holds-extends, condition-stays, first-stays, before-stays, parts-hold}
 use Rattle.gates.specs.KindLaws.{kind-same, FiguresFit, block-fits, gate-fits, inputs-fit}
 use Rattle.gates.specs.ExprKindLaws.{at, Fit, expr-kinded, choices-fit}
-use Rattle.gates.specs.ReadLaws.{read-typed, read-words}
+use Rattle.reading.specs.FoundRuleLaws.{read-typed, read-words}
 use Rattle.gates.specs.StartLaws.{starts-sound, starts-hold, read-plain, plain-sound}
 
 module _ (v : ℕ) (kinds : ℕ → Kind) where
@@ -95,7 +95,7 @@ module _ (s : List ℕ) (bytes : Bytes s) (b : Block) (n : ℕ) (read : readRule
   plain-kept : Kept (variables s) (kindAt s) (plainCircuit s)
   plain-kept =
       rw (read-plain s b n read)
-      (block-kept (variables s) (kindAt s) b (read-typed s b n read) (read-words s bytes b n read) (starts (variables s)) (starts-sound (variables s))
+      (block-kept (variables s) (kindAt s) b (read-typed s b n read) (read-words s b n read bytes) (starts (variables s)) (starts-sound (variables s))
       (record {
         fit = starts-fit (kindAt s) _ 0 (variables s);
         present-kinds = starts-hold kind.Word (gateKind (kindAt s)) (kind-same (kindAt s)) (variables s) (kindAt s) (λ g x. refl);
@@ -119,4 +119,4 @@ module _ (s : List ℕ) (bytes : Bytes s) (b : Block) (n : ℕ) (read : readRule
 
   -- and the direct run ends with figures that fit
   pub run-fits : (inputs : List ℕ) → length inputs ≡ variables s → FiguresFit (variables s) (kindAt s) inputs → FiguresFit (variables s) (kindAt s) (runBlock b inputs)
-  run-fits inputs f a = block-fits (variables s) (kindAt s) b (read-typed s b n read) (read-words s bytes b n read) inputs f a
+  run-fits inputs f a = block-fits (variables s) (kindAt s) b (read-typed s b n read) (read-words s b n read bytes) inputs f a

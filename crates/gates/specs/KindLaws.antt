@@ -22,7 +22,7 @@ use Rattle.reading.specs.Tree.{Expr, variable, word, bit, one, two, Statement, 
 use Rattle.gates.specs.Running.{isOne, figureOf, runStatement, runBlock}
 use Rattle.gates.specs.Gates.{Gate, start, operation, choice, Gates, gateAt, arguments, Earlier, figure, figureAt}
 use Rattle.gates.specs.Gates as gate
-use Rattle.gates.specs.Kinds.{Fits, Typed, TypedStatement, TypedBlock, Words, WordsStatement, WordsBlock}
+use Rattle.reading.specs.Kinds.{Fits, Typed, TypedStatement, TypedBlock, WordsFit, WordsStatement, WordsBlock}
 use Rattle.gates.specs.GateKinds.{gateKind, kindOfGate, GateFits, GatesFit}
 use Rattle.gates.specs.FigureLaws.{OnArguments, gates-right, figures-right}
 use Rattle.gates.specs.RunLaws.{statement-count}
@@ -49,7 +49,7 @@ FiguresFit v kinds f = (x : ℕ) → x < v → Fits (kinds x) (getD f x 0)
 
 module _ (v : ℕ) (kinds : ℕ → Kind) where
   -- an expression's figure is of its kind
-  pub expr-fits : (e : Expr) (k : Kind) → Typed v kinds e k → Words v kinds e k → (f : List ℕ) → FiguresFit v kinds f → Fits k (figureOf f e)
+  pub expr-fits : (e : Expr) (k : Kind) → Typed v kinds e k → WordsFit e k → (f : List ℕ) → FiguresFit v kinds f → Fits k (figureOf f e)
   unfolding figureOf
   expr-fits (variable x) k (h, t) w f a = rw t at (a x h)
   expr-fits (word n) k t w f a = subst (λ (z : Kind). Fits z n) t w

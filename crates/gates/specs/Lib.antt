@@ -2,9 +2,7 @@ pub mod Running
 pub mod Limits
 pub mod Gates
 pub mod PlainCircuit
-pub mod OnlyOrder
 pub mod Quads
-pub mod Kinds
 pub mod GateKinds
 pub mod ApplyLaws
 pub mod FigureLaws
@@ -17,8 +15,6 @@ pub mod SoundLaws
 pub mod RunLaws
 pub mod HoldLaws
 pub mod DemandLaws
-pub mod ReadExprLaws
-pub mod ReadLaws
 pub mod KindLaws
 pub mod ExprKindLaws
 pub mod StartLaws

@@ -16,7 +16,7 @@ use Rattle.codes.specs.Codes.{kindOf}
 use Rattle.gates.specs.Gates.{Gates}
 use Rattle.gates.specs.PlainCircuit.{Making, add, makeExpr, assignsIn, assigns, assignedIn, asBefore, makeStatement, makeBlock, conditionMade, firstMade, starts, plainOf, plainRead, plainCircuit}
 use Rattle.gates.specs.ApplyLaws.{apply-commutes}
-use Rattle.gates.specs.OnlyOrder.{ExprUpToOrder, same, turned, inOne, inTwo, StatementUpToOrder, assign, skip, branch, BlockUpToOrder, end, then, ReadUpToOrder, OnlyOrder}
+use Rattle.reading.specs.OnlyOrder.{ExprUpToOrder, same, turned, inOne, inTwo, StatementUpToOrder, assign, skip, branch, BlockUpToOrder, end, then, ReadUpToOrder, OnlyOrder}
 
 expr-same : {d e : Expr} → ExprUpToOrder d e → (present : List ℕ) (C : Gates) → makeExpr d present C ≡ makeExpr e present C
 unfolding makeExpr

@@ -13,12 +13,12 @@ use Rattle.codes.specs.declared.Kind.{Kind}
 use Rattle.gates.specs.Running.{runBlock}
 use Rattle.gates.specs.Gates.{figure, figureAt}
 use Rattle.gates.specs.PlainCircuit.{starts, plainOf, plainCircuit, gatesOf, outputsOf}
-use Rattle.gates.specs.Kinds.{TypedBlock}
+use Rattle.reading.specs.Kinds.{TypedBlock}
 use Rattle.gates.specs.FigureLaws.{figure-same, map-at}
 use Rattle.gates.specs.RunLaws.{block-count}
 use Rattle.gates.specs.StartLaws.{starts-sound, starts-hold, read-plain, plain-sound}
 use Rattle.gates.specs.DemandLaws.{Agrees, block-agrees}
-use Rattle.gates.specs.ReadLaws.{read-typed}
+use Rattle.reading.specs.FoundRuleLaws.{read-typed}
 
 -- of a typed tree: whatever the inputs, each variable's output has the figure that the direct run ends with
 pub tree-figure : (v : ℕ) (kinds : ℕ → Kind) (b : Block) → TypedBlock v kinds b → (inputs : List ℕ) → length inputs ≡ v

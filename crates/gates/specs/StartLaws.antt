@@ -16,7 +16,7 @@ use Rattle.gates.specs.PlainCircuit.{starts, plainOf, plainRead, plainCi
 use Rattle.gates.specs.FigureLaws.{OnArguments, gates-right}
 use Rattle.gates.specs.SoundLaws.{Sound, block-sound}
 use Rattle.gates.specs.HoldLaws.{PresentGives}
-use Rattle.gates.specs.ReadLaws.{read-typed}
+use Rattle.reading.specs.FoundRuleLaws.{read-typed}
 
 -- Gates 0 to V−1 are the variables' starting values.
 starts-earlier : (i n j a : ℕ) → a ∈ arguments (gateAt (map start (from i n)) j) → a < j

@@ -2,7 +2,7 @@
 use Prim.Native.Nat.{ℕ, zero, suc}
 use mathlib.Core.Path.{_≡_, refl}
 use mathlib.Core.List.{List, [], _∷_, _++_, map}
-use lib.ListN.{set, take}
+use lib.ListN.{set, take, drop}
 use Rattle.words.specs.Numbers.{number}
 use Rattle.codes.specs.Codes.{kindOf, operationOf, codeOf}
 use Rattle.codes.specs.declared.Operation.the-variants.{Product}
@@ -10,10 +10,12 @@ use Rattle.answers.specs.Parsing.{parsed, stepOf, readMark}
 use Rattle.answers.specs.Answers.{success, refusal, answerOf}
 use Rattle.answers.specs.declared.Answer.{Answer}
 use Rattle.reading.specs.Header.{readCount, readKinds, readHeader}
-use Rattle.reading.specs.Tree.{variable, two, assign, branch, end, then}
+use Rattle.reading.specs.Tree.{variable, two, assign, branch, Block, end, then}
 use Rattle.reading.specs.Expressions.{readVariable, readWord, readBit, operationWith, exprWith, readExpr}
 use Rattle.reading.specs.Blocks.{readAssign, branchWith, statementWith, blockWith, blockFuel, readBlock}
 use Rattle.reading.specs.Rule.{readRule}
+use Rattle.reading.specs.Format.{exprBytes, statementBytes, blockBytes, ruleBytes}
+use Rattle.reading.specs.Standing.{whole, InBlock, inAssign, inFirst}
 
 -- the rule R1
 abbrev pub r1 : List ℕ
@@ -50,7 +52,22 @@ nests d = bit-rule (ifs d)
 abbrev reads : List ℕ → Answer
 reads s = answerOf (stepOf (readRule s))
 
-r1-read : readRule r1 ≡ parsed (then (branch (variable 0) (then (assign 1 (two Product (variable 1) (variable 2))) end) (then (assign 1 (two Product (variable 2) (variable 2))) end)) end) 29
+-- what R1 says
+abbrev r1-tree : Block
+r1-tree =
+    then (branch (variable 0) (then (assign 1 (two Product (variable 1) (variable 2))) end) (then (assign 1 (two Product (variable 2) (variable 2))) end)) end
+
+-- its file, by the format
+r1-written : r1 ≡ ruleBytes (0x01 ∷ 0x00 ∷ 0x00 ∷ []) r1-tree
+unfolding exprBytes statementBytes blockBytes
+r1-written = refl
+
+-- the product of its first block stands in its block after 5 bytes and before 10
+r1-product : InBlock (two Product (variable 1) (variable 2)) r1-tree (take 5 (drop 9 r1)) (drop 19 r1)
+unfolding exprBytes statementBytes blockBytes
+r1-product = inFirst (inAssign whole)
+
+r1-read : readRule r1 ≡ parsed r1-tree 29
 unfolding number kindOf operationOf codeOf readMark readCount readKinds readHeader readVariable readWord readBit operationWith exprWith readExpr readAssign branchWith statementWith blockWith blockFuel readBlock readRule
 r1-read = refl
 

@@ -135,7 +135,7 @@ rule-read s h =
     let r : IsRead (body (k .0) (k .1)) = rest-read (readHeader s) body (k .0) (k .1) (k .2) (b .1) in
     record {
       small = leb-true _ _ (b .0);
-      header = record { some = g .some; few = g .few; kinds = g .kinds; after = refl };
+      header = record { marked = g .marked; some = g .some; few = g .few; kinds = g .kinds; known = g .known; after = refl };
       block =
           rule-is s (leb-true _ _ (a .0)) (leb-true _ _ (b .0)) ∙ ap (λ (m : Parsed (Unit {0})). m >>= body) (k .2)
           ∙ (last-same s (readBlock s nested (k .1)) r ∙ ap (readBlock s nested) (g .after));

@@ -1,14 +1,15 @@
 -- Laws of reading a header and a whole rule, one for each step of the code. Assumes nothing.
 use Prim.Native.Nat.{ℕ, zero, suc, _+_, _-_, _<_, _≤_}
+use native.Mathlib.Nat.{add-zero}
 use native.Mathlib.Omega.{arith}
 use native.Mathlib.Numerals.{sub-one}
-use mathlib.Core.Path.{_≡_, refl, sym, ap}
-use mathlib.Core.List.{List}
-use lib.ListN.{length, getD}
+use mathlib.Core.Path.{_≡_, refl}
+use mathlib.Core.List.{List, _++_}
+use lib.ListN.{length, getD, drop}
 use lib.Dec.{ltb, leb}
 use borrow.Author.Tests.{le-ltb, lt-ltb, le-leb, lt-leb, ltb-true, leb-true}
-use Rattle.answers.specs.Parsing.{Parsed, parsed, refused, stepOf, unless, _>>=_, readMark}
-use Rattle.answers.specs.ParsingLaws.{past-then, refused-then, past-unless, past-parts, mark-past}
+use Rattle.answers.specs.Parsing.{Parsed, parsed, refused, stepOf, _>>=_, readMark}
+use Rattle.answers.specs.ParsingLaws.{past-then, refused-then, read-past, mark-past, Finds, found, finds-read, finds-map, finds-unless, finds-then, mark-found}
 use Rattle.answers.specs.declared.Step.{Step}
 use Rattle.answers.specs.declared.Step.the-variants.{Past, Refused}
 use Rattle.reading.specs.Limits.{mostVariables, lastKind, nested}
@@ -38,16 +39,26 @@ module _ (s : List ℕ) (at : ℕ) where
   kinds-more zero z h k = absurd (omega arith)
   kinds-more (suc n) z h k = rw (lt-ltb _ _ h, le-leb _ _ k, sub-one (suc n))
 
--- kind bytes that were read lie in the file
-pub kinds-past : (n : ℕ) (s : List ℕ) (at : ℕ) {k : ℕ} → at ≤ length s → Past k ≡ stepOf (readKinds n s at) → (k ≡ at + n) × (k ≤ length s)
+-- kind bytes that were read lie in the file, and each is a kind's
+pub record KindsFound (n : ℕ) (s : List ℕ) (at next : ℕ) : Type 0 where
+  pub after : next ≡ at + n
+  pub inside : next ≤ length s
+  pub known : (x : ℕ) → x < n → getD s (at + x) 0 ≤ lastKind
+
+first-known : (n : ℕ) (s : List ℕ) (at next : ℕ) → getD s at 0 ≤ lastKind → KindsFound n s (at + 1) next → (x : ℕ) → x < suc n → getD s (at + x) 0 ≤ lastKind
+first-known n s at next h r zero l = rw (add-zero at) h
+first-known n s at next h r (suc x) l =
+    let q : at + 1 + x ≡ at + suc x = omega arith in rw q at (r .known x (omega arith))
+
+kinds-found : (n : ℕ) (s : List ℕ) (at : ℕ) → at ≤ length s → Finds (λ u next. KindsFound n s at next) (readKinds n s at)
 unfolding readKinds
-kinds-past zero s at {k} l h = let e : k ≡ at = cc in (omega arith, omega arith)
-kinds-past (suc n) s at {k} l h =
-    let u = past-unless (ltb at (length s)) 4 (length s) (unless (leb (getD s at 0) lastKind) 3 at (readKinds n s (at + 1))) h in
-    let v = past-unless (leb (getD s at 0) lastKind) 3 at (readKinds n s (at + 1)) (u .1) in
-    let i : at < length s = ltb-true at (length s) (u .0) in
-    let r = kinds-past n s (at + 1) (omega arith) (v .1) in
-    (omega arith, r .1)
+kinds-found zero s at l = found {n = at} (record { after = omega arith; inside = l; known = λ x h. absurd (omega arith) })
+kinds-found (suc n) s at l =
+    finds-unless (ltb at (length s)) 4 (length s) _
+    (λ i. finds-unless (leb (getD s at 0) lastKind) 3 at _
+    (λ k. let inside : at < length s = ltb-true _ _ i in
+    finds-map (λ u next r. record { after = omega (arith, r .after); inside = r .inside; known = first-known n s at next (leb-true _ _ k) r })
+    (kinds-found n s (at + 1) (omega arith))))
 
 -- the header
 module _ (s : List ℕ) where
@@ -76,34 +87,39 @@ module _ (s : List ℕ) where
     unfolding afterMark readCount
     header-kinds z h q = header-open (rw (lt-ltb 0 (variables s) (omega arith), le-leb _ _ h) q)
 
--- a header that was read: V is in range, and a kind byte for every variable stands before the block
+-- a header that was read: the mark stands there, V is in range, and a kind byte for every variable stands before the block
 pub record Headed (s : List ℕ) (body : ℕ) : Type 0 where
+  pub marked : s ≡ mark ++ drop 5 s
   pub some : 0 < variables s
   pub few : variables s ≤ mostVariables
   pub kinds : HasKinds s
+  pub known : (x : ℕ) → x < variables s → getD s (6 + x) 0 ≤ lastKind
   pub after : body ≡ 6 + variables s
 
-count-past : (s : List ℕ) (v n : ℕ) → readCount s 5 ≡ parsed v n → (0 < variables s) × (variables s ≤ mostVariables) × (v ≡ variables s) × (n ≡ 6)
+count-found : (s : List ℕ) → Finds (λ v n. (0 < variables s) × (variables s ≤ mostVariables) × (v ≡ variables s) × (n ≡ 6)) (readCount s 5)
 unfolding readCount
-count-past s v n h =
-    let t : Past n ≡ stepOf (readCount s 5) = sym (ap stepOf h) in
-    let u = past-unless (ltb 0 (variables s)) 3 5 (unless (leb (variables s) mostVariables) 3 5 (parsed (variables s) 6)) t in
-    let w = past-unless (leb (variables s) mostVariables) 3 5 (parsed (variables s) 6) (u .1) in
-    let q : parsed (variables s) 6 ≡ parsed v n = rw (u .0, w .0) at h in
-    (ltb-true _ _ (u .0), leb-true _ _ (w .0), cc, cc)
+count-found s =
+    finds-unless (ltb 0 (variables s)) 3 5 _
+    (λ some. finds-unless (leb (variables s) mostVariables) 3 5 _ (λ few. found (ltb-true _ _ some, leb-true _ _ few, refl, refl)))
+
+header-found : (s : List ℕ) → 6 ≤ length s → Finds (λ u body. Headed s body) (readHeader s)
+unfolding readHeader
+header-found s six =
+    finds-then (readMark 2 mark s 0) _ (mark-found 2 mark s 0 (omega arith))
+    (λ u at m. let five : at ≡ 5 = omega (arith, m .0) in
+    rw five (finds-then (readCount s 5) _ (count-found s)
+    (λ v at′ c. rw (c .2, c .3)
+    (finds-map (λ w body r. record {
+      marked = rw five at (m .1);
+      some = c .0;
+      few = c .1;
+      kinds = omega (arith, r .after, r .inside);
+      known = r .known;
+      after = r .after;
+    }) (kinds-found (variables s) s 6 six)))))
 
 pub header-past : (s : List ℕ) {body : ℕ} → 6 ≤ length s → Past body ≡ stepOf (readHeader s) → Headed s body
-unfolding readHeader
-header-past s {body} six h =
-    let after : Unit {0} → ℕ → Parsed (Unit {0}) = λ u at. readCount s at >>= λ v at. readKinds v s at in
-    let kinds : ℕ → ℕ → Parsed (Unit {0}) = λ v at. readKinds v s at in
-    let m = past-parts (readMark 2 mark s 0) after h in
-    let five : m .1 ≡ 5 = mark-past 2 mark s 0 (sym (ap stepOf (m .2))) in
-    let q : Past body ≡ stepOf (readCount s 5 >>= kinds) = rw five at (m .3) in
-    let c = past-parts (readCount s 5) kinds q in
-    let v = count-past s (c .0) (c .1) (c .2) in
-    let k = kinds-past (c .0) s (c .1) (omega arith) (c .3) in
-    record { some = v .0; few = v .1; kinds = omega arith; after = omega arith }
+header-past s six h = finds-read (readHeader s) (header-found s six) (read-past (readHeader s) h .1)
 
 -- the whole, its size in range
 module _ (s : List ℕ) (lo : 6 ≤ length s) (hi : length s ≤ 4096) where

@@ -5,12 +5,20 @@ use Rattle.codes.specs.Codes.{entryOf}
 use Rattle.codes.specs.declared.Code.{Code}
 use Rattle.codes.specs.declared.Kind.{Kind}
 use Rattle.codes.specs.declared.Kind.the-variants as kind
 use Rattle.reading.specs.Tree.{Expr, variable, word, bit, one, two, Statement, assign, skip, branch, Block, end, then}
 
 -- A word is 32 bits, unsigned; a bit is 0 or 1.
 abbrev pub Fits : Kind → ℕ → Type 0
 Fits kind.Word n = n < 4294967296
 Fits kind.Bit n = n ≤ 1
+
+-- every word constant of an expression is a word
+abbrev pub WordsFit : Expr → Kind → Type 0
+WordsFit (variable x) k = Unit {0}
+WordsFit (word n) k = Fits kind.Word n
+WordsFit (bit b) k = Unit {0}
+WordsFit (one op e) k = WordsFit e (entryOf op .takes)
+WordsFit (two op d e) k = WordsFit d (entryOf op .takes) × WordsFit e (entryOf op .takes)
 
 -- over v variables of these kinds
 module _ (v : ℕ) (kinds : ℕ → Kind) where
@@ -18,39 +26,32 @@ module _ (v : ℕ) (kinds : ℕ → Kind) where
   abbrev pub Typed : Expr → Kind → Type 0
   Typed (variable x) k = (x < v) × (kinds x ≡ k)
   Typed (word n) k = kind.Word ≡ k
-  Typed (bit b) k = (b ≤ 1) × (kind.Bit ≡ k)
+  Typed (bit b) k = Fits kind.Bit b × (kind.Bit ≡ k)
   Typed (one op e) k = (entryOf op .arity ≡ 1) × (entryOf op .gives ≡ k) × Typed e (entryOf op .takes)
   Typed (two op d e) k = (entryOf op .arity ≡ 2) × (entryOf op .gives ≡ k) × Typed d (entryOf op .takes) × Typed e (entryOf op .takes)
 
   -- P holds of every expression and its kind: an assign is of its variable's kind, an if asks a bit
   module _ (P : Expr → Kind → Type 0) where
     abbrev mutual
-      pub EachIn : Statement → Type 0
-      EachIn (assign x e) = (x < v) × P e (kinds x)
-      EachIn skip = Unit {0}
-      EachIn (branch c b d) = P c kind.Bit × Each b × Each d
+      pub EachExprIn : Statement → Type 0
+      EachExprIn (assign x e) = (x < v) × P e (kinds x)
+      EachExprIn skip = Unit {0}
+      EachExprIn (branch c b d) = P c kind.Bit × EachExpr b × EachExpr d
 
-      pub Each : Block → Type 0
-      Each end = Unit {0}
-      Each (then t b) = EachIn t × Each b
+      pub EachExpr : Block → Type 0
+      EachExpr end = Unit {0}
+      EachExpr (then t b) = EachExprIn t × EachExpr b
 
   -- the kinds of statements and blocks fit
   abbrev pub TypedStatement : Statement → Type 0
-  TypedStatement = EachIn Typed
+  TypedStatement = EachExprIn Typed
 
   abbrev pub TypedBlock : Block → Type 0
-  TypedBlock = Each Typed
+  TypedBlock = EachExpr Typed
 
-  -- every word constant of an expression is a word
-  abbrev pub Words : Expr → Kind → Type 0
-  Words (variable x) k = Unit {0}
-  Words (word n) k = Fits kind.Word n
-  Words (bit b) k = Unit {0}
-  Words (one op e) k = Words e (entryOf op .takes)
-  Words (two op d e) k = Words d (entryOf op .takes) × Words e (entryOf op .takes)
-
+  -- and so do their word constants
   abbrev pub WordsStatement : Statement → Type 0
-  WordsStatement = EachIn Words
+  WordsStatement = EachExprIn WordsFit
 
   abbrev pub WordsBlock : Block → Type 0
-  WordsBlock = Each Words
+  WordsBlock = EachExpr WordsFit
