@@ -24,10 +24,6 @@ use Rattle.gates.specs.Kinds.{Typed, TypedStatement, TypedBlock}
 use Rattle.gates.specs.ReadLaws.{read-typed}
 use Rattle.direct.specs.Walking.{Ran}
 
--- the part of a list up to v
-pub front : (v : ℕ) (g : List ℕ) → take (v - 0) (drop 0 g) ≡ take v g
-front v g = let n : v - 0 ≡ v = omega arith in ap (λ (k : ℕ). take k g) n
-
 -- over v variables, with further figures p behind theirs
 module _ (v : ℕ) (kinds : ℕ → Kind) (p : List ℕ) where
   figure-pad : (e : Expr) (k : Kind) → Typed v kinds e k → (f : List ℕ) → length f ≡ v → figureOf (f ++ p) e ≡ figureOf f e

@@ -6,6 +6,7 @@ use mathlib.Core.Logic.{_⊎_, inl, inr}
 use native.Mathlib.Omega.{arith}
 use lib.ListN.{length, getD, length-map}
 use Rattle.words.specs.Lists.{_∈_, keep-from, from, upto, from-below}
+use Rattle.words.specs.ListLaws.{map-same}
 use Rattle.settings.specs.Sets.{restsOn, rests}
 use Rattle.settings.specs.Guards.{table}
 use Rattle.codes.specs.Codes.{entryOf, operationOf}
@@ -14,7 +15,6 @@ use Rattle.codes.specs.CodeLaws.{one-or-two, byte-back}
 use Rattle.gates.specs.Gates.{Gate, start, word, bit, operation, choice, gateAt, arguments, conditions}
 use Rattle.gates.specs.EarlierLaws.{Inside}
 use Rattle.gates.specs.Limits.{mostConditions}
-use Rattle.gates.specs.FigureLaws.{map-same}
 use Rattle.needed.specs.Held.{gateIn, gatesIn, codeAt, firstAt, secondAt, thirdAt}
 use Rattle.needed.specs.HeldLaws.{gates-at}
 use Rattle.plan.specs.PlanFile.{groupAt}

@@ -10,8 +10,9 @@ use Rattle.words.specs.Lists.{_∈_}
 use Rattle.words.specs.Numbers.{numberAt}
 use Rattle.words.specs.Buffers.{over}
 use Rattle.words.specs.BufferLaws.{over-nil, over-snoc, length-over}
+use Rattle.words.specs.ListLaws.{map-same}
 use Rattle.gates.specs.Gates.{run}
-use Rattle.gates.specs.FigureLaws.{run-length, run-append, map-same}
+use Rattle.gates.specs.FigureLaws.{run-length, run-append}
 use Rattle.gates.specs.EarlierLaws.{Inside}
 use Rattle.fused.specs.Records.{Record, word, reads, recordFigure, wireFigure}
 use Rattle.fused.specs.FileFigures.{wiresAt, recordAt, sizeAt, recordsFrom, firstRecord, fileVariables, wireCount, fileRecords, fileOutputs, fileFigures}

@@ -10,10 +10,10 @@ use lib.Dec.{eqb}
 use lib.Pow.{pow-mono}
 use lib.ListN.{length, getD, length-map}
 use Rattle.words.specs.Lists.{from, upto, length-from}
+use Rattle.words.specs.ListLaws.{length-keep}
 use Rattle.settings.specs.Sets.{has, restsOn, rests}
 use Rattle.settings.specs.Guards.{spread, tableOver, table}
 use Rattle.settings.specs.BitLaws.{collect-below}
-use Rattle.settings.specs.ListLaws.{length-keep}
 use Rattle.codes.specs.Codes.{entryOf}
 use Rattle.codes.specs.declared.Code.{Code}
 use Rattle.codes.specs.declared.Kind.{Kind}

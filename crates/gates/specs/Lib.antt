@@ -22,6 +22,7 @@ pub mod ReadLaws
 pub mod KindLaws
 pub mod ExprKindLaws
 pub mod StartLaws
+pub mod EachGateLaws
 pub mod GateKindLaws
 pub mod OutputLaws
 pub mod OnlyOrderLaws

@@ -7,6 +7,7 @@ use lib.ListN.{length, getD, take, length-reverse}
 use lib.Seq.{take-at}
 use Rattle.words.specs.Lists.{_∈_}
 use Rattle.words.specs.Numbers.{Bytes}
+use Rattle.words.specs.ListLaws.{map-same}
 use Rattle.codes.specs.declared.Kind.{Kind}
 use Rattle.reading.specs.Header.{variables, kindAt}
 use Rattle.reading.specs.Limits.{mostVariables}
@@ -16,7 +17,6 @@ use Rattle.gates.specs.GateKinds.{kindOfGate, GateFits}
 use Rattle.gates.specs.GateKindLaws.{plain-fits}
 use Rattle.gates.specs.Limits.{mostGates}
 use Rattle.gates.specs.EarlierLaws.{Inside}
-use Rattle.gates.specs.FigureLaws.{map-same}
 use Rattle.gates.specs.PlainCircuit.{gatesOf, outputsOf, gateCount}
 use Rattle.needed.specs.Pass.{rulePreconditions}
 use Rattle.circuit.specs.Built.{padded, builtQuads, builtNeeds, builtOutputs, builtConditions}

@@ -5,10 +5,11 @@ use Prim.Native.Nat.{ℕ}
 use lib.ListN.{length}
 use denote.Ref.{now}
 use Rattle.words.specs.Buffers.{over}
+use Rattle.words.specs.ListLaws.{front}
 use Rattle.answers.specs.ParsingLaws.{IsRead}
 use Rattle.reading.specs.Header.{variables}
 use Rattle.reading.specs.FirstStatement.{rule-read}
-use Rattle.direct.specs.ResultLaws.{front, rule-ran, rule-long}
+use Rattle.direct.specs.ResultLaws.{rule-ran, rule-long}
 use borrow.Author.Needs.{needs}
 use Rattle.direct.proofs.run_checked.Statement.{statement}
 use Rattle.direct.proofs.run_checked.Tie as tie
