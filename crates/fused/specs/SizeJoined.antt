@@ -9,7 +9,6 @@ use Rattle.words.specs.Lists.{from, upto, length-from}
 use Rattle.words.specs.ListLaws.{length-keep}
 use Rattle.settings.specs.Sets.{restsOn, rests}
 use Rattle.codes.specs.Codes.{entryOf}
-use Rattle.codes.specs.declared.Code.{Code}
 use Rattle.codes.specs.declared.Operation.{Operation}
 use Rattle.gates.specs.Gates.{Gates}
 use Rattle.gates.specs.Limits.{mostConditions}

@@ -15,6 +15,7 @@ use Rattle.codes.specs.declared.Operation.the-variants.{Sum, Difference, Produc
 use Rattle.gates.specs.Gates.{Gate, Gates, gateAt, arguments}
 use Rattle.gates.specs.Gates as gate
 use Rattle.gates.specs.Limits.{mostConditions}
+use Rattle.gates.specs.EachGateLaws.{StartGate, Starting}
 use Rattle.plan.specs.Groups.{restsOf, members}
 use Rattle.fused.specs.Records.{Record, input, word, bit, operation, choice, pick, guard}
 use Rattle.fused.specs.Emission.{alone, gateOperation, guardOf, valuesAt, emit}
@@ -22,7 +23,6 @@ use Rattle.fused.specs.FusedCircuit.{groupRecords, written}
 use Rattle.fused.specs.CircuitFile.{recordBytes}
 use Rattle.fused.specs.RecordLaws.{Along, along-append, along-map}
 use Rattle.fused.specs.EmitLaws.{joined-along}
-use Rattle.fused.specs.FitStarts.{StartGate, Starting}
 use Rattle.fused.specs.SizeJoined.{rests-few}
 use Rattle.figures.specs.Runnable.{recordCodes}
 

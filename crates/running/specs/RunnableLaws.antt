@@ -11,6 +11,7 @@ use Rattle.answers.specs.ParsingLaws.{is-read}
 use Rattle.reading.specs.Header.{variables}
 use Rattle.reading.specs.Rule.{readRule}
 use Rattle.gates.specs.PlainCircuit.{gatesOf}
+use Rattle.gates.specs.EachGateLaws.{rule-starting}
 use Rattle.needed.specs.Pass.{rulePreconditions}
 use Rattle.circuit.specs.WholeLaws.{accepted}
 use Rattle.plan.specs.PlanFile.{groupsIn}
@@ -23,7 +24,6 @@ use Rattle.fused.specs.FusedCircuit.{fused, recordsOf, outputWires}
 use Rattle.fused.specs.CircuitFile.{recordBytes, recordsBytes, fusedFile}
 use Rattle.fused.specs.FileFigures.{sizeAt}
 use Rattle.fused.specs.RecordLaws.{along-at}
-use Rattle.fused.specs.FitStarts.{rule-starting}
 use Rattle.fused.specs.FileLaws.{file-inside}
 use Rattle.fused.specs.FitPlan.{fused-fits, fused-place, fused-record, fused-part, fused-found}
 use Rattle.fused.specs.SizeBounds.{wires-bound, fused-size}

@@ -18,6 +18,7 @@ use Rattle.gates.specs.GateKindLaws.{plain-fits}
 use Rattle.gates.specs.Limits.{mostGates}
 use Rattle.gates.specs.EarlierLaws.{Inside}
 use Rattle.gates.specs.PlainCircuit.{gatesOf, outputsOf, gateCount}
+use Rattle.gates.specs.EachGateLaws.{StartGate, rule-starting}
 use Rattle.needed.specs.Pass.{rulePreconditions}
 use Rattle.circuit.specs.Built.{padded, builtQuads, builtNeeds, builtOutputs, builtConditions}
 use Rattle.circuit.specs.BuiltLaws.{accepted-builds}
@@ -33,7 +34,6 @@ use Rattle.grouping.specs.PlaceLaws.{placed-group, place-members, place-name, p
 use Rattle.ordering.specs.SameLaws.{order-length}
 use Rattle.checking.specs.Checked.{writingOrder, checkedGroups, checkedPlaces, checkedOrder}
 use Rattle.fused.specs.FusedCircuit.{written, fused, recordsOf, wireOf, outputWires}
-use Rattle.fused.specs.FitStarts.{StartGate, rule-starting}
 use Rattle.fused.specs.PlannedLaws.{planned-read, planned-named, planned-group}
 use Rattle.fused.specs.SizeBounds.{plan-written}
 use Rattle.emitting.specs.Emitted.{wireIn, Writable, JoinWritable}
