@@ -53,14 +53,14 @@ module _ (f : ℕ → ℕ) (n : ℕ) where
       each g (inl k) = a g k ∙ sym (table-at g k)
       each g (inr k) = b g k ∙ sym (table-after g k)
 
-map-same : (l : List ℕ) → map (λ g. g) l ≡ l
-map-same [] = refl
-map-same (a ∷ l) = ap (λ (r : List ℕ). a ∷ r) (map-same l)
+map-itself : (l : List ℕ) → map (λ g. g) l ≡ l
+map-itself [] = refl
+map-itself (a ∷ l) = ap (λ (r : List ℕ). a ∷ r) (map-itself l)
 
 -- each gate alone
 alone-is : (n : ℕ) → eachAlone n ≡ padded mostGates (map (λ g. g) (upto n))
 unfolding eachAlone
-alone-is n = ap (padded mostGates) (sym (map-same (upto n)))
+alone-is n = ap (padded mostGates) (sym (map-itself (upto n)))
 
 pub alone-length : (n : ℕ) → n ≤ mostGates → length (eachAlone n) ≡ 256
 alone-length n h = ap length (alone-is n) ∙ table-length (λ g. g) n h
