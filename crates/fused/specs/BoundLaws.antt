@@ -1,4 +1,4 @@
--- Laws of what holds along all records that are written; so in the fused circuit of an accepted plan an input is a variable's, and a guard reads at most six conditions. Assumes nothing.
+-- Laws of what holds along all records that are written; so of an accepted plan an input is a variable's, and a guard reads at most six conditions. Assumes nothing.
 use Prim.Native.Nat.{ℕ, _≤_, _<_}
 use native.Mathlib.Nat.{zero-add}
 use native.Mathlib.Omega.{arith}
@@ -71,7 +71,8 @@ emit-bounded : (v : ℕ) (s : List ℕ) (C : Gates) (sets : List ℕ) → Starti
 emit-bounded v s C sets starts wire n [] = tt
 emit-bounded v s C sets starts wire n (m ∷ []) = (alone-bounded s wire v (gateAt C m) (starts m), tt)
 emit-bounded v s C sets starts wire n (m ∷ k ∷ l) =
-    joined-along (λ i. Bounded v) n (gateOperation (gateAt C m)) (map (guardOf s C sets wire) (m ∷ k ∷ l)) (valuesAt s C sets wire (m ∷ k ∷ l)) (upto (length (arguments (gateAt C m))))
+    joined-along (λ i. Bounded v) n (gateOperation (gateAt C m)) (map (guardOf s C sets wire) (m ∷ k ∷ l)) (valuesAt s C sets wire (m ∷ k ∷ l))
+    (upto (length (arguments (gateAt C m))))
     (along-map (λ i. Bounded v) (guardOf s C sets wire) (m ∷ k ∷ l) n n (omega arith)
     (λ i _ _ _. let few : length (map wire (restsOf C sets i)) ≤ mostConditions = omega (arith, length-map (restsOf C sets i) wire, rests-few s C sets wire i) in few))
     (λ _ _ _ _. tt) tt

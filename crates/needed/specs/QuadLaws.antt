@@ -111,7 +111,8 @@ module _ (quads : List ℕ) (g : ℕ) where
           (λ u. starts (unknown-gate code (firstAt quads g) (secondAt quads g) (thirdAt quads g) n h v w z (inr (leb-false _ _ u)))))
           (λ l. starts (unknown-gate code (firstAt quads g) (secondAt quads g) (thirdAt quads g) n h v w z (inl (leb-false _ _ l))))
 
-      go : (code ≡ choiceCode) ⊎ (code ≡ choiceCode → ⊥) → (code ≡ 0x11) ⊎ (code ≡ 0x11 → ⊥) → (code ≡ 0x12) ⊎ (code ≡ 0x12 → ⊥) → (code ≡ 0x10) ⊎ (code ≡ 0x10 → ⊥) → KindIn quads g
+      go : (code ≡ choiceCode) ⊎ (code ≡ choiceCode → ⊥) → (code ≡ 0x11) ⊎ (code ≡ 0x11 → ⊥) → (code ≡ 0x12) ⊎ (code ≡ 0x12 → ⊥)
+          → (code ≡ 0x10) ⊎ (code ≡ 0x10 → ⊥) → KindIn quads g
       go (inl e) y z v = chooses e
       go (inr x) (inl e) z v = is-word e
       go (inr x) (inr y) (inl e) v = is-bit e

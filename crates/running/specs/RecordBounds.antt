@@ -1,4 +1,4 @@
--- Laws of the bytes of each record that is written, as a run relies on them: its first byte, an input that is a variable's, a guard with at most six condition wires. Assumes nothing.
+-- Laws of a record's first bytes, as a run relies on them: which they are, an input's variable, a guard's count of condition wires. Assumes nothing.
 use mathlib.Core.Path.{_≡_, refl}
 use mathlib.Core.List.{[]}
 use mathlib.Core.Logic.{inl, inr}
