@@ -6,6 +6,7 @@ use mathlib.Core.List.{List, [], _∷_, _++_}
 use lib.ListN.{length, getD, take, replicate, length-append, length-replicate}
 use lib.Seq.{take-at}
 use Rattle.words.specs.Lists.{getD-in}
+use Rattle.words.specs.ListLaws.{getD-zeros}
 use Rattle.answers.specs.ParsingLaws.{is-read}
 use Rattle.answers.specs.declared.Answer.{Answer}
 use Rattle.reading.specs.Limits.{mostVariables}
@@ -22,7 +23,6 @@ use Rattle.gates.specs.Quads.{quadsOf}
 use Rattle.needed.specs.Pass.{rulePreconditions}
 use Rattle.needed.specs.Held.{gatesIn}
 use Rattle.needed.specs.HeldQuads.{quads-length, rule-held}
-use Rattle.needed.specs.MarkSteps.{getD-zeros}
 use Rattle.circuit.specs.Whole.{ruleAnswer}
 use Rattle.circuit.specs.WholeLaws.{Accepted, accepted}
 use Rattle.circuit.specs.Built.{padded, ifAccepted, builtQuads, builtNeeds, builtOutputs, builtConditions}

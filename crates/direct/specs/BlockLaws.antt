@@ -1,10 +1,9 @@
--- Document 01, "The rule file", a direct run: laws of running statements and blocks, one for each step of the code. Assumes nothing.
+-- Laws of running statements and blocks in a direct run, one for each step of the code. Assumes nothing.
 use Prim.Native.Nat.{ℕ, _+_, _-_, _<_}
 use mathlib.Core.Path.{_≡_, refl, sym, ap, subst, _∙_}
 use mathlib.Core.List.{List}
-use mathlib.Core.Bool.{Bool, cond}
 use lib.ListN.{length, getD, set}
-use borrow.Author.Tests.{lt-ltb, eq-eqb, ne-eqb}
+use borrow.Author.Tests.{eq-eqb, ne-eqb}
 use Rattle.codes.specs.Codes.{codeOf}
 use Rattle.codes.specs.declared.Kind.{Kind}
 use Rattle.codes.specs.declared.Kind.the-variants as kind
@@ -18,8 +17,9 @@ use Rattle.reading.specs.Tree.{Expr, Statement, assign, skip, branch, Block}
 use Rattle.reading.specs.Expressions.{readExpr}
 use Rattle.reading.specs.Blocks.{readAssign, branchWith, statementForm, readStatement, readBlock}
 use Rattle.reading.specs.BlockLaws.{statement-as}
-use Rattle.reading.specs.FirstStatement.{assign-read, branch-read, block-inside, block-closed, block-read}
+use Rattle.reading.specs.FirstStatement.{assign-read, branch-read, branch-parts, block-inside, block-closed, block-read}
 use Rattle.gates.specs.Running.{runStatement, runBlock}
+use Rattle.gates.specs.StepLaws.{run-assign, run-skip, run-first, run-second, run-end, run-then}
 use Rattle.direct.specs.Walking.{WorkedOut, Ran, Passed, AmidBlock}
 use Rattle.direct.specs.declared.Value.{Value}
 
@@ -30,14 +30,13 @@ module _ (s : List ℕ) (at : ℕ) (h : IsRead (readAssign s at)) (want : Kind) 
 
   pub assign-ran : (f : List ℕ) (v : Value) → WorkedOut f (readExpr deepest s want (at + 2)) v
       → Ran runStatement (readAssign s at) f (v .next) (set f (getD s (at + 1) 0) (v .figure))
-  unfolding runStatement
   assign-ran f v w = record {
     what = assign (getD s (at + 1) 0) (w .what);
     read =
         assign-read s at h .is
         ∙ ap (λ (g : Parsed Expr). g >>= λ e n. parsed (assign (getD s (at + 1) 0) e) n)
         (ap (λ (z : Kind). readExpr deepest s z (at + 2)) (sym k) ∙ w .read);
-    figures = ap (set f (getD s (at + 1) 0)) (w .is);
+    figures = ap (set f (getD s (at + 1) 0)) (w .is) ∙ sym (run-assign (getD s (at + 1) 0) (w .what) f);
   }
 
 -- a statement, by the form of the code c that stands there
@@ -49,8 +48,7 @@ module _ (s : List ℕ) (nest at : ℕ) (h : IsRead (readStatement s nest at)) (
   statement-ran r = record { what = r .what; read = statement-as s nest at c g e q ∙ r .read; figures = r .figures }
 
 pub skip-ran : (at : ℕ) (f : List ℕ) → Ran runStatement (parsed skip (at + 1)) f (at + 1) f
-unfolding runStatement
-skip-ran at f = record { what = skip; read = refl; figures = refl }
+skip-ran at f = record { what = skip; read = refl; figures = sym (run-skip f) }
 
 -- an if: its bit was worked out
 module _ (s : List ℕ) (nest at : ℕ) (h : IsRead (branchWith (readBlock s) s nest at)) where
@@ -59,11 +57,6 @@ module _ (s : List ℕ) (nest at : ℕ) (h : IsRead (branchWith (readBlock s) s 
 
   pub test-taken : IsRead (readExpr deepest s kind.Bit (at + 1))
   test-taken = read-is _ (branch-read s nest at h .test)
-
-  parts : (t : Expr) (x y : Block) (n m l : ℕ) → readExpr deepest s kind.Bit (at + 1) ≡ parsed t n → readBlock s (nest - 1) n ≡ parsed x m
-      → readBlock s (nest - 1) m ≡ parsed y l → branchWith (readBlock s) s nest at ≡ parsed (branch t x y) l
-  unfolding branchWith
-  parts t x y n m l p q r = rw (lt-ltb 0 nest branch-level, p, q, r)
 
   module _ (f : List ℕ) (v : Value) (w : WorkedOut f (readExpr deepest s kind.Bit (at + 1)) v) where
     after-test : branch-read s nest at h .first ≡ v .next
@@ -81,21 +74,19 @@ module _ (s : List ℕ) (nest at : ℕ) (h : IsRead (branchWith (readBlock s) s 
     -- the bit names the first block
     pub branch-yes : v .figure ≡ 1 → {m l : ℕ} {g : List ℕ} → Ran runBlock (readBlock s (nest - 1) (v .next)) f m g → Passed (readBlock s (nest - 1) m) l
         → Ran runStatement (branchWith (readBlock s) s nest at) f l g
-    unfolding runStatement
     branch-yes b {m} {l} r p = record {
       what = branch (w .what) (r .what) (p .what);
-      read = parts (w .what) (r .what) (p .what) (v .next) m l (w .read) (r .read) (p .read);
-      figures = r .figures ∙ sym (ap (λ (t : Bool). cond t (runBlock (r .what) f) (runBlock (p .what) f)) (eq-eqb _ 1 (sym (w .is) ∙ b)));
+      read = branch-parts s nest at branch-level (w .what) (r .what) (p .what) (v .next) m l (w .read) (r .read) (p .read);
+      figures = r .figures ∙ sym (run-first (w .what) (r .what) (p .what) f (eq-eqb _ 1 (sym (w .is) ∙ b)));
     }
 
     -- the bit names the second block
     pub branch-no : (v .figure ≡ 1 → ⊥) → {m l : ℕ} {g : List ℕ} → Passed (readBlock s (nest - 1) (v .next)) m → Ran runBlock (readBlock s (nest - 1) m) f l g
         → Ran runStatement (branchWith (readBlock s) s nest at) f l g
-    unfolding runStatement
     branch-no b {m} {l} p r = record {
       what = branch (w .what) (p .what) (r .what);
-      read = parts (w .what) (p .what) (r .what) (v .next) m l (w .read) (p .read) (r .read);
-      figures = r .figures ∙ sym (ap (λ (t : Bool). cond t (runBlock (p .what) f) (runBlock (r .what) f)) (ne-eqb _ 1 (λ z. b (w .is ∙ z))));
+      read = branch-parts s nest at branch-level (w .what) (p .what) (r .what) (v .next) m l (w .read) (p .read) (r .read);
+      figures = r .figures ∙ sym (run-second (w .what) (p .what) (r .what) f (ne-eqb _ 1 (λ z. b (w .is ∙ z))));
     }
 
 -- a block, statement by statement
@@ -110,13 +101,12 @@ module _ (s : List ℕ) (nest at : ℕ) (f : List ℕ) (here : ℕ) (g : List �
 
   -- closed here
   pub amid-end : getD s here 0 ≡ 0 → Ran runBlock (readBlock s nest at) f (here + 1) g
-  unfolding runBlock
   amid-end z =
       let e = sym (a .left) ∙ block-closed s nest here amid-inside z in
       record {
         what = a .whole;
         read = a .read ∙ ap (parsed (a .whole)) (same-next e);
-        figures = sym (a .same ∙ ap (λ (b : Block). runBlock b g) (same-what e));
+        figures = sym (a .same ∙ ap (λ (b : Block). runBlock b g) (same-what e) ∙ run-end g);
       }
 
   -- a statement here
@@ -125,7 +115,6 @@ module _ (s : List ℕ) (nest at : ℕ) (f : List ℕ) (here : ℕ) (g : List �
     amid-taken = read-is _ (block-read s nest here (a .rest) (a .last) (a .left) z .statement)
 
     pub amid-more : {n : ℕ} {k : List ℕ} → Ran runStatement (readStatement s nest here) g n k → AmidBlock s nest at f n k
-    unfolding runBlock
     amid-more {n} {k} r =
         let b = block-read s nest here (a .rest) (a .last) (a .left) z in
         let e = sym (b .statement) ∙ r .read in
@@ -136,6 +125,6 @@ module _ (s : List ℕ) (nest at : ℕ) (f : List ℕ) (here : ℕ) (g : List �
           read = a .read;
           left = ap (readBlock s nest) (sym (same-next e)) ∙ b .block;
           same =
-              a .same ∙ ap (λ (d : Block). runBlock d g) (b .is)
+              a .same ∙ ap (λ (d : Block). runBlock d g) (b .is) ∙ run-then (b .x) (b .rest) g
               ∙ ap (runBlock (b .rest)) (ap (λ (t : Statement). runStatement t g) (same-what e) ∙ sym (r .figures));
         }

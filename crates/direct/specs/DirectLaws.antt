@@ -1,11 +1,13 @@
--- Document 01, "Refusals by place": laws of a direct run's answer and results, by the rule's answer, then by the row of the inputs. Assumes nothing.
+-- Laws of a direct run's answer and results, by the rule's answer, then by the row of the inputs. Assumes nothing.
 use Prim.Native.Nat.{ℕ}
-use mathlib.Core.Path.{_≡_}
+use mathlib.Core.Path.{_≡_, sym, ap, _∙_}
 use mathlib.Core.List.{List}
+use lib.Dec.{eqb}
 use lib.ListN.{length}
-use borrow.Author.Tests.{eq-eqb, ne-eqb}
+use borrow.Author.Tests.{eq-eqb, ne-eqb, eqb-true, eqb-false}
 use Rattle.gates.specs.Running.{runRule}
 use Rattle.words.specs.Buffers.{over}
+use Rattle.words.specs.Lists.{split}
 use Rattle.answers.specs.Answers.{refusal}
 use Rattle.answers.specs.declared.Answer.{Answer}
 use Rattle.direct.specs.Inputs.{inputRow}
@@ -40,3 +42,21 @@ module _ (rule : Answer) (s inputs : List ℕ) where
     pub run-results : (results : List ℕ) → inputRow s inputs (length results) ≡ 0 → runResults rule s inputs results ≡ over (runRule s inputs) results
     unfolding runResults
     run-results results h = rw (run-answer (length results) h, eq-eqb _ _ a)
+
+  -- an answer of number 0: the rule is accepted, and no row refuses the inputs
+  module _ (room : ℕ) (h : runAnswer rule s inputs room .number ≡ 0) where
+    pub answered-rule : rule .number ≡ 0
+    answered-rule = split (eqb (rule .number) 0) (λ t. eqb-true _ _ t) (λ t. ap (λ (a : Answer). a .number) (sym (rule-answer (eqb-false _ _ t) room)) ∙ h)
+
+    pub answered-inputs : inputRow s inputs room ≡ 0
+    answered-inputs =
+        split (eqb (inputRow s inputs room) 0) (λ t. eqb-true _ _ t)
+        (λ t. ap (λ (a : Answer). a .number) (sym (inputs-answer answered-rule room (eqb-false _ _ t))) ∙ h)
+
+  -- the results by that number
+  pub answered-results : (results : List ℕ) → runAnswer rule s inputs (length results) .number ≡ 0 → runResults rule s inputs results ≡ over (runRule s inputs) results
+  answered-results results h = run-results (answered-rule (length results) h) results (answered-inputs (length results) h)
+
+  pub refused-results : (results : List ℕ) → (runAnswer rule s inputs (length results) .number ≡ 0 → ⊥) → runResults rule s inputs results ≡ results
+  unfolding runResults
+  refused-results results h = rw (ne-eqb _ _ h)

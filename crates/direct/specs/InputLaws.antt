@@ -1,4 +1,4 @@
--- Document 01, "Refusals by place": laws of the rows of the inputs, one for each step of the code, and what no row says. Assumes nothing.
+-- Laws of the rows of the inputs, one for each step of the code, and what no row says. Assumes nothing.
 use Prim.Native.Nat.{ℕ, suc, _+_, _-_, _≤_, _<_}
 use native.Mathlib.Numerals.{add-one}
 use native.Mathlib.Omega.{arith}
@@ -10,13 +10,13 @@ use lib.ListN.{length, getD}
 use lib.Dec.{eqb, ltb, leb}
 use borrow.Author.Tests.{eq-eqb, ne-eqb, le-ltb, lt-ltb, le-leb, lt-leb, eqb-true, leb-true, ltb-false}
 use Rattle.words.specs.Lists.{_∈_, split, from, upto, from-in}
+use Rattle.words.specs.ListLaws.{or-none}
 use Rattle.codes.specs.Codes.{sameKind}
 use Rattle.codes.specs.declared.Kind.{Kind}
 use Rattle.codes.specs.declared.Kind.the-variants as kind
 use Rattle.reading.specs.Header.{variables, kindAt}
 use Rattle.reading.specs.Kinds.{Fits}
 use Rattle.gates.specs.KindLaws.{FiguresFit}
-use Rattle.gates.specs.RunLaws.{or-none}
 use Rattle.direct.specs.Inputs.{aboveBit, someAbove, inputRow}
 
 -- all of v variables

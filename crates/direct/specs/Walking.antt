@@ -1,4 +1,4 @@
--- Document 01, "The rule file": "A direct run is fed the rule's bytes and V inputs". The inner contracts of a run over those bytes:
+-- Inner: the contracts of a direct run over a rule's bytes (document 01, "The rule file": "A direct run is fed the rule's bytes and V inputs"):
 -- each function is promised against the tree that reading gives of the part that it runs, and ends at the place after that part.
 use Prim.Native.Nat.{ℕ, _≤_}
 use mathlib.Core.Path.{_≡_}

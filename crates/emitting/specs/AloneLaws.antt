@@ -7,51 +7,23 @@ use native.Mathlib.Omega.{arith}
 use lib.ListN.{length, take}
 use Rattle.words.specs.Lists.{_∈_, same?}
 use Rattle.words.specs.Numbers.{bytesOf}
-use Rattle.words.specs.NumberLaws.{length-bytes}
 use Rattle.codes.specs.Codes.{kindOf, entryOf, operationOf, codeOf}
 use Rattle.codes.specs.CodeLaws.{kind-bit, kind-word, code-operation, one-or-two, byte-back}
 use Rattle.codes.specs.declared.Code.{Code}
 use Rattle.gates.specs.Gates.{start, word, bit, operation, choice, arguments}
 use Rattle.gates.specs.Quads.{startCode}
 use Rattle.needed.specs.Held.{choiceCode, gateIn, codeAt, firstAt, secondAt, thirdAt}
-use Rattle.needed.specs.HeldLaws.{gate-choice}
+use Rattle.needed.specs.QuadLaws.{Applies, KindIn, chooses, is-word, is-bit, applies, starts, kind-in, choice-in, word-in, bit-in, start-in, applied-in}
 use Rattle.fused.specs.CircuitFile.{wiresBytes, recordBytes}
-use Rattle.fused.specs.SizeLaws.{wires-size}
+use Rattle.fused.specs.SizeLaws.{wires-size, input-size, word-size, bit-size, choice-size}
 use Rattle.emitting.specs.Emitted.{aloneIn, Grouped, FitsGate, Coded, Writable}
-use Rattle.emitting.specs.CodeLaws.{Applies, Kinds, chooses, is-word, is-bit, applies, starts, kinds, word-gate, bit-gate, small-gate, applies-gate}
 
 module _ (quads : List ℕ) (g : ℕ) where
-  -- the gate, by its code
-  pub choice-in : codeAt quads g ≡ choiceCode → gateIn quads g ≡ choice (firstAt quads g) (secondAt quads g) (thirdAt quads g)
-  unfolding gateIn
-  choice-in e = gate-choice (codeAt quads g) (firstAt quads g) (secondAt quads g) (thirdAt quads g) e
-
-  pub word-in : codeAt quads g ≡ 0x11 → gateIn quads g ≡ word (firstAt quads g)
-  unfolding gateIn
-  word-in e = word-gate (codeAt quads g) (firstAt quads g) (secondAt quads g) (thirdAt quads g) e
-
-  pub bit-in : codeAt quads g ≡ 0x12 → gateIn quads g ≡ bit (firstAt quads g)
-  unfolding gateIn
-  bit-in e = bit-gate (codeAt quads g) (firstAt quads g) (secondAt quads g) (thirdAt quads g) e
-
-  pub start-in : codeAt quads g ≤ 1 → gateIn quads g ≡ start (firstAt quads g)
-  unfolding gateIn
-  start-in h = small-gate (codeAt quads g) (firstAt quads g) (secondAt quads g) (thirdAt quads g) (omega (arith, h))
-
-  pub applied-in : Applies (codeAt quads g)
-      → gateIn quads g ≡ operation (operationOf (codeAt quads g)) (take (entryOf (operationOf (codeAt quads g)) .arity) (firstAt quads g ∷ secondAt quads g ∷ []))
-  unfolding gateIn
-  applied-in h = applies-gate (codeAt quads g) (firstAt quads g) (secondAt quads g) (thirdAt quads g) h
-
-  kinds-in : Kinds (codeAt quads g) (firstAt quads g) (secondAt quads g) (thirdAt quads g)
-  kinds-in = kinds (codeAt quads g) (firstAt quads g) (secondAt quads g) (thirdAt quads g)
-
   -- a gate that fits and is none of the others is an operation
   pub applies-in : Coded quads g → (codeAt quads g ≡ choiceCode → ⊥) → (codeAt quads g ≡ 0x11 → ⊥) → (codeAt quads g ≡ 0x12 → ⊥) → 2 ≤ codeAt quads g → Applies (codeAt quads g)
-  unfolding gateIn
-  applies-in f n w b l = go kinds-in
+  applies-in f n w b l = go (kind-in quads g)
     where
-      go : Kinds (codeAt quads g) (firstAt quads g) (secondAt quads g) (thirdAt quads g) → Applies (codeAt quads g)
+      go : KindIn quads g → Applies (codeAt quads g)
       go (chooses e) = absurd (n e)
       go (is-word e) = absurd (w e)
       go (is-bit e) = absurd (b e)
@@ -60,10 +32,9 @@ module _ (quads : List ℕ) (g : ℕ) where
 
   -- every code that fits is a byte
   pub coded-byte : Coded quads g → codeAt quads g < 256
-  unfolding gateIn
-  coded-byte f = go kinds-in
+  coded-byte f = go (kind-in quads g)
     where
-      go : Kinds (codeAt quads g) (firstAt quads g) (secondAt quads g) (thirdAt quads g) → codeAt quads g < 256
+      go : KindIn quads g → codeAt quads g < 256
       go (chooses e) = omega (arith, e)
       go (is-word e) = omega (arith, e)
       go (is-bit e) = omega (arith, e)
@@ -72,10 +43,10 @@ module _ (quads : List ℕ) (g : ℕ) where
 
   -- the byte of a bit constant or of a variable
   pub first-bit : Coded quads g → codeAt quads g ≡ 0x12 → firstAt quads g < 256
-  first-bit f e = let z : FitsGate (codeAt quads g) (bit (firstAt quads g)) = subst (FitsGate (codeAt quads g)) (bit-in e) (f .fits) in z
+  first-bit f e = let z : FitsGate (codeAt quads g) (bit (firstAt quads g)) = subst (FitsGate (codeAt quads g)) (bit-in quads g e) (f .fits) in z
 
   pub first-start : Coded quads g → codeAt quads g ≤ 1 → firstAt quads g < 256
-  first-start f h = let z : FitsGate (codeAt quads g) (start (firstAt quads g)) = subst (FitsGate (codeAt quads g)) (start-in h) (f .fits) in z .1
+  first-start f h = let z : FitsGate (codeAt quads g) (start (firstAt quads g)) = subst (FitsGate (codeAt quads g)) (start-in quads g (omega (arith, h))) (f .fits) in z .1
 
   module _ (group : List ℕ) (w : Writable quads group g) where
     placed-in : (l : List ℕ) → arguments (gateIn quads g) ≡ l → (a : ℕ) → a ∈ l → Grouped group a
@@ -83,11 +54,11 @@ module _ (quads : List ℕ) (g : ℕ) where
 
     pub choice-placed : codeAt quads g ≡ choiceCode → Grouped group (firstAt quads g) × (Grouped group (secondAt quads g) × Grouped group (thirdAt quads g))
     choice-placed e =
-        let p : arguments (gateIn quads g) ≡ firstAt quads g ∷ secondAt quads g ∷ thirdAt quads g ∷ [] = ap arguments (choice-in e) in
+        let p : arguments (gateIn quads g) ≡ firstAt quads g ∷ secondAt quads g ∷ thirdAt quads g ∷ [] = ap arguments (choice-in quads g e) in
         (placed-in _ p _ (inl refl), (placed-in _ p _ (inr (inl refl)), placed-in _ p _ (inr (inr (inl refl)))))
 
     arguments-applied : Applies (codeAt quads g) → arguments (gateIn quads g) ≡ take (entryOf (operationOf (codeAt quads g)) .arity) (firstAt quads g ∷ secondAt quads g ∷ [])
-    arguments-applied h = ap arguments (applied-in h)
+    arguments-applied h = ap arguments (applied-in quads g h)
 
     pub first-placed : Applies (codeAt quads g) → Grouped group (firstAt quads g)
     first-placed h = go (one-or-two (operationOf (codeAt quads g)))
@@ -109,16 +80,16 @@ module _ (quads : List ℕ) (g : ℕ) where
   module _ (wire : ℕ → ℕ) where
     -- the bytes, by the code
     pub choice-bytes : codeAt quads g ≡ choiceCode → recordBytes (aloneIn quads wire g) ≡ 0x30 ∷ wiresBytes (wire (firstAt quads g) ∷ wire (secondAt quads g) ∷ wire (thirdAt quads g) ∷ [])
-    choice-bytes e = rw (choice-in e)
+    choice-bytes e = rw (choice-in quads g e)
 
     pub word-bytes : codeAt quads g ≡ 0x11 → recordBytes (aloneIn quads wire g) ≡ 0x11 ∷ bytesOf 4 (firstAt quads g)
-    word-bytes e = rw (word-in e)
+    word-bytes e = rw (word-in quads g e)
 
     pub bit-bytes : codeAt quads g ≡ 0x12 → recordBytes (aloneIn quads wire g) ≡ codeAt quads g ∷ firstAt quads g ∷ []
-    bit-bytes e = rw (bit-in e, e)
+    bit-bytes e = rw (bit-in quads g e, e)
 
     pub start-bytes : codeAt quads g ≤ 1 → recordBytes (aloneIn quads wire g) ≡ codeAt quads g ∷ firstAt quads g ∷ []
-    start-bytes h = rw (start-in h) (ap (λ (b : ℕ). b ∷ firstAt quads g ∷ []) (go (same? (codeAt quads g) 1)))
+    start-bytes h = rw (start-in quads g (omega (arith, h))) (ap (λ (b : ℕ). b ∷ firstAt quads g ∷ []) (go (same? (codeAt quads g) 1)))
       where
         go : (codeAt quads g ≡ 1) ⊎ (codeAt quads g ≡ 1 → ⊥) → startCode (kindOf (codeAt quads g)) ≡ codeAt quads g
         go (inl e) = rw (kind-bit (codeAt quads g) e) (sym e)
@@ -128,7 +99,7 @@ module _ (quads : List ℕ) (g : ℕ) where
         → recordBytes (aloneIn quads wire g) ≡ codeAt quads g ∷ wiresBytes (map wire (take k (firstAt quads g ∷ secondAt quads g ∷ [])))
     applied-bytes h k e =
         let a : entryOf (operationOf (codeAt quads g)) .arity ≡ k = ap (λ (c : Code). c .arity) (sym (code-operation (codeAt quads g) (h .0) (h .1))) ∙ e in
-        rw (applied-in h, a, byte-back (codeAt quads g) (h .0) (h .1))
+        rw (applied-in quads g h, a, byte-back (codeAt quads g) (h .0) (h .1))
 
     pub unary-bytes : Applies (codeAt quads g) → codeOf (codeAt quads g) .arity ≡ 1 → recordBytes (aloneIn quads wire g) ≡ codeAt quads g ∷ wiresBytes (wire (firstAt quads g) ∷ [])
     unary-bytes h e = applied-bytes h 1 e
@@ -144,20 +115,20 @@ module _ (quads : List ℕ) (g : ℕ) where
         go (inr e) = applied-bytes h 2 (ap (λ (c : Code). c .arity) same ∙ e)
 
     -- and how many they are
-    pub choice-size : codeAt quads g ≡ choiceCode → length (recordBytes (aloneIn quads wire g)) ≡ 7
-    choice-size e = rw (choice-bytes e) (ap suc (wires-size (wire (firstAt quads g) ∷ wire (secondAt quads g) ∷ wire (thirdAt quads g) ∷ [])))
+    pub choice-long : codeAt quads g ≡ choiceCode → length (recordBytes (aloneIn quads wire g)) ≡ 7
+    choice-long e = rw (choice-in quads g e) (choice-size (wire (firstAt quads g)) (wire (secondAt quads g)) (wire (thirdAt quads g)))
 
-    pub word-size : codeAt quads g ≡ 0x11 → length (recordBytes (aloneIn quads wire g)) ≡ 5
-    word-size e = rw (word-bytes e) (ap suc (length-bytes 4 (firstAt quads g)))
+    pub word-long : codeAt quads g ≡ 0x11 → length (recordBytes (aloneIn quads wire g)) ≡ 5
+    word-long e = rw (word-in quads g e) (word-size (firstAt quads g))
 
-    pub bit-size : codeAt quads g ≡ 0x12 → length (recordBytes (aloneIn quads wire g)) ≡ 2
-    bit-size e = rw (bit-bytes e)
+    pub bit-long : codeAt quads g ≡ 0x12 → length (recordBytes (aloneIn quads wire g)) ≡ 2
+    bit-long e = rw (bit-in quads g e) (bit-size (firstAt quads g))
 
-    pub start-size : codeAt quads g ≤ 1 → length (recordBytes (aloneIn quads wire g)) ≡ 2
-    start-size h = rw (start-bytes h)
+    pub start-long : codeAt quads g ≤ 1 → length (recordBytes (aloneIn quads wire g)) ≡ 2
+    start-long h = rw (start-in quads g (omega (arith, h))) (input-size (kindOf (codeAt quads g)) (firstAt quads g))
 
-    pub unary-size : Applies (codeAt quads g) → codeOf (codeAt quads g) .arity ≡ 1 → length (recordBytes (aloneIn quads wire g)) ≡ 3
-    unary-size h e = rw (unary-bytes h e) (ap suc (wires-size (wire (firstAt quads g) ∷ [])))
+    pub unary-long : Applies (codeAt quads g) → codeOf (codeAt quads g) .arity ≡ 1 → length (recordBytes (aloneIn quads wire g)) ≡ 3
+    unary-long h e = rw (unary-bytes h e) (ap suc (wires-size (wire (firstAt quads g) ∷ [])))
 
-    pub binary-size : Applies (codeAt quads g) → (codeOf (codeAt quads g) .arity ≡ 1 → ⊥) → length (recordBytes (aloneIn quads wire g)) ≡ 5
-    binary-size h n = rw (binary-bytes h n) (ap suc (wires-size (wire (firstAt quads g) ∷ wire (secondAt quads g) ∷ [])))
+    pub binary-long : Applies (codeAt quads g) → (codeOf (codeAt quads g) .arity ≡ 1 → ⊥) → length (recordBytes (aloneIn quads wire g)) ≡ 5
+    binary-long h n = rw (binary-bytes h n) (ap suc (wires-size (wire (firstAt quads g) ∷ wire (secondAt quads g) ∷ [])))

@@ -8,6 +8,7 @@ use native.Mathlib.Nat.{add-zero}
 use native.Mathlib.Omega.{arith}
 use lib.ListN.{length, getD, take}
 use Rattle.words.specs.Lists.{_∈_, upto, from-below, getD-in}
+use Rattle.words.specs.ListLaws.{map-same}
 use Rattle.settings.specs.Guards.{table}
 use Rattle.codes.specs.Codes.{kindOf}
 use Rattle.codes.specs.declared.Kind.{Kind}
@@ -17,7 +18,6 @@ use Rattle.gates.specs.Gates.{Gate, Gates, start, word, bit, operation, choice,
 use Rattle.gates.specs.Limits.{mostConditions}
 use Rattle.gates.specs.Quads.{startCode, quadOf, quadsOf}
 use Rattle.gates.specs.EarlierLaws.{Inside}
-use Rattle.gates.specs.FigureLaws.{map-same}
 use Rattle.needed.specs.Held.{codeAt, Shaped}
 use Rattle.needed.specs.HeldQuads.{number-at, gate-held, gates-held}
 use Rattle.plan.specs.Groups.{restsOf}

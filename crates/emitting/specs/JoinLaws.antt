@@ -6,6 +6,7 @@ use mathlib.Core.Logic.{_⊎_, inl, inr}
 use native.Mathlib.Omega.{arith}
 use lib.ListN.{length, getD, length-map}
 use Rattle.words.specs.Lists.{_∈_, keep-from, from, upto, from-below}
+use Rattle.words.specs.ListLaws.{map-same}
 use Rattle.settings.specs.Sets.{restsOn, rests}
 use Rattle.settings.specs.Guards.{table}
 use Rattle.codes.specs.Codes.{entryOf, operationOf}
@@ -14,9 +15,9 @@ use Rattle.codes.specs.CodeLaws.{one-or-two, byte-back}
 use Rattle.gates.specs.Gates.{Gate, start, word, bit, operation, choice, gateAt, arguments, conditions}
 use Rattle.gates.specs.EarlierLaws.{Inside}
 use Rattle.gates.specs.Limits.{mostConditions}
-use Rattle.gates.specs.FigureLaws.{map-same}
 use Rattle.needed.specs.Held.{gateIn, gatesIn, codeAt, firstAt, secondAt, thirdAt}
 use Rattle.needed.specs.HeldLaws.{gates-at}
+use Rattle.needed.specs.QuadLaws.{Applies, KindIn, chooses, is-word, is-bit, applies, starts, kind-in, choice-in, word-in, bit-in, applied-in}
 use Rattle.plan.specs.PlanFile.{groupAt}
 use Rattle.plan.specs.Groups.{restsOf}
 use Rattle.fused.specs.Records.{Record, pick}
@@ -25,8 +26,6 @@ use Rattle.fused.specs.Emission as emission
 use Rattle.fused.specs.CircuitFile.{wiresBytes, recordBytes, recordsBytes}
 use Rattle.fused.specs.SizeLaws.{bytes-append}
 use Rattle.emitting.specs.Emitted.{emitIn, guardIn, guardsIn, argumentAt, pairsIn, Paired}
-use Rattle.emitting.specs.CodeLaws.{Applies, Kinds, chooses, is-word, is-bit, applies, starts, kinds}
-use Rattle.emitting.specs.AloneLaws.{choice-in, word-in, bit-in, applied-in}
 
 -- the bytes of the two picks, and with the operation behind them: it reads the two picks, whose wires follow those of the k guards
 abbrev pub picksBytes : List ℕ → (ℕ → ℕ) → ℕ → List ℕ → List ℕ
@@ -49,10 +48,9 @@ module _ (quads : List ℕ) (m : ℕ) (two : length (arguments (gateIn quads m))
   wrong g e n = n (ap (λ (k : Gate). length (arguments k)) (sym e) ∙ two)
 
   pub two-applies : Applies (codeAt quads m)
-  unfolding gateIn
-  two-applies = go (kinds (codeAt quads m) (firstAt quads m) (secondAt quads m) (thirdAt quads m))
+  two-applies = go (kind-in quads m)
     where
-      go : Kinds (codeAt quads m) (firstAt quads m) (secondAt quads m) (thirdAt quads m) → Applies (codeAt quads m)
+      go : KindIn quads m → Applies (codeAt quads m)
       go (chooses e) = absurd (wrong (choice (firstAt quads m) (secondAt quads m) (thirdAt quads m)) (choice-in quads m e) (λ z. omega (arith, z)))
       go (is-word e) = absurd (wrong (word (firstAt quads m)) (word-in quads m e) (λ z. omega (arith, z)))
       go (is-bit e) = absurd (wrong (bit (firstAt quads m)) (bit-in quads m e) (λ z. omega (arith, z)))

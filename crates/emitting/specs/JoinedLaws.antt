@@ -17,12 +17,12 @@ use Rattle.gates.specs.Gates.{conditions}
 use Rattle.gates.specs.EarlierLaws.{Inside}
 use Rattle.gates.specs.Limits.{mostConditions}
 use Rattle.needed.specs.Held.{gatesIn, codeAt}
+use Rattle.needed.specs.QuadLaws.{Applies}
 use Rattle.plan.specs.PlanFile.{groupAt}
 use Rattle.fused.specs.Records.{Record, pick, recordsCost}
 use Rattle.fused.specs.CircuitFile.{wiresBytes, recordBytes, recordsBytes}
 use Rattle.fused.specs.SizeLaws.{wires-size, cost-append, pick-size}
 use Rattle.emitting.specs.Emitted.{emitIn, guardIn, guardsIn, argumentAt, pairsIn, restedBy, Joinable, JoinWritable, Measured}
-use Rattle.emitting.specs.CodeLaws.{Applies}
 use Rattle.emitting.specs.ByteLaws.{behind}
 use Rattle.emitting.specs.MemberLaws.{length-group, member-in}
 use Rattle.emitting.specs.GuardLaws.{guard-size}

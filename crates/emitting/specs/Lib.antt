@@ -1,6 +1,5 @@
 pub mod Emitted
 pub mod FillLaws
-pub mod CodeLaws
 pub mod ByteLaws
 pub mod MemberLaws
 pub mod AloneLaws

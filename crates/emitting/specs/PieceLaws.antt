@@ -8,7 +8,7 @@ use native.Mathlib.Omega.{arith}
 use lib.ListN.{length, getD, length-append}
 use Rattle.words.specs.Lists.{split, keep, from, upto, flat, length-from}
 use Rattle.words.specs.Numbers.{bytesOf}
-use Rattle.settings.specs.ListLaws.{length-keep}
+use Rattle.words.specs.ListLaws.{length-keep}
 use Rattle.settings.specs.Sets.{restsOn, rests}
 use Rattle.gates.specs.Limits.{mostConditions}
 use Rattle.fused.specs.Records.{Record, pairWires}

@@ -9,10 +9,10 @@ use Rattle.words.specs.Buffers.{over}
 use Rattle.codes.specs.Codes.{codeOf}
 use Rattle.codes.specs.declared.Code.{Code}
 use Rattle.needed.specs.Held.{choiceCode, codeAt, firstAt, secondAt, thirdAt}
+use Rattle.needed.specs.QuadLaws.{Applies}
 use Rattle.fused.specs.CircuitFile.{wiresBytes, recordBytes}
 use Rattle.emitting.specs.Emitted.{aloneIn}
-use Rattle.emitting.specs.CodeLaws.{Applies}
-use Rattle.emitting.specs.AloneLaws.{choice-bytes, choice-size, word-bytes, word-size, bit-bytes, bit-size, start-bytes, start-size, unary-bytes, unary-size, binary-bytes, binary-size}
+use Rattle.emitting.specs.AloneLaws.{choice-bytes, choice-long, word-bytes, word-long, bit-bytes, bit-long, start-bytes, start-long, unary-bytes, unary-long, binary-bytes, binary-long}
 
 -- a code of the table has an arity
 arity-is : (code k : ℕ) (means : Code) → means ≡ codeOf code → means .arity ≡ k → codeOf code .arity ≡ k
@@ -32,44 +32,44 @@ module _ (quads : List ℕ) (wire : ℕ → ℕ) (g : ℕ) where
   room-for n k e h = rw e at h
 
   pub choice-room : (k : ℕ) → codeAt quads g ≡ choiceCode → length (recordBytes (aloneIn quads wire g)) ≤ k → 7 ≤ k
-  choice-room k e h = room-for 7 k (choice-size quads g wire e) h
+  choice-room k e h = room-for 7 k (choice-long quads g wire e) h
 
   pub choice-put : (x y z : ℕ) (d ys : List ℕ) → codeAt quads g ≡ choiceCode → x ≡ wire (firstAt quads g) → y ≡ wire (secondAt quads g) → z ≡ wire (thirdAt quads g)
       → ys ≡ over (0x30 ∷ wiresBytes (x ∷ y ∷ z ∷ [])) d → Put 7 ys d
-  choice-put x y z d ys e p q r w = put-as _ d ys 7 (rw (p, q, r) (choice-bytes quads g wire e)) (choice-size quads g wire e) w
+  choice-put x y z d ys e p q r w = put-as _ d ys 7 (rw (p, q, r) (choice-bytes quads g wire e)) (choice-long quads g wire e) w
 
   pub word-room : (k : ℕ) → codeAt quads g ≡ 0x11 → length (recordBytes (aloneIn quads wire g)) ≤ k → 5 ≤ k
-  word-room k e h = room-for 5 k (word-size quads g wire e) h
+  word-room k e h = room-for 5 k (word-long quads g wire e) h
 
   pub word-put : (d ys : List ℕ) → codeAt quads g ≡ 0x11 → ys ≡ over (0x11 ∷ bytesOf 4 (firstAt quads g)) d → Put 5 ys d
-  word-put d ys e w = put-as _ d ys 5 (word-bytes quads g wire e) (word-size quads g wire e) w
+  word-put d ys e w = put-as _ d ys 5 (word-bytes quads g wire e) (word-long quads g wire e) w
 
   pub bit-room : (k : ℕ) → codeAt quads g ≡ 0x12 → length (recordBytes (aloneIn quads wire g)) ≤ k → 2 ≤ k
-  bit-room k e h = room-for 2 k (bit-size quads g wire e) h
+  bit-room k e h = room-for 2 k (bit-long quads g wire e) h
 
   pub bit-put : (d ys : List ℕ) → codeAt quads g ≡ 0x12 → ys ≡ over (codeAt quads g ∷ firstAt quads g ∷ []) d → Put 2 ys d
-  bit-put d ys e w = put-as _ d ys 2 (bit-bytes quads g wire e) (bit-size quads g wire e) w
+  bit-put d ys e w = put-as _ d ys 2 (bit-bytes quads g wire e) (bit-long quads g wire e) w
 
   pub start-room : (k : ℕ) → codeAt quads g < 2 → length (recordBytes (aloneIn quads wire g)) ≤ k → 2 ≤ k
-  start-room k e h = room-for 2 k (start-size quads g wire (omega (arith, e))) h
+  start-room k e h = room-for 2 k (start-long quads g wire (omega (arith, e))) h
 
   pub start-put : (d ys : List ℕ) → codeAt quads g < 2 → ys ≡ over (codeAt quads g ∷ firstAt quads g ∷ []) d → Put 2 ys d
-  start-put d ys e w = put-as _ d ys 2 (start-bytes quads g wire (omega (arith, e))) (start-size quads g wire (omega (arith, e))) w
+  start-put d ys e w = put-as _ d ys 2 (start-bytes quads g wire (omega (arith, e))) (start-long quads g wire (omega (arith, e))) w
 
   module _ (h : Applies (codeAt quads g)) (means : Code) (is : means ≡ codeOf (codeAt quads g)) where
     pub unary-room : (k : ℕ) → means .arity ≡ 1 → length (recordBytes (aloneIn quads wire g)) ≤ k → 3 ≤ k
-    unary-room k e l = room-for 3 k (unary-size quads g wire h (arity-is (codeAt quads g) 1 means is e)) l
+    unary-room k e l = room-for 3 k (unary-long quads g wire h (arity-is (codeAt quads g) 1 means is e)) l
 
     pub unary-put : (x : ℕ) (d ys : List ℕ) → means .arity ≡ 1 → x ≡ wire (firstAt quads g) → ys ≡ over (codeAt quads g ∷ wiresBytes (x ∷ [])) d → Put 3 ys d
     unary-put x d ys e p w =
         let a : codeOf (codeAt quads g) .arity ≡ 1 = arity-is (codeAt quads g) 1 means is e in
-        put-as _ d ys 3 (rw p (unary-bytes quads g wire h a)) (unary-size quads g wire h a) w
+        put-as _ d ys 3 (rw p (unary-bytes quads g wire h a)) (unary-long quads g wire h a) w
 
     pub binary-room : (k : ℕ) → (means .arity ≡ 1 → ⊥) → length (recordBytes (aloneIn quads wire g)) ≤ k → 5 ≤ k
-    binary-room k e l = room-for 5 k (binary-size quads g wire h (arity-not (codeAt quads g) 1 means is e)) l
+    binary-room k e l = room-for 5 k (binary-long quads g wire h (arity-not (codeAt quads g) 1 means is e)) l
 
     pub binary-put : (x y : ℕ) (d ys : List ℕ) → (means .arity ≡ 1 → ⊥) → x ≡ wire (firstAt quads g) → y ≡ wire (secondAt quads g)
         → ys ≡ over (codeAt quads g ∷ wiresBytes (x ∷ y ∷ [])) d → Put 5 ys d
     binary-put x y d ys e p q w =
         let a : codeOf (codeAt quads g) .arity ≡ 1 → ⊥ = arity-not (codeAt quads g) 1 means is e in
-        put-as _ d ys 5 (rw (p, q) (binary-bytes quads g wire h a)) (binary-size quads g wire h a) w
+        put-as _ d ys 5 (rw (p, q) (binary-bytes quads g wire h a)) (binary-long quads g wire h a) w

@@ -11,12 +11,12 @@ use Rattle.codes.specs.Codes.{entryOf, operationOf, codeOf}
 use Rattle.codes.specs.CodeLaws.{code-operation, one-or-two}
 use Rattle.codes.specs.declared.Code.{Code}
 use Rattle.gates.specs.Gates.{Gate, start, word, bit, operation, choice, costOf}
-use Rattle.needed.specs.Held.{choiceCode, gateIn, codeAt, firstAt, secondAt, thirdAt}
+use Rattle.needed.specs.Held.{choiceCode, gateIn, codeAt, firstAt}
+use Rattle.needed.specs.QuadLaws.{Applies, KindIn, chooses, is-word, is-bit, applies, starts, kind-in, choice-in, word-in, bit-in, start-in, applied-in}
 use Rattle.fused.specs.Records.{recordCost, recordsCost}
 use Rattle.fused.specs.CircuitFile.{recordBytes}
 use Rattle.emitting.specs.Emitted.{aloneOf, aloneIn, FitsGate, Coded, Measured}
-use Rattle.emitting.specs.CodeLaws.{Applies, Kinds, chooses, is-word, is-bit, applies, starts, kinds}
-use Rattle.emitting.specs.AloneLaws.{choice-in, word-in, bit-in, start-in, applied-in, choice-size, word-size, bit-size, start-size, unary-size, binary-size}
+use Rattle.emitting.specs.AloneLaws.{choice-long, word-long, bit-long, start-long, unary-long, binary-long}
 
 cost-same : (code : ℕ) (wire : ℕ → ℕ) (k : Gate) → recordCost (aloneOf code wire k) ≡ costOf k
 cost-same code wire (start x) = refl
@@ -37,10 +37,10 @@ module _ (quads : List ℕ) (g : ℕ) where
       }
 
   pub choice-sized : codeAt quads g ≡ choiceCode → (sets : List ℕ) → Measured quads sets (g ∷ []) 1 7 3
-  choice-sized e = alone-sized 7 3 (λ wire. choice-size quads g wire e) (ap costOf (choice-in quads g e))
+  choice-sized e = alone-sized 7 3 (λ wire. choice-long quads g wire e) (ap costOf (choice-in quads g e))
 
   pub word-sized : codeAt quads g ≡ 0x11 → (sets : List ℕ) → Measured quads sets (g ∷ []) 1 5 0
-  word-sized e = alone-sized 5 0 (λ wire. word-size quads g wire e) (ap costOf (word-in quads g e))
+  word-sized e = alone-sized 5 0 (λ wire. word-long quads g wire e) (ap costOf (word-in quads g e))
 
   -- what is left: a starting value or a bit constant, or an operation
   module _ (coded : Coded quads g) (n : codeAt quads g ≡ choiceCode → ⊥) (w : codeAt quads g ≡ 0x11 → ⊥) (code : Code) (is : code ≡ codeOf (codeAt quads g)) where
@@ -48,10 +48,10 @@ module _ (quads : List ℕ) (g : ℕ) where
     Rest = (codeAt quads g ≡ 0x12) ⊎ ((codeAt quads g ≤ 1) ⊎ Applies (codeAt quads g))
 
     rest : Rest
-    unfolding gateIn Rest
-    rest = go (kinds (codeAt quads g) (firstAt quads g) (secondAt quads g) (thirdAt quads g))
+    unfolding Rest
+    rest = go (kind-in quads g)
       where
-        go : Kinds (codeAt quads g) (firstAt quads g) (secondAt quads g) (thirdAt quads g) → (codeAt quads g ≡ 0x12) ⊎ ((codeAt quads g ≤ 1) ⊎ Applies (codeAt quads g))
+        go : KindIn quads g → (codeAt quads g ≡ 0x12) ⊎ ((codeAt quads g ≤ 1) ⊎ Applies (codeAt quads g))
         go (chooses e) = absurd (n e)
         go (is-word e) = absurd (w e)
         go (is-bit e) = inl e
@@ -85,13 +85,13 @@ module _ (quads : List ℕ) (g : ℕ) where
         none (inr e) = omega (arith, e, z)
 
         go : (codeAt quads g ≡ 0x12) ⊎ ((codeAt quads g ≤ 1) ⊎ Applies (codeAt quads g)) → (sets : List ℕ) → Measured quads sets (g ∷ []) 1 2 0
-        go (inl e) = alone-sized 2 0 (λ wire. bit-size quads g wire e) (ap costOf (bit-in quads g e))
-        go (inr (inl h)) = alone-sized 2 0 (λ wire. start-size quads g wire h) (ap costOf (start-in quads g h))
+        go (inl e) = alone-sized 2 0 (λ wire. bit-long quads g wire e) (ap costOf (bit-in quads g e))
+        go (inr (inl h)) = alone-sized 2 0 (λ wire. start-long quads g wire h) (ap costOf (start-in quads g (omega (arith, h))))
         go (inr (inr h)) = absurd (none (code-some h))
 
     applied-long : Applies (codeAt quads g) → (code .arity ≡ 1) ⊎ (code .arity ≡ 2) → (wire : ℕ → ℕ) → length (recordBytes (aloneIn quads wire g)) ≡ 1 + 2 * code .arity
-    applied-long h (inl e) wire = unary-size quads g wire h (ap (λ (c : Code). c .arity) (sym is) ∙ e) ∙ rw e
-    applied-long h (inr e) wire = binary-size quads g wire h (λ z. let y : code .arity ≡ 1 = ap (λ (c : Code). c .arity) is ∙ z in omega (arith, e, y)) ∙ rw e
+    applied-long h (inl e) wire = unary-long quads g wire h (ap (λ (c : Code). c .arity) (sym is) ∙ e) ∙ rw e
+    applied-long h (inr e) wire = binary-long quads g wire h (λ z. let y : code .arity ≡ 1 = ap (λ (c : Code). c .arity) is ∙ z in omega (arith, e, y)) ∙ rw e
 
     pub applied-sized : (code .arity ≡ 0 → ⊥) → (sets : List ℕ) → Measured quads sets (g ∷ []) 1 (1 + 2 * code .arity) (code .cost)
     unfolding Rest

@@ -1,6 +1,5 @@
 pub mod Runnable
 pub mod Working
-pub mod ReadingLaws
 pub mod StepLaws
 pub mod OperationLaws
 pub mod RecordLaws

@@ -1,4 +1,4 @@
--- Document 01, "The fused circuit file": laws of one record, by its first byte: what its figure needs, and that the code's figure is it. Assumes nothing.
+-- Laws of one record, by its first byte: what its figure needs, and that the code's figure is it. Assumes nothing.
 use Prim.Native.Nat.{ℕ, _+_, _*_, _≤_, _<_}
 use mathlib.Core.Path.{_≡_, sym, ap, subst, _∙_}
 use mathlib.Core.List.{List, [], _∷_}
@@ -8,17 +8,31 @@ use lib.ListN.{length, getD}
 use Rattle.words.specs.Lists.{_∈_}
 use Rattle.words.specs.Numbers.{numberAt}
 use Rattle.codes.specs.Codes.{codeOf}
-use Rattle.codes.specs.declared.Code.{Code}
+use Rattle.codes.specs.declared.Kind.the-variants as kind
 use Rattle.gates.specs.EarlierLaws.{Inside}
 use Rattle.gates.specs.Limits.{mostConditions}
 use Rattle.fused.specs.Records.{Record, pairWires, reads, recordFigure}
 use Rattle.fused.specs.FileFigures.{wiresAt, pairsAt, recordAt, sizeAt}
+use Rattle.fused.specs.FoundForms.{OtherByte, form-input, form-word, form-bit, form-choice, form-pick, form-guard, form-other, size-some}
 use Rattle.figures.specs.Runnable.{mostWires, recordCodes}
 use Rattle.figures.specs.Working.{held, Workable}
-use Rattle.figures.specs.ReadingLaws.{Other, choice-at, pick-at, guard-at, operation-at, input-word-size, input-bit-size, word-size, bit-size, choice-size, pick-size, guard-size, operation-size, size-some}
+
+-- any other byte, as the last arm of a decision over the bytes is told it
+pub other : (b : ℕ) {N : Type 0}
+    → (((((((N × (b ≡ 0x00 → ⊥)) × (b ≡ 0x01 → ⊥)) × (b ≡ 0x11 → ⊥)) × (b ≡ 0x12 → ⊥)) × (b ≡ 0x30 → ⊥)) × (b ≡ 0x31 → ⊥)) × (b ≡ 0x32 → ⊥))
+    → OtherByte b
+other b r = record {
+  no-word = r .0 .0 .0 .0 .0 .0 .1;
+  no-bit = r .0 .0 .0 .0 .0 .1;
+  no-word-constant = r .0 .0 .0 .0 .1;
+  no-bit-constant = r .0 .0 .0 .1;
+  no-choice = r .0 .0 .1;
+  no-pick = r .0 .1;
+  no-guard = r .1;
+}
 
 -- a byte of a record that is none of the others is an operation's
-pub operation-byte : (b : ℕ) → b ∈ recordCodes → Other b → (0x20 ≤ b) × (b ≤ 0x27)
+operation-byte : (b : ℕ) → b ∈ recordCodes → OtherByte b → (0x20 ≤ b) × (b ≤ 0x27)
 operation-byte b (inl e) o = absurd (o .no-word e)
 operation-byte b (inr (inl e)) o = absurd (o .no-bit e)
 operation-byte b (inr (inr (inl e))) o = absurd (o .no-word-constant e)
@@ -45,35 +59,35 @@ module _ (f : List ℕ) (v at : ℕ) (k : Workable f v mostWires at) where
   wires-as r e = subst (λ (q : Record). Inside mostWires (reads q)) e (k .earlier)
 
   pub input-word-takes : getD f at 0 ≡ 0x00 → (at + 1 < length f) × (getD f (at + 1) 0 < v)
-  input-word-takes h = (omega (arith, k .inside, input-word-size f at h), k .inputs (omega (arith, h)))
+  input-word-takes h = (omega (arith, k .inside, form-input f at kind.Word h .1), k .inputs (omega (arith, h)))
 
   pub input-bit-takes : getD f at 0 ≡ 0x01 → (at + 1 < length f) × (getD f (at + 1) 0 < v)
-  input-bit-takes h = (omega (arith, k .inside, input-bit-size f at h), k .inputs (omega (arith, h)))
+  input-bit-takes h = (omega (arith, k .inside, form-input f at kind.Bit h .1), k .inputs (omega (arith, h)))
 
   pub word-takes : getD f at 0 ≡ 0x11 → at + 1 + 4 ≤ length f
-  word-takes h = omega (arith, k .inside, word-size f at h)
+  word-takes h = omega (arith, k .inside, form-word f at h .1)
 
   pub bit-takes : getD f at 0 ≡ 0x12 → at + 1 < length f
-  bit-takes h = omega (arith, k .inside, bit-size f at h)
+  bit-takes h = omega (arith, k .inside, form-bit f at h .1)
 
   pub choice-takes : getD f at 0 ≡ 0x30
       → (at + 7 ≤ length f) × Inside mostWires (numberAt 2 f (at + 1) ∷ numberAt 2 f (at + 3) ∷ numberAt 2 f (at + 5) ∷ [])
-  choice-takes h = (omega (arith, k .inside, choice-size f at h), wires-as _ (choice-at f at h))
+  choice-takes h = (omega (arith, k .inside, form-choice f at h .1), wires-as _ (form-choice f at h .0))
 
   pub pick-takes : getD f at 0 ≡ 0x31
       → (at + 2 + 4 * getD f (at + 1) 0 ≤ length f) × Inside mostWires (pairWires (pairsAt (getD f (at + 1) 0) f (at + 2)))
-  pick-takes h = (omega (arith, k .inside, pick-size f at h), wires-as _ (pick-at f at h))
+  pick-takes h = (omega (arith, k .inside, form-pick f at h .1), wires-as _ (form-pick f at h .0))
 
   pub guard-takes : getD f at 0 ≡ 0x32
       → (getD f (at + 1) 0 ≤ mostConditions) × (at + 2 + 2 * getD f (at + 1) 0 + 8 ≤ length f) × Inside mostWires (wiresAt (getD f (at + 1) 0) f (at + 2))
-  guard-takes h = (k .counted h, omega (arith, k .inside, guard-size f at h), wires-as _ (guard-at f at h))
+  guard-takes h = (k .counted h, omega (arith, k .inside, form-guard f at h .1), wires-as _ (form-guard f at h .0))
 
-  pub operation-takes : Other (getD f at 0)
+  pub operation-takes : OtherByte (getD f at 0)
       → (0x20 ≤ getD f at 0) × (getD f at 0 ≤ 0x27) × (at + (1 + 2 * codeOf (getD f at 0) .arity) ≤ length f)
       × Inside mostWires (wiresAt (codeOf (getD f at 0) .arity) f (at + 1))
   operation-takes o =
       let b = operation-byte (getD f at 0) (k .known) o in
-      (b .0, b .1, subst (λ (n : ℕ). at + n ≤ length f) (operation-size f at o) (k .inside), wires-as _ (operation-at f at o))
+      (b .0, b .1, subst (λ (n : ℕ). at + n ≤ length f) (form-other f at o .1) (k .inside), wires-as _ (form-other f at o .0))
 
 -- the figure by its first byte
 pub figure-by : (f inputs figures : List ℕ) (at n : ℕ) (r : Record) → recordAt f at ≡ r → n ≡ recordFigure inputs (held figures) r

@@ -1,4 +1,4 @@
--- Document 01, "The fused circuit file": laws of working out a choice, a pick and a guard's number, one for each step of the code. Assumes nothing.
+-- Laws of working out a choice, a pick and a guard's number, one for each step of the code. Assumes nothing.
 use Prim.Native.Nat.{ℕ, suc, _+_, _-_, _*_, _^_, _≤_, _<_}
 use mathlib.Core.Path.{_≡_, refl, sym, ap, _∙_}
 use mathlib.Core.Bool.{Bool, cond}
@@ -17,9 +17,9 @@ use Rattle.gates.specs.EarlierLaws.{Inside}
 use Rattle.gates.specs.Limits.{mostConditions}
 use Rattle.fused.specs.Records.{pairWires, pickFigure, guardFigure}
 use Rattle.fused.specs.FileFigures.{wiresAt, pairsAt}
+use Rattle.fused.specs.FilePartLaws.{wires-length, wire-of}
 use Rattle.figures.specs.Runnable.{mostWires}
 use Rattle.figures.specs.Working.{held}
-use Rattle.figures.specs.ReadingLaws.{wires-length, wire-of}
 
 -- a choice: its condition is 1, or it is not
 pub chosen-first : (x a b g r : ℕ) → g ≡ x → g ≡ 1 → r ≡ a → r ≡ cond (isOne x) a b

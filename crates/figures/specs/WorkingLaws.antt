@@ -1,4 +1,4 @@
--- Document 01, "The fused circuit file": laws of working out the records in order and of giving the outputs, one for each step of the code. Assumes nothing.
+-- Laws of working out the records in order and of giving the outputs, one for each step of the code. Assumes nothing.
 use Prim.Native.Nat.{ℕ, suc, _+_, _*_, _≤_, _<_}
 use mathlib.Core.Path.{_≡_, refl, sym, ap, subst, _∙_}
 use mathlib.Core.List.{List, [], _∷_, _++_, map, map-append}
@@ -10,16 +10,17 @@ use Rattle.words.specs.Lists.{_∈_}
 use Rattle.words.specs.Numbers.{numberAt}
 use Rattle.words.specs.Buffers.{over}
 use Rattle.words.specs.BufferLaws.{over-nil, over-snoc, length-over}
+use Rattle.words.specs.ListLaws.{map-same}
 use Rattle.gates.specs.Gates.{run}
-use Rattle.gates.specs.FigureLaws.{run-length, run-append, map-same}
+use Rattle.gates.specs.FigureLaws.{run-length, run-append}
 use Rattle.gates.specs.EarlierLaws.{Inside}
-use Rattle.fused.specs.Records.{Record, word, reads, recordFigure, wireFigure}
-use Rattle.fused.specs.FileFigures.{wiresAt, recordAt, sizeAt, recordsFrom, firstRecord, fileVariables, wireCount, fileRecords, fileOutputs, fileFigures}
+use Rattle.fused.specs.Records.{Record, reads, recordFigure}
+use Rattle.fused.specs.FileFigures.{wiresAt, recordAt, sizeAt, recordsFrom, firstRecord, fileVariables, wireCount, fileOutputs, fileFigures}
 use Rattle.fused.specs.RecordLaws.{record-same}
+use Rattle.fused.specs.FilePartLaws.{wires-next, wires-length, wire-of, records-next, records-length, record-of, outputs-of, figures-of}
+use Rattle.fused.specs.FileLaws.{place-next}
 use Rattle.figures.specs.Runnable.{mostWires, recordPlace, Runnable}
 use Rattle.figures.specs.Working.{held, Workable, figuresOf, AmidRecords}
-use Rattle.figures.specs.ReadingLaws.{wires-more, wires-length, wire-of, records-more, records-length, records-at}
-use Rattle.fused.specs.FileLaws.{place-next}
 
 -- the figures of the first wires: so many, and the next one
 pub figures-length : (f inputs : List ℕ) (i : ℕ) → length (figuresOf f inputs i) ≡ i
@@ -30,7 +31,7 @@ figures-more : (f inputs : List ℕ) (i : ℕ)
     → figuresOf f inputs (suc i) ≡ figuresOf f inputs i ++ (recordFigure inputs (held (figuresOf f inputs i)) (recordAt f (recordPlace f i)) ∷ [])
 unfolding figuresOf
 figures-more f inputs i =
-    ap (λ (R : List Record). run 0 (recordFigure inputs) R []) (records-more i f firstRecord)
+    ap (λ (R : List Record). run 0 (recordFigure inputs) R []) (records-next i f firstRecord)
     ∙ run-append 0 (recordFigure inputs) (recordsFrom i f firstRecord) (recordAt f (recordPlace f i) ∷ []) []
 
 -- what lies at the start of an array is read from it
@@ -40,13 +41,12 @@ held-over a d w h = List·getD-append a _ 0 w h
 
 -- a record of a runnable file can be worked out from the wires before it
 pub record-workable : (f : List ℕ) (v i : ℕ) → Runnable f v → i < wireCount f → Workable f v i (recordPlace f i)
-unfolding fileRecords
 record-workable f v i r h = record {
   inside = r .inside i h;
   known = r .known i h;
   counted = r .counted i h;
   inputs = r .inputs i h;
-  earlier = λ w m. r .earlier i w (subst (λ (q : Record). w ∈ reads q) (sym (records-at (wireCount f) f firstRecord i (word 0) h)) m);
+  earlier = λ w m. r .earlier i w (subst (λ (q : Record). w ∈ reads q) (sym (record-of f i h)) m);
 }
 
 pub amid-start : (f inputs before : List ℕ) → Runnable f (length inputs) → length before ≡ mostWires → AmidRecords f inputs before before 8 0
@@ -112,7 +112,7 @@ given-more : (f figures : List ℕ) (at x : ℕ)
     → map (held figures) (wiresAt (x + 1) f at) ≡ map (held figures) (wiresAt x f at) ++ (held figures (numberAt 2 f (at + 2 * x)) ∷ [])
 given-more f figures at x =
     ap (λ (n : ℕ). map (held figures) (wiresAt n f at)) (add-one x)
-    ∙ ap (map (held figures)) (wires-more x f at)
+    ∙ ap (map (held figures)) (wires-next x f at)
     ∙ map-append (held figures) (wiresAt x f at) (numberAt 2 f (at + 2 * x) ∷ [])
 
 module _ (f figures before results : List ℕ) (at x : ℕ) (p : Giving f figures before results at x) where
@@ -147,18 +147,18 @@ module _ (f inputs : List ℕ) (r : Runnable f (length inputs)) (at : ℕ) (e : 
   outputs-whole = rw e (r .ends)
 
   outputs-are : wiresAt (fileVariables f) f at ≡ fileOutputs f
-  unfolding fileOutputs
-  outputs-are = ap (wiresAt (fileVariables f) f) e
+  outputs-are = ap (wiresAt (fileVariables f) f) e ∙ sym (outputs-of f)
 
   pub outputs-inside : Inside mostWires (wiresAt (fileVariables f) f at)
   outputs-inside w m = omega (arith, r .outputs w (subst (λ (l : List ℕ). w ∈ l) outputs-are m), r .wires)
 
   pub outputs-given : (before figures results d : List ℕ) → figures ≡ over (figuresOf f inputs (wireCount f)) before
       → results ≡ over (map (held figures) (wiresAt (fileVariables f) f at)) d → results ≡ over (fileFigures f inputs) d
-  unfolding fileFigures wireFigure fileRecords figuresOf
+  unfolding figuresOf
   outputs-given before figures results d g q =
       q ∙ ap (λ (l : List ℕ). over l d) (
       ap (map (held figures)) outputs-are
-      ∙ map-same (held figures) (wireFigure inputs (fileRecords f)) (fileOutputs f)
+      ∙ map-same (held figures) (held (figuresOf f inputs (wireCount f))) (fileOutputs f)
       (λ w m. ap (λ (l : List ℕ). held l w) g ∙ held-over (figuresOf f inputs (wireCount f)) before w (rw (figures-length f inputs (wireCount f)) (r .outputs w m)))
+      ∙ sym (figures-of f inputs)
       )

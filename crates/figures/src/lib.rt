@@ -11,7 +11,6 @@ ghost use Rattle.words.specs.Numbers.{numberAt};
 ghost use Rattle.words.specs.Buffers.{over};
 ghost use Rattle.settings.specs.Settings.{numberOf};
 ghost use Rattle.codes.specs.Codes.{operationOf, codeOf};
-ghost use Rattle.codes.specs.declared.Code.{Code};
 ghost use Rattle.gates.specs.Running.{isOne};
 ghost use Rattle.gates.specs.Gates.{resultOn};
 ghost use Rattle.gates.specs.EarlierLaws.{Inside};

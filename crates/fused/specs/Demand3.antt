@@ -6,12 +6,12 @@ use mathlib.Core.List.{List, map, map-map}
 use lib.ListN.{length}
 use Rattle.words.specs.Lists.{_∈_, map-in}
 use Rattle.words.specs.Numbers.{Bytes}
+use Rattle.words.specs.ListLaws.{map-same}
 use Rattle.answers.specs.declared.Answer.{Answer}
 use Rattle.reading.specs.Header.{variables}
 use Rattle.gates.specs.Running.{runRule}
 use Rattle.gates.specs.Gates.{figureAt}
 use Rattle.gates.specs.PlainCircuit.{gatesOf, outputsOf}
-use Rattle.gates.specs.FigureLaws.{map-same}
 use Rattle.gates.specs.StartLaws.{read-run}
 use Rattle.gates.specs.Demand2.{demand-2}
 use Rattle.needed.specs.Needed.{from-start}

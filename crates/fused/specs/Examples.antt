@@ -23,7 +23,6 @@ use Rattle.plan.specs.Groups.{groups, restsOf, waitsFor}
 use Rattle.plan.specs.Order.{order}
 use Rattle.plan.specs.Rows.{planRow, planAnswer}
 use Rattle.words.specs.Numbers.{bytesOf}
-use Rattle.words.specs.Buffers.{over}
 use Rattle.settings.specs.Guards.{spread, tableOver, table}
 use Rattle.plan.specs.Examples.{p1}
 use Rattle.fused.specs.FusedCircuit.{written, fused}

@@ -10,26 +10,26 @@ use lib.Dec.{eqb}
 use lib.Pow.{pow-mono}
 use lib.ListN.{length, getD, length-map}
 use Rattle.words.specs.Lists.{from, upto, length-from}
+use Rattle.words.specs.ListLaws.{length-keep}
 use Rattle.settings.specs.Sets.{has, restsOn, rests}
 use Rattle.settings.specs.Guards.{spread, tableOver, table}
 use Rattle.settings.specs.BitLaws.{collect-below}
-use Rattle.settings.specs.ListLaws.{length-keep}
 use Rattle.codes.specs.Codes.{entryOf}
-use Rattle.codes.specs.declared.Code.{Code}
 use Rattle.codes.specs.declared.Kind.{Kind}
 use Rattle.codes.specs.declared.Operation.{Operation}
-use Rattle.gates.specs.Gates.{Gate, Gates, gateAt}
+use Rattle.gates.specs.Gates.{Gate, Gates, gateAt, arguments}
 use Rattle.gates.specs.Gates as gate
 use Rattle.gates.specs.Limits.{mostConditions}
 use Rattle.gates.specs.GateKinds.{GateFits}
-use Rattle.plan.specs.PlanFile.{EachGroup}
+use Rattle.gates.specs.EachGateLaws.{StartGate}
 use Rattle.plan.specs.Groups.{members, restsOf}
 use Rattle.plan.specs.Accepted.{OneCostly}
 use Rattle.fused.specs.Records.{Record, input, word, bit, operation, choice, pick, guard, reads, recordIn}
 use Rattle.fused.specs.Emission.{alone, joined, guardOf, valuesAt, emit}
 use Rattle.fused.specs.FitRecords.{Wires, ReadsBack, AllReadBack}
-use Rattle.fused.specs.FitStarts.{StartGate}
-use Rattle.fused.specs.SizeJoined.{length-pairs, picks, rests-few, values-each}
+use Rattle.fused.specs.SizeJoined.{length-pairs, rests-few}
+use Rattle.fused.specs.RecordLaws.{Along, along-map}
+use Rattle.fused.specs.EmitLaws.{joined-along}
 
 -- what a record needs besides the wires that it reads
 abbrev pub FieldsFit : Record → Type 0
@@ -41,9 +41,8 @@ FieldsFit (choice c a b) = Unit {0}
 FieldsFit (pick l) = length l < 256
 FieldsFit (guard cs t) = (length cs < 256) × (t < 256 ^ 8)
 
-abbrev pub AllFieldsFit : List Record → Type 0
-AllFieldsFit [] = Unit {0}
-AllFieldsFit (r ∷ R) = FieldsFit r × AllFieldsFit R
+abbrev pub AllFieldsFit : ℕ → List Record → Type 0
+AllFieldsFit n R = Along (λ i. FieldsFit) n R
 
 -- with wires of two bytes it fits
 sized-fits : (r : Record) → FieldsFit r → Wires (reads r) → ReadsBack r
@@ -55,13 +54,9 @@ sized-fits (choice c a b) h w = w
 sized-fits (pick l) h w = (h, w)
 sized-fits (guard cs t) (h, k) w = (h, w, k)
 
-pub all-fit : (R : List Record) → AllFieldsFit R → ((i : ℕ) → Wires (reads (recordIn R i))) → AllReadBack R
-all-fit [] h w = tt
-all-fit (r ∷ R) (h, k) w = (sized-fits r h (w 0), all-fit R k (λ i. w (suc i)))
-
-pub sized-append : (A B : List Record) → AllFieldsFit A → AllFieldsFit B → AllFieldsFit (A ++ B)
-sized-append [] B h k = k
-sized-append (r ∷ A) B (a, h) k = (a, sized-append A B h k)
+pub all-fit : (R : List Record) (n : ℕ) → AllFieldsFit n R → ((i : ℕ) → Wires (reads (recordIn R i))) → AllReadBack R
+all-fit [] n h w = tt
+all-fit (r ∷ R) n (h, k) w = (sized-fits r h (w 0), all-fit R (suc n) k (λ i. w (suc i)))
 
 -- a table of six conditions at most has eight bytes
 pub table-small : (s : ℕ) → table mostConditions s < 256 ^ 8
@@ -79,33 +74,25 @@ alone-sized s wire kinds v (gate.bit b) f h l = omega arith
 alone-sized s wire kinds v (gate.operation op m) f h l = length-map m wire ∙ f .0
 alone-sized s wire kinds v (gate.choice c a b) f h l = tt
 
-picks-sized : (n k : ℕ) (places : List (List ℕ)) → EachGroup (λ values. length values ≡ k) places → k < 256 → AllFieldsFit (picks n places)
-picks-sized n k [] e h = tt
-picks-sized n k (values ∷ places) (e, f) h = (omega (arith, length-pairs n values, e), picks-sized n k places f h)
-
 -- a group that does not hold gate 0 has at most 255 of 256 gates
 pub members-few : (C : Gates) (group : ℕ → ℕ) (q : ℕ) → eqb (group 0) q ≡ false → length C ≤ 256 → length (members (length C) group q) < 256
 members-few [] group q h l = omega arith
 members-few (k ∷ C) group q h l = rw h (omega (arith, length-keep (λ g. eqb (group g) q) (from 1 (length C)), length-from 1 (length C)))
 
 module _ (s : List ℕ) (C : Gates) (sets : List ℕ) (wire : ℕ → ℕ) where
-  guards-sized : (ms : List ℕ) → AllFieldsFit (map (guardOf s C sets wire) ms)
-  guards-sized [] = tt
-  guards-sized (m ∷ ms) =
-      ((omega (arith, length-map (restsOf C sets m) wire, rests-few s C sets wire m), table-small (getD sets m 0)), guards-sized ms)
-
   -- a joined group of fewer than 256 members
   joined-sized : (n : ℕ) (op : Operation) (ms : List ℕ) → length ms < 256
-      → AllFieldsFit (joined n op (map (guardOf s C sets wire) ms) (map (valuesAt s C sets wire ms) (upto (entryOf op .arity))))
+      → AllFieldsFit n (joined n op (map (guardOf s C sets wire) ms) (map (valuesAt s C sets wire ms) (upto (entryOf op .arity))))
   joined-sized n op ms h =
-      sized-append (map (guardOf s C sets wire) ms) _ (guards-sized ms)
-      (sized-append (picks n (map (valuesAt s C sets wire ms) (upto (entryOf op .arity)))) _
-      (picks-sized n (length ms) (map (valuesAt s C sets wire ms) (upto (entryOf op .arity))) (values-each s C sets wire ms (upto (entryOf op .arity))) h)
-      (length-from _ _ ∙ length-map (upto (entryOf op .arity)) (valuesAt s C sets wire ms) ∙ length-from 0 (entryOf op .arity), tt))
+      joined-along (λ i. FieldsFit) n op (map (guardOf s C sets wire) ms) (valuesAt s C sets wire ms) (upto (entryOf op .arity))
+      (along-map (λ i. FieldsFit) (guardOf s C sets wire) ms n n (omega arith)
+      (λ m _ _ _. (omega (arith, length-map (restsOf C sets m) wire, rests-few s C sets wire m), table-small (getD sets m 0))))
+      (λ k _ _ _. omega (arith, length-pairs n (valuesAt s C sets wire ms k), length-map ms (λ m. wire (getD (arguments (gateAt C m)) k 0))))
+      (length-from _ _ ∙ length-from 0 (entryOf op .arity))
 
   -- any group whose gates fit
   pub emit-sized : (kinds : ℕ → Kind) (v : ℕ) → v ≤ 32 → ((i : ℕ) → GateFits kinds (gateAt C i)) → ((i : ℕ) → StartGate v (gateAt C i))
-      → (n : ℕ) (ms : List ℕ) → (2 ≤ length ms → OneCostly C ms × (length ms < 256)) → AllFieldsFit (emit s C sets wire n ms)
+      → (n : ℕ) (ms : List ℕ) → (2 ≤ length ms → OneCostly C ms × (length ms < 256)) → AllFieldsFit n (emit s C sets wire n ms)
   emit-sized kinds v l fits starts n [] h = tt
   emit-sized kinds v l fits starts n (m ∷ []) h = (alone-sized s wire kinds v (gateAt C m) (fits m) (starts m) l, tt)
   emit-sized kinds v l fits starts n (m ∷ k ∷ ms) h =

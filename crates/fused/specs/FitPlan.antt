@@ -7,47 +7,37 @@ use lib.Dec.{eqb, ltb}
 use borrow.Author.Tests.{eqb-true, ltb-true, ltb-false}
 use lib.ListN.{length, take, drop, length-map, List·getD-eq-default}
 use Rattle.words.specs.Lists.{_∈_, split, upto, length-from}
-use Rattle.settings.specs.ListLaws.{length-keep}
 use Rattle.codes.specs.declared.Operation.{Operation}
 use Rattle.words.specs.Numbers.{Bytes}
+use Rattle.words.specs.ListLaws.{length-keep}
 use Rattle.answers.specs.declared.Answer.{Answer}
 use Rattle.answers.specs.ParsingLaws.{is-read}
 use Rattle.reading.specs.Header.{variables, kindAt}
 use Rattle.reading.specs.Rule.{readRule}
 use Rattle.reading.specs.FirstStatement.{rule-read}
-use Rattle.gates.specs.Gates.{Gates, gateAt, start, operation}
+use Rattle.gates.specs.Gates.{gateAt, start, operation}
 use Rattle.gates.specs.GateKinds.{kindOfGate}
 use Rattle.gates.specs.GateKindLaws.{plain-fits}
 use Rattle.gates.specs.PlainCircuit.{gatesOf, outputsOf, gateCount}
+use Rattle.gates.specs.EachGateLaws.{rule-starting, rule-start}
 use Rattle.needed.specs.Pass.{rulePreconditions}
 use Rattle.circuit.specs.WholeLaws.{Accepted, accepted}
 use Rattle.plan.specs.PlanFile.{groupsIn}
 use Rattle.plan.specs.Groups.{groupOf, members}
 use Rattle.plan.specs.GroupLaws.{member-of}
-use Rattle.plan.specs.Order.{order}
 use Rattle.plan.specs.Rows.{planAnswer}
 use Rattle.plan.specs.AcceptedLaws.{plan-accepted}
 use Rattle.plan.specs.JoinedLaws.{members-costly}
 use Rattle.fused.specs.Records.{Record, word, reads, recordIn, ReadsEarlier, wireFigure}
 use Rattle.fused.specs.Emission.{emit}
-use Rattle.fused.specs.FusedCircuit.{groupRecords, written, fused, recordsOf, wireOf, outputWires}
+use Rattle.fused.specs.FusedCircuit.{fused, recordsOf, wireOf, outputWires}
 use Rattle.fused.specs.CircuitFile.{recordBytes, recordsBytes, fusedFile}
 use Rattle.fused.specs.FileFigures.{recordAt, sizeAt, placeAfter, firstRecord, fileVariables, wireCount, fileRecords, fileOutputs, fileFigures}
 use Rattle.fused.specs.FitRecords.{Wires, AllReadBack}
-use Rattle.fused.specs.FitStarts.{rule-starting, rule-start}
-use Rattle.fused.specs.FitLaws.{AllFieldsFit, all-fit, sized-append, members-few, emit-sized}
+use Rattle.fused.specs.FitLaws.{FieldsFit, AllFieldsFit, all-fit, members-few, emit-sized}
 use Rattle.fused.specs.SizeBounds.{wires-bound, outputs-count}
-use Rattle.fused.specs.FileLaws.{file-place, file-record, file-part, file-found}
-
--- what is written of groups that fit
-module _ (s : List ℕ) (C : Gates) (sets : List ℕ) (group : ℕ → ℕ)
-    (sized : (wire : ℕ → ℕ) (n q : ℕ) → AllFieldsFit (emit s C sets wire n (members (length C) group q))) where
-  written-sized : (done : List ℕ) → AllFieldsFit (written s C sets group done .records)
-  unfolding written
-  written-sized [] = tt
-  written-sized (q ∷ done) =
-      let w = written s C sets group done in
-      sized-append (w .records) (groupRecords s C sets group w q) (written-sized done) (sized (λ a. w .wire (group a)) (length (w .records)) q)
+use Rattle.fused.specs.FileLaws.{file-place, file-record, file-part, file-inside, file-found}
+use Rattle.fused.specs.BoundLaws.{fused-along}
 
 -- a starting value is no operation
 start-apart : (x : ℕ) (op : Operation) (l : List ℕ) → start x ≡ operation op l → ⊥
@@ -75,15 +65,13 @@ module _ (s p : List ℕ) (h : planAnswer s p .number ≡ 0) where
 
   -- the rule is bytes
   module _ (bytes : Bytes s) where
-    pub fused-sized : AllFieldsFit (recordsOf s p)
-    unfolding fused
+    fused-sized : AllFieldsFit 0 (recordsOf s p)
     fused-sized =
         let (b, n, read) = is-read (readRule s) (rule .read) in
-        written-sized s (gatesOf s) (rulePreconditions s) group
+        fused-along s p (λ i. FieldsFit)
         (λ wire k q. emit-sized s (gatesOf s) (rulePreconditions s) wire (kindOfGate (kindAt s) (gatesOf s)) (variables s) (outputs-count s p h .1)
         (plain-fits s bytes b n read) (rule-starting s b n read) k (members (gateCount s) group q)
         (λ many. (members-costly s p (plan-accepted s p .0 h .1) q many, group-few q many)))
-        (order (gatesOf s) (rulePreconditions s) group)
 
     -- every record reads earlier wires
     module _ (earlier : ReadsEarlier (recordsOf s p)) where
@@ -94,7 +82,7 @@ module _ (s p : List ℕ) (h : planAnswer s p .number ≡ 0) where
           (λ t. absurd (rw (List·getD-eq-default (recordsOf s p) (word 0) {n = i} (ltb-false i (length (recordsOf s p)) t)) at m))
 
       pub fused-fits : AllReadBack (recordsOf s p)
-      fused-fits = all-fit (recordsOf s p) fused-sized reads-small
+      fused-fits = all-fit (recordsOf s p) 0 fused-sized reads-small
 
       -- the place of record i in the file, and what stands there
       pub fused-place : (i : ℕ) → i ≤ length (recordsOf s p)
@@ -113,6 +101,12 @@ module _ (s p : List ℕ) (h : planAnswer s p .number ≡ 0) where
           ≡ recordBytes (recordIn (recordsOf s p) i)
       unfolding fusedFile
       fused-part i l = file-part (variables s) (recordsOf s p) (outputWires s p) fused-fits i l
+
+      -- record i lies inside the file
+      pub fused-inside : (i : ℕ) → i < length (recordsOf s p)
+          → placeAfter i (fusedFile s p) firstRecord + sizeAt (fusedFile s p) (placeAfter i (fusedFile s p) firstRecord) ≤ length (fusedFile s p)
+      unfolding fusedFile
+      fused-inside i l = omega (arith, file-inside (variables s) (recordsOf s p) (outputWires s p) fused-fits i l)
 
       -- and every output wire is a wire: the file, taken apart, gives its records and its output wires
       pub fused-found : ((w : ℕ) → w ∈ outputWires s p → w < length (recordsOf s p))

@@ -1,11 +1,14 @@
--- Document 01, "The fused circuit file": what the first byte of a record says of it, and of its bytes; one law for each form. Assumes nothing.
-use mathlib.Core.Path.{_≡_}
+-- Laws of what the first byte of a record says of it, and of its bytes; one for each form. Assumes nothing.
+use mathlib.Core.Path.{_≡_, refl}
+use mathlib.Core.Bool.{Bool, true, false, cond}
 use mathlib.Core.List.{List}
-use Prim.Native.Nat.{ℕ, _+_, _*_}
+use Prim.Native.Nat.{ℕ, _+_, _*_, _≤_}
+use native.Mathlib.Omega.{arith}
+use lib.Dec.{eqb}
 use lib.ListN.{getD}
+use borrow.Author.Tests.{ne-eqb}
 use Rattle.words.specs.Numbers.{numberAt}
 use Rattle.codes.specs.Codes.{entryOf, operationOf, byteOf, codeOf}
-use Rattle.codes.specs.declared.Code.{Code}
 use Rattle.codes.specs.declared.Kind.{Kind}
 use Rattle.codes.specs.declared.Kind.the-variants as kind
 use Rattle.codes.specs.declared.Operation.{Operation}
@@ -54,3 +57,44 @@ module _ (x : List ℕ) (at : ℕ) where
       × (sizeAt x at ≡ 10 + 2 * getD x (at + 1) 0)
   unfolding recordAt sizeAt
   form-guard h = (rw h, rw h)
+
+-- any other byte
+pub record OtherByte (b : ℕ) : Type 0 where
+  pub no-word : b ≡ 0x00 → ⊥
+  pub no-bit : b ≡ 0x01 → ⊥
+  pub no-word-constant : b ≡ 0x11 → ⊥
+  pub no-bit-constant : b ≡ 0x12 → ⊥
+  pub no-choice : b ≡ 0x30 → ⊥
+  pub no-pick : b ≡ 0x31 → ⊥
+  pub no-guard : b ≡ 0x32 → ⊥
+
+pub form-other : (x : List ℕ) (at : ℕ) → OtherByte (getD x at 0)
+    → (recordAt x at ≡ operation (operationOf (getD x at 0)) (wiresAt (codeOf (getD x at 0) .arity) x (at + 1))) × (sizeAt x at ≡ 1 + 2 * codeOf (getD x at 0) .arity)
+unfolding recordAt sizeAt
+form-other x at o =
+    simp (
+      ne-eqb _ 0x00 (o .no-word),
+      ne-eqb _ 0x01 (o .no-bit),
+      ne-eqb _ 0x11 (o .no-word-constant),
+      ne-eqb _ 0x12 (o .no-bit-constant),
+      ne-eqb _ 0x30 (o .no-choice),
+      ne-eqb _ 0x31 (o .no-pick),
+      ne-eqb _ 0x32 (o .no-guard),
+    ) (refl, refl)
+
+-- every record has a byte at least
+some : (t : Bool) {a b : ℕ} → 1 ≤ a → 1 ≤ b → 1 ≤ cond t a b
+some true h k = h
+some false h k = k
+
+pub size-some : (x : List ℕ) (at : ℕ) → 1 ≤ sizeAt x at
+unfolding sizeAt
+size-some x at =
+    some (eqb (getD x at 0) 0x00) (omega arith)
+    (some (eqb (getD x at 0) 0x01) (omega arith)
+    (some (eqb (getD x at 0) 0x11) (omega arith)
+    (some (eqb (getD x at 0) 0x12) (omega arith)
+    (some (eqb (getD x at 0) 0x30) (omega arith)
+    (some (eqb (getD x at 0) 0x31) (omega arith)
+    (some (eqb (getD x at 0) 0x32) (omega arith)
+    (omega arith)))))))

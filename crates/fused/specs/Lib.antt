@@ -20,13 +20,15 @@ pub mod SizeLaws
 pub mod FitRecords
 pub mod FoundWires
 pub mod FoundForms
+pub mod FilePartLaws
 pub mod FoundRecords
 pub mod FileLaws
 pub mod SizeJoined
 pub mod SizeEmit
 pub mod SizeTotal
 pub mod SizeBounds
-pub mod FitStarts
+pub mod BoundLaws
+pub mod AnswerLaws
 pub mod FitLaws
 pub mod FitPlan
 pub mod FileBytes

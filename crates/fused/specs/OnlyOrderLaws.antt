@@ -12,6 +12,7 @@ use Rattle.gates.specs.PlainCircuit.{Making, gatesOf}
 use Rattle.reading.specs.OnlyOrder.{OnlyOrder}
 use Rattle.gates.specs.OnlyOrderLaws.{same-variables, same-kind, second-read, same-plain}
 use Rattle.gates.specs.Limits.{mostGates, mostConditions}
+use Rattle.gates.specs.EachGateLaws.{StartGate, Starting, rule-starting}
 use Rattle.needed.specs.Needed.{wantedOf}
 use Rattle.needed.specs.Pass.{preconditionSets, rulePreconditions}
 use Rattle.circuit.specs.Whole.{ruleAnswer}
@@ -25,7 +26,6 @@ use Rattle.fused.specs.Emission.{alone, emit}
 use Rattle.fused.specs.FusedCircuit.{Written, written, fused, recordsOf, outputWires, costAfter}
 use Rattle.fused.specs.CircuitFile.{fusedFile}
 use Rattle.fused.specs.Answers.{fusedCounts, writeAnswer, writtenOver}
-use Rattle.fused.specs.FitStarts.{StartGate, Starting, rule-starting}
 
 -- a rule's bytes are asked only for the kinds of starting values
 module _ (s t : List ℕ) (v : ℕ) (kinds : (x : ℕ) → x < v → kindAt s x ≡ kindAt t x) where

@@ -7,7 +7,6 @@ use native.Mathlib.Nat.{zero-add}
 use lib.ListN.{length}
 use Rattle.words.specs.Lists.{_∈_}
 use Rattle.codes.specs.Codes.{entryOf}
-use Rattle.codes.specs.declared.Code.{Code}
 use Rattle.codes.specs.declared.Operation.{Operation}
 use Rattle.answers.specs.Parsing.{parsed}
 use Rattle.answers.specs.ParsingLaws.{is-read}

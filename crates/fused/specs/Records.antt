@@ -7,7 +7,6 @@ use Rattle.words.specs.Lists.{_∈_}
 use Rattle.settings.specs.Settings.{bitOf, numberOf}
 use Rattle.settings.specs.Sets.{has}
 use Rattle.codes.specs.Codes.{entryOf}
-use Rattle.codes.specs.declared.Code.{Code}
 use Rattle.codes.specs.declared.Kind.{Kind}
 use Rattle.codes.specs.declared.Operation.{Operation}
 use Rattle.gates.specs.Running.{isOne}

@@ -7,11 +7,12 @@ use native.Mathlib.Nat.{zero-add}
 use native.Mathlib.Omega.{arith}
 use lib.ListN.{length, getD}
 use Rattle.words.specs.Lists.{_∈_, split, upto, getD-in}
+use Rattle.words.specs.ListLaws.{map-same}
 use Rattle.settings.specs.Settings.{Setting, Once}
 use Rattle.codes.specs.declared.Operation.{Operation}
 use Rattle.gates.specs.Running.{isOne}
 use Rattle.gates.specs.Gates.{Gate, start, word, bit, operation, choice, Gates, gateAt, arguments, Earlier, resultOn, figure, figureAt, conditions}
-use Rattle.gates.specs.FigureLaws.{map-same, figures-right}
+use Rattle.gates.specs.FigureLaws.{figures-right}
 use Rattle.gates.specs.Limits.{mostConditions}
 use Rattle.needed.specs.Needed.{asks, Needed, asked}
 use Rattle.needed.specs.NeededLaws.{asks-arguments, needed-inside}

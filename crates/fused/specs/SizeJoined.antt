@@ -6,10 +6,9 @@ use native.Mathlib.Nat.{suc-mul}
 use native.Mathlib.Omega.{arith}
 use lib.ListN.{length, getD, length-append, length-map}
 use Rattle.words.specs.Lists.{from, upto, length-from}
+use Rattle.words.specs.ListLaws.{length-keep}
 use Rattle.settings.specs.Sets.{restsOn, rests}
-use Rattle.settings.specs.ListLaws.{length-keep}
 use Rattle.codes.specs.Codes.{entryOf}
-use Rattle.codes.specs.declared.Code.{Code}
 use Rattle.codes.specs.declared.Operation.{Operation}
 use Rattle.gates.specs.Gates.{Gates}
 use Rattle.gates.specs.Limits.{mostConditions}

@@ -7,7 +7,6 @@ use native.Mathlib.Omega.{arith}
 use lib.ListN.{length, getD}
 use Rattle.words.specs.Lists.{_∈_}
 use Rattle.codes.specs.Codes.{entryOf}
-use Rattle.codes.specs.declared.Code.{Code}
 use Rattle.codes.specs.declared.Kind.{Kind}
 use Rattle.codes.specs.declared.Kind.the-variants as kind
 use Rattle.codes.specs.declared.Operation.{Operation}

@@ -8,6 +8,7 @@ use native.Mathlib.Omega.{arith}
 use lib.ListN.{length, getD, length-append, List·getD-append}
 use lib.Seq.{getD-append-seam}
 use Rattle.words.specs.Lists.{_∈_}
+use Rattle.words.specs.ListLaws.{map-same}
 use Rattle.gates.specs.Gates.{Gate, start, word, bit, operation, choice, Gates, gateAt, arguments, Earlier, resultOn, figure, run, runAt, figureAt}
 
 module _ {K A : Type 0} (d : A) (value : (ℕ → A) → K → A) where
@@ -63,10 +64,6 @@ module _ {K A : Type 0} (d : A) (value : (ℕ → A) → K → A) where
 abbrev pub OnArguments : {A : Type 0} → ((ℕ → A) → Gate → A) → Type 0
 OnArguments {A} value = (k : Gate) (v w : ℕ → A) → ((a : ℕ) → a ∈ arguments k → v a ≡ w a) → value v k ≡ value w k
 
-pub map-same : {A : Type 0} (v w : ℕ → A) (l : List ℕ) → ((a : ℕ) → a ∈ l → v a ≡ w a) → map v l ≡ map w l
-map-same v w [] h = refl
-map-same v w (a ∷ l) h = cc (h a (inl refl), map-same v w l (λ b m. h b (inr m)))
-
 pub figure-same : (inputs : List ℕ) → OnArguments (figure inputs)
 figure-same inputs (start x) v w h = refl
 figure-same inputs (word n) v w h = refl
@@ -85,16 +82,6 @@ pub figures-right : (inputs : List ℕ) (C : Gates) → Earlier C
     → (i : ℕ) → i < length C → figureAt inputs C i ≡ figure inputs (figureAt inputs C) (gateAt C i)
 unfolding figureAt
 figures-right inputs C e = gates-right 0 (figure inputs) (figure-same inputs) C e
-
--- figures stay when gates are appended
-pub figures-keep : (inputs : List ℕ) (B C : Gates) (i : ℕ) → i < length B → figureAt inputs (B ++ C) i ≡ figureAt inputs B i
-unfolding figureAt
-figures-keep inputs B C i h = runAt-append 0 (figure inputs) B C i h
-
--- the figure of the gate appended
-pub figures-last : (inputs : List ℕ) (C : Gates) (k : Gate) → figureAt inputs (C ++ (k ∷ [])) (length C) ≡ figure inputs (figureAt inputs C) k
-unfolding figureAt
-figures-last inputs C k = runAt-last 0 (figure inputs) C k
 
 -- an element of a mapped list
 pub map-at : (v : ℕ → ℕ) (l : List ℕ) (i : ℕ) → i < length l → getD (map v l) i 0 ≡ v (getD l i 0)

@@ -7,7 +7,6 @@ use lib.ListN.{length, getD}
 use Rattle.words.specs.Lists.{_∈_, elem, keep, upto}
 use Rattle.codes.specs.Codes.{entryOf}
 use Rattle.codes.specs.Results.{resultOf}
-use Rattle.codes.specs.declared.Code.{Code}
 use Rattle.codes.specs.declared.Operation.{Operation}
 use Rattle.gates.specs.Running.{isOne}
 

@@ -8,6 +8,7 @@ use native.Mathlib.Omega.{arith}
 use lib.ListN.{length, getD, set, length-append, length-set}
 use lib.Seq.{getD-set-same, getD-set-other}
 use Rattle.words.specs.Lists.{_∈_, same?, split, upto, keep-in, from-in}
+use Rattle.words.specs.ListLaws.{or-none}
 use Rattle.reading.specs.Tree.{Block}
 use Rattle.gates.specs.Gates.{Gate, choice, Gates, runAt}
 use Rattle.gates.specs.FigureLaws.{OnArguments, runAt-append, runAt-last}
@@ -15,7 +16,6 @@ use Rattle.gates.specs.PlainCircuit.{Making, Made, assigns, choose, choi
 use Rattle.gates.specs.PlainLaws.{Extends, extends-trans, extends-length}
 use Rattle.gates.specs.EarlierLaws.{Inside, inside-at, inside-set, inside-more}
 use Rattle.gates.specs.SoundLaws.{CanChoose, ready-next, choice-inside, assigned-below, Parts, parts-whole, parts-ready}
-use Rattle.gates.specs.RunLaws.{or-none}
 
 module _ {A : Type 0} (d : A) (value : (ℕ → A) → Gate → A) where
   -- the present gate of each variable x gives h x

@@ -13,7 +13,6 @@ use Rattle.words.specs.Lists.{_∈_, split, same?}
 use Rattle.words.specs.NumberLaws.{word-below}
 use Rattle.codes.specs.Codes.{entryOf}
 use Rattle.codes.specs.Results.{bitOf, resultOf}
-use Rattle.codes.specs.declared.Code.{Code}
 use Rattle.codes.specs.declared.Kind.{Kind}
 use Rattle.codes.specs.declared.Kind.the-variants as kind
 use Rattle.codes.specs.declared.Operation.{Operation}

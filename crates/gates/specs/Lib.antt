@@ -18,6 +18,7 @@ pub mod DemandLaws
 pub mod KindLaws
 pub mod ExprKindLaws
 pub mod StartLaws
+pub mod EachGateLaws
 pub mod GateKindLaws
 pub mod OutputLaws
 pub mod OnlyOrderLaws

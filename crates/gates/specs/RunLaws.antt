@@ -1,20 +1,20 @@
--- Laws of the direct run: it keeps as many figures as there are; a variable that no statement assigns keeps its figure.
+-- Laws of the direct run: it keeps as many figures as there are; a variable that no statement assigns keeps its figure; figures past the variables' change nothing.
 use Prim.Native.Nat.{ℕ}
-use mathlib.Core.Path.{_≡_, refl, sym, _∙_}
-use mathlib.Core.List.{List}
-use mathlib.Core.Bool.{Bool, true, false, _||_, false≢true}
+use native.Mathlib.Omega.{arith}
+use mathlib.Core.Path.{_≡_, refl, ap, _∙_}
+use mathlib.Core.List.{List, _++_}
+use mathlib.Core.Bool.{false}
 use borrow.Author.Tests.{eqb-false}
-use lib.ListN.{length, getD, length-set}
-use lib.Seq.{getD-set-other}
+use lib.ListN.{length, getD, set, length-set, List·getD-append}
+use lib.Seq.{getD-set-other, set-append-left}
 use Rattle.words.specs.Lists.{split}
-use Rattle.reading.specs.Tree.{Statement, assign, skip, branch, Block, end, then}
+use Rattle.words.specs.ListLaws.{or-none}
+use Rattle.codes.specs.Results.{resultOf}
+use Rattle.codes.specs.declared.Kind.{Kind}
+use Rattle.reading.specs.Tree.{Expr, variable, word, bit, one, two, Statement, assign, skip, branch, Block, end, then}
 use Rattle.gates.specs.Running.{isOne, figureOf, runStatement, runBlock}
+use Rattle.reading.specs.Kinds.{Typed, TypedStatement, TypedBlock}
 use Rattle.gates.specs.PlainCircuit.{assignsIn, assigns}
-
--- neither of two tests that fail together holds
-pub or-none : (a b : Bool) → (a || b) ≡ false → (a ≡ false) × (b ≡ false)
-or-none true b h = absurd (false≢true (sym h))
-or-none false b h = (refl, h)
 
 mutual
   unfolding runStatement
@@ -43,3 +43,27 @@ mutual
   block-keeps (then t b) x f h =
       let r = or-none (assignsIn t x) (assigns b x) h in
       block-keeps b x (runStatement t f) (r .1) ∙ statement-keeps t x f (r .0)
+
+-- over v variables, with further figures p behind theirs
+module _ (v : ℕ) (kinds : ℕ → Kind) (p : List ℕ) where
+  figure-pad : (e : Expr) (k : Kind) → Typed v kinds e k → (f : List ℕ) → length f ≡ v → figureOf (f ++ p) e ≡ figureOf f e
+  unfolding figureOf
+  figure-pad (variable x) k (h, t) f n = List·getD-append f p 0 x (omega arith)
+  figure-pad (word m) k t f n = refl
+  figure-pad (bit b) k t f n = refl
+  figure-pad (one op e) k (h, g, t) f n = ap (λ (a : ℕ). resultOf op a 0) (figure-pad e _ t f n)
+  figure-pad (two op d e) k (h, g, t, u) f n = rw (figure-pad d _ t f n, figure-pad e _ u f n)
+
+  mutual
+    unfolding runStatement
+
+    statement-pad : (t : Statement) → TypedStatement v kinds t → (f : List ℕ) → length f ≡ v → runStatement t (f ++ p) ≡ runStatement t f ++ p
+    statement-pad (assign x e) (h, t) f n = ap (set (f ++ p) x) (figure-pad e _ t f n) ∙ set-append-left f p x _ (omega arith)
+    statement-pad skip h f n = refl
+    statement-pad (branch c b d) (h, t, u) f n =
+        rw (figure-pad c _ h f n) (split (isOne (figureOf f c)) (λ q. rw q (block-pad b t f n)) (λ q. rw q (block-pad d u f n)))
+
+    -- a run leaves them, and goes as it would without them
+    pub block-pad : (b : Block) → TypedBlock v kinds b → (f : List ℕ) → length f ≡ v → runBlock b (f ++ p) ≡ runBlock b f ++ p
+    block-pad end h f n = refl
+    block-pad (then t b) (h, u) f n = ap (runBlock b) (statement-pad t h f n) ∙ block-pad b u (runStatement t f) (statement-count t f ∙ n)

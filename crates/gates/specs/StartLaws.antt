@@ -1,17 +1,18 @@
 -- Laws of the starting gates and of the plain circuit of a rule that was read.
 use Prim.Native.Nat.{ℕ, zero, suc, _+_, _<_}
-use mathlib.Core.Path.{_≡_, sym, ap, _∙_}
+use mathlib.Core.Path.{_≡_, ap, _∙_}
 use mathlib.Core.List.{List, map}
-use native.Mathlib.Nat.{add-zero, zero-add}
+use native.Mathlib.Nat.{zero-add}
 use native.Mathlib.Omega.{arith}
 use lib.ListN.{getD, length-map}
 use Rattle.words.specs.Lists.{_∈_, from, upto, from-below, length-from, getD-from}
+use Rattle.words.specs.ListLaws.{getD-run}
 use Rattle.answers.specs.Parsing.{Parsed, parsed}
 use Rattle.reading.specs.Header.{variables, kindAt}
 use Rattle.reading.specs.Tree.{Block}
 use Rattle.reading.specs.Rule.{readRule}
 use Rattle.gates.specs.Running.{runBlock, runRead, runRule}
-use Rattle.gates.specs.Gates.{Gate, start, gateAt, arguments}
+use Rattle.gates.specs.Gates.{Gate, start, word, gateAt, arguments}
 use Rattle.gates.specs.PlainCircuit.{starts, plainOf, plainRead, plainCircuit}
 use Rattle.gates.specs.FigureLaws.{OnArguments, gates-right}
 use Rattle.gates.specs.SoundLaws.{Sound, block-sound}
@@ -38,9 +39,7 @@ starts-sound v =
     }
 
 pub start-at : (i n x : ℕ) → x < n → gateAt (map start (from i n)) x ≡ start (i + x)
-start-at i zero x h = absurd (omega arith)
-start-at i (suc n) zero h = ap start (sym (add-zero i))
-start-at i (suc n) (suc x) h = start-at (suc i) n x (omega arith) ∙ ap start (omega arith)
+start-at i n x h = getD-run start (word 0) i n x h
 
 -- at the start each variable's gate gives what its starting value gives
 pub starts-hold : {A : Type 0} (d : A) (value : (ℕ → A) → Gate → A) → OnArguments value → (v : ℕ) (h : ℕ → A)

@@ -12,8 +12,9 @@ use Rattle.codes.specs.CodeLaws.{code-operation, byte-back}
 use Rattle.codes.specs.declared.Code.{Code}
 use Rattle.codes.specs.declared.Operation.{Operation}
 use Rattle.gates.specs.Gates.{Gates, gateAt}
-use Rattle.needed.specs.Held.{choiceCode, ofForm, argumentsOf, codeAt, firstAt, secondAt, thirdAt, gateIn}
-use Rattle.needed.specs.HeldLaws.{EachCode, each-code, each-entry, gate-choice, gate-other, cond-each}
+use Rattle.needed.specs.Held.{choiceCode, ofForm, argumentsOf, codeAt, firstAt, secondAt, gateIn}
+use Rattle.needed.specs.HeldLaws.{EachCode, each-code, each-entry, cond-each}
+use Rattle.needed.specs.QuadLaws.{choice-in, other-in}
 use Rattle.plan.specs.Groups.{smallest}
 use Rattle.plan.specs.Rows.{every, isCostly, operationByte}
 use Rattle.grouping.specs.Tests.{memberTest, membersTest, operationCode}
@@ -33,13 +34,12 @@ unfolding codeOf
 choice-costs = refl
 
 pub costly-code : (quads : List ℕ) (i : ℕ) → isCostly (gateIn quads i) ≡ ltb 0 (codeOf (codeAt quads i) .cost)
-unfolding gateIn
 costly-code quads i =
     split (eqb (codeAt quads i) choiceCode)
     (λ e. let q = eqb-true (codeAt quads i) choiceCode e in
-    ap isCostly (gate-choice (codeAt quads i) (firstAt quads i) (secondAt quads i) (thirdAt quads i) q)
+    ap isCostly (choice-in quads i q)
     ∙ sym (ap (λ (x : ℕ). ltb 0 (codeOf x .cost)) q ∙ choice-costs))
-    (λ e. ap isCostly (gate-other (codeAt quads i) (firstAt quads i) (secondAt quads i) (thirdAt quads i) (eqb-false (codeAt quads i) choiceCode e))
+    (λ e. ap isCostly (other-in quads i (eqb-false (codeAt quads i) choiceCode e))
     ∙ other-costly (codeAt quads i) (firstAt quads i) (secondAt quads i))
 
 -- 28: an operation's byte is its code
@@ -61,12 +61,12 @@ other-byte b a l h =
     Q r = operationByte (ofForm (r .form) a l) ≡ 0
 
 pub operation-code : (quads : List ℕ) (i : ℕ) → operationByte (gateIn quads i) ≡ operationCode (codeAt quads i)
-unfolding gateIn operationCode
+unfolding operationCode
 operation-code quads i =
     split (eqb (codeAt quads i) choiceCode)
     (λ e. let q = eqb-true (codeAt quads i) choiceCode e in
-    ap operationByte (gate-choice (codeAt quads i) (firstAt quads i) (secondAt quads i) (thirdAt quads i) q) ∙ sym (rw q))
-    (λ e. ap operationByte (gate-other (codeAt quads i) (firstAt quads i) (secondAt quads i) (thirdAt quads i) (eqb-false (codeAt quads i) choiceCode e))
+    ap operationByte (choice-in quads i q) ∙ sym (rw q))
+    (λ e. ap operationByte (other-in quads i (eqb-false (codeAt quads i) choiceCode e))
     ∙ split (leb 0x20 (codeAt quads i) && leb (codeAt quads i) 0x27)
     (λ t. let r = both (leb 0x20 (codeAt quads i)) _ t in let lo = leb-true _ _ (r .0) in let hi = leb-true _ _ (r .1) in
     rw (t, code-operation (codeAt quads i) lo hi) (entry-byte _ _ (operationOf (codeAt quads i)) ∙ byte-back (codeAt quads i) lo hi))

@@ -9,7 +9,7 @@ use lib.Dec.{eqb}
 use lib.ListN.{length, getD, replicate, length-replicate}
 use borrow.Author.Tests.{eqb-true, eq-eqb, ne-eqb}
 use Rattle.words.specs.Lists.{_∈_, elem, elem→∈, ∈→elem, split}
-use Rattle.needed.specs.MarkSteps.{getD-zeros}
+use Rattle.words.specs.ListLaws.{getD-zeros}
 use Rattle.plan.specs.PlanFile.{leastBytes, groupsCounted, groupAt, after, groupsFrom, groupsIn, Listed, Apart}
 use Rattle.plan.specs.Groups.{smallest, groupOf}
 use Rattle.plan.specs.Rows.{every, apart}

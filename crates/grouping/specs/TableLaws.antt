@@ -11,9 +11,8 @@ use lib.Seq.{getD-append-add, getD-set-same, getD-set-other, ext-getD}
 use lib.Dec.{ltb}
 use borrow.Author.Tests.{eq-eqb, ne-eqb, ltb-true, ltb-false}
 use Rattle.words.specs.Lists.{_∈_, elem, split, same?, upto, length-from}
+use Rattle.words.specs.ListLaws.{getD-run, getD-zeros}
 use Rattle.gates.specs.Limits.{mostGates}
-use Rattle.needed.specs.MarkSteps.{getD-zeros}
-use Rattle.needed.specs.RankLaws.{getD-run}
 use Rattle.circuit.specs.Built.{padded}
 use Rattle.plan.specs.PlanFile.{groupsIn}
 use Rattle.plan.specs.Groups.{groupOf}
@@ -33,7 +32,7 @@ module _ (f : ℕ → ℕ) (n : ℕ) where
   table-at : (g : ℕ) → g < n → getD (padded mostGates (map f (upto n))) g 0 ≡ f g
   table-at g h =
       List·getD-append (map f (upto n)) (replicate (mostGates - length (map f (upto n))) 0) 0 g (rw run-length h)
-      ∙ getD-run f 0 n g h ∙ ap f (zero-add g)
+      ∙ getD-run f 0 0 n g h ∙ ap f (zero-add g)
 
   table-after : (g : ℕ) → n ≤ g → getD (padded mostGates (map f (upto n))) g 0 ≡ 0
   table-after g h =
@@ -54,14 +53,14 @@ module _ (f : ℕ → ℕ) (n : ℕ) where
       each g (inl k) = a g k ∙ sym (table-at g k)
       each g (inr k) = b g k ∙ sym (table-after g k)
 
-map-same : (l : List ℕ) → map (λ g. g) l ≡ l
-map-same [] = refl
-map-same (a ∷ l) = ap (λ (r : List ℕ). a ∷ r) (map-same l)
+map-itself : (l : List ℕ) → map (λ g. g) l ≡ l
+map-itself [] = refl
+map-itself (a ∷ l) = ap (λ (r : List ℕ). a ∷ r) (map-itself l)
 
 -- each gate alone
 alone-is : (n : ℕ) → eachAlone n ≡ padded mostGates (map (λ g. g) (upto n))
 unfolding eachAlone
-alone-is n = ap (padded mostGates) (sym (map-same (upto n)))
+alone-is n = ap (padded mostGates) (sym (map-itself (upto n)))
 
 pub alone-length : (n : ℕ) → n ≤ mostGates → length (eachAlone n) ≡ 256
 alone-length n h = ap length (alone-is n) ∙ table-length (λ g. g) n h

@@ -1,5 +1,5 @@
 -- Laws of one step of the backward pass, for any way to hold sets: handing a gate's set on changes only the sets of its arguments, and only by joins and parts.
-use Prim.Native.Nat.{ℕ, zero, suc, _≤_, _<_}
+use Prim.Native.Nat.{ℕ, _≤_, _<_}
 use mathlib.Core.Path.{_≡_, refl, _∙_}
 use mathlib.Core.List.{List, [], _∷_}
 use mathlib.Core.Bool.{Bool}
@@ -8,20 +8,11 @@ use native.Mathlib.Omega.{arith}
 use lib.ListN.{length, getD, length-set}
 use lib.Seq.{getD-set-same, getD-set-other, set-out}
 use Rattle.words.specs.Lists.{_∈_, same?}
+use Rattle.words.specs.ListLaws.{inside-list}
 use Rattle.gates.specs.Gates.{Gate, start, word, bit, operation, choice, arguments}
 use Rattle.settings.specs.Settings.{Setting}
 use Rattle.settings.specs.Interface.{SetsOf}
 use Rattle.needed.specs.Pass.{add, addAll, hand}
-
--- a place is in a list or past its end
-pub inside-list : {S : Type 0} (M : List S) (a : ℕ) → (a < length M) ⊎ (length M ≤ a)
-inside-list [] a = inr (omega arith)
-inside-list (s ∷ M) zero = inl (omega arith)
-inside-list (s ∷ M) (suc a) = go (inside-list M a)
-  where
-    go : (a < length M) ⊎ (length M ≤ a) → (suc a < suc (length M)) ⊎ (suc (length M) ≤ suc a)
-    go (inl h) = inl (omega arith)
-    go (inr h) = inr (omega arith)
 
 module _ {J : Type 0} {setting : J → Setting} {S : Type 0} {has : S → J → Bool} (𝓢 : SetsOf J setting S has) where
   open SetsOf 𝓢 using (empty, join, given, without)

@@ -18,19 +18,18 @@ use Rattle.gates.specs.ConditionLaws.{condition-in}
 use Rattle.needed.specs.Pass.{addAll, hand}
 use Rattle.needed.specs.PreconditionLaws.{conditions-once}
 use Rattle.needed.specs.StepLaws.{addNumber, hand-choice}
-use Rattle.needed.specs.Held.{choiceCode, ofForm, argumentsOf, codeAt, firstAt, secondAt, thirdAt, gateIn, gatesIn}
-use Rattle.needed.specs.HeldLaws.{gate-choice, gate-other, arguments-other, gates-at}
+use Rattle.needed.specs.Held.{choiceCode, ofForm, argumentsOf, codeAt, firstAt, secondAt, thirdAt, gatesIn}
+use Rattle.needed.specs.HeldLaws.{arguments-other, gates-at}
 use Rattle.needed.specs.RankLaws.{Found, rank-found, rank-at}
 use Rattle.needed.specs.Passing.{addNumbers, handGate, Passable}
 use Rattle.needed.specs.PassingLaws.{add-all}
+use Rattle.needed.specs.QuadLaws.{choice-in, other-in}
 
 -- A choice c on the values a, b.
 
 choice-at : (quads : List ℕ) (count i c a b : ℕ) → i < count → codeAt quads i ≡ choiceCode → c ≡ firstAt quads i → a ≡ secondAt quads i → b ≡ thirdAt quads i
     → gateAt (gatesIn quads count) i ≡ choice c a b
-unfolding gateIn
-choice-at quads count i c a b l h e f g =
-    gates-at quads count i l ∙ gate-choice (codeAt quads i) (firstAt quads i) (secondAt quads i) (thirdAt quads i) h ∙ rw (e, f, g)
+choice-at quads count i c a b l h e f g = gates-at quads count i l ∙ choice-in quads i h ∙ rw (e, f, g)
 
 pub choice-inside : (quads ranks : List ℕ) (count i c a b : ℕ) → Passable quads ranks count → i < count → codeAt quads i ≡ choiceCode
     → c ≡ firstAt quads i → a ≡ secondAt quads i → b ≡ thirdAt quads i → (c < 256) × ((a < 256) × (b < 256))
@@ -80,8 +79,7 @@ form-hands N cs Unknown a l s M = refl
 
 module _ (quads ranks : List ℕ) (count i : ℕ) (p : Passable quads ranks count) (l : i < count) (h : codeAt quads i ≡ choiceCode → ⊥) where
   other-at : gateAt (gatesIn quads count) i ≡ ofForm (codeOf (codeAt quads i) .form) (firstAt quads i) (argumentsOf (codeOf (codeAt quads i)) (firstAt quads i) (secondAt quads i))
-  unfolding gateIn
-  other-at = gates-at quads count i l ∙ gate-other (codeAt quads i) (firstAt quads i) (secondAt quads i) (thirdAt quads i) h
+  other-at = gates-at quads count i l ∙ other-in quads i h
 
   other-arguments : arguments (gateAt (gatesIn quads count) i) ≡ argumentsOf (codeOf (codeAt quads i)) (firstAt quads i) (secondAt quads i)
   other-arguments = ap arguments other-at ∙ arguments-other (codeAt quads i) (firstAt quads i) (secondAt quads i)

@@ -3,6 +3,7 @@ pub mod Pass
 pub mod Held
 pub mod Ranks
 pub mod HeldLaws
+pub mod QuadLaws
 pub mod ShapedLaws
 pub mod HeldQuads
 pub mod RankLaws

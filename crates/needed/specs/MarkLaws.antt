@@ -8,13 +8,13 @@ use lib.ListN.{length, getD, length-set}
 use lib.Seq.{getD-set-same, getD-set-other, set-out}
 use borrow.Author.Tests.{not-true}
 use Rattle.words.specs.Lists.{_∈_, split, same?}
+use Rattle.words.specs.ListLaws.{inside-list}
 use Rattle.gates.specs.Gates.{Gate, start, word, bit, operation, choice}
 use Rattle.settings.specs.Settings.{Setting}
 use Rattle.settings.specs.Interface.{SetsOf}
 use Rattle.settings.specs.SetLaws.{both, either, or-left, or-right}
 use Rattle.needed.specs.Needed.{asks}
 use Rattle.needed.specs.Pass.{add, addAll, hand}
-use Rattle.needed.specs.HandLaws.{inside-list}
 
 module _ {J : Type 0} {setting : J → Setting} {S : Type 0} {has : S → J → Bool} (𝓢 : SetsOf J setting S has) where
   open SetsOf 𝓢 using (empty, join, given, without, has-join, has-given, has-without)

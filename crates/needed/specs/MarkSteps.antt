@@ -10,17 +10,18 @@ use lib.Seq.{getD-set-same, getD-set-other, ext-getD}
 use lib.Dec.{eqb}
 use borrow.Author.Tests.{eq-eqb, ne-eqb}
 use Rattle.words.specs.Lists.{elem, same?, upto, keep-same, elem-more}
+use Rattle.words.specs.ListLaws.{inside-list, getD-zeros}
 use Rattle.settings.specs.Settings.{bitOf}
 use Rattle.codes.specs.Codes.{codeOf}
 use Rattle.codes.specs.declared.Form.{Form}
 use Rattle.codes.specs.declared.Form.the-variants.{End, Assign, Skip, Branch, Variable, Word, Bit, Apply, Unknown}
 use Rattle.gates.specs.Gates.{Gate, start, word, bit, operation, choice, Gates, Earlier, heads, conditions}
 use Rattle.gates.specs.ConditionLaws.{condition-below}
-use Rattle.needed.specs.HandLaws.{inside-list}
-use Rattle.needed.specs.Held.{choiceCode, ofForm, argumentsOf, gateIn, gatesIn, codeAt, firstAt, secondAt, thirdAt}
-use Rattle.needed.specs.HeldLaws.{gate-choice, gate-other, gates-length, earlier-in}
+use Rattle.needed.specs.Held.{choiceCode, ofForm, argumentsOf, gatesIn, codeAt, firstAt, secondAt}
+use Rattle.needed.specs.HeldLaws.{gates-length, earlier-in}
 use Rattle.needed.specs.Ranks.{Marked, rankIn, ranksOf, markOf, markedIn, NumberedBelow}
 use Rattle.needed.specs.RankLaws.{rank-none, rank-at, ranks-length}
+use Rattle.needed.specs.QuadLaws.{choice-in, other-in}
 
 heads-more : (C : Gates) (k : Gate) → heads (C ++ (k ∷ [])) ≡ heads C ++ heads (k ∷ [])
 heads-more [] k = refl
@@ -43,14 +44,14 @@ heads-form Unknown a l = refl
 
 module _ (quads : List ℕ) (i : ℕ) where
   heads-choice : codeAt quads i ≡ choiceCode → heads (gatesIn quads (suc i)) ≡ heads (gatesIn quads i) ++ (firstAt quads i ∷ [])
-  unfolding gatesIn gateIn
-  heads-choice h = heads-more (gatesIn quads i) _ ∙ rw (gate-choice (codeAt quads i) (firstAt quads i) (secondAt quads i) (thirdAt quads i) h)
+  unfolding gatesIn
+  heads-choice h = heads-more (gatesIn quads i) _ ∙ rw (choice-in quads i h)
 
   heads-other : (codeAt quads i ≡ choiceCode → ⊥) → heads (gatesIn quads (suc i)) ≡ heads (gatesIn quads i)
-  unfolding gatesIn gateIn
+  unfolding gatesIn
   heads-other h =
       heads-more (gatesIn quads i) _
-      ∙ rw (gate-other (codeAt quads i) (firstAt quads i) (secondAt quads i) (thirdAt quads i) h, heads-form (codeOf (codeAt quads i) .form) (firstAt quads i) (argumentsOf (codeOf (codeAt quads i)) (firstAt quads i) (secondAt quads i)))
+      ∙ rw (other-in quads i h, heads-form (codeOf (codeAt quads i) .form) (firstAt quads i) (argumentsOf (codeOf (codeAt quads i)) (firstAt quads i) (secondAt quads i)))
       (append-nil (heads (gatesIn quads i)))
 
 -- The loop that marks: the marks of the gates below i are made.
@@ -58,16 +59,9 @@ module _ (quads : List ℕ) (i : ℕ) where
 more : (i : ℕ) → i + 1 ≡ suc i
 more i = omega arith
 
-pub getD-zeros : (n g : ℕ) → _≡_ {A = ℕ} (getD (replicate n 0) g 0) 0
-getD-zeros zero g = refl
-getD-zeros (suc n) zero = refl
-getD-zeros (suc n) (suc g) = getD-zeros n g
-
 -- the condition of a choice comes before it
 pub head-before : (quads : List ℕ) (count i c : ℕ) → Earlier (gatesIn quads count) → i < count → codeAt quads i ≡ choiceCode → c ≡ firstAt quads i → c < i
-unfolding gateIn
-head-before quads count i c e l h q =
-    earlier-in quads count e i c l (rw (gate-choice (codeAt quads i) (firstAt quads i) (secondAt quads i) (thirdAt quads i) h) (inl q))
+head-before quads count i c e l h q = earlier-in quads count e i c l (rw (choice-in quads i h) (inl q))
 
 pub record Marking (quads ranks : List ℕ) (count i : ℕ) : Type 0 where
   pub below : i ≤ count

@@ -5,14 +5,14 @@ use mathlib.Core.List.{List, [], _∷_, _++_}
 use mathlib.Core.Logic.{inl, inr}
 use native.Mathlib.Nat.{sub-zero}
 use native.Mathlib.Omega.{arith}
-use lib.ListN.{length, getD, take, replicate, length-replicate, List·getD-append}
-use lib.Seq.{take-suc, take-length, take-at}
+use lib.ListN.{length, getD, take, replicate, length-replicate}
+use lib.Seq.{take-suc, take-length}
 use Rattle.words.specs.Lists.{getD-in}
 use Rattle.settings.specs.Sets.{whole, given, without}
 use Rattle.settings.specs.Numbers.{numbers}
 use Rattle.gates.specs.Gates.{Gates, conditions}
 use Rattle.gates.specs.EarlierLaws.{Inside}
-use Rattle.needed.specs.Pass.{addAll, passSets, preconditions, preconditionSets, preconditionOf}
+use Rattle.needed.specs.Pass.{addAll, passSets, preconditions, preconditionSets}
 use Rattle.needed.specs.HandLaws.{addAll-length}
 use Rattle.needed.specs.PassLaws.{pass-length}
 use Rattle.needed.specs.StepLaws.{addNumber, preconditions-room}
@@ -169,9 +169,3 @@ sets-length n C wanted =
     let S = numbers (2 ^ n) (conditions C) in
     let M = replicate (length C) (S .empty) in
     pass-length S C (length C) (addAll S wanted (S .whole) M) ∙ addAll-length S wanted (S .whole) M ∙ length-replicate (length C) (S .empty)
-
-pub sets-first : (n : ℕ) (C : Gates) (wanted Z : List ℕ) → take (length C) (preconditionSets n C wanted ++ Z) ≡ preconditionSets n C wanted
-sets-first n C wanted Z = take-at (preconditionSets n C wanted) Z (length C) (sets-length n C wanted)
-
-pub sets-at : (n : ℕ) (C : Gates) (wanted Z : List ℕ) (g : ℕ) → g < length C → getD (preconditionSets n C wanted ++ Z) g 0 ≡ preconditionOf n C wanted g
-sets-at n C wanted Z g h = List·getD-append (preconditionSets n C wanted) Z 0 g (rw (sets-length n C wanted) h)

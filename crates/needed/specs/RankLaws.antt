@@ -4,14 +4,14 @@ use mathlib.Core.Path.{_≡_, refl, sym, ap, _∙_}
 use mathlib.Core.List.{List, [], _∷_, _++_, map, append-nil}
 use mathlib.Core.Bool.{false, not, cond}
 use mathlib.Core.Logic.{_⊎_, inl, inr}
-use native.Mathlib.Nat.{zero-add, add-zero}
+use native.Mathlib.Nat.{zero-add}
 use native.Mathlib.Omega.{arith}
 use lib.ListN.{length, getD, set, length-append, length-map, length-set}
 use lib.Seq.{getD-set-same, getD-set-other}
 use lib.Dec.{eqb}
 use borrow.Author.Tests.{eq-eqb, ne-eqb, eqb-true, eqb-false}
 use Rattle.words.specs.Lists.{_∈_, split, same?, keep, keep-from, from, upto, from-below, length-from, from-more, keep-more}
-use Rattle.settings.specs.ListLaws.{length-keep}
+use Rattle.words.specs.ListLaws.{length-keep, getD-run}
 use Rattle.gates.specs.Gates.{Gates, conditions}
 use Rattle.needed.specs.Ranks.{rankIn, ranksOf, markedIn, NumberedBelow}
 
@@ -53,14 +53,9 @@ rank-found (c ∷ l) g m = split (eqb g c) (λ e. record { at = 0; rank = rw e; 
 
 -- The numbers of all gates.
 
-pub getD-run : (f : ℕ → ℕ) (i n g : ℕ) → g < n → getD (map f (from i n)) g 0 ≡ f (i + g)
-getD-run f i zero g h = absurd (omega arith)
-getD-run f i (suc n) zero h = ap f (sym (add-zero i))
-getD-run f i (suc n) (suc g) h = getD-run f (suc i) n g (omega arith) ∙ ap f (omega arith)
-
 pub rank-at : (C : Gates) (n g : ℕ) → g < n → getD (ranksOf C n) g 0 ≡ rankIn (conditions C) g
 unfolding ranksOf
-rank-at C n g h = getD-run (rankIn (conditions C)) 0 n g h ∙ ap (rankIn (conditions C)) (zero-add g)
+rank-at C n g h = getD-run (rankIn (conditions C)) 0 0 n g h ∙ ap (rankIn (conditions C)) (zero-add g)
 
 pub ranks-length : (C : Gates) (n : ℕ) → length (ranksOf C n) ≡ n
 unfolding ranksOf

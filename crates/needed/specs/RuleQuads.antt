@@ -1,4 +1,4 @@
--- What the code's promises say of a rule: quads that hold its plain circuit give its cost before, its conditions and the preconditions of its gates.
+-- What the code's promises say of a rule: quads that hold its plain circuit keep what the code asks, and give the preconditions of its gates.
 use Prim.Native.Nat.{ℕ, _*_, _≤_}
 use mathlib.Core.Path.{_≡_, ap, _∙_}
 use mathlib.Core.List.{List}
@@ -7,9 +7,9 @@ use Rattle.answers.specs.Parsing.{parsed}
 use Rattle.reading.specs.Tree.{Block}
 use Rattle.reading.specs.Rule.{readRule}
 use Rattle.gates.specs.Limits.{mostGates, mostConditions}
-use Rattle.gates.specs.Gates.{Gates, Earlier, costs, conditions}
+use Rattle.gates.specs.Gates.{Gates, Earlier, conditions}
 use Rattle.gates.specs.Quads.{quadsOf}
-use Rattle.gates.specs.PlainCircuit.{gatesOf, outputsOf, gateCount, costBefore}
+use Rattle.gates.specs.PlainCircuit.{gatesOf, outputsOf, gateCount}
 use Rattle.gates.specs.EarlierLaws.{Inside}
 use Rattle.needed.specs.Pass.{preconditionSets, rulePreconditions}
 use Rattle.needed.specs.RulePreconditions.{rule-earlier, wanted-inside}
@@ -34,15 +34,6 @@ module _ (s : List ℕ) (b : Block) (n : ℕ) (read : readRule s ≡ parsed b n)
   pub quads-wanted : (l : List ℕ) → l ≡ outputsOf s → Inside (gateCount s) l
   quads-wanted l e = rw e (wanted-inside s b n read)
 
-  -- what cost, number_conditions and find_needed give
-  pub quads-cost : costs (gatesIn quads (gateCount s)) ≡ costBefore s
-  quads-cost = ap costs same
-
-  pub quads-conditions : length (conditions (gatesIn quads (gateCount s))) ≡ length (conditions (gatesOf s))
-  quads-conditions = ap (λ (C : Gates). length (conditions C)) same
-
-  pub quads-ranks : ranksOf (gatesIn quads (gateCount s)) mostGates ≡ ranksOf (gatesOf s) mostGates
-  quads-ranks = ap (λ (C : Gates). ranksOf C mostGates) same
-
+  -- what find_needed gives
   pub quads-preconditions : (l : List ℕ) → l ≡ outputsOf s → preconditionSets mostConditions (gatesIn quads (gateCount s)) l ≡ rulePreconditions s
   quads-preconditions l e = ap (λ (C : Gates). preconditionSets mostConditions C l) same ∙ ap (preconditionSets mostConditions (gatesOf s)) e

@@ -8,7 +8,6 @@ use native.Mathlib.Omega.{arith}
 use lib.ListN.{length, getD, set, replicate, length-set, length-replicate, List·getD-append, replicate-append-replicate}
 use lib.Seq.{set-append-left}
 use Rattle.words.specs.Lists.{_∈_}
-use Rattle.codes.specs.declared.Operation.{Operation}
 use Rattle.gates.specs.Gates.{Gate, start, word, bit, operation, choice, Gates, gateAt, arguments, Earlier}
 use Rattle.settings.specs.Settings.{Setting, Once}
 use Rattle.settings.specs.Sets as sets
@@ -22,19 +21,6 @@ abbrev pub addNumber : ℕ → ℕ → List ℕ → List ℕ
 addNumber a s M = set M a (sets.union (getD M a 0) s)
 
 module _ (N : ℕ) (cs : List ℕ) where
-  pub add-number : (a s : ℕ) (M : List ℕ) → add (numbers N cs) a s M ≡ addNumber a s M
-  unfolding numbers
-  add-number a s M = refl
-
-  -- one argument, and two
-  pub hand-one : (op : Operation) (a s : ℕ) (M : List ℕ) → hand (numbers N cs) (operation op (a ∷ [])) s M ≡ addNumber a s M
-  unfolding numbers
-  hand-one op a s M = refl
-
-  pub hand-two : (op : Operation) (a b s : ℕ) (M : List ℕ) → hand (numbers N cs) (operation op (a ∷ b ∷ [])) s M ≡ addNumber b s (addNumber a s M)
-  unfolding numbers
-  hand-two op a b s M = refl
-
   -- a choice on the condition at place t
   pub hand-choice : Once cs → (t : ℕ) → t < length cs → (a b s : ℕ) (M : List ℕ)
       → hand (numbers N cs) (choice (getD cs t 0) a b) s M ≡ addNumber b (sets.without N t s) (addNumber a (sets.given N t s) (addNumber (getD cs t 0) s M))

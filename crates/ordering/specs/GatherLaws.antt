@@ -9,9 +9,9 @@ use lib.Dec.{eqb}
 use lib.ListN.{length, getD, replicate}
 use borrow.Author.Tests.{eq-eqb, ne-eqb}
 use Rattle.words.specs.Lists.{_∈_, elem, same?, keep, keep-from, upto, from-below, flat, map-in, elem-more}
+use Rattle.words.specs.ListLaws.{map-same}
 use Rattle.settings.specs.Sets.{restsOn, rests}
 use Rattle.gates.specs.Gates.{Gates, gateAt, arguments, conditions}
-use Rattle.gates.specs.FigureLaws.{map-same}
 use Rattle.needed.specs.Held.{gatesIn}
 use Rattle.needed.specs.HeldLaws.{gates-length, gates-at}
 use Rattle.plan.specs.Groups.{groups, members, restsOf, readsOf, waitsFor}

@@ -14,8 +14,9 @@ use Rattle.words.specs.Lists.{_∈_, elem, split, same?, keep, upto, flat, getD
 use Rattle.codes.specs.Codes.{codeOf}
 use Rattle.codes.specs.declared.Code.{Code}
 use Rattle.gates.specs.Gates.{arguments}
-use Rattle.needed.specs.Held.{choiceCode, gateOf, gateIn, codeAt, firstAt, secondAt, thirdAt}
-use Rattle.needed.specs.HeldLaws.{EachCode, each-code, each-entry, code-above, gate-choice, gate-other, arguments-other}
+use Rattle.needed.specs.Held.{choiceCode, gateIn, codeAt, firstAt, secondAt, thirdAt}
+use Rattle.needed.specs.HeldLaws.{EachCode, each-code, each-entry, code-above}
+use Rattle.needed.specs.QuadLaws.{choice-in, arguments-in}
 use Rattle.ordering.specs.Reads.{arityOf, argumentsAt}
 
 -- how many arguments, by the code
@@ -63,18 +64,16 @@ take-first (suc (suc (suc n))) a b c h = absurd (omega arith)
 
 -- the arguments of gate i are those of its numbers
 pub arguments-at : (quads : List ℕ) (i : ℕ) → arguments (gateIn quads i) ≡ argumentsAt quads i
-unfolding gateIn argumentsAt arityOf
+unfolding argumentsAt arityOf
 arguments-at quads i = go (same? (codeAt quads i) choiceCode)
   where
     go : (codeAt quads i ≡ choiceCode) ⊎ (codeAt quads i ≡ choiceCode → ⊥)
-        → arguments (gateOf (codeAt quads i) (firstAt quads i) (secondAt quads i) (thirdAt quads i))
-        ≡ take (cond (eqb (codeAt quads i) choiceCode) 3 (codeOf (codeAt quads i) .arity)) (firstAt quads i ∷ secondAt quads i ∷ thirdAt quads i ∷ [])
-    go (inl e) =
-        ap arguments (gate-choice (codeAt quads i) (firstAt quads i) (secondAt quads i) (thirdAt quads i) e) ∙ rw (eq-eqb (codeAt quads i) choiceCode e)
+        → arguments (gateIn quads i) ≡ take (cond (eqb (codeAt quads i) choiceCode) 3 (codeOf (codeAt quads i) .arity)) (firstAt quads i ∷ secondAt quads i ∷ thirdAt quads i ∷ [])
+    go (inl e) = ap arguments (choice-in quads i e) ∙ rw (eq-eqb (codeAt quads i) choiceCode e)
     go (inr n) =
-        ap arguments (gate-other (codeAt quads i) (firstAt quads i) (secondAt quads i) (thirdAt quads i) n)
-        ∙ arguments-other (codeAt quads i) (firstAt quads i) (secondAt quads i)
-        ∙ rw (ne-eqb (codeAt quads i) choiceCode n) (take-first (codeOf (codeAt quads i) .arity) (firstAt quads i) (secondAt quads i) (thirdAt quads i) (two-most (codeAt quads i)))
+        arguments-in quads i n
+        ∙ rw (ne-eqb (codeAt quads i) choiceCode n)
+        (take-first (codeOf (codeAt quads i) .arity) (firstAt quads i) (secondAt quads i) (thirdAt quads i) (two-most (codeAt quads i)))
 
 -- the argument at place k
 place-of : (quads : List ℕ) (i k : ℕ) → k < 3 → getD (firstAt quads i ∷ secondAt quads i ∷ thirdAt quads i ∷ []) k 0 ≡ getD quads (4 * i + 1 + k) 0

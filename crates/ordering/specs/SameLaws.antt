@@ -8,9 +8,9 @@ use native.Mathlib.Omega.{arith}
 use lib.Dec.{eqb, leb}
 use lib.ListN.{length, getD}
 use Rattle.words.specs.Lists.{upto, from-below, flat, flat-in, keep-same}
+use Rattle.words.specs.ListLaws.{map-same}
 use Rattle.settings.specs.Sets.{rests}
 use Rattle.gates.specs.Gates.{Gates, gateAt, arguments, Earlier, conditions}
-use Rattle.gates.specs.FigureLaws.{map-same}
 use Rattle.gates.specs.Limits.{mostConditions}
 use Rattle.plan.specs.Groups.{groups, members, restsOf, readsOf, waitsFor}
 use Rattle.plan.specs.GroupLaws.{of-member}

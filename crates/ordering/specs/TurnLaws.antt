@@ -9,8 +9,9 @@ use native.Mathlib.Omega.{arith}
 use lib.Dec.{eqb}
 use lib.ListN.{length}
 use Rattle.words.specs.Lists.{_∈_, elem, ∈→elem, split, upto, length-from}
+use Rattle.words.specs.ListLaws.{length-keep}
 use Rattle.settings.specs.Settings.{Once}
-use Rattle.settings.specs.ListLaws.{keep-once, from-once, length-keep}
+use Rattle.settings.specs.ListLaws.{keep-once, from-once}
 use Rattle.gates.specs.declared.GateId.{GateId}
 use Rattle.plan.specs.Groups.{groups}
 use Rattle.plan.specs.Order.{ready, firstReady, schedule}

@@ -9,11 +9,11 @@ use lib.Dec.{eqb, leb}
 use lib.ListN.{length, getD, List·getD-eq-default}
 use borrow.Author.Tests.{eq-eqb}
 use Rattle.words.specs.Lists.{_∈_, split, keep-in, upto, from-in, flat-in, map-in, append-in, getD-in, flat}
+use Rattle.words.specs.ListLaws.{inside-list}
 use Rattle.settings.specs.Sets.{rests}
 use Rattle.gates.specs.Gates.{Gates, gateAt, arguments, Earlier, conditions}
 use Rattle.gates.specs.Limits.{mostConditions}
 use Rattle.gates.specs.ConditionLaws.{condition-below}
-use Rattle.needed.specs.HandLaws.{inside-list}
 use Rattle.plan.specs.Groups.{groups, members, restsOf, readsOf, waitsFor}
 use Rattle.plan.specs.GroupLaws.{of-member}
 

@@ -84,6 +84,13 @@ branch-read s nest at h =
           ∙ (ap (λ (g : Parsed Block). g >>= afterFirst (c .0)) (x .2) ∙ ap (λ (g : Parsed Block). g >>= afterSecond (c .0) (x .0)) (y .2)));
     }
 
+-- and where a level is left and its three parts are read, an if is read
+pub branch-parts : (s : List ℕ) (nest at : ℕ) → 0 < nest → (c : Expr) (x y : Block) (first second next : ℕ)
+    → readExpr deepest s kind.Bit (at + 1) ≡ parsed c first → readBlock s (nest - 1) first ≡ parsed x second → readBlock s (nest - 1) second ≡ parsed y next
+    → branchWith (readBlock s) s nest at ≡ parsed (branch c x y) next
+unfolding branchWith
+branch-parts s nest at level c x y first second next p q r = rw (lt-ltb 0 nest level, p, q, r)
+
 -- a block lies in the file; closed here it is the end
 pub block-inside : (s : List ℕ) (nest at : ℕ) → IsRead (readBlock s nest at) → at < length s
 unfolding blockWith

@@ -1,5 +1,4 @@
 pub mod FusedRun
-pub mod RunLaws
 pub mod RecordBounds
 pub mod RunnableLaws
 pub mod Demand3Run

@@ -1,68 +1,21 @@
--- Document 01, "The fused circuit file": what a run relies on of each record that is written: an input is a variable's, a guard has at most six condition wires. Assumes nothing.
+-- Laws of a record's first bytes, as a run relies on them: which they are, an input's variable, a guard's count of condition wires. Assumes nothing.
 use mathlib.Core.Path.{_≡_, refl}
-use mathlib.Core.List.{List, [], _∷_, map}
+use mathlib.Core.List.{[]}
 use mathlib.Core.Logic.{inl, inr}
 use Prim.Native.Nat.{ℕ, _≤_, _<_}
 use native.Mathlib.Omega.{arith}
-use native.Mathlib.Nat.{zero-add}
-use lib.ListN.{length, getD, length-map}
-use Rattle.words.specs.Lists.{_∈_, upto}
+use lib.ListN.{length, getD}
+use Rattle.words.specs.Lists.{_∈_}
 use Rattle.words.specs.Numbers.{bytesOf}
 use Rattle.codes.specs.Codes.{byteOf}
 use Rattle.codes.specs.declared.Kind.the-variants as kind
 use Rattle.codes.specs.declared.Operation.{Operation}
 use Rattle.codes.specs.declared.Operation.the-variants.{Sum, Difference, Product, LessThan, Equal, And, Or, Not}
-use Rattle.gates.specs.Gates.{Gate, Gates, gateAt, arguments}
-use Rattle.gates.specs.Gates as gate
 use Rattle.gates.specs.Limits.{mostConditions}
-use Rattle.plan.specs.Groups.{restsOf, members}
 use Rattle.fused.specs.Records.{Record, input, word, bit, operation, choice, pick, guard}
-use Rattle.fused.specs.Emission.{alone, gateOperation, guardOf, valuesAt, emit}
-use Rattle.fused.specs.FusedCircuit.{groupRecords, written}
 use Rattle.fused.specs.CircuitFile.{recordBytes}
-use Rattle.fused.specs.RecordLaws.{Along, along-append, along-map}
-use Rattle.fused.specs.EmitLaws.{joined-along}
-use Rattle.fused.specs.FitStarts.{StartGate, Starting}
-use Rattle.fused.specs.SizeJoined.{rests-few}
+use Rattle.fused.specs.BoundLaws.{Bounded}
 use Rattle.figures.specs.Runnable.{recordCodes}
-
--- of v variables: an input is one of them, a guard has at most six condition wires
-abbrev pub Bounded : ℕ → Record → Type 0
-Bounded v (input k x) = x < v
-Bounded v (word n) = Unit {0}
-Bounded v (bit b) = Unit {0}
-Bounded v (operation op l) = Unit {0}
-Bounded v (choice c a b) = Unit {0}
-Bounded v (pick l) = Unit {0}
-Bounded v (guard cs t) = length cs ≤ mostConditions
-
-alone-bounded : (s : List ℕ) (wire : ℕ → ℕ) (v : ℕ) (k : Gate) → StartGate v k → Bounded v (alone s wire k)
-alone-bounded s wire v (gate.start x) h = h
-alone-bounded s wire v (gate.word n) h = tt
-alone-bounded s wire v (gate.bit b) h = tt
-alone-bounded s wire v (gate.operation op l) h = tt
-alone-bounded s wire v (gate.choice c a b) h = tt
-
-module _ (v : ℕ) (s : List ℕ) (C : Gates) (sets : List ℕ) (starts : Starting v C) where
-  abbrev pub Kept : ℕ → Record → Type 0
-  Kept i r = Bounded v r
-
-  emit-bounded : (wire : ℕ → ℕ) (n : ℕ) (ms : List ℕ) → Along Kept n (emit s C sets wire n ms)
-  emit-bounded wire n [] = tt
-  emit-bounded wire n (m ∷ []) = (alone-bounded s wire v (gateAt C m) (starts m), tt)
-  emit-bounded wire n (m ∷ k ∷ l) =
-      joined-along Kept n (gateOperation (gateAt C m)) (map (guardOf s C sets wire) (m ∷ k ∷ l)) (valuesAt s C sets wire (m ∷ k ∷ l)) (upto (length (arguments (gateAt C m))))
-      (along-map Kept (guardOf s C sets wire) (m ∷ k ∷ l) n n (omega arith)
-      (λ i _ _ _. let few : length (map wire (restsOf C sets i)) ≤ mostConditions = omega (arith, length-map (restsOf C sets i) wire, rests-few s C sets wire i) in few))
-      (λ _ _ _ _. tt) tt
-
-  pub written-bounded : (group : ℕ → ℕ) (done : List ℕ) → Along Kept 0 (written s C sets group done .records)
-  unfolding written
-  written-bounded group [] = tt
-  written-bounded group (q ∷ done) =
-      let w = written s C sets group done in
-      along-append Kept (w .records) (groupRecords s C sets group w q) 0 (written-bounded group done)
-      (rw zero-add (emit-bounded (λ a. w .wire (group a)) (length (w .records)) (members (length C) group q)))
 
 -- the first bytes of a record
 operation-code : (op : Operation) → (byteOf op ∈ recordCodes) × (0x20 ≤ byteOf op) × (byteOf op ≤ 0x27)

@@ -1,4 +1,4 @@
--- Document 01, "The fused circuit file": the file of every accepted plan can be run. Assumes nothing.
+-- Laws of the file of an accepted plan: it can be run. Assumes nothing.
 use mathlib.Core.Path.{_≡_, sym, ap, subst⁻¹, _∙_}
 use mathlib.Core.List.{List}
 use Prim.Native.Nat.{ℕ, _+_, _*_, _≤_, _<_}
@@ -7,29 +7,18 @@ use native.Mathlib.Nat.{add-zero}
 use lib.ListN.{length, getD, take, drop}
 use lib.Seq.{getD-take, getD-drop, take-length}
 use Rattle.words.specs.Numbers.{Bytes}
-use Rattle.answers.specs.ParsingLaws.{is-read}
 use Rattle.reading.specs.Header.{variables}
-use Rattle.reading.specs.Rule.{readRule}
-use Rattle.gates.specs.PlainCircuit.{gatesOf}
-use Rattle.needed.specs.Pass.{rulePreconditions}
-use Rattle.circuit.specs.WholeLaws.{accepted}
-use Rattle.plan.specs.PlanFile.{groupsIn}
-use Rattle.plan.specs.Groups.{groupOf}
-use Rattle.plan.specs.Order.{order}
 use Rattle.plan.specs.Rows.{planAnswer}
-use Rattle.plan.specs.AcceptedLaws.{plan-accepted}
 use Rattle.fused.specs.Records.{Record, recordIn, ReadsEarlier}
-use Rattle.fused.specs.FusedCircuit.{fused, recordsOf, outputWires}
+use Rattle.fused.specs.FusedCircuit.{recordsOf}
 use Rattle.fused.specs.CircuitFile.{recordBytes, recordsBytes, fusedFile}
 use Rattle.fused.specs.FileFigures.{sizeAt}
-use Rattle.fused.specs.RecordLaws.{along-at}
-use Rattle.fused.specs.FitStarts.{rule-starting}
-use Rattle.fused.specs.FileLaws.{file-inside}
-use Rattle.fused.specs.FitPlan.{fused-fits, fused-place, fused-record, fused-part, fused-found}
+use Rattle.fused.specs.FitPlan.{fused-place, fused-record, fused-part, fused-inside, fused-found}
+use Rattle.fused.specs.BoundLaws.{Bounded, fused-bounded}
 use Rattle.fused.specs.SizeBounds.{wires-bound, fused-size}
 use Rattle.fused.specs.Demand3.{reads-earlier, output-earlier}
 use Rattle.figures.specs.Runnable.{recordPlace, Runnable}
-use Rattle.running.specs.RecordBounds.{Bounded, Kept, written-bounded, known-byte, counted-byte, input-byte, two-bytes, some-byte}
+use Rattle.running.specs.RecordBounds.{known-byte, counted-byte, input-byte, two-bytes, some-byte}
 
 module _ (s p : List ℕ) (h : planAnswer s p .number ≡ 0) (bytes : Bytes s) where
   abbrev f : List ℕ
@@ -42,12 +31,7 @@ module _ (s p : List ℕ) (h : planAnswer s p .number ≡ 0) (bytes : Bytes s) w
   earlier = reads-earlier s p h
 
   bounded : (i : ℕ) → i < length R → Bounded (variables s) (recordIn R i)
-  unfolding fused
-  bounded i l =
-      let (b, n, read) = is-read (readRule s) (accepted s (plan-accepted s p .0 h .0) .read) in
-      let group = groupOf (groupsIn p) in
-      along-at (Kept (variables s) s (gatesOf s) (rulePreconditions s) (rule-starting s b n read)) R 0
-      (written-bounded (variables s) s (gatesOf s) (rulePreconditions s) (rule-starting s b n read) group (order (gatesOf s) (rulePreconditions s) group)) i l
+  bounded = fused-bounded s p h
 
   -- byte j of record i
   byte : (i j : ℕ) → i < length R → j < length (recordBytes (recordIn R i)) → getD f (recordPlace f i + j) 0 ≡ getD (recordBytes (recordIn R i)) j 0
@@ -67,8 +51,7 @@ module _ (s p : List ℕ) (h : planAnswer s p .number ≡ 0) (bytes : Bytes s) w
       omega (arith, e, t, fused-size s p h)
 
   whole : (i : ℕ) → i < length R → recordPlace f i + sizeAt f (recordPlace f i) ≤ length f
-  unfolding fusedFile
-  whole i l = omega (arith, file-inside (variables s) R (outputWires s p) (fused-fits s p h bytes earlier) i l)
+  whole = fused-inside s p h bytes earlier
 
   pub fused-runnable : Runnable (fusedFile s p) (variables s)
   fused-runnable =

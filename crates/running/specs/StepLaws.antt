@@ -17,8 +17,9 @@ use Rattle.plan.specs.Rows.{planAnswer}
 use Rattle.plan.specs.AcceptedLaws.{plan-accepted}
 use Rattle.fused.specs.CircuitFile.{fusedFile}
 use Rattle.fused.specs.FileFigures.{fileVariables, fileFigures}
-use Rattle.fused.specs.Answers.{fusedCounts, fusedAnswer, writeAnswer, writtenOver}
+use Rattle.fused.specs.Answers.{fusedAnswer, writeAnswer, writtenOver}
 use Rattle.fused.specs.SizeBounds.{bytes-bound}
+use Rattle.fused.specs.AnswerLaws.{fused-plan, answer-bytes, room-enough}
 use Rattle.fused.specs.FitPlan.{fused-found}
 use Rattle.fused.specs.Demand3.{reads-earlier, output-earlier}
 use Rattle.direct.specs.Inputs.{inputRow}
@@ -28,7 +29,6 @@ use Rattle.direct.specs.DirectLaws.{rule-answer, inputs-answer, run-answer}
 use Rattle.figures.specs.Runnable.{Runnable}
 use Rattle.writing.specs.WriteLaws.{file-kept}
 use Rattle.running.specs.FusedRun.{fusedResults}
-use Rattle.running.specs.RunLaws.{fused-accepted, fused-plan, room-enough}
 use Rattle.running.specs.RunnableLaws.{fused-runnable}
 
 -- z: the bytes of the circuit before it is written
@@ -65,8 +65,7 @@ module _ (s p : List ℕ) (a : Answer) (z : List ℕ) (room : length z ≡ 16384
 
     -- the file that was written
     size-is : a .bytes ≡ length (fusedFile s p)
-    unfolding fusedCounts
-    size-is = ap (λ (b : Answer). b .bytes) (answer-is ∙ fused-accepted s p taken)
+    size-is = ap (λ (b : Answer). b .bytes) answer-is ∙ answer-bytes s p taken
 
     pub size-inside : a .bytes ≤ 16384
     size-inside = omega (arith, size-is, bytes-bound s p taken)

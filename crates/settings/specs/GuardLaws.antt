@@ -7,12 +7,13 @@ use native.Mathlib.Omega.{arith}
 use lib.ListN.{length, getD, length-map}
 use lib.Pow.{pow-mono}
 use Rattle.words.specs.Lists.{keep-in, upto, from-below, length-from, keep-same}
+use Rattle.words.specs.ListLaws.{length-keep}
 use Rattle.settings.specs.Settings.{Setting, Over, bit, settingOf, numberOf, Agree, preRestsOn, preRests}
 use Rattle.settings.specs.Sets.{has, collect, restsOn, rests}
 use Rattle.settings.specs.Guards.{preTable, preGuard, spread, tableOver, table, chosen}
 use Rattle.settings.specs.Holding.{Holds, test}
 use Rattle.settings.specs.BitLaws.{collect-has, collect-above}
-use Rattle.settings.specs.ListLaws.{keep-once, length-keep}
+use Rattle.settings.specs.ListLaws.{keep-once}
 use Rattle.settings.specs.SettingLaws.{numberOf-map, numberOf-below, numberOf-agree, numberOf-settingOf, numberOf-bit, settingOf-numberOf}
 use Rattle.settings.specs.RestLaws.{pre-rests-right}
 use Rattle.settings.specs.HoldLaws.{rests-places, holds-number}

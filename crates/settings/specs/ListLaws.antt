@@ -6,7 +6,7 @@ use mathlib.Core.Logic.{_⊎_, inl, inr}
 use Prim.Native.Nat.{ℕ, zero, suc, _+_, _≤_, _<_}
 use native.Mathlib.Nat.{zero-add}
 use native.Mathlib.Omega.{arith}
-use lib.ListN.{length, getD}
+use lib.ListN.{getD}
 use Rattle.words.specs.Lists.{_∈_, split, same?, keep, keep-from, from, upto, from-below, getD-from}
 use Rattle.settings.specs.Settings.{Once, anyBelow}
 
@@ -49,7 +49,3 @@ keep-none p (a ∷ l) h = rw (h a (inl refl)) (keep-none p l (λ b m. h b (inr m
 pub keep-once : (p : ℕ → Bool) (l : List ℕ) → Once l → Once (keep p l)
 keep-once p [] o = tt
 keep-once p (a ∷ l) (new, o) = split (p a) (λ e. rw e (λ m. new (keep-from p l a m .0), keep-once p l o)) (λ e. rw e (keep-once p l o))
-
-pub length-keep : (p : ℕ → Bool) (l : List ℕ) → length (keep p l) ≤ length l
-length-keep p [] = omega arith
-length-keep p (a ∷ l) = split (p a) (λ e. rw e (omega (arith, length-keep p l))) (λ e. rw e (omega (arith, length-keep p l)))

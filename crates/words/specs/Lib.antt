@@ -3,4 +3,5 @@ pub mod NumberLaws
 pub mod Buffers
 pub mod BufferLaws
 pub mod Lists
+pub mod ListLaws
 pub mod Examples

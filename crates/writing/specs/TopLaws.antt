@@ -7,6 +7,7 @@ use lib.ListN.{length, getD, take, length-reverse}
 use lib.Seq.{take-at}
 use Rattle.words.specs.Lists.{_∈_}
 use Rattle.words.specs.Numbers.{Bytes}
+use Rattle.words.specs.ListLaws.{map-same}
 use Rattle.codes.specs.declared.Kind.{Kind}
 use Rattle.reading.specs.Header.{variables, kindAt}
 use Rattle.reading.specs.Limits.{mostVariables}
@@ -16,8 +17,8 @@ use Rattle.gates.specs.GateKinds.{kindOfGate, GateFits}
 use Rattle.gates.specs.GateKindLaws.{plain-fits}
 use Rattle.gates.specs.Limits.{mostGates}
 use Rattle.gates.specs.EarlierLaws.{Inside}
-use Rattle.gates.specs.FigureLaws.{map-same}
 use Rattle.gates.specs.PlainCircuit.{gatesOf, outputsOf, gateCount}
+use Rattle.gates.specs.EachGateLaws.{StartGate, rule-starting}
 use Rattle.needed.specs.Pass.{rulePreconditions}
 use Rattle.circuit.specs.Built.{padded, builtQuads, builtNeeds, builtOutputs, builtConditions}
 use Rattle.circuit.specs.BuiltLaws.{accepted-builds}
@@ -33,7 +34,6 @@ use Rattle.grouping.specs.PlaceLaws.{placed-group, place-members, place-name, p
 use Rattle.ordering.specs.SameLaws.{order-length}
 use Rattle.checking.specs.Checked.{writingOrder, checkedGroups, checkedPlaces, checkedOrder}
 use Rattle.fused.specs.FusedCircuit.{written, fused, recordsOf, wireOf, outputWires}
-use Rattle.fused.specs.FitStarts.{StartGate, rule-starting}
 use Rattle.fused.specs.PlannedLaws.{planned-read, planned-named, planned-group}
 use Rattle.fused.specs.SizeBounds.{plan-written}
 use Rattle.emitting.specs.Emitted.{wireIn, Writable, JoinWritable}

@@ -29,143 +29,127 @@ run-expr-below t =
     and 2 run-expr-kinds.ps (falls 2 run-expr-kinds.ps _<_ μ-run-expr t) run-expr.Pre
 
 abbrev run-expr-claims : ℕ → run-expr-lts.Claims
-run-expr-claims t = (code-of-reads.Asked, code-of-reads.Learnt, read32-reads.Asked, read32-reads.Learnt, run-expr-below t, run-expr.Post, apply-reads.Asked, apply-reads.Learnt)
+run-expr-claims t =
+    (code-of-reads.Asked, code-of-reads.Learnt, read32-reads.Asked, read32-reads.Learnt, run-expr-below t, run-expr.Post, apply-reads.Asked, apply-reads.Learnt)
 
 -- what was read, by the form of its code
 inside : (t : ℕ) (d : run-expr-lts.Start (run-expr-claims t) (run-expr-at t) run-expr.Post) → d .args .at < length (now (d .args .s))
 inside t d = let a = d .args in expr-inside (a .deep) (now (a .s)) (a .want) (a .at) (d .pre .1 .1)
 
-the-variable : (t : ℕ) (c : run-expr-lts.After-enum-told (run-expr-claims t) (run-expr-at t) run-expr.Post) → let a = c .before .before .before .before .before .args in VariableRead (now (a .s)) (a .want) (a .at) (readExpr (a .deep) (now (a .s)) (a .want) (a .at))
-the-variable t c = let d = c .before .before .before .before .before in let a = d .args in as-variable (a .deep) (now (a .s)) (a .want) (a .at) (d .pre .1 .1) (c .before .before .code-of .result) (c .before .before .code-of .ensures) (c .enum-told .given .1)
+the-variable : (t : ℕ) (c : run-expr-lts.After-enum-told (run-expr-claims t) (run-expr-at t) run-expr.Post)
+    → let a = c .before .before .before .before .before .args in VariableRead (now (a .s)) (a .want) (a .at) (readExpr (a .deep) (now (a .s)) (a .want) (a .at))
+the-variable t c = as-variable _ _ _ _ (c .before .before .before .before .before .pre .1 .1) _ (c .before .before .code-of .ensures) (c .enum-told .given .1)
 
-the-word : (t : ℕ) (c : run-expr-lts.After-enum-told2 (run-expr-claims t) (run-expr-at t) run-expr.Post) → let a = c .before .before .before .before .before .args in WordRead (now (a .s)) (a .want) (a .at) (readExpr (a .deep) (now (a .s)) (a .want) (a .at))
-the-word t c = let d = c .before .before .before .before .before in let a = d .args in as-word (a .deep) (now (a .s)) (a .want) (a .at) (d .pre .1 .1) (c .before .before .code-of .result) (c .before .before .code-of .ensures) (c .enum-told2 .given .1)
+the-word : (t : ℕ) (c : run-expr-lts.After-enum-told2 (run-expr-claims t) (run-expr-at t) run-expr.Post)
+    → let a = c .before .before .before .before .before .args in WordRead (now (a .s)) (a .want) (a .at) (readExpr (a .deep) (now (a .s)) (a .want) (a .at))
+the-word t c = as-word _ _ _ _ (c .before .before .before .before .before .pre .1 .1) _ (c .before .before .code-of .ensures) (c .enum-told2 .given .1)
 
-the-bit : (t : ℕ) (c : run-expr-lts.After-enum-told3 (run-expr-claims t) (run-expr-at t) run-expr.Post) → let a = c .before .before .before .before .before .args in BitRead (now (a .s)) (a .want) (a .at) (readExpr (a .deep) (now (a .s)) (a .want) (a .at))
-the-bit t c = let d = c .before .before .before .before .before in let a = d .args in as-bit (a .deep) (now (a .s)) (a .want) (a .at) (d .pre .1 .1) (c .before .before .code-of .result) (c .before .before .code-of .ensures) (c .enum-told3 .given .1)
-
-run-expr-shared-slice-read-code-of : (t : ℕ) → run-expr-lts.Need-shared-slice-read-code-of (run-expr-claims t) (run-expr-at t) run-expr.Post
-run-expr-shared-slice-read-code-of t c = inside t (c .before .before)
-
-run-expr-add-x : (t : ℕ) → run-expr-lts.Need-add-x (run-expr-claims t) (run-expr-at t) run-expr.Post
-run-expr-add-x t c = omega (arith, inside t (c .before .before .before .before .before))
-
-run-expr-shared-slice-read-x : (t : ℕ) → run-expr-lts.Need-shared-slice-read-x (run-expr-claims t) (run-expr-at t) run-expr.Post
-run-expr-shared-slice-read-x t c = the-variable t (c .before) .inside
-
-run-expr-cast-x : (t : ℕ) → run-expr-lts.Need-cast-x (run-expr-claims t) (run-expr-at t) run-expr.Post
-run-expr-cast-x t c = omega (arith, the-variable t (c .before) .range, c .before .before .before .before .before .before .pre .1 .0 .1)
-
-run-expr-mul-t16 : (t : ℕ) → run-expr-lts.Need-mul-t16 (run-expr-claims t) (run-expr-at t) run-expr.Post
-run-expr-mul-t16 t c = omega (arith, the-variable t (c .before) .range, c .before .before .before .before .before .before .pre .1 .0 .1)
-
-run-expr-element-copy-out-t21 : (t : ℕ) → run-expr-lts.Need-element-copy-out-t21 (run-expr-claims t) (run-expr-at t) run-expr.Post
-run-expr-element-copy-out-t21 t c = omega (arith, the-variable t (c .before) .range, c .before .before .before .before .before .before .pre .1 .0 .1)
-
-run-expr-add-t22 : (t : ℕ) → run-expr-lts.Need-add-t22 (run-expr-claims t) (run-expr-at t) run-expr.Post
-run-expr-add-t22 t c = omega (arith, the-variable t (c .before .before) .inside)
-
-run-expr-add-read32 : (t : ℕ) → run-expr-lts.Need-add-read32 (run-expr-claims t) (run-expr-at t) run-expr.Post
-run-expr-add-read32 t c = omega (arith, inside t (c .before .before .before .before .before))
-
-run-expr-read32-requires : (t : ℕ) → run-expr-lts.Need-read32-requires (run-expr-claims t) (run-expr-at t) run-expr.Post
-run-expr-read32-requires t c κs = omega (arith, the-word t c .inside)
-
-run-expr-add-t25 : (t : ℕ) → run-expr-lts.Need-add-t25 (run-expr-claims t) (run-expr-at t) run-expr.Post
-run-expr-add-t25 t c = omega (arith, the-word t (c .before) .inside)
-
-run-expr-add-t26 : (t : ℕ) → run-expr-lts.Need-add-t26 (run-expr-claims t) (run-expr-at t) run-expr.Post
-run-expr-add-t26 t c = omega (arith, inside t (c .before .before .before .before .before))
-
-run-expr-shared-slice-read-t28 : (t : ℕ) → run-expr-lts.Need-shared-slice-read-t28 (run-expr-claims t) (run-expr-at t) run-expr.Post
-run-expr-shared-slice-read-t28 t c = the-bit t (c .before) .inside
-
-run-expr-cast-t29 : (t : ℕ) → run-expr-lts.Need-cast-t29 (run-expr-claims t) (run-expr-at t) run-expr.Post
-run-expr-cast-t29 t c = omega (arith, the-bit t (c .before) .low)
-
-run-expr-add-t30 : (t : ℕ) → run-expr-lts.Need-add-t30 (run-expr-claims t) (run-expr-at t) run-expr.Post
-run-expr-add-t30 t c = omega (arith, the-bit t (c .before) .inside)
-
-run-expr-add-run-expr : (t : ℕ) → run-expr-lts.Need-add-run-expr (run-expr-claims t) (run-expr-at t) run-expr.Post
-run-expr-add-run-expr t c = omega (arith, inside t (c .before .before .before .before .before .before))
+the-bit : (t : ℕ) (c : run-expr-lts.After-enum-told3 (run-expr-claims t) (run-expr-at t) run-expr.Post)
+    → let a = c .before .before .before .before .before .args in BitRead (now (a .s)) (a .want) (a .at) (readExpr (a .deep) (now (a .s)) (a .want) (a .at))
+the-bit t c = as-bit _ _ _ _ (c .before .before .before .before .before .pre .1 .1) _ (c .before .before .code-of .ensures) (c .enum-told3 .given .1)
 
 run-expr-sub-run-expr : (t : ℕ) → run-expr-lts.Need-sub-run-expr (run-expr-claims t) (run-expr-at t) run-expr.Post
-run-expr-sub-run-expr t c = let d = c .before .before .before .before .before .before in let a = d .args in level (now (a .figures)) (a .deep) (now (a .s)) (a .want) (a .at) (d .pre .1 .1) (c .before .before .before .code-of .result) (c .before .before .before .code-of .ensures) (c .before .form .given .0 .0) (c .before .form .given .1)
+run-expr-sub-run-expr t c =
+    let d = c .before .before .before .before .before .before in
+    let a = d .args in
+    level (now (a .figures)) _ _ _ _ (d .pre .1 .1) _ (c .before .before .before .code-of .ensures) _ (c .before .form .given .1)
 
 run-expr-run-expr-requires : (t : ℕ) → run-expr-lts.Need-run-expr-requires (run-expr-claims t) (run-expr-at t) run-expr.Post
 run-expr-run-expr-requires t c κs =
     let d = c .before .before .before .before .before .before in let a = d .args in (
-      omega (arith, level (now (a .figures)) (a .deep) (now (a .s)) (a .want) (a .at) (d .pre .1 .1) (c .before .before .before .code-of .result) (c .before .before .before .code-of .ensures) (c .before .form .given .0 .0) (c .before .form .given .1)),
-      (d .pre .1 .0, first-taken (now (a .figures)) (a .deep) (now (a .s)) (a .want) (a .at) (d .pre .1 .1) (c .before .before .before .code-of .result) (c .before .before .before .code-of .ensures) (c .before .form .given .0 .0) (c .before .form .given .1)),
+      omega (arith, level (now (a .figures)) _ _ _ _ (d .pre .1 .1) _ (c .before .before .before .code-of .ensures) _ (c .before .form .given .1)),
+      (d .pre .1 .0, first-taken (now (a .figures)) _ _ _ _ (d .pre .1 .1) _ (c .before .before .before .code-of .ensures) _ (c .before .form .given .1)),
     )
 
 run-expr-sub-run-expr-2 : (t : ℕ) → run-expr-lts.Need-sub-run-expr-2 (run-expr-claims t) (run-expr-at t) run-expr.Post
-run-expr-sub-run-expr-2 t c = let d = c .before .before .before .before .before .before .before .before .before in let a = d .args in level (now (a .figures)) (a .deep) (now (a .s)) (a .want) (a .at) (d .pre .1 .1) (c .before .before .before .before .before .before .code-of .result) (c .before .before .before .before .before .before .code-of .ensures) (c .before .before .before .before .form .given .0 .0) (c .before .before .before .before .form .given .1)
+run-expr-sub-run-expr-2 t c =
+    let d = c .before .before .before .before .before .before .before .before .before in
+    let a = d .args in
+    level (now (a .figures)) _ _ _ _ (d .pre .1 .1) _ (c .before .before .before .before .before .before .code-of .ensures) _
+    (c .before .before .before .before .form .given .1)
 
 run-expr-run-expr-requires-2 : (t : ℕ) → run-expr-lts.Need-run-expr-requires-2 (run-expr-claims t) (run-expr-at t) run-expr.Post
 run-expr-run-expr-requires-2 t c κs =
+    let b = c .before .before .before .before .before .before in
     let d = c .before .before .before .before .before .before .before .before .before in let a = d .args in (
-      omega (arith, level (now (a .figures)) (a .deep) (now (a .s)) (a .want) (a .at) (d .pre .1 .1) (c .before .before .before .before .before .before .code-of .result) (c .before .before .before .before .before .before .code-of .ensures) (c .before .before .before .before .form .given .0 .0) (c .before .before .before .before .form .given .1)),
-      (d .pre .1 .0, second-taken (now (a .figures)) (a .deep) (now (a .s)) (a .want) (a .at) (d .pre .1 .1) (c .before .before .before .before .before .before .code-of .result) (c .before .before .before .before .before .before .code-of .ensures) (c .before .before .before .before .form .given .0 .0) (c .before .before .before .before .form .given .1) (c .before .before .run-expr .result) (c .before .before .run-expr .ensures) (c .if1 .left)),
+      omega (arith, level (now (a .figures)) _ _ _ _ (d .pre .1 .1) _ (b .code-of .ensures) _ (c .before .before .before .before .form .given .1)),
+      (
+        d .pre .1 .0,
+        second-taken (now (a .figures)) _ _ _ _ (d .pre .1 .1) _ (b .code-of .ensures) _ (c .before .before .before .before .form .given .1) _
+            (c .before .before .run-expr .ensures) (c .if1 .left),
+      ),
     )
 
 run-expr-returns : (t : ℕ) → run-expr-lts.Need-returns (run-expr-claims t) (run-expr-at t) run-expr.Post
-run-expr-returns t c = let d = c .before .before .before .before .before .before .before in let a = d .args in variable-out (now (a .figures)) (a .deep) (now (a .s)) (a .want) (a .at) (d .pre .1 .1) (c .before .before .before .before .code-of .result) (c .before .before .before .before .code-of .ensures) (c .before .before .enum-told .given .1)
+run-expr-returns t c =
+    let d = c .before .before .before .before .before .before .before in
+    variable-out _ _ _ _ _ (d .pre .1 .1) _ (c .before .before .before .before .code-of .ensures) (c .before .before .enum-told .given .1)
 
 run-expr-returns-2 : (t : ℕ) → run-expr-lts.Need-returns-2 (run-expr-claims t) (run-expr-at t) run-expr.Post
-run-expr-returns-2 t c = let d = c .before .before .before .before .before .before in let a = d .args in word-out (now (a .figures)) (a .deep) (now (a .s)) (a .want) (a .at) (d .pre .1 .1) (c .before .before .before .code-of .result) (c .before .before .before .code-of .ensures) (c .before .enum-told2 .given .1) (c .read32 .ensures)
+run-expr-returns-2 t c =
+    let d = c .before .before .before .before .before .before in
+    word-out _ _ _ _ _ (d .pre .1 .1) _ (c .before .before .before .code-of .ensures) (c .before .enum-told2 .given .1) (c .read32 .ensures)
 
 run-expr-returns-3 : (t : ℕ) → run-expr-lts.Need-returns-3 (run-expr-claims t) (run-expr-at t) run-expr.Post
-run-expr-returns-3 t c = let d = c .before .before .before .before .before .before in let a = d .args in bit-out (now (a .figures)) (a .deep) (now (a .s)) (a .want) (a .at) (d .pre .1 .1) (c .before .before .before .code-of .result) (c .before .before .before .code-of .ensures) (c .before .enum-told3 .given .1)
+run-expr-returns-3 t c =
+    bit-out _ _ _ _ _ (c .before .before .before .before .before .before .pre .1 .1) _ (c .before .before .before .code-of .ensures) (c .before .enum-told3 .given .1)
 
 run-expr-returns-4 : (t : ℕ) → run-expr-lts.Need-returns-4 (run-expr-claims t) (run-expr-at t) run-expr.Post
 run-expr-returns-4 t c =
-    let d = c .before .before .before .before .before .before .before .before .before .before in let a = d .args in
-    one-out (now (a .figures)) (a .deep) (now (a .s)) (a .want) (a .at) (d .pre .1 .1) (c .before .before .before .before .before .before .before .code-of .result) (c .before .before .before .before .before .before .before .code-of .ensures) (c .before .before .before .before .before .form .given .0 .0) (c .before .before .before .before .before .form .given .1) (c .before .before .before .run-expr .result) (c .before .before .before .run-expr .ensures) (c .before .if1 .taken) (c .apply .ensures)
+    let d = c .before .before .before .before .before .before .before .before .before .before in
+    one-out _ _ _ _ _ (d .pre .1 .1) _ (c .before .before .before .before .before .before .before .code-of .ensures) _
+    (c .before .before .before .before .before .form .given .1) _ (c .before .before .before .run-expr .ensures) (c .before .if1 .taken) (c .apply .ensures)
 
 run-expr-returns-5 : (t : ℕ) → run-expr-lts.Need-returns-5 (run-expr-claims t) (run-expr-at t) run-expr.Post
 run-expr-returns-5 t c =
-    let d = c .before .before .before .before .before .before .before .before .before .before .before in let a = d .args in
-    two-out (now (a .figures)) (a .deep) (now (a .s)) (a .want) (a .at) (d .pre .1 .1) (c .before .before .before .before .before .before .before .before .code-of .result) (c .before .before .before .before .before .before .before .before .code-of .ensures) (c .before .before .before .before .before .before .form .given .0 .0) (c .before .before .before .before .before .before .form .given .1) (c .before .before .before .before .run-expr .result) (c .before .before .before .before .run-expr .ensures) (c .before .before .if1 .left) (c .before .run-expr2 .result) (c .before .run-expr2 .ensures) (c .apply2 .ensures)
+    let d = c .before .before .before .before .before .before .before .before .before .before .before in
+    two-out _ _ _ _ _ (d .pre .1 .1) _ (c .before .before .before .before .before .before .before .before .code-of .ensures) _
+    (c .before .before .before .before .before .before .form .given .1) _ (c .before .before .before .before .run-expr .ensures) (c .before .before .if1 .left) _
+    (c .before .run-expr2 .ensures) (c .apply2 .ensures)
 
 run-expr-returns-6 : (t : ℕ) → run-expr-lts.Need-returns-6 (run-expr-claims t) (run-expr-at t) run-expr.Post
-run-expr-returns-6 t c = let d = c .before .before .before .before .before in let a = d .args in absurd (expr-taken (a .deep) (now (a .s)) (a .want) (a .at) (d .pre .1 .1) (c .before .before .code-of .result) (c .before .before .code-of .ensures) End (c .enum-told4 .given .1))
+run-expr-returns-6 t c =
+    absurd (expr-taken _ _ _ _ (c .before .before .before .before .before .pre .1 .1) _ (c .before .before .code-of .ensures) End (c .enum-told4 .given .1))
 
 run-expr-returns-7 : (t : ℕ) → run-expr-lts.Need-returns-7 (run-expr-claims t) (run-expr-at t) run-expr.Post
-run-expr-returns-7 t c = let d = c .before .before .before .before .before in let a = d .args in absurd (expr-taken (a .deep) (now (a .s)) (a .want) (a .at) (d .pre .1 .1) (c .before .before .code-of .result) (c .before .before .code-of .ensures) Assign (c .enum-told5 .given .1))
+run-expr-returns-7 t c =
+    absurd (expr-taken _ _ _ _ (c .before .before .before .before .before .pre .1 .1) _ (c .before .before .code-of .ensures) Assign (c .enum-told5 .given .1))
 
 run-expr-returns-8 : (t : ℕ) → run-expr-lts.Need-returns-8 (run-expr-claims t) (run-expr-at t) run-expr.Post
-run-expr-returns-8 t c = let d = c .before .before .before .before .before in let a = d .args in absurd (expr-taken (a .deep) (now (a .s)) (a .want) (a .at) (d .pre .1 .1) (c .before .before .code-of .result) (c .before .before .code-of .ensures) Skip (c .enum-told6 .given .1))
+run-expr-returns-8 t c =
+    absurd (expr-taken _ _ _ _ (c .before .before .before .before .before .pre .1 .1) _ (c .before .before .code-of .ensures) Skip (c .enum-told6 .given .1))
 
 run-expr-returns-9 : (t : ℕ) → run-expr-lts.Need-returns-9 (run-expr-claims t) (run-expr-at t) run-expr.Post
-run-expr-returns-9 t c = let d = c .before .before .before .before .before in let a = d .args in absurd (expr-taken (a .deep) (now (a .s)) (a .want) (a .at) (d .pre .1 .1) (c .before .before .code-of .result) (c .before .before .code-of .ensures) Branch (c .enum-told7 .given .1))
+run-expr-returns-9 t c =
+    absurd (expr-taken _ _ _ _ (c .before .before .before .before .before .pre .1 .1) _ (c .before .before .code-of .ensures) Branch (c .enum-told7 .given .1))
 
 run-expr-returns-10 : (t : ℕ) → run-expr-lts.Need-returns-10 (run-expr-claims t) (run-expr-at t) run-expr.Post
-run-expr-returns-10 t c = let d = c .before .before .before .before .before in let a = d .args in absurd (expr-taken (a .deep) (now (a .s)) (a .want) (a .at) (d .pre .1 .1) (c .before .before .code-of .result) (c .before .before .code-of .ensures) Unknown (c .enum-told8 .given .1))
+run-expr-returns-10 t c =
+    absurd (expr-taken _ _ _ _ (c .before .before .before .before .before .pre .1 .1) _ (c .before .before .code-of .ensures) Unknown (c .enum-told8 .given .1))
 
 pub +run-expr-spec : {M : Type 1} → statement M
 +run-expr-spec = close μ-run-expr λ t. run-expr-lts.spec (run-expr-claims t) (run-expr-at t)
     run-expr.Post
-    (run-expr-shared-slice-read-code-of t)
+    (λ c. inside t (c .before .before))
     (λ c κs. search needs)
     (λ c. search needs)
-    (run-expr-add-x t)
-    (run-expr-shared-slice-read-x t)
-    (run-expr-cast-x t)
-    (run-expr-mul-t16 t)
-    (run-expr-element-copy-out-t21 t)
-    (run-expr-add-t22 t)
+    (λ c. omega (arith, inside t (c .before .before .before .before .before)))
+    (λ c. the-variable t (c .before) .inside)
+    (λ c. omega (arith, the-variable t (c .before) .range, c .before .before .before .before .before .before .pre .1 .0 .1))
+    (λ c. omega (arith, the-variable t (c .before) .range, c .before .before .before .before .before .before .pre .1 .0 .1))
+    (λ c. omega (arith, the-variable t (c .before) .range, c .before .before .before .before .before .before .pre .1 .0 .1))
+    (λ c. omega (arith, the-variable t (c .before .before) .inside))
     (λ c. search needs)
-    (run-expr-add-read32 t)
-    (run-expr-read32-requires t)
-    (run-expr-add-t25 t)
+    (λ c. omega (arith, inside t (c .before .before .before .before .before)))
+    (λ c κs. omega (arith, the-word t c .inside))
+    (λ c. omega (arith, the-word t (c .before) .inside))
     (λ c. search needs)
-    (run-expr-add-t26 t)
-    (run-expr-shared-slice-read-t28 t)
-    (run-expr-cast-t29 t)
-    (run-expr-add-t30 t)
+    (λ c. omega (arith, inside t (c .before .before .before .before .before)))
+    (λ c. the-bit t (c .before) .inside)
+    (λ c. omega (arith, the-bit t (c .before) .low))
+    (λ c. omega (arith, the-bit t (c .before) .inside))
     (λ c. search needs)
-    (run-expr-add-run-expr t)
+    (λ c. omega (arith, inside t (c .before .before .before .before .before .before)))
     (run-expr-sub-run-expr t)
     (run-expr-run-expr-requires t)
     (λ c κs. search needs)

@@ -28,8 +28,11 @@ loop-holds c = let a = c .before .before .before .before .args in (search needs,
 
 returns-2 : tie.Need-returns-2 Inv-loop μ-loop
 returns-2 c =
-    let a = c .before .before .before .before .before .before .before .before .before .before .before .args in let l = c .before .before .before .before .before .before .loop in
-    sym (row-bit (now (a .rule)) (now (a .inputs)) (a .room) (c .before .before .before .before .before .before .before .if1 .left) (l .inv .1 ∙ above-here (now (a .rule)) (now (a .inputs)) (variables (now (a .rule))) (l .x) (c .before .before .before .before .before .loop-test .taken) (c .before .before .before .if2 .taken)
+    let a = c .before .before .before .before .before .before .before .before .before .before .before .args in
+    let l = c .before .before .before .before .before .before .loop in
+    sym (row-bit (now (a .rule)) (now (a .inputs)) (a .room) (c .before .before .before .before .before .before .before .if1 .left)
+    (l .inv .1 ∙ above-here (now (a .rule)) (now (a .inputs)) (variables (now (a .rule))) (l .x) (c .before .before .before .before .before .loop-test .taken)
+    (c .before .before .before .if2 .taken)
     (ap (λ (k : Kind). sameKind k Bit) (sym (c .before .before .kind-at .ensures)) ∙ sym (c .before .same-kind .ensures) ∙ c .if3 .taken)))
 
 add-x : tie.Need-add-x Inv-loop μ-loop
@@ -40,7 +43,8 @@ loop-again c =
     let a = c .before .before .before .before .before .before .before .before .args in let l = c .before .before .before .loop in (
       search needs,
       l .inv .1 ∙ ⊎-elim
-          (λ w. above-word (now (a .rule)) (now (a .inputs)) (variables (now (a .rule))) (l .x) (c .before .before .loop-test .taken) (w .0 .taken) (ap (λ (k : Kind). sameKind k Bit) (sym (w .1 .ensures)) ∙ sym (w .2 .ensures) ∙ w .3 .left))
+          (λ w. above-word (now (a .rule)) (now (a .inputs)) (variables (now (a .rule))) (l .x) (c .before .before .loop-test .taken) (w .0 .taken)
+          (ap (λ (k : Kind). sameKind k Bit) (sym (w .1 .ensures)) ∙ sym (w .2 .ensures) ∙ w .3 .left))
           (λ w. above-low (now (a .rule)) (now (a .inputs)) (variables (now (a .rule))) (l .x) (c .before .before .loop-test .taken) (w .left))
           (c .if2 .came),
     )
@@ -48,12 +52,14 @@ loop-again c =
 returns-3 : tie.Need-returns-3 Inv-loop μ-loop
 returns-3 c =
     let a = c .before .before .before .before .before .before .before .args in let l = c .before .before .loop in
-    sym (row-room (now (a .rule)) (now (a .inputs)) (a .room) (c .before .before .before .if1 .left) (l .inv .1 ∙ above-none (now (a .rule)) (now (a .inputs)) (variables (now (a .rule))) (l .x) (c .before .loop-test .left)) (c .if4 .taken))
+    sym (row-room (now (a .rule)) (now (a .inputs)) (a .room) (c .before .before .before .if1 .left)
+    (l .inv .1 ∙ above-none (now (a .rule)) (now (a .inputs)) (variables (now (a .rule))) (l .x) (c .before .loop-test .left)) (c .if4 .taken))
 
 returns-4 : tie.Need-returns-4 Inv-loop μ-loop
 returns-4 c =
     let a = c .before .before .before .before .before .before .before .args in let l = c .before .before .loop in
-    sym (row-none (now (a .rule)) (now (a .inputs)) (a .room) (c .before .before .before .if1 .left) (l .inv .1 ∙ above-none (now (a .rule)) (now (a .inputs)) (variables (now (a .rule))) (l .x) (c .before .loop-test .left)) (c .if4 .left))
+    sym (row-none (now (a .rule)) (now (a .inputs)) (a .room) (c .before .before .before .if1 .left)
+    (l .inv .1 ∙ above-none (now (a .rule)) (now (a .inputs)) (variables (now (a .rule))) (l .x) (c .before .loop-test .left)) (c .if4 .left))
 
 pub inputs-refusal-spec : {M : Type 1} → statement M
 inputs-refusal-spec =

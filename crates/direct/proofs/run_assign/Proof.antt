@@ -18,7 +18,10 @@ add-run-expr : tie.Need-add-run-expr
 add-run-expr c = let d = c .before .before .before in let a = d .args in omega (arith, assign-read (now (a .s)) (a .at) (d .pre .1) .inside)
 
 run-expr-requires : tie.Need-run-expr-requires
-run-expr-requires c κs = let d = c .before .before .before .before in let a = d .args in (d .pre .0, assign-taken (now (a .s)) (a .at) (d .pre .1) (c .before .kind-at .result) (c .before .kind-at .ensures))
+run-expr-requires c κs =
+    let d = c .before .before .before .before in
+    let a = d .args in
+    (d .pre .0, assign-taken (now (a .s)) (a .at) (d .pre .1) (c .before .kind-at .result) (c .before .kind-at .ensures))
 
 cast-figures : tie.Need-cast-figures
 cast-figures c = let d = c .before .before .before .before .before in let a = d .args in omega (arith, assign-read (now (a .s)) (a .at) (d .pre .1) .range, d .pre .0 .1)
@@ -27,10 +30,17 @@ mul-figures : tie.Need-mul-figures
 mul-figures c = let d = c .before .before .before .before .before in let a = d .args in omega (arith, assign-read (now (a .s)) (a .at) (d .pre .1) .range, d .pre .0 .1)
 
 element-write-figures : tie.Need-element-write-figures
-element-write-figures c = let d = c .before .before .before .before .before in let a = d .args in omega (arith, assign-read (now (a .s)) (a .at) (d .pre .1) .range, d .pre .0 .1)
+element-write-figures c =
+    let d = c .before .before .before .before .before in
+    let a = d .args in
+    omega (arith, assign-read (now (a .s)) (a .at) (d .pre .1) .range, d .pre .0 .1)
 
 returns : tie.Need-returns
-returns c = let d = c .before .before .before .before .before in let a = d .args in assign-ran (now (a .s)) (a .at) (d .pre .1) (c .before .before .kind-at .result) (c .before .before .kind-at .ensures) (now (a .figures)) (c .run-expr .result) (c .run-expr .ensures)
+returns c =
+    let d = c .before .before .before .before .before in
+    let a = d .args in
+    assign-ran (now (a .s)) (a .at) (d .pre .1) (c .before .before .kind-at .result) (c .before .before .kind-at .ensures) (now (a .figures))
+    (c .run-expr .result) (c .run-expr .ensures)
 
 pub run-assign-spec : {M : Type 1} → statement M
 run-assign-spec =

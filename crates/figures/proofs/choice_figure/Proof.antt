@@ -21,12 +21,14 @@ figure-at-requires-3 c κs = (search needs, c .before .before .before .pre .1 _ 
 returns : tie.Need-returns
 returns c =
     let a = c .before .before .before .before .args in
-    chosen-first _ _ (held (now (a .figures)) (numberAt 2 (now (a .file)) (a .at + 5))) _ _ (c .before .before .figure-at .ensures) (c .before .if1 .taken) (c .figure-at2 .ensures)
+    chosen-first _ _ (held (now (a .figures)) (numberAt 2 (now (a .file)) (a .at + 5))) _ _ (c .before .before .figure-at .ensures) (c .before .if1 .taken)
+    (c .figure-at2 .ensures)
 
 returns-2 : tie.Need-returns-2
 returns-2 c =
     let a = c .before .before .before .before .args in
-    chosen-second _ (held (now (a .figures)) (numberAt 2 (now (a .file)) (a .at + 3))) _ _ _ (c .before .before .figure-at .ensures) (c .before .if1 .left) (c .figure-at3 .ensures)
+    chosen-second _ (held (now (a .figures)) (numberAt 2 (now (a .file)) (a .at + 3))) _ _ _ (c .before .before .figure-at .ensures) (c .before .if1 .left)
+    (c .figure-at3 .ensures)
 
 pub choice-figure-spec : {M : Type 1} → statement M
 choice-figure-spec =

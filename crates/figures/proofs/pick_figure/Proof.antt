@@ -26,7 +26,9 @@ figure-at-requires-2 c κs =
     (omega (arith, d .loop .inv .inside, c .before .before .loop-test .taken), value-inside _ _ _ _ _ _ (d .loop .inv) (c .before .before .loop-test .taken))
 
 returns : tie.Need-returns Inv-loop μ-loop
-returns c = picked _ _ _ _ _ _ (c .before .before .before .before .loop .inv) (c .before .before .before .loop-test .taken) _ _ (c .before .before .figure-at .ensures) (c .before .if1 .taken) (c .figure-at2 .ensures)
+returns c =
+    picked _ _ _ _ _ _ (c .before .before .before .before .loop .inv) (c .before .before .before .loop-test .taken) _ _ (c .before .before .figure-at .ensures)
+    (c .before .if1 .taken) (c .figure-at2 .ensures)
 
 loop-again : tie.Need-loop-again Inv-loop μ-loop
 loop-again c = passed _ _ _ _ _ _ (c .before .before .before .loop .inv) (c .before .before .loop-test .taken) _ (c .before .figure-at .ensures) (c .if1 .left)

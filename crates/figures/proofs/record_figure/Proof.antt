@@ -4,8 +4,9 @@ use native.Mathlib.Omega.{arith}
 use denote.Ref.{now}
 use mathlib.Core.Path.{refl, ap}
 use borrow.Author.Needs.{needs}
-use Rattle.figures.specs.RecordLaws.{first-inside, input-word-takes, input-bit-takes, word-takes, bit-takes, choice-takes, pick-takes, guard-takes, operation-takes, figure-by}
-use Rattle.figures.specs.ReadingLaws.{other, input-word-at, input-bit-at, word-at, bit-at, choice-at, pick-at, guard-at, operation-at}
+use Rattle.codes.specs.declared.Kind.the-variants as kind
+use Rattle.fused.specs.FoundForms.{form-input, form-word, form-bit, form-choice, form-pick, form-guard, form-other}
+use Rattle.figures.specs.RecordLaws.{first-inside, other, input-word-takes, input-bit-takes, word-takes, bit-takes, choice-takes, pick-takes, guard-takes, operation-takes, figure-by}
 use Rattle.figures.proofs.record_figure.Statement.{statement}
 use Rattle.figures.proofs.record_figure.Tie as tie
 
@@ -16,13 +17,17 @@ shared-slice-read-wide8 : tie.Need-shared-slice-read-wide8
 shared-slice-read-wide8 c = input-word-takes _ _ _ (c .before .before .before .before .before .pre) (c .before .match .keys1) .0
 
 shared-slice-read-result : tie.Need-shared-slice-read-result
-shared-slice-read-result c = rw (c .before .wide8 .ensures .0) (input-word-takes _ _ _ (c .before .before .before .before .before .before .before .pre) (c .before .before .before .match .keys1) .1)
+shared-slice-read-result c =
+    rw (c .before .wide8 .ensures .0)
+    (input-word-takes _ _ _ (c .before .before .before .before .before .before .before .pre) (c .before .before .before .match .keys1) .1)
 
 shared-slice-read-wide8-2 : tie.Need-shared-slice-read-wide8-2
 shared-slice-read-wide8-2 c = input-bit-takes _ _ _ (c .before .before .before .before .before .pre) (c .before .match .keys2) .0
 
 shared-slice-read-result-2 : tie.Need-shared-slice-read-result-2
-shared-slice-read-result-2 c = rw (c .before .wide82 .ensures .0) (input-bit-takes _ _ _ (c .before .before .before .before .before .before .before .pre) (c .before .before .before .match .keys2) .1)
+shared-slice-read-result-2 c =
+    rw (c .before .wide82 .ensures .0)
+    (input-bit-takes _ _ _ (c .before .before .before .before .before .before .before .pre) (c .before .before .before .match .keys2) .1)
 
 read32-requires : tie.Need-read32-requires
 read32-requires c κs = word-takes _ _ _ (c .before .before .before .before .pre) (c .match .keys3)
@@ -54,42 +59,50 @@ operation-figure-requires c κs = operation-takes _ _ _ (c .before .before .befo
 returns : tie.Need-returns
 returns c =
     let d = c .before .before .before .before .before .before .before in
-    figure-by (now (d .args .file)) (now (d .args .inputs)) (now (d .args .figures)) (d .args .at) _ _ (input-word-at _ _ (c .before .before .before .match .keys1)) (ap (λ (x : ℕ). getD (now (d .args .inputs)) x 0) (c .before .wide8 .ensures .0))
+    figure-by (now (d .args .file)) (now (d .args .inputs)) (now (d .args .figures)) (d .args .at) _ _
+    (form-input _ _ kind.Word (c .before .before .before .match .keys1) .0) (ap (λ (x : ℕ). getD (now (d .args .inputs)) x 0) (c .before .wide8 .ensures .0))
 
 returns-2 : tie.Need-returns-2
 returns-2 c =
     let d = c .before .before .before .before .before .before .before in
-    figure-by (now (d .args .file)) (now (d .args .inputs)) (now (d .args .figures)) (d .args .at) _ _ (input-bit-at _ _ (c .before .before .before .match .keys2)) (ap (λ (x : ℕ). getD (now (d .args .inputs)) x 0) (c .before .wide82 .ensures .0))
+    figure-by (now (d .args .file)) (now (d .args .inputs)) (now (d .args .figures)) (d .args .at) _ _
+    (form-input _ _ kind.Bit (c .before .before .before .match .keys2) .0) (ap (λ (x : ℕ). getD (now (d .args .inputs)) x 0) (c .before .wide82 .ensures .0))
 
 returns-3 : tie.Need-returns-3
 returns-3 c =
     let d = c .before .before .before .before .before in
-    figure-by (now (d .args .file)) (now (d .args .inputs)) (now (d .args .figures)) (d .args .at) _ _ (word-at _ _ (c .before .match .keys3)) (c .read32 .ensures)
+    figure-by (now (d .args .file)) (now (d .args .inputs)) (now (d .args .figures)) (d .args .at) _ _
+    (form-word _ _ (c .before .match .keys3) .0) (c .read32 .ensures)
 
 returns-4 : tie.Need-returns-4
 returns-4 c =
     let d = c .before .before .before .before .before in
-    figure-by (now (d .args .file)) (now (d .args .inputs)) (now (d .args .figures)) (d .args .at) _ _ (bit-at _ _ (c .before .match .keys4)) refl
+    figure-by (now (d .args .file)) (now (d .args .inputs)) (now (d .args .figures)) (d .args .at) _ _
+    (form-bit _ _ (c .before .match .keys4) .0) refl
 
 returns-5 : tie.Need-returns-5
 returns-5 c =
     let d = c .before .before .before .before .before in
-    figure-by (now (d .args .file)) (now (d .args .inputs)) (now (d .args .figures)) (d .args .at) _ _ (choice-at _ _ (c .before .match .keys5)) (c .choice-figure .ensures)
+    figure-by (now (d .args .file)) (now (d .args .inputs)) (now (d .args .figures)) (d .args .at) _ _
+    (form-choice _ _ (c .before .match .keys5) .0) (c .choice-figure .ensures)
 
 returns-6 : tie.Need-returns-6
 returns-6 c =
     let d = c .before .before .before .before .before .before in
-    figure-by (now (d .args .file)) (now (d .args .inputs)) (now (d .args .figures)) (d .args .at) _ _ (pick-at _ _ (c .before .before .match .keys6)) (c .pick-figure .ensures)
+    figure-by (now (d .args .file)) (now (d .args .inputs)) (now (d .args .figures)) (d .args .at) _ _
+    (form-pick _ _ (c .before .before .match .keys6) .0) (c .pick-figure .ensures)
 
 returns-7 : tie.Need-returns-7
 returns-7 c =
     let d = c .before .before .before .before .before .before in
-    figure-by (now (d .args .file)) (now (d .args .inputs)) (now (d .args .figures)) (d .args .at) _ _ (guard-at _ _ (c .before .before .match .keys7)) (c .guard-figure .ensures)
+    figure-by (now (d .args .file)) (now (d .args .inputs)) (now (d .args .figures)) (d .args .at) _ _
+    (form-guard _ _ (c .before .before .match .keys7) .0) (c .guard-figure .ensures)
 
 returns-8 : tie.Need-returns-8
 returns-8 c =
     let d = c .before .before .before .before .before in
-    figure-by (now (d .args .file)) (now (d .args .inputs)) (now (d .args .figures)) (d .args .at) _ _ (operation-at _ _ (other _ (c .before .match .rest))) (c .operation-figure .ensures)
+    figure-by (now (d .args .file)) (now (d .args .inputs)) (now (d .args .figures)) (d .args .at) _ _
+    (form-other _ _ (other _ (c .before .match .rest)) .0) (c .operation-figure .ensures)
 
 pub record-figure-spec : {M : Type 1} → statement M
 record-figure-spec =

@@ -4,8 +4,9 @@ use mathlib.Core.Path.{sym, ap, _∙_}
 use native.Mathlib.Omega.{arith}
 use borrow.Author.Needs.{needs}
 use Rattle.codes.specs.declared.Code.{Code}
-use Rattle.figures.specs.RecordLaws.{first-inside}
-use Rattle.figures.specs.ReadingLaws.{other, input-word-size, input-bit-size, word-size, bit-size, choice-size, pick-size, guard-size, operation-size}
+use Rattle.codes.specs.declared.Kind.the-variants as kind
+use Rattle.fused.specs.FoundForms.{form-input, form-word, form-bit, form-choice, form-pick, form-guard, form-other}
+use Rattle.figures.specs.RecordLaws.{first-inside, other}
 use Rattle.figures.proofs.record_size.Statement.{statement}
 use Rattle.figures.proofs.record_size.Tie as tie
 
@@ -15,45 +16,46 @@ shared-slice-read-match c = first-inside _ _ (c .before .before .pre)
 shared-slice-read-wide8 : tie.Need-shared-slice-read-wide8
 shared-slice-read-wide8 c =
     let d = c .before .before .before .before in
-    omega (arith, d .pre, pick-size (now (d .args .file)) (d .args .at) (c .before .match .keys6))
+    omega (arith, d .pre, form-pick (now (d .args .file)) (d .args .at) (c .before .match .keys6) .1)
 
 shared-slice-read-wide8-2 : tie.Need-shared-slice-read-wide8-2
 shared-slice-read-wide8-2 c =
     let d = c .before .before .before .before in
-    omega (arith, d .pre, guard-size (now (d .args .file)) (d .args .at) (c .before .match .keys7))
+    omega (arith, d .pre, form-guard (now (d .args .file)) (d .args .at) (c .before .match .keys7) .1)
 
 shared-slice-read-code-of : tie.Need-shared-slice-read-code-of
 shared-slice-read-code-of c = first-inside _ _ (c .before .before .before .before .pre)
 
 returns : tie.Need-returns
-returns c = sym (input-word-size _ _ (c .match .keys1))
+returns c = sym (form-input _ _ kind.Word (c .match .keys1) .1)
 
 returns-2 : tie.Need-returns-2
-returns-2 c = sym (input-bit-size _ _ (c .match .keys2))
+returns-2 c = sym (form-input _ _ kind.Bit (c .match .keys2) .1)
 
 returns-3 : tie.Need-returns-3
-returns-3 c = sym (word-size _ _ (c .match .keys3))
+returns-3 c = sym (form-word _ _ (c .match .keys3) .1)
 
 returns-4 : tie.Need-returns-4
-returns-4 c = sym (bit-size _ _ (c .match .keys4))
+returns-4 c = sym (form-bit _ _ (c .match .keys4) .1)
 
 returns-5 : tie.Need-returns-5
-returns-5 c = sym (choice-size _ _ (c .match .keys5))
+returns-5 c = sym (form-choice _ _ (c .match .keys5) .1)
 
 returns-6 : tie.Need-returns-6
 returns-6 c =
     let d = c .before .before .before .before .before in
-    omega (arith, c .wide8 .ensures .0, pick-size (now (d .args .file)) (d .args .at) (c .before .before .match .keys6))
+    omega (arith, c .wide8 .ensures .0, form-pick (now (d .args .file)) (d .args .at) (c .before .before .match .keys6) .1)
 
 returns-7 : tie.Need-returns-7
 returns-7 c =
     let d = c .before .before .before .before .before in
-    omega (arith, c .wide82 .ensures .0, guard-size (now (d .args .file)) (d .args .at) (c .before .before .match .keys7))
+    omega (arith, c .wide82 .ensures .0, form-guard (now (d .args .file)) (d .args .at) (c .before .before .match .keys7) .1)
 
 returns-8 : tie.Need-returns-8
 returns-8 c =
     let d = c .before .before .before .before .before .before in
-    ap (λ (n : ℕ). 1 + 2 * n) (c .wide83 .ensures .0 ∙ ap (λ (k : Code). k .arity) (c .before .code-of .ensures)) ∙ sym (operation-size (now (d .args .file)) (d .args .at) (other _ (c .before .before .before .match .rest)))
+    ap (λ (n : ℕ). 1 + 2 * n) (c .wide83 .ensures .0 ∙ ap (λ (k : Code). k .arity) (c .before .code-of .ensures))
+    ∙ sym (form-other (now (d .args .file)) (d .args .at) (other _ (c .before .before .before .match .rest)) .1)
 
 pub record-size-spec : {M : Type 1} → statement M
 record-size-spec =

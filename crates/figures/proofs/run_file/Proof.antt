@@ -6,13 +6,19 @@ use Rattle.figures.proofs.run_file.Tie as tie
 
 give-outputs-requires : tie.Need-give-outputs-requires
 give-outputs-requires c κs =
-    let d = c .before .before .before .before .before .before .before in
-    (d .pre .0 .headed, outputs-whole (now (d .args .file)) (now (d .args .inputs)) (d .pre .0) _ (c .before .before .work-out .ensures .0), outputs-inside (now (d .args .file)) (now (d .args .inputs)) (d .pre .0) _ (c .before .before .work-out .ensures .0), d .pre .1)
+    let d = c .before .before .before .before .before .before .before in (
+      d .pre .0 .headed,
+      outputs-whole (now (d .args .file)) (now (d .args .inputs)) (d .pre .0) _ (c .before .before .work-out .ensures .0),
+      outputs-inside (now (d .args .file)) (now (d .args .inputs)) (d .pre .0) _ (c .before .before .work-out .ensures .0),
+      d .pre .1,
+    )
 
 returns : tie.Need-returns
 returns c =
+    let b = c .before .before .before .before .before in
     let d = c .before .before .before .before .before .before .before .before .before .before in
-    outputs-given (now (d .args .file)) (now (d .args .inputs)) (d .pre .0) _ (c .before .before .before .before .before .work-out .ensures .0) _ _ _ _ (c .before .before .before .before .before .work-out .ensures .1) (c .before .before .give-outputs .ensures)
+    outputs-given (now (d .args .file)) (now (d .args .inputs)) (d .pre .0) _ (b .work-out .ensures .0) _ _ _ _ (b .work-out .ensures .1)
+    (c .before .before .give-outputs .ensures)
 
 pub run-file-spec : {M : Type 1} → statement M
 run-file-spec = tie.close (tie.spec (λ c κs. search needs) give-outputs-requires (λ c. search needs) returns)

@@ -39,12 +39,16 @@ record-size-requires c κs =
 
 add-at : tie.Need-add-at Inv-loop μ-loop
 add-at c =
-    let h = amid-inside _ _ _ _ _ _ (c .before .before .before .before .loop .inv .0) (omega (arith, c .before .before .before .loop-test .taken, c .before .before .before .before .loop .inv .1)) in search needs
+    let d = c .before .before .before .before in
+    let h = amid-inside _ _ _ _ _ _ (d .loop .inv .0) (omega (arith, c .before .before .before .loop-test .taken, d .loop .inv .1)) in search needs
 
 loop-again : tie.Need-loop-again Inv-loop μ-loop
 loop-again c =
-    let d = c .before .before .before .before in
-    (amid-more _ _ _ _ _ _ (d .loop .inv .0) (omega (arith, c .before .before .before .loop-test .taken, d .loop .inv .1)) _ _ (c .before .record-figure .ensures) (c .record-size .ensures), d .loop .inv .1)
+    let d = c .before .before .before .before in (
+      amid-more _ _ _ _ _ _ (d .loop .inv .0) (omega (arith, c .before .before .before .loop-test .taken, d .loop .inv .1)) _ _ (c .before .record-figure .ensures)
+          (c .record-size .ensures),
+      d .loop .inv .1,
+    )
 
 returns : tie.Need-returns Inv-loop μ-loop
 returns c =

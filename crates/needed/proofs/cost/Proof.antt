@@ -21,7 +21,14 @@ loop-holds c = (search needs, (c .pre, sym (costs-none _)))
 add-sum : tie.Need-add-sum Inv-loop μ-loop
 add-sum c =
     let l = c .before .before .before .loop in
-    record { fits = omega (arith, l .inv .0, costs-step _ _ _ _ (l .inv .1 .1) (c .cost-of .ensures), costs-below (c .before .before .before .before .args .quads .now) (l .i + 1)) }
+    record {
+      fits = omega (
+        arith,
+        l .inv .0,
+        costs-step _ _ _ _ (l .inv .1 .1) (c .cost-of .ensures),
+        costs-below (c .before .before .before .before .args .quads .now) (l .i + 1),
+      );
+    }
 
 loop-again : tie.Need-loop-again Inv-loop μ-loop
 loop-again c =

@@ -10,8 +10,10 @@ want-all-requires c κs =
 
 returns : tie.Need-returns
 returns c =
-    let x = c .before .before .before .before .before .before .before .before .args in
-    found-part _ _ (x .outputs .now) _ _ _ _ (x .v) (c .before .before .before .before .before .before .before .before .pre .0) (c .before .before .before .before .before .before .before .before .pre .1 .1) (c .before .before .before .before .before .before .clear-sets .ensures) (c .before .before .want-all .ensures) (c .pass .ensures)
+    let d = c .before .before .before .before .before .before .before .before in
+    let x = d .args in
+    found-part _ _ (x .outputs .now) _ _ _ _ (x .v) (d .pre .0) (d .pre .1 .1) (c .before .before .before .before .before .before .clear-sets .ensures)
+    (c .before .before .want-all .ensures) (c .pass .ensures)
 
 pub find-needed-spec : {M : Type 1} → statement M
 find-needed-spec =

@@ -6,7 +6,8 @@ use Rattle.needed.proofs.hand_choice.Tie as tie
 returns : tie.Need-returns
 returns c =
     let x = c .before .before .before .before .before .before .before .before .args in
-    choice-sets (x .t) (x .c .0) (x .a .0) (x .b .0) (x .s) _ _ (x .sets .now) _ _ _ (c .before .before .before .before .before .before .add .ensures) (c .before .before .before .before .given .ensures) (c .before .before .before .add2 .ensures) (c .before .without .ensures) (c .add3 .ensures)
+    choice-sets (x .t) (x .c .0) (x .a .0) (x .b .0) (x .s) _ _ (x .sets .now) _ _ _ (c .before .before .before .before .before .before .add .ensures)
+    (c .before .before .before .before .given .ensures) (c .before .before .before .add2 .ensures) (c .before .without .ensures) (c .add3 .ensures)
 
 pub hand-choice-spec : {M : Type 1} → statement M
 hand-choice-spec =

@@ -20,10 +20,19 @@ argument-requires : tie.Need-argument-requires Inv-loop μ-loop
 argument-requires c κs = (search needs, marking-inside _ _ _ _ _ (c .before .before .before .loop .inv) (c .before .before .loop-test .taken) (c .if1 .taken) refl)
 
 mul-ranks : tie.Need-mul-ranks Inv-loop μ-loop
-mul-ranks c = record { fits = omega (arith, marking-inside _ _ _ _ _ (c .before .before .before .before .before .loop .inv) (c .before .before .before .before .loop-test .taken) (c .before .before .if1 .taken) (c .before .argument .ensures)) }
+mul-ranks c =
+    record {
+      fits = omega (
+        arith,
+        marking-inside _ _ _ _ _ (c .before .before .before .before .before .loop .inv)
+            (c .before .before .before .before .loop-test .taken) (c .before .before .if1 .taken) (c .before .argument .ensures),
+      );
+    }
 
 element-write-ranks : tie.Need-element-write-ranks Inv-loop μ-loop
-element-write-ranks c = marking-inside _ _ _ _ _ (c .before .before .before .before .before .loop .inv) (c .before .before .before .before .loop-test .taken) (c .before .before .if1 .taken) (c .before .argument .ensures)
+element-write-ranks c =
+    marking-inside _ _ _ _ _ (c .before .before .before .before .before .loop .inv) (c .before .before .before .before .loop-test .taken)
+    (c .before .before .if1 .taken) (c .before .argument .ensures)
 
 loop-again : tie.Need-loop-again Inv-loop μ-loop
 loop-again c =

@@ -19,7 +19,9 @@ add-requires : tie.Need-add-requires Inv-loop μ-loop
 add-requires c κs = wanting-inside _ _ _ _ _ (c .before .before .before .before .loop .inv) (c .before .before .before .loop-test .taken) refl
 
 loop-again : tie.Need-loop-again Inv-loop μ-loop
-loop-again c = wanting-step _ _ _ _ _ _ _ (c .before .before .before .before .before .loop .inv) (c .before .before .before .before .loop-test .taken) refl (c .before .whole .ensures) (c .add .ensures)
+loop-again c =
+    wanting-step _ _ _ _ _ _ _ (c .before .before .before .before .before .loop .inv) (c .before .before .before .before .loop-test .taken) refl
+    (c .before .whole .ensures) (c .add .ensures)
 
 returns : tie.Need-returns Inv-loop μ-loop
 returns c = wanting-end _ _ _ _ (c .before .loop .inv) (c .loop-test .left)

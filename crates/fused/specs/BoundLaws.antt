@@ -1,0 +1,86 @@
+-- Laws of what holds along all records that are written; so of an accepted plan an input is a variable's, and a guard reads at most six conditions. Assumes nothing.
+use Prim.Native.Nat.{ℕ, _≤_, _<_}
+use native.Mathlib.Nat.{zero-add}
+use native.Mathlib.Omega.{arith}
+use mathlib.Core.Path.{_≡_}
+use mathlib.Core.List.{List, [], _∷_, map}
+use lib.ListN.{length, length-map}
+use Rattle.words.specs.Lists.{upto}
+use Rattle.answers.specs.declared.Answer.{Answer}
+use Rattle.answers.specs.ParsingLaws.{is-read}
+use Rattle.reading.specs.Header.{variables}
+use Rattle.reading.specs.Rule.{readRule}
+use Rattle.gates.specs.Gates.{Gate, Gates, gateAt, arguments}
+use Rattle.gates.specs.Gates as gate
+use Rattle.gates.specs.Limits.{mostConditions}
+use Rattle.gates.specs.PlainCircuit.{gatesOf, gateCount}
+use Rattle.gates.specs.EachGateLaws.{StartGate, Starting, rule-starting}
+use Rattle.needed.specs.Pass.{rulePreconditions}
+use Rattle.circuit.specs.WholeLaws.{accepted}
+use Rattle.plan.specs.PlanFile.{groupsIn}
+use Rattle.plan.specs.Groups.{groupOf, members, restsOf}
+use Rattle.plan.specs.Order.{order}
+use Rattle.plan.specs.Rows.{planAnswer}
+use Rattle.plan.specs.AcceptedLaws.{plan-accepted}
+use Rattle.fused.specs.Records.{Record, input, word, bit, operation, choice, pick, guard, recordIn}
+use Rattle.fused.specs.Emission.{alone, gateOperation, guardOf, valuesAt, emit}
+use Rattle.fused.specs.FusedCircuit.{groupRecords, written, fused, recordsOf}
+use Rattle.fused.specs.RecordLaws.{Along, along-append, along-at, along-map}
+use Rattle.fused.specs.EmitLaws.{joined-along}
+use Rattle.fused.specs.WrittenLaws.{written-none, written-more}
+use Rattle.fused.specs.SizeJoined.{rests-few}
+
+-- what holds along the records of every group, whatever wires it reads and wherever it begins, holds along all that is written
+pub written-along : (s : List ℕ) (C : Gates) (sets : List ℕ) (group : ℕ → ℕ) (P : ℕ → Record → Type 0)
+    → ((wire : ℕ → ℕ) (n q : ℕ) → Along P n (emit s C sets wire n (members (length C) group q)))
+    → (done : List ℕ) → Along P 0 (written s C sets group done .records)
+written-along s C sets group P h [] = rw (written-none s C sets group) tt
+written-along s C sets group P h (q ∷ done) =
+    let w = written s C sets group done in
+    rw (written-more s C sets group q done)
+    (along-append P (w .records) (groupRecords s C sets group w q) 0 (written-along s C sets group P h done)
+    (rw zero-add (h (λ a. w .wire (group a)) (length (w .records)) q)))
+
+pub fused-along : (s p : List ℕ) (P : ℕ → Record → Type 0)
+    → ((wire : ℕ → ℕ) (n q : ℕ) → Along P n (emit s (gatesOf s) (rulePreconditions s) wire n (members (gateCount s) (groupOf (groupsIn p)) q)))
+    → Along P 0 (recordsOf s p)
+unfolding fused
+fused-along s p P h =
+    let group = groupOf (groupsIn p) in
+    written-along s (gatesOf s) (rulePreconditions s) group P h (order (gatesOf s) (rulePreconditions s) group)
+
+-- of v variables: an input is one of them, a guard has at most six condition wires
+abbrev pub Bounded : ℕ → Record → Type 0
+Bounded v (input k x) = x < v
+Bounded v (word n) = Unit {0}
+Bounded v (bit b) = Unit {0}
+Bounded v (operation op l) = Unit {0}
+Bounded v (choice c a b) = Unit {0}
+Bounded v (pick l) = Unit {0}
+Bounded v (guard cs t) = length cs ≤ mostConditions
+
+alone-bounded : (s : List ℕ) (wire : ℕ → ℕ) (v : ℕ) (k : Gate) → StartGate v k → Bounded v (alone s wire k)
+alone-bounded s wire v (gate.start x) h = h
+alone-bounded s wire v (gate.word n) h = tt
+alone-bounded s wire v (gate.bit b) h = tt
+alone-bounded s wire v (gate.operation op l) h = tt
+alone-bounded s wire v (gate.choice c a b) h = tt
+
+emit-bounded : (v : ℕ) (s : List ℕ) (C : Gates) (sets : List ℕ) → Starting v C
+    → (wire : ℕ → ℕ) (n : ℕ) (ms : List ℕ) → Along (λ i. Bounded v) n (emit s C sets wire n ms)
+emit-bounded v s C sets starts wire n [] = tt
+emit-bounded v s C sets starts wire n (m ∷ []) = (alone-bounded s wire v (gateAt C m) (starts m), tt)
+emit-bounded v s C sets starts wire n (m ∷ k ∷ l) =
+    joined-along (λ i. Bounded v) n (gateOperation (gateAt C m)) (map (guardOf s C sets wire) (m ∷ k ∷ l)) (valuesAt s C sets wire (m ∷ k ∷ l))
+    (upto (length (arguments (gateAt C m))))
+    (along-map (λ i. Bounded v) (guardOf s C sets wire) (m ∷ k ∷ l) n n (omega arith)
+    (λ i _ _ _. let few : length (map wire (restsOf C sets i)) ≤ mostConditions = omega (arith, length-map (restsOf C sets i) wire, rests-few s C sets wire i) in few))
+    (λ _ _ _ _. tt) tt
+
+-- every record of the fused circuit of an accepted plan
+pub fused-bounded : (s p : List ℕ) → planAnswer s p .number ≡ 0 → (i : ℕ) → i < length (recordsOf s p) → Bounded (variables s) (recordIn (recordsOf s p) i)
+fused-bounded s p h =
+    let (b, n, read) = is-read (readRule s) (accepted s (plan-accepted s p .0 h .0) .read) in
+    along-at (λ i. Bounded (variables s)) (recordsOf s p) 0
+    (fused-along s p (λ i. Bounded (variables s))
+    (λ wire k q. emit-bounded (variables s) s (gatesOf s) (rulePreconditions s) (rule-starting s b n read) wire k (members (gateCount s) (groupOf (groupsIn p)) q)))

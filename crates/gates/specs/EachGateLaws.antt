@@ -1,0 +1,123 @@
+-- Laws of what holds of every gate of a rule's plain circuit, the one induction over making for it; so every starting value is a variable's, and gates 0 to V−1 are these.
+use Prim.Native.Nat.{ℕ, _<_}
+use native.Mathlib.Nat.{zero-add}
+use native.Mathlib.Omega.{arith}
+use mathlib.Core.Path.{_≡_, sym, ap, _∙_}
+use mathlib.Core.List.{List, [], _∷_, _++_, map}
+use mathlib.Core.Logic.{_⊎_, inl, inr}
+use lib.Dec.{ltb}
+use lib.ListN.{length, getD, length-map, List·getD-append, List·getD-eq-default}
+use borrow.Author.Tests.{ltb-true, ltb-false}
+use Rattle.words.specs.Lists.{split, upto, length-from}
+use Rattle.codes.specs.Codes.{entryOf}
+use Rattle.codes.specs.declared.Kind.{Kind}
+use Rattle.codes.specs.declared.Operation.{Operation}
+use Rattle.answers.specs.Parsing.{parsed}
+use Rattle.reading.specs.Header.{variables, kindAt}
+use Rattle.reading.specs.Tree.{Expr, variable, word, bit, one, two, Statement, assign, skip, branch, Block, end, then}
+use Rattle.reading.specs.Rule.{readRule}
+use Rattle.gates.specs.Gates.{Gate, start, operation, choice, Gates, gateAt}
+use Rattle.gates.specs.Gates as gate
+use Rattle.reading.specs.Kinds.{Typed, TypedStatement, TypedBlock}
+use Rattle.gates.specs.PlainCircuit.{Making, applyGate, makeExpr, choose, choices, assignedIn, asBefore, makeStatement, makeBlock, conditionMade, firstMade, secondMade, starts, gatesOf}
+use Rattle.gates.specs.PlainLaws.{block-extends}
+use Rattle.gates.specs.ApplyLaws.{apply-cases}
+use Rattle.gates.specs.EarlierLaws.{gate-add}
+use Rattle.reading.specs.FoundRuleLaws.{read-typed}
+use Rattle.gates.specs.StartLaws.{start-at, read-plain}
+
+module _ (P : Gate → Type 0) where
+  -- P holds of whatever gate is made for v variables: a starting value of one of them, a constant, an operation of as many arguments as the table says, a choice
+  pub record OfMade (v : ℕ) : Type 0 where
+    pub of-start : (x : ℕ) → x < v → P (start x)
+    pub of-word : (n : ℕ) → P (gate.word n)
+    pub of-bit : (b : ℕ) → P (gate.bit b)
+    pub of-operation : (op : Operation) (l : List ℕ) → length l ≡ entryOf op .arity → P (operation op l)
+    pub of-choice : (c a b : ℕ) → P (choice c a b)
+
+  -- P holds of every gate
+  abbrev pub EachGate : Gates → Type 0
+  EachGate C = (i : ℕ) → P (gateAt C i)
+
+  each-add : (C : Gates) (k : Gate) → EachGate C → P k → EachGate (C ++ (k ∷ []))
+  each-add C k h g i = go (gate-add C k i)
+    where
+      go : (gateAt (C ++ (k ∷ [])) i ≡ gateAt C i) ⊎ ((i ≡ length C) × (gateAt (C ++ (k ∷ [])) i ≡ k)) → P (gateAt (C ++ (k ∷ [])) i)
+      go (inl e) = rw e (h i)
+      go (inr (e, f)) = rw f g
+
+  module _ (v : ℕ) (kinds : ℕ → Kind) (o : OfMade v) where
+    apply-each : (op : Operation) (a b : ℕ) → entryOf op .arity ≡ 2 → P (applyGate op a b)
+    apply-each op a b h = apply-cases P op a b (o .of-operation op (a ∷ b ∷ []) (sym h)) (λ c. o .of-operation op (b ∷ a ∷ []) (sym h))
+
+    choices-each : (c : ℕ) (p q l : List ℕ) (m : Making) → EachGate (m .gates) → EachGate (choices c p q l m .gates)
+    unfolding choices
+    choices-each c p q [] m h = h
+    choices-each c p q (x ∷ l) m h =
+        choices-each c p q l (choose c p q x m) (each-add (m .gates) (choice c (getD p x 0) (getD q x 0)) h (o .of-choice c (getD p x 0) (getD q x 0)))
+
+    expr-each : (e : Expr) (k : Kind) → Typed v kinds e k → (p : List ℕ) (C : Gates) → EachGate C → EachGate (makeExpr e p C .gates)
+    unfolding makeExpr
+    expr-each (variable x) k t p C h = h
+    expr-each (word n) k t p C h = each-add C (gate.word n) h (o .of-word n)
+    expr-each (bit b) k t p C h = each-add C (gate.bit b) h (o .of-bit b)
+    expr-each (one op e) k (a, g, t) p C h =
+        let m = makeExpr e p C in
+        each-add (m .gates) (operation op (m .place ∷ [])) (expr-each e _ t p C h) (o .of-operation op (m .place ∷ []) (sym a))
+    expr-each (two op d e) k (a, g, t, u) p C h =
+        let m = makeExpr d p C in
+        let n = makeExpr e p (m .gates) in
+        each-add (n .gates) (applyGate op (m .place) (n .place)) (expr-each e _ u p (m .gates) (expr-each d _ t p C h)) (apply-each op (m .place) (n .place) a)
+
+    mutual
+      unfolding makeStatement
+
+      statement-each : (t : Statement) → TypedStatement v kinds t → (m : Making) → EachGate (m .gates) → EachGate (makeStatement t m .gates)
+      statement-each (assign x e) (l, t) m h = expr-each e _ t (m .present) (m .gates) h
+      statement-each skip t m h = h
+      statement-each (branch c b d) (t, u, w) m h =
+          choices-each (conditionMade c m .place) (firstMade c b m .present) (secondMade c b d m .present) (assignedIn b d (length (m .present)))
+          (asBefore m (secondMade c b d m .gates))
+          (block-each d w (asBefore m (firstMade c b m .gates))
+          (block-each b u (asBefore m (conditionMade c m .gates)) (expr-each c _ t (m .present) (m .gates) h)))
+
+      block-each : (b : Block) → TypedBlock v kinds b → (m : Making) → EachGate (m .gates) → EachGate (makeBlock b m .gates)
+      block-each end t m h = h
+      block-each (then s b) (t, u) m h = block-each b u (makeStatement s m) (statement-each s t m h)
+
+    starts-each : EachGate (starts v .gates)
+    starts-each j =
+        split (ltb j v) (λ t. let l = ltb-true j v t in rw (start-at 0 v j l, zero-add) (o .of-start j l))
+        (λ t. rw (List·getD-eq-default (map start (upto v)) (gate.word 0) {n = j} (rw (length-map, length-from 0 v) (ltb-false j v t))) (o .of-word 0))
+
+  -- what holds of whatever gate is made holds of every gate of a rule that is read
+  pub rule-gates : (s : List ℕ) (b : Block) (n : ℕ) → readRule s ≡ parsed b n → OfMade (variables s) → EachGate (gatesOf s)
+  rule-gates s b n read o =
+      rw (gatesOf, read-plain s b n read)
+      (block-each (variables s) (kindAt s) o b (read-typed s b n read) (starts (variables s)) (starts-each (variables s) (kindAt s) o))
+
+-- of v variables: a starting value is a variable's
+abbrev pub StartGate : ℕ → Gate → Type 0
+StartGate v (start x) = x < v
+StartGate v (gate.word n) = Unit {0}
+StartGate v (gate.bit b) = Unit {0}
+StartGate v (operation op l) = Unit {0}
+StartGate v (choice c a b) = Unit {0}
+
+abbrev pub Starting : ℕ → Gates → Type 0
+Starting v C = EachGate (StartGate v) C
+
+module _ (s : List ℕ) (b : Block) (n : ℕ) (read : readRule s ≡ parsed b n) where
+  -- every starting value is a variable's
+  pub rule-starting : Starting (variables s) (gatesOf s)
+  rule-starting =
+      rule-gates (StartGate (variables s)) s b n read
+      (record { of-start = λ x h. h; of-word = λ n. tt; of-bit = λ b. tt; of-operation = λ op l h. tt; of-choice = λ c a b. tt })
+
+  -- gates 0 to V−1 are the variables' starting values
+  pub rule-start : (x : ℕ) → x < variables s → gateAt (gatesOf s) x ≡ start x
+  rule-start x h =
+      let e = block-extends b (starts (variables s)) in
+      rw (gatesOf, read-plain s b n read, e .grown)
+      (List·getD-append (map start (upto (variables s))) (e .more) (gate.word 0) x (rw (length-map, length-from 0 (variables s)) h)
+      ∙ start-at 0 (variables s) x h ∙ ap start (omega arith))
