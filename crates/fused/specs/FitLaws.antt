@@ -24,12 +24,13 @@ use Rattle.gates.specs.Limits.{mostConditions}
 use Rattle.gates.specs.GateKinds.{GateFits}
 use Rattle.plan.specs.PlanFile.{EachGroup}
 use Rattle.plan.specs.Groups.{members, restsOf}
+use Rattle.plan.specs.RestLaws.{rests-few}
 use Rattle.plan.specs.Accepted.{OneCostly}
 use Rattle.fused.specs.Records.{Record, input, word, bit, operation, choice, pick, guard, reads, recordIn}
 use Rattle.fused.specs.Emission.{alone, joined, guardOf, valuesAt, emit}
 use Rattle.fused.specs.FitRecords.{Wires, ReadsBack, AllReadBack}
 use Rattle.fused.specs.FitStarts.{StartGate}
-use Rattle.fused.specs.SizeJoined.{length-pairs, picks, rests-few, values-each}
+use Rattle.fused.specs.SizeJoined.{length-pairs, picks, values-each}
 
 -- what a record needs besides the wires that it reads
 abbrev pub FieldsFit : Record → Type 0
@@ -92,7 +93,7 @@ module _ (s : List ℕ) (C : Gates) (sets : List ℕ) (wire : ℕ → ℕ) where
   guards-sized : (ms : List ℕ) → AllFieldsFit (map (guardOf s C sets wire) ms)
   guards-sized [] = tt
   guards-sized (m ∷ ms) =
-      ((omega (arith, length-map (restsOf C sets m) wire, rests-few s C sets wire m), table-small (getD sets m 0)), guards-sized ms)
+      ((omega (arith, length-map (restsOf C sets m) wire, rests-few C sets m), table-small (getD sets m 0)), guards-sized ms)
 
   -- a joined group of fewer than 256 members
   joined-sized : (n : ℕ) (op : Operation) (ms : List ℕ) → length ms < 256

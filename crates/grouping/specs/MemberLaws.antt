@@ -7,8 +7,7 @@ use native.Mathlib.Omega.{arith}
 use lib.ListN.{getD}
 use Rattle.words.specs.Lists.{_∈_}
 use Rattle.words.specs.Numbers.{numberAt}
-use Rattle.plan.specs.PlanFile.{numbersAt, groupAt, after, Rising}
-use Rattle.plan.specs.RowLaws.{and}
+use Rattle.plan.specs.PlanFile.{numbersAt, groupAt, Rising}
 use Rattle.plan.specs.GroupLaws.{rising-first}
 use Rattle.plan.specs.Accepted.{Exist}
 use Rattle.grouping.specs.Tests.{membersFrom}

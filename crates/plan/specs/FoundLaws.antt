@@ -1,4 +1,4 @@
--- Document 01, "The plan file and its check (001, section 5.1)": a plan put together and taken apart again gives its gate count and its groups, and ends where the file ends.
+-- Laws of a plan put together: taken apart again it gives its gate count and its groups, and ends where the file ends.
 use mathlib.Core.Path.{_≡_, refl, sym, ap, ap₂, _∙_, subst, subst⁻¹}
 use mathlib.Core.List.{List, [], _∷_, _++_, append-assoc}
 use Prim.Native.Nat.{ℕ, suc, _+_, _*_, _^_, _≤_, _<_}

@@ -1,4 +1,4 @@
--- Document 01, "The plan file and its check (001, section 5.1)": a plan that is laid out is, byte for byte, its gate count and its groups put together.
+-- Laws of layout: a plan that is laid out is, byte for byte, its gate count and its groups put together.
 use mathlib.Core.Path.{_≡_, refl, sym, ap, ap₂, _∙_}
 use mathlib.Core.List.{List, _∷_, _++_, append-assoc}
 use Prim.Native.Nat.{ℕ, zero, suc, _+_, _*_, _≤_, _<_}

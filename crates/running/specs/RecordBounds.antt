@@ -16,6 +16,7 @@ use Rattle.gates.specs.Gates.{Gate, Gates, gateAt, arguments}
 use Rattle.gates.specs.Gates as gate
 use Rattle.gates.specs.Limits.{mostConditions}
 use Rattle.plan.specs.Groups.{restsOf, members}
+use Rattle.plan.specs.RestLaws.{rests-few}
 use Rattle.fused.specs.Records.{Record, input, word, bit, operation, choice, pick, guard}
 use Rattle.fused.specs.Emission.{alone, gateOperation, guardOf, valuesAt, emit}
 use Rattle.fused.specs.FusedCircuit.{groupRecords, written}
@@ -23,7 +24,6 @@ use Rattle.fused.specs.CircuitFile.{recordBytes}
 use Rattle.fused.specs.RecordLaws.{Along, along-append, along-map}
 use Rattle.fused.specs.EmitLaws.{joined-along}
 use Rattle.fused.specs.FitStarts.{StartGate, Starting}
-use Rattle.fused.specs.SizeJoined.{rests-few}
 use Rattle.figures.specs.Runnable.{recordCodes}
 
 -- of v variables: an input is one of them, a guard has at most six condition wires
@@ -53,7 +53,7 @@ module _ (v : ℕ) (s : List ℕ) (C : Gates) (sets : List ℕ) (starts : Starti
   emit-bounded wire n (m ∷ k ∷ l) =
       joined-along Kept n (gateOperation (gateAt C m)) (map (guardOf s C sets wire) (m ∷ k ∷ l)) (valuesAt s C sets wire (m ∷ k ∷ l)) (upto (length (arguments (gateAt C m))))
       (along-map Kept (guardOf s C sets wire) (m ∷ k ∷ l) n n (omega arith)
-      (λ i _ _ _. let few : length (map wire (restsOf C sets i)) ≤ mostConditions = omega (arith, length-map (restsOf C sets i) wire, rests-few s C sets wire i) in few))
+      (λ i _ _ _. let few : length (map wire (restsOf C sets i)) ≤ mostConditions = omega (arith, length-map (restsOf C sets i) wire, rests-few C sets i) in few))
       (λ _ _ _ _. tt) tt
 
   pub written-bounded : (group : ℕ → ℕ) (done : List ℕ) → Along Kept 0 (written s C sets group done .records)

@@ -32,8 +32,8 @@ loop-holds c = ([], ordering-start _ _ _ _ _ _ _ _ _ (c .before .before .before 
 slice-aggregate-has : tie.Need-slice-aggregate-has Inv-loop μ-loop
 slice-aggregate-has c = sym (c .before .before .loop .inv .1 .tabled .lefts .size)
 
-cast-t22 : tie.Need-cast-t22 Inv-loop μ-loop
-cast-t22 c = record { fits = omega (arith, c .before .before .loop .inv .1 .tabled .room, c .before .loop-test .taken) }
+cast-t20 : tie.Need-cast-t20 Inv-loop μ-loop
+cast-t20 c = record { fits = omega (arith, c .before .loop .inv .1 .tabled .room, c .loop-test .taken) }
 
 has-requires : tie.Need-has-requires Inv-loop μ-loop
 has-requires c κs = (omega (arith, c .before .before .loop .inv .1 .tabled .lefts .size), omega (arith, c .before .before .loop .inv .1 .tabled .room, c .before .loop-test .taken))
@@ -94,8 +94,8 @@ order-groups-spec =
     slice-aggregate-find-left
     find-left-requires
     loop-holds
+    cast-t20
     slice-aggregate-has
-    cast-t22
     has-requires
     slice-aggregate-next-ready
     slice-aggregate-next-ready-2
