@@ -9,7 +9,6 @@ use lib.ListN.{getD, set}
 use lib.Seq.{getD-set-other}
 use borrow.Author.Tests.{eq-eqb, ne-eqb}
 use Rattle.words.specs.Lists.{_∈_}
-use Rattle.words.specs.Numbers.{numberAt}
 use Rattle.plan.specs.PlanFile.{groupAt}
 use Rattle.plan.specs.Groups.{smallest}
 use Rattle.plan.specs.Rows.{every}
@@ -32,7 +31,7 @@ pub record PuttingMembers (n : ℕ) (p : List ℕ) (at first : ℕ) (group₀ pl
   pub groups : putAll (groupAt p at) first group₀ ≡ putAll (membersFrom p at k) first group
   pub placing : putAll (groupAt p at) at places₀ ≡ putAll (membersFrom p at k) at places
 
-pub putting-start : (n : ℕ) (p : List ℕ) (at first : ℕ) (group places : List ℕ) → ReadableGroup n p at → first ≡ numberAt 2 p (at + 1 + 2 * 0) → PuttingMembers n p at first group places group places 0
+pub putting-start : (n : ℕ) (p : List ℕ) (at first : ℕ) (group places : List ℕ) → ReadableGroup n p at → first ≡ getD (groupAt p at) 0 0 → PuttingMembers n p at first group places group places 0
 putting-start n p at first group places f q =
     record {
       walk = walk-start n p at f;
@@ -44,7 +43,7 @@ putting-start n p at first group places f q =
 
 -- two tests that are the same on a list pass the same lists
 module _ (n : ℕ) (p : List ℕ) (at first : ℕ) (group₀ places₀ group places : List ℕ) (k g : ℕ)
-    (w : PuttingMembers n p at first group₀ places₀ group places k) (h : k < getD p at 0) (q : g ≡ numberAt 2 p (at + 1 + 2 * k)) where
+    (w : PuttingMembers n p at first group₀ places₀ group places k) (h : k < getD p at 0) (q : g ≡ getD (groupAt p at) k 0) where
   here : membersFrom p at k ≡ g ∷ membersFrom p at (k + 1)
   here = members-step p at k h ∙ ap (λ (i : ℕ). i ∷ membersFrom p at (k + 1)) (sym q)
 

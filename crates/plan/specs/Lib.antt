@@ -17,6 +17,7 @@ pub mod AcceptedLaws
 pub mod JoinedLaws
 pub mod ListedLaws
 pub mod LayoutLaws
+pub mod NumberLaws
 pub mod FoundLaws
 pub mod PlaceLaws
 pub mod ReadsLaws

@@ -26,7 +26,9 @@ waits-holds : tie.Need-waits-holds Inv-waits μ-waits Inv-search μ-search
 waits-holds c = testing-start _ _ _ _ _ (c .before .before .before .search .inv) (c .before .before .if1 .left) (sym (c .before .has .ensures) ∙ c .if2 .taken)
 
 waits-again : tie.Need-waits-again Inv-waits μ-waits Inv-search μ-search
-waits-again c = testing-next _ _ _ _ _ _ (c .before .before .before .before .before .waits .inv) (c .before .before .before .before .if3 .left) (sym (c .before .excludes .ensures) ∙ not-false _ (c .if4 .left))
+waits-again c =
+    testing-next _ _ _ _ _ _ (c .before .before .before .before .before .waits .inv) (c .before .before .before .before .if3 .left)
+    (sym (c .before .excludes .ensures) ∙ not-false _ (c .if4 .left))
 
 search-again : tie.Need-search-again Inv-waits μ-waits Inv-search μ-search
 search-again c =
