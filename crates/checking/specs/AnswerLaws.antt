@@ -1,9 +1,8 @@
 -- Laws of the answer of a plan's check, row by row as the code finds it. Assumes nothing.
 use Prim.Native.Nat.{ℕ, _≤_}
-use native.Mathlib.Omega.{arith}
 use mathlib.Core.Path.{_≡_, refl, sym, ap, subst, _∙_}
 use mathlib.Core.List.{List, _++_}
-use mathlib.Core.Bool.{true, false}
+use mathlib.Core.Bool.{true, cond}
 use lib.ListN.{getD}
 use Rattle.answers.specs.Answers.{refusal}
 use Rattle.answers.specs.declared.Answer.{Answer}
@@ -20,8 +19,8 @@ use Rattle.plan.specs.PlanFile.{groupsIn}
 use Rattle.plan.specs.Groups.{groupOf}
 use Rattle.plan.specs.Rows.{Row, layoutRows, joinRows, orderRows, firstFailing, placed, planRow, planAnswer}
 use Rattle.plan.specs.AcceptedLaws.{failing-first, failing-second, answer-rule, answer-row, answer-accepted}
-use Rattle.grouping.specs.SameLaws.{joins-same}
-use Rattle.checking.specs.Handed.{IsBuilt}
+use Rattle.plan.specs.SameLaws.{joins-same}
+use Rattle.checking.specs.Refused.{IsBuilt}
 
 module _ (s p : List ℕ) (c : Built) (sh : IsBuilt s c) where
   -- the rule's refusal is taken over whole
@@ -85,8 +84,8 @@ module _ (s p : List ℕ) (c : Built) (sh : IsBuilt s c) where
           only : planRow s p ≡ firstFailing last
           only = later ∙ failing-second joins last refl (sym join-is ∙ gone)
 
-          pub circle-refused : placed (gatesOf s) (rulePreconditions s) (groupOf (groupsIn p)) ≡ false → refusal 30 0 ≡ planAnswer s p
-          circle-refused h = row-refused 30 (sym (only ∙ rw h)) (λ z. omega arith)
+          pub circle-refused : (row : ℕ) → row ≡ cond (placed (gatesOf s) (rulePreconditions s) (groupOf (groupsIn p))) 0 30 → (row ≡ 0 → ⊥) → refusal row 0 ≡ planAnswer s p
+          circle-refused row d h = row-refused row (d ∙ sym only) h
 
           pub plan-taken : placed (gatesOf s) (rulePreconditions s) (groupOf (groupsIn p)) ≡ true → c .answer ≡ planAnswer s p
           plan-taken h = sh .0 ∙ sym (answer-accepted s p accepted-rule (only ∙ rw h))

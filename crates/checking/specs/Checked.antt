@@ -11,9 +11,9 @@ use Rattle.needed.specs.Pass.{rulePreconditions}
 use Rattle.circuit.specs.Built.{padded}
 use Rattle.plan.specs.PlanFile.{groupsIn}
 use Rattle.plan.specs.Groups.{groupOf}
+use Rattle.plan.specs.Places.{placeOf}
 use Rattle.plan.specs.Order.{order}
 use Rattle.plan.specs.Rows.{planAnswer}
-use Rattle.grouping.specs.Tables.{placeOf}
 
 -- of an accepted plan the list, of a refused one nothing
 unfoldable pub ifChecked : List ℕ → List ℕ → List ℕ → List ℕ

@@ -9,6 +9,7 @@ use lib.Dec.{eqb, leb}
 use lib.ListN.{length, getD}
 use borrow.Author.Tests.{eq-eqb, ne-eqb, le-leb}
 use Rattle.words.specs.Lists.{same?}
+use Rattle.answers.specs.Answers.{refusal}
 use Rattle.answers.specs.declared.Answer.{Answer}
 use Rattle.gates.specs.Gates.{conditions}
 use Rattle.gates.specs.Limits.{mostGates}
@@ -22,54 +23,39 @@ use Rattle.plan.specs.RowLaws.{apart-right}
 use Rattle.plan.specs.AcceptedLaws.{none-fails}
 use Rattle.plan.specs.GroupLaws.{groupOf-named}
 use Rattle.plan.specs.ListedLaws.{unlisted-name}
+use Rattle.plan.specs.Places.{placeOf}
+use Rattle.plan.specs.PlaceLaws.{unplaced, place-alone, place-members, place-name, place-two}
+use Rattle.plan.specs.SameLaws.{members-same}
 use Rattle.grouping.specs.Walks.{Readable}
-use Rattle.grouping.specs.Tables.{placeOf, groupTable, placeTable}
+use Rattle.grouping.specs.Tables.{groupTable, placeTable}
 use Rattle.grouping.specs.TableLaws.{group-at, place-at}
 use Rattle.grouping.specs.RowLaws.{layout-readable}
-use Rattle.grouping.specs.PlaceLaws.{unplaced, place-alone, place-members, place-name, place-two}
-use Rattle.ordering.specs.SameLaws.{members-same}
-use Rattle.checking.specs.Checked.{ifChecked}
-use Rattle.checking.specs.Refused.{Ungrouped}
-use Rattle.checking.specs.Handed.{IsBuilt, Handed}
+use Rattle.checking.specs.CheckedLaws.{refused-lists}
+use Rattle.checking.specs.Refused.{IsBuilt, Ungrouped}
+use Rattle.checking.specs.Handed.{Handed}
 use Rattle.checking.specs.declared.Checked.{Checked}
-
-pub refused-lists : (s p : List ℕ) → (planAnswer s p .number ≡ 0 → ⊥) → (l : List ℕ) → ifChecked s p l ≡ []
-unfolding ifChecked
-refused-lists s p h l = rw (ne-eqb _ _ h)
-
-pub accepted-lists : (s p : List ℕ) → planAnswer s p .number ≡ 0 → (l : List ℕ) → ifChecked s p l ≡ l
-unfolding ifChecked
-accepted-lists s p h l = rw (eq-eqb _ _ h)
 
 -- a refused plan hands up no groups
 pub refused-handed : (s p : List ℕ) (c : Built) → IsBuilt s c → (a : Answer) (r : Checked) → Ungrouped c a r → a ≡ planAnswer s p → (a .number ≡ 0 → ⊥) → Handed s p r
 refused-handed s p c sh a r u e h =
     let n : planAnswer s p .number ≡ 0 → ⊥ = λ z. h (ap (λ (b : Answer). b .number) e ∙ z) in
-    let none = refused-lists s p n in (
-      u .answered ∙ e,
-      (
-        u .quads ∙ sh .1 .0,
-        (
-          u .needs ∙ sh .1 .1 .0,
-          (
-            u .outputs ∙ sh .1 .1 .1 .0,
-            (
-              u .conditions ∙ sh .1 .1 .1 .1,
-              (
-                u .group ∙ ap (padded mostGates) (sym (none _)),
-                (
-                  u .places ∙ ap (padded mostGates) (sym (none _)),
-                  (
-                    u .order ∙ ap (padded mostGates) (sym (none _)),
-                    u .groups ∙ ap length (sym (none _)),
-                  ),
-                ),
-              ),
-            ),
-          ),
-        ),
-      ),
-    )
+    let none = refused-lists s p n in
+    record {
+      answered = u .answered ∙ e;
+      quads = u .quads ∙ sh .1 .0;
+      needs = u .needs ∙ sh .1 .1 .0;
+      outputs = u .outputs ∙ sh .1 .1 .1 .0;
+      conditions = u .conditions ∙ sh .1 .1 .1 .1;
+      group = u .group ∙ ap (padded mostGates) (sym (none _));
+      places = u .places ∙ ap (padded mostGates) (sym (none _));
+      order = u .order ∙ ap (padded mostGates) (sym (none _));
+      groups = u .groups ∙ ap length (sym (none _));
+    }
+
+-- nor does one that a row refuses
+pub row-handed : (s p : List ℕ) (c : Built) → IsBuilt s c → (n : ℕ) → refusal n 0 ≡ planAnswer s p → (n ≡ 0 → ⊥)
+    → (a : Answer) (r : Checked) → Ungrouped c a r → a ≡ refusal n 0 → Handed s p r
+row-handed s p c sh n e h a r u q = refused-handed s p c sh a r u (q ∙ e) (λ z. h (ap (λ (b : Answer). b .number) (sym q) ∙ z))
 
 -- the tables of a plan that is laid out, of n gates
 module _ (n : ℕ) (p : List ℕ) (room : n ≤ mostGates) (none : firstFailing (layoutRows n p) ≡ 0) where

@@ -1,6 +1,7 @@
 pub mod Checked
 pub mod Refused
 pub mod Handed
+pub mod CheckedLaws
 pub mod AnswerLaws
 pub mod HandedLaws
 pub mod TakenLaws

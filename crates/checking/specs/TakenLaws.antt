@@ -2,17 +2,19 @@
 use Prim.Native.Nat.{ℕ, _<_}
 use mathlib.Core.Path.{_≡_, sym, ap, subst⁻¹, _∙_}
 use mathlib.Core.List.{List, map, reverse}
-use mathlib.Core.Bool.{true, false}
+use mathlib.Core.Bool.{Bool, true, cond}
+use native.Mathlib.Omega.{arith}
 use lib.ListN.{length, getD, replicate, length-reverse}
 use Rattle.words.specs.Lists.{upto}
 use Rattle.words.specs.Buffers.{over}
+use Rattle.answers.specs.Answers.{refusal}
 use Rattle.answers.specs.declared.Answer.{Answer}
 use Rattle.gates.specs.Gates.{Gates, Earlier, conditions}
 use Rattle.gates.specs.Limits.{mostGates}
 use Rattle.gates.specs.PlainCircuit.{gatesOf}
 use Rattle.needed.specs.Held.{gatesIn}
 use Rattle.needed.specs.Pass.{rulePreconditions}
-use Rattle.circuit.specs.Built.{padded, builtQuads, builtNeeds, builtOutputs, builtConditions}
+use Rattle.circuit.specs.Built.{padded}
 use Rattle.circuit.specs.BuiltLaws.{over-zeros}
 use Rattle.circuit.specs.BuiltParts.{built-earlier, built-condition}
 use Rattle.circuit.specs.declared.Built.{Built}
@@ -20,16 +22,23 @@ use Rattle.plan.specs.PlanFile.{groupsIn}
 use Rattle.plan.specs.Groups.{groupOf, groups}
 use Rattle.plan.specs.Order.{order}
 use Rattle.plan.specs.Rows.{layoutRows, joinRows, firstFailing, placed, planAnswer}
-use Rattle.grouping.specs.Tables.{groupTable, placeTable, placeOf}
+use Rattle.plan.specs.Places.{placeOf}
+use Rattle.plan.specs.SameLaws.{order-same, placed-same, order-sets-same, placed-sets-same}
+use Rattle.plan.specs.CountLaws.{placed-count}
+use Rattle.grouping.specs.Tables.{groupTable, placeTable}
 use Rattle.grouping.specs.TableLaws.{group-at}
-use Rattle.ordering.specs.Reads.{Orderable, orderOf}
-use Rattle.ordering.specs.SameLaws.{order-same, placed-same, order-sets-same, placed-sets-same}
-use Rattle.ordering.specs.AnswerLaws.{placed-count, answer-placed, answer-circle}
+use Rattle.ordering.specs.Reads.{Orderable}
+use Rattle.ordering.specs.Row.{orderOf, orderRow}
+use Rattle.ordering.specs.AnswerLaws.{answer-placed, order-row}
+use Rattle.ordering.specs.declared.Order.{Order}
 use Rattle.ordering.specs.declared.Order.the-variants.{Placed, Circle}
 use Rattle.checking.specs.Checked.{ifChecked, writingOrder, checkedGroups, checkedPlaces, checkedOrder}
-use Rattle.checking.specs.Handed.{IsBuilt}
-use Rattle.checking.specs.AnswerLaws.{accepted-rule, gates-are, gates-room, gates-in, needs-in, plan-taken}
-use Rattle.checking.specs.HandedLaws.{accepted-lists, table-named, table-many}
+use Rattle.checking.specs.Handed.{Handed}
+use Rattle.checking.specs.declared.Checked.{Checked}
+use Rattle.checking.specs.CheckedLaws.{accepted-lists}
+use Rattle.checking.specs.Refused.{IsBuilt, Ungrouped}
+use Rattle.checking.specs.AnswerLaws.{accepted-rule, gates-are, gates-room, gates-in, needs-in, circle-refused, plan-taken}
+use Rattle.checking.specs.HandedLaws.{row-handed, table-named, table-many}
 
 module _ (s p : List ℕ) (c : Built) (sh : IsBuilt s c) (zero : c .answer .number ≡ 0)
     (laid : ℕ) (e : laid ≡ firstFailing (layoutRows (c .answer .gates) p)) (none : laid ≡ 0) (group places : List ℕ)
@@ -74,9 +83,15 @@ module _ (s p : List ℕ) (c : Built) (sh : IsBuilt s c) (zero : c .answer .numb
       ∙ placed-sets-same (gatesOf s) (c .needs) (rulePreconditions s) (needs-in s p c sh zero) tabled
       ∙ placed-same (gatesOf s) rule (rulePreconditions s) tabled (groupOf (groupsIn p)) as-plan
 
-  -- a circle remains
-  pub circle-is : Circle ≡ orderOf (gatesIn (c .quads) n) (c .needs) tabled → placed (gatesOf s) (rulePreconditions s) (groupOf (groupsIn p)) ≡ false
-  circle-is h = sym placed-is ∙ answer-circle (gatesIn (c .quads) n) (c .needs) tabled h
+  module _ (join : ℕ) (f : join ≡ firstFailing (joinRows (gatesIn (c .quads) n) (c .needs) p)) (gone : join ≡ 0) where
+    -- a circle remains: a refused plan hands up no groups
+    pub circle-handed : (o : Order) → o ≡ Circle → o ≡ orderOf (gatesIn (c .quads) n) (c .needs) tabled
+        → (a : Answer) (r : Checked) (row : ℕ) → Ungrouped c a r → a ≡ refusal row 0 → row ≡ orderRow o → Handed s p r
+    circle-handed o i h a r row u q w =
+        let x = w ∙ ap orderRow h ∙ order-row (gatesIn (c .quads) n) (c .needs) tabled ∙ ap (λ (b : Bool). cond b 0 30) placed-is in
+        let y : row ≡ 30 = w ∙ ap orderRow i in
+        let some : row ≡ 0 → ⊥ = λ z. omega arith in
+        row-handed s p c sh row (circle-refused s p c sh zero laid e none join f gone row x some) some a r u q
 
   -- every group is placed
   module _ (join : ℕ) (f : join ≡ firstFailing (joinRows (gatesIn (c .quads) n) (c .needs) p)) (gone : join ≡ 0)
@@ -113,14 +128,25 @@ module _ (s p : List ℕ) (c : Built) (sh : IsBuilt s c) (zero : c .answer .numb
         ∙ sym (length-reverse (order (gatesOf s) (rulePreconditions s) (groupOf (groupsIn p)))) ∙ ap length (sym (accepted-lists s p accepted _))
 
     -- all that is handed up
-    pub taken-handed : (c .answer ≡ planAnswer s p)
-        × ((c .quads ≡ builtQuads s)
-        × ((c .needs ≡ builtNeeds s)
-        × ((c .outputs ≡ builtOutputs s)
-        × ((c .conditions ≡ builtConditions s)
-        × ((group ≡ checkedGroups s p)
-        × ((places ≡ checkedPlaces s p)
-        × ((found ≡ checkedOrder s p)
-        × (k ≡ length (ifChecked s p (writingOrder s p))))))))))
-    taken-handed =
-        (taken-answer, (sh .1 .0, (sh .1 .1 .0, (sh .1 .1 .1 .0, (sh .1 .1 .1 .1, (taken-group, (taken-joined, (taken-order, taken-groups))))))))
+    pub taken-handed : Handed s p (record {
+      answer = c .answer;
+      quads = c .quads;
+      needs = c .needs;
+      outputs = c .outputs;
+      conditions = c .conditions;
+      group = group;
+      places = places;
+      order = found;
+      groups = k;
+    })
+    taken-handed = record {
+      answered = taken-answer;
+      quads = sh .1 .0;
+      needs = sh .1 .1 .0;
+      outputs = sh .1 .1 .1 .0;
+      conditions = sh .1 .1 .1 .1;
+      group = taken-group;
+      places = taken-joined;
+      order = taken-order;
+      groups = taken-groups;
+    }

@@ -3,10 +3,8 @@ use answers::Answer;
 use circuit::Built;
 use ordering::Order;
 ghost use mathlib.Core.Path.{_≡_};
-ghost use lib.ListN.{length};
-ghost use Rattle.circuit.specs.Built.{builtQuads, builtNeeds, builtOutputs, builtConditions};
 ghost use Rattle.plan.specs.Rows.{planAnswer};
-ghost use Rattle.checking.specs.Checked.{ifChecked, writingOrder, checkedGroups, checkedPlaces, checkedOrder};
+ghost use Rattle.checking.specs.Handed.{Handed};
 ghost use Rattle.checking.specs.Refused.{Ungrouped};
 
 // A plan checked: its answer; the plain circuit of its rule, as `circuit::build` gives it; each gate's group, the place in the plan of each
@@ -46,15 +44,7 @@ fn refused(circuit: Built, answer: Answer) -> Checked
 
 // Checks a plan for a rule: the rule's refusal first, then the lowest of the rows 20 to 30.
 pub fn check(rule: &[u8], plan: &[u8]) -> Checked
-    ensures answer { λ r. ⌜ r .answer ≡ planAnswer (now (rule .entry)) (now (plan .entry)) ⌝ }
-    ensures quads { λ r. ⌜ r .quads ≡ builtQuads (now (rule .entry)) ⌝ }
-    ensures needs { λ r. ⌜ r .needs ≡ builtNeeds (now (rule .entry)) ⌝ }
-    ensures outputs { λ r. ⌜ r .outputs ≡ builtOutputs (now (rule .entry)) ⌝ }
-    ensures conditions { λ r. ⌜ r .conditions ≡ builtConditions (now (rule .entry)) ⌝ }
-    ensures group { λ r. ⌜ r .group ≡ checkedGroups (now (rule .entry)) (now (plan .entry)) ⌝ }
-    ensures places { λ r. ⌜ r .places ≡ checkedPlaces (now (rule .entry)) (now (plan .entry)) ⌝ }
-    ensures order { λ r. ⌜ r .order ≡ checkedOrder (now (rule .entry)) (now (plan .entry)) ⌝ }
-    ensures groups { λ r. ⌜ r .groups ≡ length (ifChecked (now (rule .entry)) (now (plan .entry)) (writingOrder (now (rule .entry)) (now (plan .entry)))) ⌝ }
+    ensures { λ r. ⌜ Handed (now (rule .entry)) (now (plan .entry)) r ⌝ }
 {
     let circuit = circuit::build(rule);
     let read = circuit.answer;
@@ -87,7 +77,7 @@ pub fn check(rule: &[u8], plan: &[u8]) -> Checked
     );
     let outputs = circuit.outputs;
     match placed {
-        Order::Circle => refused(circuit, answers::refused(30, 0)),
+        Order::Circle => refused(circuit, answers::refused(ordering::refusal_row(placed), 0)),
         Order::Placed(groups) => Checked {
             answer: read,
             quads,

@@ -19,7 +19,7 @@ use Rattle.needed.specs.Held.{gateIn, Shaped}
 use Rattle.needed.specs.HeldQuads.{gate-held, gates-held}
 use Rattle.plan.specs.PlanFile.{groupAt, after}
 use Rattle.emitting.specs.Emitted.{Grouped, FitsGate, Coded, Writable, Joinable, JoinWritable}
-use Rattle.emitting.specs.MemberLaws.{member-in}
+use Rattle.plan.specs.NumberLaws.{member-in}
 use Rattle.emitting.specs.EmitLaws.{code-held}
 
 -- a variable's number and a bit constant are bytes

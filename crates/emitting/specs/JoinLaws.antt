@@ -5,9 +5,9 @@ use mathlib.Core.List.{List, [], _∷_, _++_, map, append-assoc, append-nil, map
 use mathlib.Core.Logic.{_⊎_, inl, inr}
 use native.Mathlib.Omega.{arith}
 use lib.ListN.{length, getD, length-map}
-use Rattle.words.specs.Lists.{_∈_, keep-from, from, upto, from-below}
+use Rattle.words.specs.Lists.{_∈_, from, upto}
 use Rattle.words.specs.ListLaws.{map-same}
-use Rattle.settings.specs.Sets.{restsOn, rests}
+use Rattle.settings.specs.Sets.{rests}
 use Rattle.settings.specs.Guards.{table}
 use Rattle.codes.specs.Codes.{entryOf, operationOf}
 use Rattle.codes.specs.declared.Operation.{Operation}
@@ -19,7 +19,7 @@ use Rattle.needed.specs.Held.{gateIn, gatesIn, codeAt, firstAt, secondAt, third
 use Rattle.needed.specs.HeldLaws.{gates-at}
 use Rattle.needed.specs.QuadLaws.{Applies, KindIn, chooses, is-word, is-bit, applies, starts, kind-in, choice-in, word-in, bit-in, applied-in}
 use Rattle.plan.specs.PlanFile.{groupAt}
-use Rattle.plan.specs.Groups.{restsOf}
+use Rattle.plan.specs.RestLaws.{rests-held}
 use Rattle.fused.specs.Records.{Record, pick}
 use Rattle.fused.specs.Records as records
 use Rattle.fused.specs.Emission as emission
@@ -73,21 +73,12 @@ module _ (quads : List ℕ) (m : ℕ) (two : length (arguments (gateIn quads m))
 
 -- The records of a joined group.
 
-pub rests-below : (s t : ℕ) → t ∈ rests mostConditions s → t < mostConditions
-unfolding rests
-rests-below s t m =
-    let r : (0 ≤ t) × (t < 0 + mostConditions) = from-below 0 mostConditions t (keep-from (restsOn mostConditions s) (upto mostConditions) t m .0) in
-    omega (arith, r .1)
-
 module _ (quads : List ℕ) (count : ℕ) (sets conds : List ℕ) (wire : ℕ → ℕ) (n : ℕ) where
   guard-same : ((t : ℕ) → t < mostConditions → getD conds t 0 ≡ getD (conditions (gatesIn quads count)) t 0) → (m : ℕ)
       → emission.guardOf [] (gatesIn quads count) sets wire m ≡ guardIn conds wire (getD sets m 0)
-  unfolding restsOf
   guard-same held m =
       ap (λ (l : List ℕ). records.guard l (table mostConditions (getD sets m 0)))
-      (map-map wire (λ t. getD (conditions (gatesIn quads count)) t 0) (rests mostConditions (getD sets m 0))
-      ∙ map-same (λ t. wire (getD (conditions (gatesIn quads count)) t 0)) (λ t. wire (getD conds t 0)) (rests mostConditions (getD sets m 0))
-      (λ t i. ap wire (sym (held t (rests-below (getD sets m 0) t i)))))
+      (ap (map wire) (rests-held (gatesIn quads count) sets conds held m) ∙ map-map wire (λ t. getD conds t 0) (rests mostConditions (getD sets m 0)))
 
   module _ (ms : List ℕ) (below : Inside count ms) (two : (m : ℕ) → m ∈ ms → length (arguments (gateIn quads m)) ≡ 2) where
     args-at : (m : ℕ) → m ∈ ms → arguments (gateAt (gatesIn quads count) m) ≡ argumentAt quads m 0 ∷ argumentAt quads m 1 ∷ []

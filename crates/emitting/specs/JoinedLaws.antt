@@ -24,7 +24,7 @@ use Rattle.fused.specs.CircuitFile.{wiresBytes, recordBytes, recordsBytes}
 use Rattle.fused.specs.SizeLaws.{wires-size, cost-append, pick-size}
 use Rattle.emitting.specs.Emitted.{emitIn, guardIn, guardsIn, argumentAt, pairsIn, restedBy, Joinable, JoinWritable, Measured}
 use Rattle.emitting.specs.ByteLaws.{behind}
-use Rattle.emitting.specs.MemberLaws.{length-group, member-in}
+use Rattle.plan.specs.NumberLaws.{length-group, member-in}
 use Rattle.emitting.specs.GuardLaws.{guard-size}
 use Rattle.emitting.specs.PieceLaws.{few-rests}
 use Rattle.emitting.specs.LoopLaws.{pairs-count}

@@ -1,7 +1,6 @@
 pub mod Emitted
 pub mod FillLaws
 pub mod ByteLaws
-pub mod MemberLaws
 pub mod AloneLaws
 pub mod PutLaws
 pub mod PieceLaws

@@ -18,7 +18,7 @@ use Rattle.fused.specs.CircuitFile.{wiresBytes, recordBytes, recordsBytes}
 use Rattle.fused.specs.SizeLaws.{wires-size, pairs-size}
 use Rattle.emitting.specs.Emitted.{guardIn, guardsIn, pairsIn, argumentAt, Grouped, Lies, Paired}
 use Rattle.emitting.specs.FillLaws.{pieces, Filling, filling-start, filling-room, filling-fits, filling-length, filling-step, filling-pass, filling-end}
-use Rattle.emitting.specs.MemberLaws.{length-group, member-in}
+use Rattle.plan.specs.NumberLaws.{length-group, member-in}
 use Rattle.emitting.specs.PieceLaws.{restPiece, rest-in, rest-out, rest-pieces, record-pieces, pair-pieces}
 use Rattle.emitting.specs.GuardLaws.{rest-wires}
 use Rattle.fused.specs.SizeJoined.{length-pairs}

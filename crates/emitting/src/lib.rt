@@ -152,14 +152,6 @@ pub fn put_alone(
     put_applied(out, quads, group, wires, g)
 }
 
-// Member i of the group at the place at of the plan.
-pub fn member(plan: &[u8], at: usize, i: usize) -> GateId
-    requires { ⌜ (after (now plan) at ≤ length (now plan)) × (i < getD (now plan) at 0) ⌝ }
-    ensures { λ r. ⌜ r .0 ≡ getD (groupAt (now (plan .entry)) at) i 0 ⌝ }
-{
-    GateId(words::read16(plan, at + 1 + 2 * i))
-}
-
 // How many conditions a precondition rests on.
 pub fn rested(set: u64) -> u8
     ensures { λ r. ⌜ r ≡ length (rests mostConditions set) ⌝ }
@@ -233,7 +225,7 @@ fn put_guards(
     let mut n: usize = 0;
     let mut i: usize = 0;
     while i < size {
-        let m = member(plan, at, i);
+        let m = plan::member(plan, at, i);
         let g = m.0 as usize;
         let k = put_guard(&mut out[n..], needs[g], conditions, group, wires);
         n = n + k;
@@ -269,7 +261,7 @@ fn put_pairs(
     let mut n: usize = 0;
     let mut i: usize = 0;
     while i < size {
-        let reader = member(plan, at, i);
+        let reader = plan::member(plan, at, i);
         let g = reader.0 as usize;
         let w = wire_at(quads, 4 * g + 1 + k, group, wires);
         put_pair(&mut out[n..], WireId(first.0 + (i as u16)), w);
@@ -331,7 +323,7 @@ fn put_fused(
     ensures written { λ r. ⌜ now (out .exit) ≡ over (fusedBytes (now (quads .entry)) (wireIn (now (group .entry)) (now (wires .entry))) (first .0) (getD (now (plan .entry)) at 0) (groupAt (now (plan .entry)) at)) (now (out .entry)) ⌝ }
 {
     let n = put_picks(out, plan, at, first, quads, group, wires);
-    let m = member(plan, at, 0);
+    let m = plan::member(plan, at, 0);
     let i = m.0 as usize;
     let picked = first.0 + (plan[at] as u16);
     put_binary(

@@ -29,6 +29,7 @@ use Rattle.needed.specs.Needed.{wantedOf}
 use Rattle.needed.specs.Pass.{preconditions, preconditionSets, rulePreconditions}
 use Rattle.circuit.specs.Whole.{wholeWithin, ruleAnswer}
 use Rattle.plan.specs.PlanFile.{Plan, mark, groupsIn}
+use Rattle.plan.specs.Layout.{planBytes}
 use Rattle.plan.specs.Groups.{groupOf, groups, RestsOn, restsOf, Waits, waitsFor}
 use Rattle.plan.specs.Order.{order}
 use Rattle.plan.specs.Rows.{planRow, planAnswer}
@@ -45,17 +46,9 @@ pub record Example : Type 1 where
   pub says : Type 0
   pub shown : says
 
--- the bytes of these groups, and of a plan of them for n gates
-abbrev groupBytes : Plan → List ℕ
-groupBytes [] = []
-groupBytes (G ∷ Gs) = length G ∷ (flat (bytesOf 2) G ++ groupBytes Gs)
-
-abbrev pub planOf : ℕ → Plan → List ℕ
-planOf n Gs = mark ++ (bytesOf 2 n ++ (bytesOf 2 (length Gs) ++ groupBytes Gs))
-
 -- example 6's plan of both groups, and the group of each gate by it
 abbrev pub both : List ℕ
-both = planOf 11 ((4 ∷ 7 ∷ []) ∷ (5 ∷ 6 ∷ []) ∷ [])
+both = planBytes 11 ((4 ∷ 7 ∷ []) ∷ (5 ∷ 6 ∷ []) ∷ [])
 
 abbrev pub bothGroup : ℕ → ℕ
 bothGroup = groupOf (groupsIn both)
@@ -109,7 +102,7 @@ starred =
       shown = refl;
     }
     -- 5. Group 3, 5 in R1: 27.
-    ∷ record { says = planAnswer r1 (planOf 6 ((3 ∷ 5 ∷ []) ∷ [])) ≡ refusal 27 0; shown = example-5 }
+    ∷ record { says = planAnswer r1 (planBytes 6 ((3 ∷ 5 ∷ []) ∷ [])) ≡ refusal 27 0; shown = example-5 }
     -- 6. R2, variables bit, word, word, bit: if v0 then v3 := v1 × v1 < v2 else (if v1 < v2 then v1 := v1 × v2). 11 gates; products 4 and 7,
     -- comparisons 5 and 6. Groups {4, 7} or {5, 6} alone: accepted. Both: 30, by gate 7's condition.
     ∷ record {
@@ -123,8 +116,8 @@ starred =
           × (gateCount r2 ≡ 11)
           × (map (gateAt (gatesOf r2)) (4 ∷ 7 ∷ []) ≡ operation Product (1 ∷ 1 ∷ []) ∷ operation Product (1 ∷ 2 ∷ []) ∷ [])
           × (map (gateAt (gatesOf r2)) (5 ∷ 6 ∷ []) ≡ operation LessThan (4 ∷ 2 ∷ []) ∷ operation LessThan (1 ∷ 2 ∷ []) ∷ [])
-          × (planAnswer r2 (planOf 11 ((4 ∷ 7 ∷ []) ∷ [])) ≡ success 11 0 0 119 0)
-          × (planAnswer r2 (planOf 11 ((5 ∷ 6 ∷ []) ∷ [])) ≡ success 11 0 0 119 0)
+          × (planAnswer r2 (planBytes 11 ((4 ∷ 7 ∷ []) ∷ [])) ≡ success 11 0 0 119 0)
+          × (planAnswer r2 (planBytes 11 ((5 ∷ 6 ∷ []) ∷ [])) ≡ success 11 0 0 119 0)
           × (planAnswer r2 both ≡ refusal 30 0)
           -- gate 7 rests on the condition 6, so group {4, 7} waits for {5, 6}, in which 5 has the argument 4;
           -- no argument of 4 or 7 is in {5, 6}, and gate 4 rests on the condition 0 alone
@@ -154,7 +147,7 @@ starred =
       says =
           (map (kindAt r7) (upto (variables r7)) ≡ Word ∷ [])
           × (readRule r7 ≡ parsed (then (assign 0 (two Product (two Product (variable 0) (variable 0)) (variable 0))) (then (assign 0 (word 7)) end)) 25)
-          × (planAnswer r7 (planOf 4 ((1 ∷ 2 ∷ []) ∷ [])) ≡ refusal 30 0)
+          × (planAnswer r7 (planBytes 4 ((1 ∷ 2 ∷ []) ∷ [])) ≡ refusal 30 0)
           × Unneeded r7 1
           × Unneeded r7 2;
       shown = (refl, refl, refl, unneeded r7 refl 1 refl, unneeded r7 refl 2 refl);
@@ -167,7 +160,7 @@ starred =
           (then (branch (two LessThan (variable 0) (word 5)) (then (assign 1 (two Product (variable 0) (variable 0))) end) end)
           (then (branch (two LessThan (word 5) (variable 0)) (then (assign 2 (two Product (variable 0) (variable 0))) end) end) end))
           46)
-          × (planAnswer r8 (planOf 11 ((5 ∷ 9 ∷ []) ∷ [])) ≡ refusal 29 0);
+          × (planAnswer r8 (planBytes 11 ((5 ∷ 9 ∷ []) ∷ [])) ≡ refusal 29 0);
       shown = (refl, refl, refl);
     }
     -- 9. 4294967295 + 1 = 0; 0 − 1 = 4294967295; 65536 × 65536 = 0. So too for the expressions of a direct run, whatever its figures.

@@ -28,7 +28,7 @@ use Rattle.fused.specs.FusedCircuit.{groupRecords, written, fused, recor
 use Rattle.fused.specs.RecordLaws.{Along, along-append, along-at, along-map}
 use Rattle.fused.specs.EmitLaws.{joined-along}
 use Rattle.fused.specs.WrittenLaws.{written-none, written-more}
-use Rattle.fused.specs.SizeJoined.{rests-few}
+use Rattle.plan.specs.RestLaws.{rests-few}
 
 -- what holds along the records of every group, whatever wires it reads and wherever it begins, holds along all that is written
 pub written-along : (s : List ℕ) (C : Gates) (sets : List ℕ) (group : ℕ → ℕ) (P : ℕ → Record → Type 0)
@@ -74,7 +74,7 @@ emit-bounded v s C sets starts wire n (m ∷ k ∷ l) =
     joined-along (λ i. Bounded v) n (gateOperation (gateAt C m)) (map (guardOf s C sets wire) (m ∷ k ∷ l)) (valuesAt s C sets wire (m ∷ k ∷ l))
     (upto (length (arguments (gateAt C m))))
     (along-map (λ i. Bounded v) (guardOf s C sets wire) (m ∷ k ∷ l) n n (omega arith)
-    (λ i _ _ _. let few : length (map wire (restsOf C sets i)) ≤ mostConditions = omega (arith, length-map (restsOf C sets i) wire, rests-few s C sets wire i) in few))
+    (λ i _ _ _. let few : length (map wire (restsOf C sets i)) ≤ mostConditions = omega (arith, length-map (restsOf C sets i) wire, rests-few C sets i) in few))
     (λ _ _ _ _. tt) tt
 
 -- every record of the fused circuit of an accepted plan

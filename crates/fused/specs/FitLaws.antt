@@ -23,11 +23,12 @@ use Rattle.gates.specs.Limits.{mostConditions}
 use Rattle.gates.specs.GateKinds.{GateFits}
 use Rattle.gates.specs.EachGateLaws.{StartGate}
 use Rattle.plan.specs.Groups.{members, restsOf}
+use Rattle.plan.specs.RestLaws.{rests-few}
 use Rattle.plan.specs.Accepted.{OneCostly}
 use Rattle.fused.specs.Records.{Record, input, word, bit, operation, choice, pick, guard, reads, recordIn}
 use Rattle.fused.specs.Emission.{alone, joined, guardOf, valuesAt, emit}
 use Rattle.fused.specs.FitRecords.{Wires, ReadsBack, AllReadBack}
-use Rattle.fused.specs.SizeJoined.{length-pairs, rests-few}
+use Rattle.fused.specs.SizeJoined.{length-pairs}
 use Rattle.fused.specs.RecordLaws.{Along, along-map}
 use Rattle.fused.specs.EmitLaws.{joined-along}
 
@@ -86,7 +87,7 @@ module _ (s : List ℕ) (C : Gates) (sets : List ℕ) (wire : ℕ → ℕ) where
   joined-sized n op ms h =
       joined-along (λ i. FieldsFit) n op (map (guardOf s C sets wire) ms) (valuesAt s C sets wire ms) (upto (entryOf op .arity))
       (along-map (λ i. FieldsFit) (guardOf s C sets wire) ms n n (omega arith)
-      (λ m _ _ _. (omega (arith, length-map (restsOf C sets m) wire, rests-few s C sets wire m), table-small (getD sets m 0))))
+      (λ m _ _ _. (omega (arith, length-map (restsOf C sets m) wire, rests-few C sets m), table-small (getD sets m 0))))
       (λ k _ _ _. omega (arith, length-pairs n (valuesAt s C sets wire ms k), length-map ms (λ m. wire (getD (arguments (gateAt C m)) k 0))))
       (length-from _ _ ∙ length-from 0 (entryOf op .arity))
 

@@ -1,7 +1,7 @@
 -- Rules that differ only in the order of such variables are answered and written alike (document 02, C-12).
 use Prim.Native.Nat.{ℕ, _<_, _≤_}
 use mathlib.Core.Path.{_≡_, refl, sym, ap, ap₂, subst, _∙_}
-use mathlib.Core.List.{List, [], _∷_, _++_, map}
+use mathlib.Core.List.{List, [], _∷_, map}
 use lib.ListN.{length}
 use Rattle.answers.specs.Answers.{success}
 use Rattle.answers.specs.ParsingLaws.{is-read}
@@ -20,7 +20,8 @@ use Rattle.circuit.specs.WholeLaws.{whole-success, answer-whole, accepted}
 use Rattle.plan.specs.PlanFile.{groupsIn}
 use Rattle.plan.specs.Groups.{groupOf, members}
 use Rattle.plan.specs.Order.{order}
-use Rattle.plan.specs.Rows.{layoutRows, joinRows, orderRows, firstFailing, planRow, planAnswer}
+use Rattle.plan.specs.Rows.{planAnswer}
+use Rattle.plan.specs.SameLaws.{row-same}
 use Rattle.fused.specs.Records.{Record, input}
 use Rattle.fused.specs.Emission.{alone, emit}
 use Rattle.fused.specs.FusedCircuit.{Written, written, fused, recordsOf, outputWires, costAfter}
@@ -69,13 +70,9 @@ module _ (s t : List ℕ) (o : OnlyOrder s t) where
         ∙ whole-success mostGates mostConditions (gatesOf t) (length t) (subst (λ (C : Gates). length C ≤ mostGates) same-gates (w .gates))
         (subst (λ (C : Gates). length (conditions C) ≤ mostConditions) same-gates (w .conds)))
 
-    same-row : (p : List ℕ) → planRow s p ≡ planRow t p
-    unfolding planRow
-    same-row p = ap₂ (λ (C : Gates) (S : List ℕ). firstFailing (layoutRows (length C) p ++ (joinRows C S p ++ orderRows C S p))) same-gates same-sets
-
     pub same-plan : (p : List ℕ) → planAnswer s p ≡ planAnswer t p
     unfolding planAnswer
-    same-plan p = rw (same-rule, same-row p)
+    same-plan p = rw (same-rule, row-same s t p same-gates same-sets)
 
     same-fused : (p : List ℕ) → fused s p ≡ fused t p
     unfolding fused

@@ -21,6 +21,7 @@ use Rattle.needed.specs.PassLaws.{needed-complete}
 use Rattle.plan.specs.Groups.{members, waitsFor}
 use Rattle.plan.specs.Order.{Ordered}
 use Rattle.plan.specs.GroupLaws.{member-of}
+use Rattle.plan.specs.ReadsLaws.{waits-argument, waits-rests}
 use Rattle.fused.specs.Records.{Record, pickFigure}
 use Rattle.fused.specs.Emission.{gateOperation, pairs, joined, guardOf, valuesAt, emit}
 use Rattle.fused.specs.FusedCircuit.{Written, groupRecords, written}
@@ -28,7 +29,7 @@ use Rattle.fused.specs.RecordLaws.{GivesFigure, Figured, along-left, alo
 use Rattle.fused.specs.PickLaws.{places-map, alone-figure, Guarding, guards-hold, pick-one, joined-guards, joined-figure}
 use Rattle.fused.specs.JoinedLaws.{Joined, joined-one}
 use Rattle.fused.specs.GuardLaws.{guard-figure, guard-needed}
-use Rattle.fused.specs.WrittenLaws.{waits-argument, waits-rests, written-more, written-length, wire-last, wire-old}
+use Rattle.fused.specs.WrittenLaws.{written-more, written-length, wire-last, wire-old}
 
 -- a gate's figure reads only what it asks for under the setting that the figures v give
 pub figure-asks : (inputs : List ℕ) (v w : ℕ → ℕ) (k : Gate) → ((a : ℕ) → a ∈ asks (λ c. isOne (v c)) k → w a ≡ v a) → figure inputs w k ≡ figure inputs v k

@@ -4,16 +4,14 @@ use mathlib.Core.List.{List, [], _∷_, _++_, map}
 use Prim.Native.Nat.{ℕ, suc, _+_, _*_, _≤_}
 use native.Mathlib.Nat.{suc-mul}
 use native.Mathlib.Omega.{arith}
-use lib.ListN.{length, getD, length-append, length-map}
+use lib.ListN.{length, length-append, length-map}
 use Rattle.words.specs.Lists.{from, upto, length-from}
-use Rattle.words.specs.ListLaws.{length-keep}
-use Rattle.settings.specs.Sets.{restsOn, rests}
 use Rattle.codes.specs.Codes.{entryOf}
 use Rattle.codes.specs.declared.Operation.{Operation}
 use Rattle.gates.specs.Gates.{Gates}
-use Rattle.gates.specs.Limits.{mostConditions}
 use Rattle.plan.specs.PlanFile.{EachGroup}
 use Rattle.plan.specs.Groups.{restsOf}
+use Rattle.plan.specs.RestLaws.{rests-few}
 use Rattle.fused.specs.Records.{Record, operation, pick, recordsCost}
 use Rattle.fused.specs.Emission.{pairs, joined, guardOf, valuesAt}
 use Rattle.fused.specs.CircuitFile.{recordBytes, recordsBytes}
@@ -69,11 +67,6 @@ module _ (n : ℕ) (op : Operation) (guards : List Record) (places : List (List 
 
 -- the guards and the places of these members
 module _ (s : List ℕ) (C : Gates) (sets : List ℕ) (wire : ℕ → ℕ) where
-  -- a guard reads at most six conditions
-  pub rests-few : (m : ℕ) → length (restsOf C sets m) ≤ mostConditions
-  unfolding restsOf rests
-  rests-few m = rw length-map (rw (length-from 0 mostConditions) at (length-keep (restsOn mostConditions (getD sets m 0)) (upto mostConditions)))
-
   pub guard-bytes : (m : ℕ) → length (recordBytes (guardOf s C sets wire m)) ≡ 10 + 2 * length (restsOf C sets m)
   guard-bytes m = guard-size (map wire (restsOf C sets m)) _ ∙ rw length-map
 
@@ -81,7 +74,7 @@ module _ (s : List ℕ) (C : Gates) (sets : List ℕ) (wire : ℕ → ℕ) where
   guards-most [] = omega arith
   guards-most (m ∷ ms) =
       rw (length-append (recordBytes (guardOf s C sets wire m)) (recordsBytes (map (guardOf s C sets wire) ms)), guard-bytes m)
-      (omega (arith, rests-few m, guards-most ms))
+      (omega (arith, rests-few C sets m, guards-most ms))
 
   -- a guard costs 1
   pub guards-cost : (ms : List ℕ) → recordsCost (map (guardOf s C sets wire) ms) ≡ length ms

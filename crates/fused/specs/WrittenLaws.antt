@@ -2,20 +2,19 @@
 -- Assumes nothing.
 use Prim.Native.Nat.{ℕ, _+_, _-_, _≤_, _<_}
 use mathlib.Core.Path.{_≡_, refl, sym, ap, _∙_}
-use mathlib.Core.Bool.{cond}
 use mathlib.Core.List.{List, [], _∷_, _++_}
 use mathlib.Core.Logic.{_⊎_, inl, inr}
 use native.Mathlib.Nat.{zero-add}
 use native.Mathlib.Omega.{arith}
-use lib.Dec.{leb}
-use borrow.Author.Tests.{eq-eqb, ne-eqb, le-leb}
+use borrow.Author.Tests.{eq-eqb, ne-eqb}
 use lib.ListN.{length, length-append}
-use Rattle.words.specs.Lists.{_∈_, same?, flat, in-map, in-flat, in-append}
+use Rattle.words.specs.Lists.{_∈_, same?, in-append}
 use Rattle.settings.specs.Settings.{Once}
 use Rattle.gates.specs.Gates.{Gates, gateAt, arguments}
-use Rattle.plan.specs.Groups.{groups, members, restsOf, readsOf, waitsFor}
+use Rattle.plan.specs.Groups.{groups, members, waitsFor}
 use Rattle.plan.specs.Order.{Ordered}
 use Rattle.plan.specs.GroupLaws.{group-of, member-of}
+use Rattle.plan.specs.ReadsLaws.{waits-argument, waits-rests}
 use Rattle.fused.specs.Records.{ReadsEarlier}
 use Rattle.fused.specs.FusedCircuit.{Written, groupRecords, written}
 use Rattle.fused.specs.RecordLaws.{ReadsBefore, Below, along-append, below-earlier}
@@ -34,23 +33,6 @@ abbrev pub Level : Gates → (ℕ → ℕ) → Type 0
 Level C group =
     (p : ℕ) → 2 ≤ length (members (length C) group p)
     → (m k : ℕ) → m ∈ members (length C) group p → k ∈ members (length C) group p → length (arguments (gateAt C m)) ≡ length (arguments (gateAt C k))
-
-module _ (C : Gates) (sets : List ℕ) (group : ℕ → ℕ) where
-  -- a group waits for its members' arguments
-  pub waits-argument : (p m a : ℕ) → m ∈ members (length C) group p → a ∈ arguments (gateAt C m) → group a ∈ waitsFor C sets group p
-  unfolding waitsFor
-  waits-argument p m a h k =
-      let ms = members (length C) group p in
-      in-map group a (flat (readsOf C sets ms) ms)
-      (in-flat (readsOf C sets ms) a m ms h (in-append a (arguments (gateAt C m)) (cond (leb 2 (length ms)) (restsOf C sets m) []) (inl k)))
-
-  -- and, of two members or more, for the conditions that they rest on
-  pub waits-rests : (p m c : ℕ) → m ∈ members (length C) group p → 2 ≤ length (members (length C) group p) → c ∈ restsOf C sets m → group c ∈ waitsFor C sets group p
-  unfolding waitsFor
-  waits-rests p m c h t k =
-      let ms = members (length C) group p in
-      in-map group c (flat (readsOf C sets ms) ms)
-      (in-flat (readsOf C sets ms) c m ms h (in-append c (arguments (gateAt C m)) (cond (leb 2 (length ms)) (restsOf C sets m) []) (inr (rw (le-leb 2 (length ms) t) k))))
 
 module _ (s : List ℕ) (C : Gates) (sets : List ℕ) (group : ℕ → ℕ) where
   -- nothing is written at first; then each group's records are appended

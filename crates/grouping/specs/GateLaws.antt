@@ -1,4 +1,4 @@
--- Document 01, "Refusals by place", rows 27 and 28: what a gate's code says of them. Assumes nothing.
+-- Laws of the rows 27 and 28: what a gate's code says of them. Assumes nothing.
 use Prim.Native.Nat.{ℕ, _≤_, _<_}
 use mathlib.Core.Path.{_≡_, refl, sym, ap, _∙_}
 use mathlib.Core.List.{List, [], _∷_}

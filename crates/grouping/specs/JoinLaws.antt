@@ -14,7 +14,8 @@ use Rattle.plan.specs.PlanFile.{leastBytes, groupsCounted, groupAt, after, grou
 use Rattle.plan.specs.Groups.{smallest, groupOf}
 use Rattle.plan.specs.Rows.{every, apart}
 use Rattle.plan.specs.RowLaws.{every-right, apart-right}
-use Rattle.grouping.specs.Tables.{placeFrom, placeOf, groupTable, placeTable, eachAlone}
+use Rattle.plan.specs.Places.{placeFrom, placeOf}
+use Rattle.grouping.specs.Tables.{groupTable, placeTable, eachAlone}
 use Rattle.grouping.specs.Tests.{putAll}
 use Rattle.grouping.specs.Walks.{Readable, Ahead, ReadableGroup}
 use Rattle.grouping.specs.GroupLaws.{ahead-start, ahead-fits, ahead-step}

@@ -10,5 +10,3 @@ pub mod TableLaws
 pub mod PutLaws
 pub mod JoinLaws
 pub mod RowLaws
-pub mod SameLaws
-pub mod PlaceLaws

@@ -1,19 +1,18 @@
 -- Laws of row 26 with the tables, for the members of one group: each takes the group's name and place. Assumes nothing.
 use Prim.Native.Nat.{ℕ, _+_, _*_, _≤_, _<_}
-use mathlib.Core.Path.{_≡_, refl, sym, ap, _∙_}
+use mathlib.Core.Path.{_≡_, sym, ap, _∙_}
 use mathlib.Core.List.{List, [], _∷_}
 use mathlib.Core.Bool.{Bool, true, false}
-use mathlib.Core.Logic.{inl, inr}
 use native.Mathlib.Omega.{arith}
 use lib.Dec.{eqb}
 use lib.ListN.{getD, set}
 use lib.Seq.{getD-set-other}
 use borrow.Author.Tests.{eq-eqb, ne-eqb}
 use Rattle.words.specs.Lists.{_∈_}
-use Rattle.words.specs.Numbers.{numberAt}
 use Rattle.plan.specs.PlanFile.{groupAt}
 use Rattle.plan.specs.Groups.{smallest}
 use Rattle.plan.specs.Rows.{every}
+use Rattle.plan.specs.SameLaws.{every-same}
 use Rattle.grouping.specs.Tests.{membersFrom, putAll}
 use Rattle.grouping.specs.Walks.{ReadableGroup}
 use Rattle.grouping.specs.MemberLaws.{members-step, members-end, members-all, Walk, walk-start, walk-step, walk-above}
@@ -32,7 +31,7 @@ pub record PuttingMembers (n : ℕ) (p : List ℕ) (at first : ℕ) (group₀ pl
   pub groups : putAll (groupAt p at) first group₀ ≡ putAll (membersFrom p at k) first group
   pub placing : putAll (groupAt p at) at places₀ ≡ putAll (membersFrom p at k) at places
 
-pub putting-start : (n : ℕ) (p : List ℕ) (at first : ℕ) (group places : List ℕ) → ReadableGroup n p at → first ≡ numberAt 2 p (at + 1 + 2 * 0) → PuttingMembers n p at first group places group places 0
+pub putting-start : (n : ℕ) (p : List ℕ) (at first : ℕ) (group places : List ℕ) → ReadableGroup n p at → first ≡ getD (groupAt p at) 0 0 → PuttingMembers n p at first group places group places 0
 putting-start n p at first group places f q =
     record {
       walk = walk-start n p at f;
@@ -43,12 +42,8 @@ putting-start n p at first group places f q =
     }
 
 -- two tests that are the same on a list pass the same lists
-pub every-same : (s t : ℕ → Bool) (l : List ℕ) → ((g : ℕ) → g ∈ l → s g ≡ t g) → every s l ≡ every t l
-every-same s t [] h = refl
-every-same s t (a ∷ l) h = rw (h a (inl refl), every-same s t l (λ g m. h g (inr m)))
-
 module _ (n : ℕ) (p : List ℕ) (at first : ℕ) (group₀ places₀ group places : List ℕ) (k g : ℕ)
-    (w : PuttingMembers n p at first group₀ places₀ group places k) (h : k < getD p at 0) (q : g ≡ numberAt 2 p (at + 1 + 2 * k)) where
+    (w : PuttingMembers n p at first group₀ places₀ group places k) (h : k < getD p at 0) (q : g ≡ getD (groupAt p at) k 0) where
   here : membersFrom p at k ≡ g ∷ membersFrom p at (k + 1)
   here = members-step p at k h ∙ ap (λ (i : ℕ). i ∷ membersFrom p at (k + 1)) (sym q)
 

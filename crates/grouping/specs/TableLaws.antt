@@ -1,22 +1,24 @@
 -- Laws of the tables of groups and places: what lies in them, before any group is joined and at the end. Assumes nothing.
-use Prim.Native.Nat.{ℕ, _+_, _-_, _≤_, _<_}
+use Prim.Native.Nat.{ℕ, _+_, _≤_, _<_}
 use mathlib.Core.Path.{_≡_, refl, sym, ap, _∙_}
 use mathlib.Core.List.{List, [], _∷_, map}
 use mathlib.Core.Bool.{Bool, true, false, cond}
 use mathlib.Core.Logic.{_⊎_, inl, inr}
 use native.Mathlib.Nat.{zero-add}
 use native.Mathlib.Omega.{arith}
-use lib.ListN.{length, getD, set, replicate, length-append, length-map, length-replicate, length-set, List·getD-append}
-use lib.Seq.{getD-append-add, getD-set-same, getD-set-other, ext-getD}
+use lib.ListN.{length, getD, set, replicate, length-map, length-replicate, length-set, List·getD-eq-default}
+use lib.Seq.{getD-set-same, getD-set-other, ext-getD}
 use lib.Dec.{ltb}
 use borrow.Author.Tests.{eq-eqb, ne-eqb, ltb-true, ltb-false}
 use Rattle.words.specs.Lists.{_∈_, elem, split, same?, upto, length-from}
 use Rattle.words.specs.ListLaws.{getD-run, getD-zeros}
 use Rattle.gates.specs.Limits.{mostGates}
 use Rattle.circuit.specs.Built.{padded}
+use Rattle.circuit.specs.BuiltParts.{padded-at, padded-length}
 use Rattle.plan.specs.PlanFile.{groupsIn}
 use Rattle.plan.specs.Groups.{groupOf}
-use Rattle.grouping.specs.Tables.{placeOf, groupTable, placeTable, eachAlone}
+use Rattle.plan.specs.Places.{placeOf}
+use Rattle.grouping.specs.Tables.{groupTable, placeTable, eachAlone}
 use Rattle.grouping.specs.Tests.{putAll}
 
 -- a run of numbers in a table: its length, what lies in it, and zeros after it
@@ -25,21 +27,13 @@ module _ (f : ℕ → ℕ) (n : ℕ) where
   run-length = length-map (upto n) f ∙ length-from 0 n
 
   table-length : n ≤ mostGates → length (padded mostGates (map f (upto n))) ≡ 256
-  table-length h =
-      length-append (map f (upto n)) (replicate (mostGates - length (map f (upto n))) 0)
-      ∙ rw (length-replicate {A = ℕ} (mostGates - length (map f (upto n))) 0, run-length) (omega arith)
+  table-length h = padded-length mostGates (map f (upto n)) (rw run-length h)
 
   table-at : (g : ℕ) → g < n → getD (padded mostGates (map f (upto n))) g 0 ≡ f g
-  table-at g h =
-      List·getD-append (map f (upto n)) (replicate (mostGates - length (map f (upto n))) 0) 0 g (rw run-length h)
-      ∙ getD-run f 0 0 n g h ∙ ap f (zero-add g)
+  table-at g h = padded-at mostGates (map f (upto n)) g ∙ getD-run f 0 0 n g h ∙ ap f (zero-add g)
 
   table-after : (g : ℕ) → n ≤ g → getD (padded mostGates (map f (upto n))) g 0 ≡ 0
-  table-after g h =
-      let e : g ≡ length (map f (upto n)) + (g - n) = rw run-length (omega arith) in
-      ap (λ (i : ℕ). getD (padded mostGates (map f (upto n))) i 0) e
-      ∙ getD-append-add (map f (upto n)) (replicate (mostGates - length (map f (upto n))) 0) (g - n) 0
-      ∙ getD-zeros (mostGates - length (map f (upto n))) (g - n)
+  table-after g h = padded-at mostGates (map f (upto n)) g ∙ List·getD-eq-default (map f (upto n)) 0 {n = g} (rw run-length h)
 
   -- a table that holds them is that table
   table-is : (l : List ℕ) → n ≤ mostGates → length l ≡ 256 → ((g : ℕ) → g < n → getD l g 0 ≡ f g) → ((g : ℕ) → n ≤ g → getD l g 0 ≡ 0)

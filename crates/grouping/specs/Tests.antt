@@ -1,5 +1,5 @@
--- Document 01, "Refusals by place": the rows 24, 25 and 27 to 29 as tests of one group, by the row's number, as the code runs them.
-use Prim.Native.Nat.{ℕ, zero, suc, _+_, _-_, _*_}
+-- Inner: the rows 24, 25 and 27 to 29 as tests of one group, by the row's number, as the code runs them.
+use Prim.Native.Nat.{ℕ, _+_, _-_, _*_}
 use mathlib.Core.List.{List, [], _∷_}
 use mathlib.Core.Bool.{Bool, true, false, cond, _&&_}
 use lib.Dec.{eqb, leb, ltb}

@@ -7,7 +7,6 @@ use native.Mathlib.Omega.{arith}
 use lib.Dec.{ltb}
 use lib.ListN.{length, getD}
 use borrow.Author.Tests.{lt-leb, le-leb, le-ltb, lt-ltb}
-use Rattle.words.specs.Numbers.{numberAt}
 use Rattle.settings.specs.Sets.{union, excludes}
 use Rattle.gates.specs.Gates.{gateAt}
 use Rattle.needed.specs.Held.{gateIn, gatesIn}
@@ -30,7 +29,7 @@ pub record Climbing (n : ℕ) (p : List ℕ) (at least k : ℕ) : Type 0 where
 pub climbing-start : (n : ℕ) (p : List ℕ) (at : ℕ) → (after p at ≤ length p) × (length p ≤ mostBytes) → Climbing n p at 0 0
 climbing-start n p at h = record { lies = h; low = omega arith; same = sym (rising-right n (groupAt p at)) ∙ ap (risingFrom n 0) (sym (members-all p at)) }
 
-module _ (n : ℕ) (p : List ℕ) (at least k g : ℕ) (w : Climbing n p at least k) (h : k < getD p at 0) (q : g ≡ numberAt 2 p (at + 1 + 2 * k)) where
+module _ (n : ℕ) (p : List ℕ) (at least k g : ℕ) (w : Climbing n p at least k) (h : k < getD p at 0) (q : g ≡ getD (groupAt p at) k 0) where
   next-number : (rises (groupAt p at) && every (λ i. ltb i n) (groupAt p at)) ≡ risingFrom n least (g ∷ membersFrom p at (k + 1))
   next-number = w .same ∙ ap (risingFrom n least) (members-step p at k h) ∙ ap (λ (i : ℕ). risingFrom n least (i ∷ membersFrom p at (k + 1))) (sym q)
 
@@ -47,10 +46,10 @@ pub climbing-end : (n : ℕ) (p : List ℕ) (at least k : ℕ) → Climbing n p 
 climbing-end n p at least k w h = sym (w .same ∙ ap (risingFrom n least) (members-end p at k h))
 
 -- the first member is the smallest
-pub first-smallest : (n : ℕ) (p : List ℕ) (at g : ℕ) → ReadableGroup n p at → g ≡ numberAt 2 p (at + 1 + 2 * 0) → g ≡ smallest (groupAt p at)
+pub first-smallest : (n : ℕ) (p : List ℕ) (at g : ℕ) → ReadableGroup n p at → g ≡ getD (groupAt p at) 0 0 → g ≡ smallest (groupAt p at)
 first-smallest n p at g f q = q ∙ sym (ap smallest (sym (members-all p at) ∙ members-step p at 0 (omega (arith, f .joins))))
 
-pub first-member : (n : ℕ) (p : List ℕ) (at g : ℕ) → ReadableGroup n p at → g ≡ numberAt 2 p (at + 1 + 2 * 0) → g < n
+pub first-member : (n : ℕ) (p : List ℕ) (at g : ℕ) → ReadableGroup n p at → g ≡ getD (groupAt p at) 0 0 → g < n
 first-member n p at g f q = walk-member n p at 0 g (walk-start n p at f) (omega (arith, f .joins)) q
 
 -- 27 and 28: each member's test by the first member
@@ -59,7 +58,7 @@ pub record Holding (quads : List ℕ) (row n : ℕ) (p : List ℕ) (at first k :
   pub inside : first < n
   pub same : membersTest (gatesIn quads n) row (groupAt p at) ≡ every (λ g. memberTest row (gateAt (gatesIn quads n) first) (gateAt (gatesIn quads n) g)) (membersFrom p at k)
 
-pub holding-start : (quads : List ℕ) (row n : ℕ) (p : List ℕ) (at first : ℕ) → ReadableGroup n p at → first ≡ numberAt 2 p (at + 1 + 2 * 0) → Holding quads row n p at first 0
+pub holding-start : (quads : List ℕ) (row n : ℕ) (p : List ℕ) (at first : ℕ) → ReadableGroup n p at → first ≡ getD (groupAt p at) 0 0 → Holding quads row n p at first 0
 holding-start quads row n p at first f q =
     record {
       walk = walk-start n p at f;
@@ -70,7 +69,7 @@ holding-start quads row n p at first f q =
     }
 
 module _ (quads : List ℕ) (row n : ℕ) (p : List ℕ) (at first k g : ℕ) (r : Bool) (w : Holding quads row n p at first k) (h : k < getD p at 0)
-    (q : g ≡ numberAt 2 p (at + 1 + 2 * k)) (e : r ≡ memberTest row (gateIn quads first) (gateIn quads g)) where
+    (q : g ≡ getD (groupAt p at) k 0) (e : r ≡ memberTest row (gateIn quads first) (gateIn quads g)) where
   tested : r ≡ memberTest row (gateAt (gatesIn quads n) first) (gateAt (gatesIn quads n) g)
   tested = e ∙ sym (rw (gates-at quads n first (w .inside), gates-at quads n g (walk-member n p at k g (w .walk) h q)))
 
@@ -101,7 +100,7 @@ parting-start sets n p at seen f e =
     }
 
 module _ (sets : List ℕ) (n : ℕ) (p : List ℕ) (at seen k g : ℕ) (r : Bool) (w : Parting sets n p at seen k) (h : k < getD p at 0)
-    (q : g ≡ numberAt 2 p (at + 1 + 2 * k)) (e : r ≡ excludes seen (getD sets g 0)) where
+    (q : g ≡ getD (groupAt p at) k 0) (e : r ≡ excludes seen (getD sets g 0)) where
   next-set : parted sets (groupAt p at) ≡ partedFrom sets seen (g ∷ membersFrom p at (k + 1))
   next-set = w .same ∙ ap (partedFrom sets seen) (members-step p at k h) ∙ ap (λ (i : ℕ). partedFrom sets seen (i ∷ membersFrom p at (k + 1))) (sym q)
 

@@ -1,4 +1,4 @@
--- Document 01, "The plan file and its check (001, section 5.1)": what the rows before have established where a pass over the groups stands.
+-- Inner: what the rows before have established where a pass over the groups stands.
 use Prim.Native.Nat.{ℕ, _≤_}
 use mathlib.Core.List.{List}
 use lib.ListN.{length, getD}

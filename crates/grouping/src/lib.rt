@@ -50,14 +50,6 @@ fn after(plan: &[u8], at: usize) -> usize
     at + 1 + 2 * size_at(plan, at)
 }
 
-// Member k of the group that begins at a place.
-fn member(plan: &[u8], at: usize, k: usize) -> GateId
-    requires { ⌜ (at + 1 + 2 * k + 2 ≤ length (now plan)) × (length (now plan) ≤ 1024) ⌝ }
-    ensures { λ r. ⌜ r .0 ≡ numberAt 2 (now (plan .entry)) (at + 1 + 2 * k) ⌝ }
-{
-    GateId(words::read16(plan, at + 1 + 2 * k))
-}
-
 // The gate count and the group count that the plan gives.
 fn gates_counted(plan: &[u8]) -> usize
     requires { ⌜ 9 ≤ length (now plan) ⌝ }
@@ -123,7 +115,7 @@ fn numbers_rise(plan: &[u8], at: usize, count: usize) -> bool
     let mut least: usize = 0;
     let mut k: usize = 0;
     while k < size {
-        let g = member(plan, at, k);
+        let g = plan::member(plan, at, k);
         let i = g.0 as usize;
         if i < least {
             return false;
@@ -224,10 +216,10 @@ fn join_members(
     ensures places { λ r. ⌜ (r ≡ true → now (places .exit) ≡ putAll (file.groupAt (now (plan .entry)) at) at (now (places .entry))) ⌝ }
 {
     let size = size_at(plan, at);
-    let first = member(plan, at, 0);
+    let first = plan::member(plan, at, 0);
     let mut k: usize = 0;
     while k < size {
-        let g = member(plan, at, k);
+        let g = plan::member(plan, at, k);
         let i = g.0 as usize;
         if places[i] != 0 {
             return false;
@@ -329,10 +321,10 @@ fn members_hold(row: u8, plan: &[u8], at: usize, quads: &[u32; 1024], count: usi
     ensures { λ r. ⌜ r ≡ membersTest (gatesIn (now (quads .entry)) count) row (file.groupAt (now (plan .entry)) at) ⌝ }
 {
     let size = size_at(plan, at);
-    let first = member(plan, at, 0);
+    let first = plan::member(plan, at, 0);
     let mut k: usize = 0;
     while k < size {
-        let g = member(plan, at, k);
+        let g = plan::member(plan, at, k);
         if !member_holds(row, quads, first, g) {
             return false;
         }
@@ -350,7 +342,7 @@ fn members_part(plan: &[u8], at: usize, count: usize, needs: &[u64; 256]) -> boo
     let mut seen = settings::empty();
     let mut k: usize = 0;
     while k < size {
-        let g = member(plan, at, k);
+        let g = plan::member(plan, at, k);
         let i = g.0 as usize;
         let s = needs[i];
         if !settings::excludes(seen, s) {

@@ -59,7 +59,7 @@ fn rested_by(plan: &[u8], at: usize, needs: &[u64; 256]) -> usize
     let mut n: usize = 0;
     let mut i: usize = 0;
     while i < size {
-        let m = emitting::member(plan, at, i);
+        let m = plan::member(plan, at, i);
         let g = m.0 as usize;
         n = n + (emitting::rested(needs[g]) as usize);
         i = i + 1;
@@ -74,7 +74,7 @@ pub fn size_joined(plan: &[u8], at: usize, quads: &[u32; 1024], needs: &[u64; 25
 {
     let size = plan[at] as usize;
     let n = rested_by(plan, at, needs);
-    let m = emitting::member(plan, at, 0);
+    let m = plan::member(plan, at, 0);
     let i = m.0 as usize;
     let means = codes::code_of(quads[4 * i] as u8);
     Size {

@@ -8,19 +8,20 @@ use native.Mathlib.Omega.{arith}
 use lib.Dec.{eqb}
 use lib.ListN.{length, getD, replicate}
 use borrow.Author.Tests.{eq-eqb, ne-eqb}
-use Rattle.words.specs.Lists.{_∈_, elem, same?, keep, keep-from, upto, from-below, flat, map-in, elem-more}
+use Rattle.words.specs.Lists.{_∈_, elem, same?, keep, upto, flat, map-in, elem-more}
 use Rattle.words.specs.ListLaws.{map-same}
-use Rattle.settings.specs.Sets.{restsOn, rests}
-use Rattle.gates.specs.Gates.{Gates, gateAt, arguments, conditions}
+use Rattle.settings.specs.Sets.{rests}
+use Rattle.gates.specs.Gates.{Gates, gateAt, arguments}
 use Rattle.needed.specs.Held.{gatesIn}
 use Rattle.needed.specs.HeldLaws.{gates-length, gates-at}
 use Rattle.plan.specs.Groups.{groups, members, restsOf, readsOf, waitsFor}
+use Rattle.plan.specs.RestLaws.{rests-inside, rests-held}
+use Rattle.plan.specs.ReadsLaws.{reads-inside}
 use Rattle.ordering.specs.Tables.{HasWords, bitIn, putBit, putEach}
 use Rattle.ordering.specs.Reads.{argumentsAt, Into, Orderable}
 use Rattle.ordering.specs.Gathering.{Waiting, Left}
 use Rattle.ordering.specs.TableLaws.{clear-words, clear-bit, put-words, put-bit, puts-words, puts-bit, puts-append}
 use Rattle.ordering.specs.ReadLaws.{arguments-at, keep-yes, keep-no, elem-joined, flat-last}
-use Rattle.ordering.specs.WaitsLaws.{place-inside, reads-inside}
 
 -- The set of groups left: those named by a gate below i.
 pub record Listing (group : List ℕ) (count : ℕ) (left : List ℕ) (i : ℕ) : Type 0 where
@@ -110,17 +111,12 @@ module _ (quads : List ℕ) (count : ℕ) (needs conds group places : List ℕ) 
         let k : a < i = s .orderable .earlier i a (rw arguments-here m) in
         (omega (arith, s .orderable .room), group-low a (omega arith))
 
-    rests-here : map (λ t. getD conds t 0) (rests 6 (getD needs i 0)) ≡ restsOf C needs i
-    unfolding restsOf rests
-    rests-here =
-        map-same (λ t. getD conds t 0) (λ t. getD (conditions C) t 0) (rests 6 (getD needs i 0))
-        (λ t m. s .orderable .listed t (omega (arith, from-below 0 6 t (keep-from (restsOn 6 (getD needs i 0)) (upto 6) t m .0))))
+    rests-here : restsOf C needs i ≡ map (λ t. getD conds t 0) (rests 6 (getD needs i 0))
+    rests-here = rests-held C needs conds (s .orderable .listed) i
 
     pub gathering-conditions : (n : ℕ) → n ≡ getD needs i 0 → Into group (map (λ t. getD conds t 0) (rests 6 n))
-    unfolding restsOf
     gathering-conditions n e a m =
-        let r = map-in (λ t. getD (conditions C) t 0) a (rests 6 (getD needs i 0)) (rw rests-here at (rw e at m)) in
-        let k : a < length C = rw (r .2) (place-inside C (r .0) (omega (arith, inside))) in
+        let k : a < length C = rests-inside C needs i a (omega (arith, inside)) (rw rests-here (rw e at m)) in
         let h : a < count = rw (gates-length quads count) at k in
         (omega (arith, s .orderable .room), group-low a h)
 
@@ -169,7 +165,7 @@ module _ (quads : List ℕ) (count : ℕ) (needs conds group places : List ℕ) 
         ∙ ap (λ (r : List ℕ). putEach (4 * g i) r waits) (sym (map-append g (argumentsAt quads i) (map (λ t. getD conds t 0) (rests 6 (getD needs i 0)))) ∙ ap (map g) reads)))
       where
         reads : argumentsAt quads i ++ map (λ t. getD conds t 0) (rests 6 (getD needs i 0)) ≡ readsOf C needs (members (length C) g (g i)) i
-        reads = rw (gates-length quads count, s .orderable .many i l, ne-eqb (getD places i 0) 0 z, rests-here, arguments-here)
+        reads = rw (gates-length quads count, s .orderable .many i l, ne-eqb (getD places i 0) 0 z, ← rests-here, arguments-here)
 
   pub gathering-end : (waits : List ℕ) (i : ℕ) → GatheringWaits quads count needs conds group places waits i → count ≤ i → Waiting C needs g waits
   unfolding waitsBelow waitsFor

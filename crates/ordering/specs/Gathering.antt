@@ -1,4 +1,4 @@
--- Document 01, "The plan file and its check (001, section 5.1)": tables that hold which group waits for which, and which are left to write.
+-- Inner: tables that hold which group waits for which, and which are left to write.
 use Prim.Native.Nat.{ℕ, _*_, _<_}
 use mathlib.Core.Path.{_≡_}
 use mathlib.Core.List.{List}

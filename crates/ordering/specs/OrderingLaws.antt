@@ -1,4 +1,4 @@
--- Document 01, "The fused circuit file", Order, and row 30: what the loop over the tables leaves is the order of writing, and its answer. Assumes nothing.
+-- Laws of ordering: what the loop over the tables leaves is the order of writing, and its answer. Assumes nothing.
 use Prim.Native.Nat.{ℕ, _≤_, _<_}
 use mathlib.Core.Path.{_≡_, sym, ap, _∙_}
 use mathlib.Core.Bool.{true}
@@ -10,13 +10,14 @@ use Rattle.needed.specs.Held.{gatesIn}
 use Rattle.needed.specs.HeldLaws.{gates-length}
 use Rattle.plan.specs.Groups.{groups, waitsFor}
 use Rattle.plan.specs.Order.{schedule, order}
+use Rattle.plan.specs.ReadsLaws.{waits-closed}
 use Rattle.ordering.specs.Tables.{bitIn}
-use Rattle.ordering.specs.Reads.{Orderable, orderOf}
+use Rattle.ordering.specs.Reads.{Orderable}
+use Rattle.ordering.specs.Row.{orderOf}
 use Rattle.ordering.specs.Gathering.{Waiting, Left}
 use Rattle.ordering.specs.Search.{nextReady}
 use Rattle.ordering.specs.declared.Next.the-variants as next
 use Rattle.ordering.specs.declared.Order.the-variants.{Placed, Circle}
-use Rattle.ordering.specs.WaitsLaws.{waits-closed}
 use Rattle.ordering.specs.PlacingLaws.{Placing, placing-start, placing-circle, placing-end}
 
 -- the loop's record for the gates of the quads

@@ -1,4 +1,4 @@
--- Document 01, "The fused circuit file", Order: laws of the loop that writes the groups in order, the next ready one at each turn. Assumes nothing.
+-- Laws of the loop that writes the groups in order, the next ready one at each turn. Assumes nothing.
 use Prim.Native.Nat.{ℕ, suc, _+_, _-_, _≤_, _<_}
 use mathlib.Core.Path.{_≡_, refl, sym, ap, _∙_}
 use mathlib.Core.Bool.{Bool, true, false, cond, true≢false}
@@ -18,13 +18,14 @@ use Rattle.plan.specs.Groups.{groups}
 use Rattle.plan.specs.GroupLaws.{group-of}
 use Rattle.plan.specs.Order.{allIn, firstReady, schedule}
 use Rattle.plan.specs.CircleLaws.{allIn-each, allIn-back}
+use Rattle.plan.specs.OrderLaws.{found, none-left, stays, turn}
+use Rattle.plan.specs.CountLaws.{once-length, groups-once, groups-most}
 use Rattle.ordering.specs.Tables.{bitIn, strikeBit}
 use Rattle.ordering.specs.Search.{nextReady, asNext}
 use Rattle.ordering.specs.declared.Next.{Next}
 use Rattle.ordering.specs.declared.Next.the-variants.{Group, Circle}
 use Rattle.ordering.specs.TableLaws.{strike-words, strike-bit}
-use Rattle.ordering.specs.TurnLaws.{found, none-left, stays, turn, as-none, as-some, groups-once, groups-most}
-use Rattle.ordering.specs.CountLaws.{once-length}
+use Rattle.ordering.specs.SearchLaws.{as-none, as-some}
 use Rattle.ordering.specs.ReadyLaws.{Tabled, next-right}
 
 -- done is written, the last first, k groups; the groups below `first` are among them; what the order places from the start it places from here

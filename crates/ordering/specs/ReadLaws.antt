@@ -122,7 +122,3 @@ elem-joined q (x ∷ l) m = split (eqb q x) (λ t. rw t (split (elem q m) (λ u.
 pub flat-last : (f : ℕ → List ℕ) (l : List ℕ) (a : ℕ) → flat f (l ++ (a ∷ [])) ≡ flat f l ++ f a
 flat-last f [] a = append-nil (f a)
 flat-last f (x ∷ l) a = ap (λ (r : List ℕ). f x ++ r) (flat-last f l a) ∙ sym (append-assoc (f x) (flat f l) (f a))
-
-pub flat-same : (f h : ℕ → List ℕ) (l : List ℕ) → ((a : ℕ) → a ∈ l → f a ≡ h a) → flat f l ≡ flat h l
-flat-same f h [] e = refl
-flat-same f h (x ∷ l) e = rw (e x (inl refl), flat-same f h l (λ a m. e a (inr m)))

@@ -1,4 +1,4 @@
--- Document 01, "The fused circuit file", Order: what the order of writing is worked out from, as it lies in lent arrays, and what it answers (row 30).
+-- Inner: what the order of writing is worked out from, as it lies in lent arrays.
 use Prim.Native.Nat.{ℕ, _≤_, _<_}
 use mathlib.Core.Path.{_≡_}
 use mathlib.Core.Bool.{not, cond}
@@ -7,13 +7,10 @@ use lib.Dec.{eqb, leb}
 use lib.ListN.{length, getD, take}
 use Rattle.words.specs.Lists.{_∈_}
 use Rattle.codes.specs.Codes.{codeOf}
-use Rattle.gates.specs.Gates.{Gates, Earlier, conditions}
+use Rattle.gates.specs.Gates.{Earlier, conditions}
 use Rattle.gates.specs.Limits.{mostGates, mostConditions}
 use Rattle.needed.specs.Held.{choiceCode, codeAt, firstAt, secondAt, thirdAt, gatesIn}
-use Rattle.plan.specs.Groups.{groups, members}
-use Rattle.plan.specs.Rows.{placed}
-use Rattle.ordering.specs.declared.Order.{Order}
-use Rattle.ordering.specs.declared.Order.the-variants.{Placed, Circle}
+use Rattle.plan.specs.Groups.{members}
 
 -- the arguments of a gate by its code: a choice has three, an operation what the table says, any other none
 unfoldable pub arityOf : ℕ → ℕ
@@ -35,12 +32,3 @@ pub record Orderable (quads : List ℕ) (count : ℕ) (conds group places : List
   pub listed : (t : ℕ) → t < mostConditions → getD conds t 0 ≡ getD (conditions (gatesIn quads count)) t 0
   pub named : (x : ℕ) → x < count → (getD group x 0 ≤ x) × (getD group (getD group x 0) 0 ≡ getD group x 0)
   pub many : (m : ℕ) → m < count → leb 2 (length (members count (λ x. getD group x 0) (getD group m 0))) ≡ not (eqb (getD places m 0) 0)
-
--- row 30: the groups are placed, so many of them, or a circle remains
-unfoldable pub orderOf : Gates → List ℕ → (ℕ → ℕ) → Order
-orderOf C sets group = cond (placed C sets group) (Placed (length (groups (length C) group))) Circle
-
--- the number of an answer: 30 for a circle, none else
-abbrev pub orderRow : Order → ℕ
-orderRow (Placed k) = 0
-orderRow Circle = 30

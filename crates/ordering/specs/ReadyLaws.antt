@@ -1,4 +1,4 @@
--- Document 01, "The fused circuit file", Order: a search over tables that hold the waits and what is left finds the first ready group. Assumes nothing.
+-- Laws of the search over tables that hold the waits and what is left: it finds the first ready group. Assumes nothing.
 use Prim.Native.Nat.{ℕ, zero, suc, _+_, _-_, _*_, _/_, _%_, _≤_, _<_}
 use mathlib.Core.Path.{_≡_, refl, sym, ap, _∙_}
 use mathlib.Core.Bool.{true, false, cond, false≢true}

@@ -1,4 +1,4 @@
--- Document 01, "The fused circuit file", Order: the search for the next ready group over the tables, in the form that the code goes.
+-- Inner: the search for the next ready group over the tables, in the form that the code goes.
 use Prim.Native.Nat.{ℕ, zero, suc, _+_, _-_, _*_}
 use mathlib.Core.Bool.{Bool, true, false, cond}
 use mathlib.Core.List.{List}

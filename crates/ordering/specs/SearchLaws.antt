@@ -1,13 +1,15 @@
 -- Laws of the search for the next ready group as the code goes: the turns of its two loops. Assumes nothing.
 use Prim.Native.Nat.{ℕ, suc, _+_, _-_, _*_, _≤_, _<_}
-use mathlib.Core.Path.{_≡_, refl, sym, _∙_}
+use mathlib.Core.Path.{_≡_, refl, sym, ap, _∙_}
 use mathlib.Core.Bool.{true, false}
 use mathlib.Core.List.{List}
+use mathlib.Core.Option.{Option, none, some}
 use native.Mathlib.Omega.{arith}
 use lib.ListN.{length, getD}
 use Rattle.settings.specs.Sets.{excludes}
+use Rattle.gates.specs.declared.GateId.{GateId}
 use Rattle.ordering.specs.Tables.{bitIn}
-use Rattle.ordering.specs.Search.{freeFrom, readyIn, searchFrom, nextReady}
+use Rattle.ordering.specs.Search.{freeFrom, readyIn, searchFrom, nextReady, asNext}
 use Rattle.ordering.specs.declared.Next.the-variants.{Group, Circle}
 
 less : (n p : ℕ) → p < n → n - p ≡ suc (n - (p + 1))
@@ -71,3 +73,12 @@ module _ (waits left : List ℕ) (first count : ℕ) where
   pub searching-end : (p : ℕ) → Searching waits left first count p → count ≤ p → Circle ≡ nextReady waits left first count
   unfolding searchFrom
   searching-end p s l = let e : count - p ≡ 0 = omega arith in sym (s .here ∙ rw e)
+
+-- what the code yields, back in the list's terms
+pub as-none : (o : Option ℕ) → Circle ≡ asNext o → o ≡ none
+as-none none e = refl
+as-none (some p) e = let z : _≡_ {A = ℕ} 0 1 = cc in absurd (omega arith)
+
+pub as-some : (o : Option ℕ) (p : GateId) → Group p ≡ asNext o → o ≡ some (p .0)
+as-some none p e = let z : _≡_ {A = ℕ} 0 1 = cc in absurd (omega arith)
+as-some (some q) p e = let z : p ≡ record { 0 = q } = cc in ap (λ (x : GateId). some (x .0)) (sym z)

@@ -1,4 +1,4 @@
--- Document 01, "The fused circuit file", Order: sets of groups as bits of words, in the form that the code keeps them.
+-- Inner: sets of groups as bits of words, in the form that the code keeps them.
 use Prim.Native.Nat.{ℕ, _+_, _/_, _%_, _^_, _<_}
 use mathlib.Core.Path.{_≡_}
 use mathlib.Core.Bool.{Bool}

@@ -10,7 +10,8 @@ ghost use Rattle.settings.specs.Sets.{rests};
 ghost use Rattle.needed.specs.Held.{gatesIn};
 ghost use Rattle.plan.specs.Order as plan;
 ghost use Rattle.ordering.specs.Tables.{bitIn, putBit, putEach, strikeBit};
-ghost use Rattle.ordering.specs.Reads.{arityOf, argumentsAt, Into, Orderable, orderOf};
+ghost use Rattle.ordering.specs.Reads.{arityOf, argumentsAt, Into, Orderable};
+ghost use Rattle.ordering.specs.Row.{orderOf, orderRow};
 ghost use Rattle.ordering.specs.Search.{nextReady};
 ghost use Rattle.ordering.specs.Gathering.{Waiting, Left};
 
@@ -29,6 +30,16 @@ pub enum Next {
 pub enum Order {
     Placed(usize),
     Circle,
+}
+
+// The row that refuses the plan: 30 for a circle, 0 for none.
+pub fn refusal_row(order: Order) -> u8
+    ensures { λ r. ⌜ r ≡ orderRow order ⌝ }
+{
+    match order {
+        Order::Placed(_) => 0,
+        Order::Circle => 30,
+    }
 }
 
 // The bit of group q in its word.
@@ -168,11 +179,12 @@ fn find_left(group: &[u16; 256], count: usize, left: &mut [u64])
 }
 
 // The first group from `from` on that is left and waits for none that is left; or that a circle remains.
-fn next_ready(waits: &[u64], left: &[u64], from: usize, count: usize) -> Next
+fn next_ready(waits: &[u64], left: &[u64], from: GateId, count: usize) -> Next
     requires { ⌜ (count ≤ 256) × ((length (now waits) ≡ 1024) × (length (now left) ≡ 4)) ⌝ }
-    ensures { λ r. ⌜ r ≡ nextReady (now (waits .entry)) (now (left .entry)) from count ⌝ }
+    ensures { λ r. ⌜ r ≡ nextReady (now (waits .entry)) (now (left .entry)) (from .0) count ⌝ }
 {
-    let mut p = from;
+    let first = from.0 as usize;
+    let mut p = first;
     'search: loop {
         if p >= count {
             break 'search Next::Circle;
@@ -214,8 +226,9 @@ pub fn order_groups(
     let mut k: usize = 0;
     let mut from: usize = 0;
     while from < count {
-        if has(&left, 0, GateId(from as u16)) {
-            match next_ready(&waits, &left, from, count) {
+        let first = GateId(from as u16);
+        if has(&left, 0, first) {
+            match next_ready(&waits, &left, first, count) {
                 Next::Group(p) => {
                     order[k] = p.0;
                     strike(&mut left, p);

@@ -1,4 +1,4 @@
--- Document 01, "The plan file and its check (001, section 5.1)", for the order of writing: a step from each member of a finite list to a member of it returns somewhere;
+-- Laws for the order of writing: a step from each member of a finite list to a member of it returns somewhere;
 -- and what a list that has, or lacks, every number of another means.
 use mathlib.Core.Path.{_≡_, refl}
 use mathlib.Core.Bool.{true, false, false≢true, true≢false}

@@ -1,4 +1,4 @@
--- Document 01, "The plan file and its check (001, section 5.1)": groups are named by their smallest member, and every gate's group is one of the groups.
+-- Laws of groups: they are named by their smallest member, and every gate's group is one of the groups.
 use mathlib.Core.Path.{_≡_, refl}
 use mathlib.Core.Bool.{false}
 use mathlib.Core.List.{List, [], _∷_}

@@ -1,4 +1,4 @@
--- Document 01, "The plan file and its check (001, section 5.1)": what an accepted plan says of the members of any group of two or more, listed or not,
+-- Laws of accepted plans: what they say of the members of any group of two or more, listed or not,
 -- as the order of writing and the fused circuit name them.
 use mathlib.Core.Path.{_≡_, refl, sym, _∙_}
 use mathlib.Core.Bool.{false, true≢false}

@@ -1,7 +1,8 @@
 -- Document 01, "The plan file and its check (001, section 5.1)": a plan put together: mark and version, gate count (2 bytes), group count (2 bytes), then groups.
-use Prim.Native.Nat.{ℕ, suc, _^_, _<_}
+use Prim.Native.Nat.{ℕ, _^_, _<_}
 use mathlib.Core.List.{List, [], _∷_, _++_}
 use lib.ListN.{length}
+use Rattle.words.specs.Lists.{flat}
 use Rattle.words.specs.Numbers.{bytesOf}
 use Rattle.plan.specs.PlanFile.{mark, Plan}
 
@@ -10,21 +11,11 @@ abbrev pub Small : List ℕ → Type 0
 Small [] = Unit {0}
 Small (g ∷ G) = (g < 256 ^ 2) × Small G
 
--- two-byte gate numbers
-abbrev pub numbersBytes : List ℕ → List ℕ
-numbersBytes [] = []
-numbersBytes (g ∷ G) = bytesOf 2 g ++ numbersBytes G
-
--- groups: one byte size, then the gate numbers
+-- groups: one byte size, then the gate numbers, two bytes each
 abbrev pub groupsBytes : Plan → List ℕ
 groupsBytes [] = []
-groupsBytes (G ∷ Gs) = length G ∷ (numbersBytes G ++ groupsBytes Gs)
-
--- how many groups
-abbrev pub count : Plan → ℕ
-count [] = 0
-count (G ∷ Gs) = suc (count Gs)
+groupsBytes (G ∷ Gs) = length G ∷ (flat (bytesOf 2) G ++ groupsBytes Gs)
 
 -- the plan of these groups for a circuit of so many gates
 abbrev pub planBytes : ℕ → Plan → List ℕ
-planBytes gates Gs = mark ++ (bytesOf 2 gates ++ (bytesOf 2 (count Gs) ++ groupsBytes Gs))
+planBytes gates Gs = mark ++ (bytesOf 2 gates ++ (bytesOf 2 (length Gs) ++ groupsBytes Gs))

@@ -1,4 +1,4 @@
--- Document 01, "The plan file and its check (001, section 5.1)": a plan that is laid out is, byte for byte, its gate count and its groups put together.
+-- Laws of layout: a plan that is laid out is, byte for byte, its gate count and its groups put together.
 use mathlib.Core.Path.{_≡_, refl, sym, ap, ap₂, _∙_}
 use mathlib.Core.List.{List, _∷_, _++_, append-assoc}
 use Prim.Native.Nat.{ℕ, zero, suc, _+_, _*_, _≤_, _<_}
@@ -6,21 +6,22 @@ use native.Mathlib.Omega.{arith}
 use native.Mathlib.Numerals.{add-one}
 use lib.ListN.{length, take, drop, getD, take-append-drop, length-drop}
 use lib.Seq.{length-take-le, drop-length, drop-cons, drop-drop, getD-take, getD-drop}
+use Rattle.words.specs.Lists.{flat}
 use Rattle.words.specs.Numbers.{bytesOf, numberAt, Bytes}
 use Rattle.words.specs.NumberLaws.{bytes-number}
 use Rattle.gates.specs.PlainCircuit.{gateCount}
 use Rattle.plan.specs.PlanFile.{leastBytes, groupsCounted, numbersAt, groupAt, after, groupsFrom, groupsIn, Ends}
 use Rattle.plan.specs.Accepted.{LaidOut}
-use Rattle.plan.specs.Layout.{numbersBytes, groupsBytes, count, planBytes}
+use Rattle.plan.specs.Layout.{groupsBytes, planBytes}
 
 -- as many as were asked for
 pub length-numbers : (n : ℕ) (p : List ℕ) (at : ℕ) → length (numbersAt n p at) ≡ n
 length-numbers zero p at = refl
 length-numbers (suc n) p at = ap suc (length-numbers n p (at + 2))
 
-count-groups : (n : ℕ) (p : List ℕ) (at : ℕ) → count (groupsFrom n p at) ≡ n
-count-groups zero p at = refl
-count-groups (suc n) p at = ap suc (count-groups n p (after p at))
+length-groups : (n : ℕ) (p : List ℕ) (at : ℕ) → length (groupsFrom n p at) ≡ n
+length-groups zero p at = refl
+length-groups (suc n) p at = ap suc (length-groups n p (after p at))
 
 module _ (p : List ℕ) (bytes : Bytes p) where
   -- two bytes, read and written again
@@ -37,13 +38,13 @@ module _ (p : List ℕ) (bytes : Bytes p) where
           ap (λ (w : ℕ). bytesOf w (numberAt 2 p at)) (sym size)
           ∙ bytes-number (take 2 (drop at p)) (λ i l. let m : i < 2 = rw size at l in rw (getD-take 2 (drop at p) i 0 m, getD-drop at p i 0) (bytes (at + i) (omega arith)))
 
-  numbers-bytes : (n at : ℕ) → at + 2 * n ≤ length p → drop at p ≡ numbersBytes (numbersAt n p at) ++ drop (at + 2 * n) p
+  numbers-bytes : (n at : ℕ) → at + 2 * n ≤ length p → drop at p ≡ flat (bytesOf 2) (numbersAt n p at) ++ drop (at + 2 * n) p
   numbers-bytes zero at h = let e : at ≡ at + 2 * 0 = omega arith in ap (λ (k : ℕ). drop k p) e
   numbers-bytes (suc n) at h =
       let e : at + 2 + 2 * n ≡ at + 2 * suc n = omega arith in
       two-bytes at (omega arith)
-      ∙ ap (λ (r : List ℕ). bytesOf 2 (numberAt 2 p at) ++ r) (numbers-bytes n (at + 2) (omega arith) ∙ ap (λ (k : ℕ). numbersBytes (numbersAt n p (at + 2)) ++ drop k p) e)
-      ∙ sym (append-assoc (bytesOf 2 (numberAt 2 p at)) (numbersBytes (numbersAt n p (at + 2))) (drop (at + 2 * suc n) p))
+      ∙ ap (λ (r : List ℕ). bytesOf 2 (numberAt 2 p at) ++ r) (numbers-bytes n (at + 2) (omega arith) ∙ ap (λ (k : ℕ). flat (bytesOf 2) (numbersAt n p (at + 2)) ++ drop k p) e)
+      ∙ sym (append-assoc (bytesOf 2 (numberAt 2 p at)) (flat (bytesOf 2) (numbersAt n p (at + 2))) (drop (at + 2 * suc n) p))
 
   groups-bytes : (n at : ℕ) → Ends n p at → drop at p ≡ groupsBytes (groupsFrom n p at)
   groups-bytes zero at e = ap (λ (k : ℕ). drop k p) e ∙ drop-length p
@@ -52,7 +53,7 @@ module _ (p : List ℕ) (bytes : Bytes p) where
       ∙ ap₂ (λ (a : ℕ) (r : List ℕ). a ∷ r) (sym (length-numbers (getD p at 0) p (at + 1)))
       (ap (λ (k : ℕ). drop k p) (sym (add-one at))
       ∙ numbers-bytes (getD p at 0) (at + 1) l
-      ∙ ap (λ (r : List ℕ). numbersBytes (groupAt p at) ++ r) (groups-bytes n (after p at) e))
+      ∙ ap (λ (r : List ℕ). flat (bytesOf 2) (groupAt p at) ++ r) (groups-bytes n (after p at) e))
 
   -- the bytes of a laid out plan
   pub laid-bytes : (s : List ℕ) → LaidOut s p → p ≡ planBytes (gateCount s) (groupsIn p)
@@ -63,5 +64,5 @@ module _ (p : List ℕ) (bytes : Bytes p) where
       (two-bytes 5 (omega (arith, l .least))
       ∙ ap₂ (λ (a b : List ℕ). a ++ b) (ap (bytesOf 2) (l .counted))
       (two-bytes 7 (omega (arith, l .least))
-      ∙ ap₂ (λ (a b : List ℕ). a ++ b) (ap (bytesOf 2) (sym (count-groups (groupsCounted p) p leastBytes)))
+      ∙ ap₂ (λ (a b : List ℕ). a ++ b) (ap (bytesOf 2) (sym (length-groups (groupsCounted p) p leastBytes)))
       (groups-bytes (groupsCounted p) leastBytes (l .ended))))

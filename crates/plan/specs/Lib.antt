@@ -1,6 +1,7 @@
 pub mod PlanFile
 pub mod Groups
 pub mod Layout
+pub mod Places
 pub mod Order
 pub mod Rows
 pub mod RangeLaws
@@ -17,5 +18,10 @@ pub mod AcceptedLaws
 pub mod JoinedLaws
 pub mod ListedLaws
 pub mod LayoutLaws
+pub mod NumberLaws
 pub mod FoundLaws
+pub mod PlaceLaws
+pub mod ReadsLaws
+pub mod CountLaws
+pub mod SameLaws
 pub mod Examples

@@ -1,4 +1,4 @@
--- Document 01, "The plan file and its check (001, section 5.1)": the members of a group are those that the plan lists for it; an unlisted gate is a group alone. Assumes nothing.
+-- Laws of listed groups: the members of a group are those that the plan lists for it; an unlisted gate is a group alone. Assumes nothing.
 use mathlib.Core.Path.{_≡_, refl, sym, ap, _∙_}
 use mathlib.Core.Bool.{Bool, false, true≢false}
 use mathlib.Core.List.{List, [], _∷_}

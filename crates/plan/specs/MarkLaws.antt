@@ -1,4 +1,4 @@
--- Document 01, "Refusals by place", row 21: reading the mark byte by byte finds it exactly when the plan begins with it.
+-- Laws of row 21: reading the mark byte by byte finds it exactly when the plan begins with it.
 use mathlib.Core.Path.{_≡_, refl}
 use mathlib.Core.Bool.{true}
 use mathlib.Core.List.{List, [], _∷_}

@@ -1,4 +1,4 @@
--- Document 01, "The fused circuit file", Order: it places every group exactly when no group waits for itself by a chain of one or more waits;
+-- Laws of the order of writing: it places every group exactly when no group waits for itself by a chain of one or more waits;
 -- what it places is in order, each group once. Over any table of waits.
 use mathlib.Core.Path.{_≡_, refl, sym, ap, _∙_}
 use mathlib.Core.Bool.{true, false, not, false≢true, true≢false}
@@ -70,6 +70,22 @@ module _ (waits : ℕ → List ℕ) where
 
   unready-means : (done : List ℕ) (p : ℕ) → elem p done ≡ false → ready waits done p ≡ false → (q : ℕ) × (q ∈ waits p) × (elem q done ≡ false)
   unready-means done p t h = missing (waits p) done (rw t at h)
+
+  -- a turn finds a group of the list, not yet written; none when all are written
+  pub found : (done l : List ℕ) (p : ℕ) → firstReady waits done l ≡ some p → (p ∈ l) × (elem p done ≡ false)
+  found done l p e = let r = first-some done l p e in (r .0, ready-means done p (r .1) .0)
+
+  pub none-left : (done l : List ℕ) → ((p : ℕ) → p ∈ l → p ∈ done) → firstReady waits done l ≡ none
+  none-left done [] h = refl
+  none-left done (x ∷ l) h = rw (∈→elem x done (h x (inl refl))) (none-left done l (λ p m. h p (inr m)))
+
+  -- nothing ready: whatever turns are left, what is written stays
+  pub stays : (done gs : List ℕ) (k : ℕ) → firstReady waits done gs ≡ none → schedule waits gs k done ≡ done
+  stays done gs zero e = refl
+  stays done gs (suc k) e = ap (λ (f : Option ℕ). elim f [ none ↦ done | some p ↦ schedule waits gs k (p ∷ done) ]) e
+
+  pub turn : (done gs : List ℕ) (k p : ℕ) → firstReady waits done gs ≡ some p → schedule waits gs (suc k) done ≡ schedule waits gs k (p ∷ done)
+  turn done gs k p e = ap (λ (f : Option ℕ). elim f [ none ↦ done | some q ↦ schedule waits gs k (q ∷ done) ]) e
 
   pub schedule-ordered : (gs : List ℕ) (k : ℕ) (done : List ℕ) → Ordered waits done → Ordered waits (schedule waits gs k done)
   schedule-ordered gs zero done o = o

@@ -1,23 +1,54 @@
--- Document 01, "Needed gates (000 Def. 4)": the condition gates listed for a gate are those that it rests on.
+-- Laws of the condition gates listed for a gate: few, gates of the circuit, and just those that it rests on. Assumes nothing.
 use mathlib.Core.Path.{_≡_, refl, sym, ap, _∙_}
 use mathlib.Core.Bool.{Bool, true, false, not, true≢false}
-use mathlib.Core.List.{List}
+use mathlib.Core.List.{List, map}
 use mathlib.Core.Logic.{_⊎_, inl, inr, _↔_}
 use Prim.Native.Nat.{ℕ, _^_, _≤_, _<_}
-use lib.ListN.{length}
-use Rattle.words.specs.Lists.{_∈_, split, same?, keep-in, keep-from}
+use native.Mathlib.Omega.{arith}
+use lib.ListN.{length, getD, length-map, List·getD-eq-default}
+use Rattle.words.specs.Lists.{_∈_, split, same?, keep-in, keep-from, upto, from-below, length-from, map-in, getD-in}
 use Rattle.settings.specs.Settings.{Setting, settingOf, flip, unlike, moves, preRestsOn, preRests}
-use Rattle.settings.specs.ListLaws.{anyBelow-some}
+use Rattle.settings.specs.Sets.{restsOn, rests}
+use Rattle.settings.specs.ListLaws.{anyBelow-some, length-keep}
 use Rattle.settings.specs.SettingLaws.{put-same, put-other}
 use Rattle.settings.specs.RestLaws.{unmoved}
 use Rattle.settings.specs.HoldLaws.{rests-places}
 use Rattle.gates.specs.Gates.{Gates, Earlier, conditions}
+use Rattle.gates.specs.ConditionLaws.{condition-below}
+use Rattle.words.specs.ListLaws.{map-same}
 use Rattle.gates.specs.Limits.{mostConditions}
+use Rattle.words.specs.ListLaws.{inside-list}
 use Rattle.needed.specs.Needed.{Needed}
 use Rattle.needed.specs.Pass.{needed, preconditionSets, preconditionOf}
 use Rattle.needed.specs.PassLaws.{needed-sound, needed-complete}
 use Rattle.needed.specs.PreconditionLaws.{needed-over, precondition-holds}
 use Rattle.plan.specs.Groups.{RestsOn, restsOf}
+
+-- for any sets of settings
+module _ (C : Gates) (sets : List ℕ) where
+  -- a condition by its place, in a circuit that has a gate
+  place-inside : (t : ℕ) → 0 < length C → getD (conditions C) t 0 < length C
+  place-inside t h = go (inside-list (conditions C) t)
+    where
+      go : (t < length (conditions C)) ⊎ (length (conditions C) ≤ t) → getD (conditions C) t 0 < length C
+      go (inl l) = condition-below C (getD (conditions C) t 0) (getD-in (conditions C) t l)
+      go (inr l) = rw (List·getD-eq-default (conditions C) 0 {n = t} l) h
+
+  pub rests-inside : (m c : ℕ) → 0 < length C → c ∈ restsOf C sets m → c < length C
+  unfolding restsOf
+  rests-inside m c h k = let r = map-in (λ t. getD (conditions C) t 0) c (rests mostConditions (getD sets m 0)) k in rw (r .2) (place-inside (r .0) h)
+
+  pub rests-few : (m : ℕ) → length (restsOf C sets m) ≤ mostConditions
+  unfolding restsOf rests
+  rests-few m = rw length-map (rw (length-from 0 mostConditions) at (length-keep (restsOn mostConditions (getD sets m 0)) (upto mostConditions)))
+
+  -- the list as one reads it in an array that gives condition t's gate at place t
+  pub rests-held : (conds : List ℕ) → ((t : ℕ) → t < mostConditions → getD conds t 0 ≡ getD (conditions C) t 0) → (m : ℕ)
+      → restsOf C sets m ≡ map (λ t. getD conds t 0) (rests mostConditions (getD sets m 0))
+  unfolding restsOf rests
+  rests-held conds held m =
+      map-same (λ t. getD (conditions C) t 0) (λ t. getD conds t 0) (rests mostConditions (getD sets m 0))
+      (λ t k. sym (held t (omega (arith, from-below 0 mostConditions t (keep-from (restsOn mostConditions (getD sets m 0)) (upto mostConditions) t k .0)))))
 
 -- a condition changed twice is as it was
 flip-flip : (σ : Setting) (c d : ℕ) → flip (flip σ c) c d ≡ σ d

@@ -1,4 +1,4 @@
--- Document 01, "Refusals by place": what each test of the rows 20 to 29 says. Facts alike for all costly operations are proved over the operation.
+-- Laws of the rows 20 to 29: what each test says. Facts alike for all costly operations are proved over the operation.
 use mathlib.Core.Path.{_≡_, refl}
 use mathlib.Core.Bool.{Bool, true, false, not, _&&_, false≢true}
 use mathlib.Core.List.{List, [], _∷_}

@@ -1,4 +1,4 @@
--- Document 01, "The plan file and its check (001, section 5.1)": the groups listed for a group are those that it waits for;
+-- Laws of waits: the groups listed for a group are those that it waits for;
 -- so the order of writing places every group exactly when no group waits for itself by a chain.
 use mathlib.Core.Path.{_≡_}
 use mathlib.Core.Bool.{true, cond}
@@ -9,9 +9,10 @@ use native.Mathlib.Omega.{arith}
 use lib.Dec.{leb}
 use borrow.Author.Tests.{le-leb, leb-true}
 use lib.ListN.{length}
-use Rattle.words.specs.Lists.{_∈_, elem, split, keep-from, upto, from-below, flat, in-flat, flat-in, in-map, map-in, in-append, append-in}
+use Rattle.words.specs.Lists.{_∈_, split, flat, in-flat, flat-in, in-map, map-in, in-append, append-in}
 use Rattle.settings.specs.Settings.{Once}
-use Rattle.gates.specs.Gates.{Gates, gateAt, arguments, Earlier, heads, conditions}
+use Rattle.gates.specs.Gates.{Gates, gateAt, arguments, Earlier, conditions}
+use Rattle.gates.specs.ConditionLaws.{condition-below}
 use Rattle.gates.specs.Limits.{mostConditions}
 use Rattle.needed.specs.Pass.{preconditionSets}
 use Rattle.plan.specs.Groups.{Named, groups, members, RestsOn, Waits, Chain, one, more, restsOf, readsOf, waitsFor}
@@ -64,9 +65,8 @@ module _ (C : Gates) (wanted : List ℕ) (earlier : Earlier C) (inside : (g : �
 
   -- what a group reads is in the circuit; so what it waits for is a group
   waits-inside : (p m a : ℕ) → m < length C → (a ∈ arguments (gateAt C m)) ⊎ ((2 ≤ length (members (length C) group p)) × RestsOn C wanted m a) → a < length C
-  unfolding conditions
   waits-inside p m a l (inl k) = omega (arith, earlier m a k)
-  waits-inside p m a l (inr (_, (c, _, _, _))) = omega (arith, from-below 0 (length C) a (keep-from (λ d. elem d (heads C)) (upto (length C)) a c .0))
+  waits-inside p m a l (inr (_, (c, _, _, _))) = condition-below C a c
 
   pub waits-group : Named group → (p q : ℕ) → Waits C wanted group p q → q ∈ groups (length C) group
   waits-group named p q (m, h, a, e, k) =

@@ -13,8 +13,8 @@ use Rattle.fused.specs.SizeLaws.{bytes-append}
 use Rattle.emitting.specs.Emitted.{wireIn, emitIn, Measured}
 use Rattle.emitting.specs.FillLaws.{pieces, Filling, filling-start, filling-room, filling-fits, filling-length, filling-step, filling-end}
 use Rattle.emitting.specs.LoopLaws.{filling-same}
-use Rattle.writing.specs.Staged.{Stage, turnRecords, stage, Turnable}
-use Rattle.writing.specs.Turns.{membersOf, wiresOf, Measurable, Measures, Sum}
+use Rattle.writing.specs.Staged.{Stage, membersOf, turnRecords, stage, Turnable}
+use Rattle.writing.specs.Turns.{wiresOf, Measurable, Measures, Sum}
 use Rattle.writing.specs.TurnLaws.{stage-more, turn-is, turn-measurable, turn-wires, turn-length, turn-sum, turn-small}
 
 -- Measuring.

@@ -4,10 +4,9 @@ use native.Mathlib.Omega.{arith}
 use mathlib.Core.Path.{_≡_, refl, sym, ap, ap₂, subst, _∙_}
 use mathlib.Core.List.{List, [], _∷_, _++_, map}
 use mathlib.Core.Logic.{inl, inr}
-use borrow.Author.Tests.{le-leb}
 use lib.ListN.{length, getD, set, length-append, length-set, length-replicate}
 use lib.Seq.{getD-set-same, getD-set-other}
-use Rattle.words.specs.Lists.{_∈_, upto, in-append}
+use Rattle.words.specs.Lists.{_∈_, upto}
 use Rattle.gates.specs.Gates.{Gates, gateAt, arguments}
 use Rattle.gates.specs.Limits.{mostGates}
 use Rattle.gates.specs.EarlierLaws.{Inside}
@@ -16,20 +15,22 @@ use Rattle.needed.specs.Pass.{rulePreconditions}
 use Rattle.circuit.specs.Built.{builtQuads, builtNeeds}
 use Rattle.circuit.specs.BuiltParts.{built-room, built-earlier, built-need}
 use Rattle.plan.specs.PlanFile.{groupsIn}
-use Rattle.plan.specs.Groups.{groupOf, members, restsOf, readsOf}
+use Rattle.plan.specs.Groups.{groupOf, members, restsOf}
 use Rattle.plan.specs.GroupLaws.{of-member}
 use Rattle.plan.specs.Rows.{planAnswer}
-use Rattle.ordering.specs.WaitsLaws.{reads-inside}
-use Rattle.ordering.specs.SameLaws.{rests-same}
+use Rattle.plan.specs.RestLaws.{rests-inside}
+use Rattle.plan.specs.ReadsLaws.{waits-argument, waits-rests}
+use Rattle.plan.specs.SameLaws.{rests-same}
 use Rattle.checking.specs.Checked.{writingOrder, checkedGroups, checkedPlaces, checkedOrder}
+use Rattle.checking.specs.CheckedLaws.{group-is, turn-is}
 use Rattle.fused.specs.Records.{Record}
 use Rattle.fused.specs.Emission.{gateOperation, joined, guardOf, valuesAt, emit}
 use Rattle.fused.specs.FusedCircuit.{Written, groupRecords, written}
-use Rattle.fused.specs.WrittenLaws.{waits-argument, waits-rests, written-none, written-more, wire-last, wire-old}
+use Rattle.fused.specs.WrittenLaws.{written-none, written-more, wire-last, wire-old}
 use Rattle.emitting.specs.Emitted.{wireIn, emitIn}
 use Rattle.emitting.specs.EmitLaws.{emit-in, emit-same}
 use Rattle.writing.specs.Staged.{Stage, turnRecords, stage}
-use Rattle.writing.specs.ArrayLaws.{rule-taken, gates-shaped, quads-held, group-is, turn-is, members-are, members-two}
+use Rattle.writing.specs.ArrayLaws.{rule-taken, gates-shaped, quads-held, members-are, members-two}
 use Rattle.writing.specs.DoneLaws.{doneAt, done-next, next-group, next-waits, next-once}
 
 -- preconditions that two lists give alike emit the same records
@@ -104,11 +105,8 @@ module _ (s p : List ℕ) (h : planAnswer s p .number ≡ 0) where
       resting : 2 ≤ length ms → (k a : ℕ) → k ∈ ms → a ∈ restsOf C sets k → wireIn table (turned i .wires) a ≡ after i .wire (group a)
       resting many k a j b =
           wire-same i m a
-          (reads-inside C (built-earlier s (rule-taken s p h)) sets ms k a (members-below q k j) (read many k a b))
+          (rests-inside C sets k a (omega (arith, members-below q k j)) b)
           (next-waits s p i l (group a) (waits-rests C sets group q k a j many b))
-        where
-          read : 2 ≤ length ms → (k a : ℕ) → a ∈ restsOf C sets k → a ∈ readsOf C sets ms k
-          read many k a b = rw (le-leb 2 (length ms) many) (in-append a (arguments (gateAt C k)) (restsOf C sets k) (inr b))
 
   same-none : Same 0
   unfolding stage

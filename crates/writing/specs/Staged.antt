@@ -1,4 +1,4 @@
--- Document 01, "The fused circuit file", Order: what is written of the fused circuit, group by group, as it lies in lent arrays.
+-- Inner: what is written of the fused circuit, group by group, as it lies in lent arrays.
 use Prim.Native.Nat.{ℕ, zero, suc, _+_, _-_, _≤_, _<_}
 use mathlib.Core.Path.{_≡_}
 use mathlib.Core.List.{List, [], _∷_, _++_}
@@ -16,15 +16,15 @@ pub record Stage : Type 0 where
   pub records : List Record
   pub wires : List ℕ
 
+-- the members of group q: those listed at the place at of the plan p, itself alone where the place is 0
+abbrev pub membersOf : List ℕ → ℕ → ℕ → List ℕ
+membersOf p at q = cond (eqb at 0) (q ∷ []) (groupAt p at)
+
 -- p: the plan, quads: count gates, needs: their preconditions, group: each gate's group, places: the place in the plan of each gate's group, 0 for a group alone
 module _ (p quads : List ℕ) (count : ℕ) (needs group places : List ℕ) where
-  -- the members of group q: those listed at its place, itself alone where it has none
-  abbrev pub membersAt : ℕ → List ℕ
-  membersAt q = cond (eqb (getD places q 0) 0) (q ∷ []) (groupAt p (getD places q 0))
-
   -- the records of group q, after those of a stage
   abbrev pub turnRecords : Stage → ℕ → List Record
-  turnRecords w q = emitIn quads count needs (wireIn group (w .wires)) (length (w .records)) (membersAt q)
+  turnRecords w q = emitIn quads count needs (wireIn group (w .wires)) (length (w .records)) (membersOf p (getD places q 0) q)
 
   -- one group more; its wire is its last record's
   abbrev pub turn : Stage → ℕ → Stage

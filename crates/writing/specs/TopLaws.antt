@@ -16,31 +16,29 @@ use Rattle.gates.specs.Gates as gate
 use Rattle.gates.specs.GateKinds.{kindOfGate, GateFits}
 use Rattle.gates.specs.GateKindLaws.{plain-fits}
 use Rattle.gates.specs.Limits.{mostGates}
-use Rattle.gates.specs.EarlierLaws.{Inside}
 use Rattle.gates.specs.PlainCircuit.{gatesOf, outputsOf, gateCount}
 use Rattle.gates.specs.EachGateLaws.{StartGate, rule-starting}
 use Rattle.needed.specs.Pass.{rulePreconditions}
 use Rattle.circuit.specs.Built.{padded, builtQuads, builtNeeds, builtOutputs, builtConditions}
 use Rattle.circuit.specs.BuiltLaws.{accepted-builds}
 use Rattle.circuit.specs.BuiltParts.{built-room, built-earlier, built-condition, built-outputs-length, built-outputs-inside, built-variables}
-use Rattle.plan.specs.PlanFile.{groupsIn, groupAt, after}
+use Rattle.plan.specs.PlanFile.{groupsIn}
 use Rattle.plan.specs.Groups.{groupOf, members}
 use Rattle.plan.specs.Order.{order}
-use Rattle.plan.specs.Accepted.{Acceptable, Exist}
 use Rattle.plan.specs.Rows.{planAnswer}
-use Rattle.plan.specs.ListedLaws.{stands-each}
-use Rattle.grouping.specs.Tables.{placeOf}
-use Rattle.grouping.specs.PlaceLaws.{placed-group, place-members, place-name, place-two}
-use Rattle.ordering.specs.SameLaws.{order-length}
+use Rattle.plan.specs.Places.{placeOf}
+use Rattle.plan.specs.PlaceLaws.{group-listed}
+use Rattle.plan.specs.CountLaws.{order-length}
 use Rattle.checking.specs.Checked.{writingOrder, checkedGroups, checkedPlaces, checkedOrder}
+use Rattle.checking.specs.CheckedLaws.{group-is, place-is, turn-is}
 use Rattle.fused.specs.FusedCircuit.{written, fused, recordsOf, wireOf, outputWires}
 use Rattle.fused.specs.PlannedLaws.{planned-read, planned-named, planned-group}
 use Rattle.fused.specs.SizeBounds.{plan-written}
 use Rattle.emitting.specs.Emitted.{wireIn, Writable, JoinWritable}
 use Rattle.emitting.specs.HeldLaws.{SmallGate, writable-held, joining-held}
-use Rattle.emitting.specs.MemberLaws.{length-group}
+use Rattle.plan.specs.NumberLaws.{length-group}
 use Rattle.writing.specs.Staged.{stage, Turnable}
-use Rattle.writing.specs.ArrayLaws.{rule-taken, plan-taken, gates-shaped, quads-held, group-is, place-is, turn-is, members-two}
+use Rattle.writing.specs.ArrayLaws.{rule-taken, plan-taken, gates-shaped, quads-held, members-two}
 use Rattle.writing.specs.DoneLaws.{doneAt, done-once, done-all, next-group}
 use Rattle.writing.specs.StageLaws.{stage-same}
 
@@ -73,26 +71,12 @@ module _ (s p : List ℕ) (h : planAnswer s p .number ≡ 0) where
 
   -- a group of two or more, at its place in the plan
   module _ (q : ℕ) (l : q < gateCount s) (e : group q ≡ q) (z : placeOf p q ≡ 0 → ⊥) where
-    a : Acceptable s p
-    a = plan-taken s p h
-
-    listed : members (gateCount s) group q ≡ groupAt p (placeOf p q)
-    listed =
-        ap (members (gateCount s) group) (sym e ∙ place-name (gateCount s) p (a .laid-out .joins) (a .laid-out .rising) (a .once) q (a .laid-out .ended) z)
-        ∙ place-members (gateCount s) p (a .laid-out .joins) (a .laid-out .rising) (a .once) q (a .exist) (a .laid-out .ended) z
-
-    two : 2 ≤ length (groupAt p (placeOf p q))
-    two = place-two (gateCount s) p (a .laid-out .joins) (a .laid-out .rising) (a .once) q (a .laid-out .ended) z
-
-    exists : Inside (length (gatesOf s)) (groupAt p (placeOf p q))
-    unfolding groupsIn
-    exists = stands-each (Exist (gateCount s)) (groupsIn p) (groupAt p (placeOf p q)) (placed-group p q (a .laid-out .ended) z .stands) (a .exist)
-
     turn-joined : JoinWritable (builtQuads s) p (builtConditions s) (checkedGroups s p) (gateCount s) (placeOf p q)
     turn-joined =
+        let r = group-listed s p (plan-taken s p h) q e z in
         joining-held s (builtQuads s) (gatesOf s) (gates-shaped s p h) (quads-held s p h) (built-room s (rule-taken s p h)) (built-earlier s (rule-taken s p h)) (checkedGroups s p) table-named
-        p (placeOf p q) (builtConditions s) (placed-group p q (a .laid-out .ended) z .lies) (rw (sym (length-group p (placeOf p q))) two) exists
-        (λ m i. members-two s p h q (rw listed two) m (rw listed i)) (λ t _. built-condition s (rule-taken s p h) t)
+        p (placeOf p q) (builtConditions s) (r .lies) (rw (sym (length-group p (placeOf p q))) (r .two)) (r .exist)
+        (λ m i. members-two s p h q (rw (r .listed) (r .two)) m (rw (r .listed) i)) (λ t _. built-condition s (rule-taken s p h) t)
 
 module _ (s p : List ℕ) (h : planAnswer s p .number ≡ 0) where
   abbrev last : ℕ

@@ -16,8 +16,8 @@ use Rattle.fused.specs.CircuitFile.{recordBytes, recordsBytes}
 use Rattle.fused.specs.SizeLaws.{size-append, cost-append}
 use Rattle.emitting.specs.Emitted.{wireIn, aloneIn, emitIn, Writable, JoinWritable, Measured}
 use Rattle.emitting.specs.JoinedLaws.{joined-sized}
-use Rattle.writing.specs.Staged.{Stage, turnRecords, turn, stage, Turnable}
-use Rattle.writing.specs.Turns.{membersOf, wiresOf, Measurable, Puttable, Sum}
+use Rattle.writing.specs.Staged.{Stage, membersOf, turnRecords, turn, stage, Turnable}
+use Rattle.writing.specs.Turns.{wiresOf, Measurable, Puttable, Sum}
 
 -- a group by its place
 pub members-alone : (p : List ℕ) (at q : ℕ) → at ≡ 0 → membersOf p at q ≡ q ∷ []

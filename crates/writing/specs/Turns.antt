@@ -1,21 +1,16 @@
--- Document 01, "The fused circuit file", Order: one group in turn, and the whole file, as the code measures and writes them from lent arrays.
+-- Inner: one group in turn, and the whole file, as the code measures and writes them from lent arrays.
 use Prim.Native.Nat.{ℕ, _+_, _≤_, _<_}
 use mathlib.Core.Path.{_≡_}
-use mathlib.Core.List.{List, [], _∷_, map}
+use mathlib.Core.List.{List, map}
 use mathlib.Core.Bool.{cond}
 use lib.Dec.{eqb}
 use lib.ListN.{length, getD, take}
-use Rattle.plan.specs.PlanFile.{groupAt}
 use Rattle.fused.specs.Records.{recordsCost}
 use Rattle.fused.specs.CircuitFile.{recordsBytes, fileBytes}
 use Rattle.emitting.specs.Emitted.{wireIn, Grouped, Coded, Writable, Joinable, JoinWritable}
 use Rattle.writing.specs.Staged.{stage, Turnable}
 
--- the members of group q: those listed at the place at of the plan p, itself alone where the place is 0
-abbrev pub membersOf : List ℕ → ℕ → ℕ → List ℕ
-membersOf p at q = cond (eqb at 0) (q ∷ []) (groupAt p at)
-
--- how many wires it has: one alone; a guard for each member, two picks and the operation where it is joined
+-- how many wires a group has by its place: one alone; a guard for each member, two picks and the operation where it is joined
 abbrev pub wiresOf : List ℕ → ℕ → ℕ
 wiresOf p at = cond (eqb at 0) 1 (getD p at 0 + 3)
 

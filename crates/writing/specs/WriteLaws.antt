@@ -23,7 +23,7 @@ use Rattle.plan.specs.Rows.{planAnswer}
 use Rattle.plan.specs.AcceptedLaws.{answer-accepted, plan-accepted, row-right}
 use Rattle.checking.specs.Checked.{writingOrder}
 use Rattle.checking.specs.Handed.{Handed}
-use Rattle.checking.specs.HandedLaws.{accepted-lists}
+use Rattle.checking.specs.CheckedLaws.{accepted-lists}
 use Rattle.checking.specs.declared.Checked.{Checked}
 use Rattle.fused.specs.Records.{Record, recordsCost}
 use Rattle.fused.specs.FusedCircuit.{recordsOf, outputWires, costAfter}
@@ -70,18 +70,18 @@ module _ (s p : List ℕ) where
 module _ (s p : List ℕ) (c : Checked) (k : Handed s p c) where
   pub refused-writes : (c .answer .number ≡ 0 → ⊥) → (d : List ℕ) → (c .answer ≡ writeAnswer s p (length d)) × (d ≡ writtenOver s p d)
   refused-writes h d =
-      let n : planAnswer s p .number ≡ 0 → ⊥ = λ z. h (ap (λ (a : Answer). a .number) (k .0) ∙ z) in
-      (k .0 ∙ sym (plan-answer s p n (length d)), sym (plan-kept s p n d))
+      let n : planAnswer s p .number ≡ 0 → ⊥ = λ z. h (ap (λ (a : Answer). a .number) (k .answered) ∙ z) in
+      (k .answered ∙ sym (plan-answer s p n (length d)), sym (plan-kept s p n d))
 
   module _ (zero : c .answer .number ≡ 0) where
     taken : planAnswer s p .number ≡ 0
-    taken = ap (λ (a : Answer). a .number) (sym (k .0)) ∙ zero
+    taken = ap (λ (a : Answer). a .number) (sym (k .answered)) ∙ zero
 
     -- the counts of the rule
     rule-answer : c .answer ≡ ruleAnswer s
     rule-answer =
         let r = plan-accepted s p .0 taken in
-        k .0 ∙ answer-accepted s p (r .0) (row-right s p (r .0) .1 (r .1))
+        k .answered ∙ answer-accepted s p (r .0) (row-right s p (r .0) .1 (r .1))
 
     whole : Accepted s
     whole = accepted s (rule-taken s p taken)
@@ -93,14 +93,14 @@ module _ (s p : List ℕ) (c : Checked) (k : Handed s p c) where
     before-is = ap (λ (a : Answer). a .before) (rule-answer ∙ whole .answer)
 
     groups-are : c .groups ≡ length (writingOrder s p)
-    groups-are = k .1 .1 .1 .1 .1 .1 .1 .1 ∙ ap length (accepted-lists s p taken (writingOrder s p))
+    groups-are = k .groups ∙ ap length (accepted-lists s p taken (writingOrder s p))
 
     abbrev last : Stage
     last = stage p (c .quads) (c .answer .gates) (c .needs) (c .group) (c .places) (c .order) (c .groups)
 
     pub arrays-turnable : Bytes s → Turnable p (c .quads) (c .answer .gates) (c .needs) (c .group) (c .places) (c .conditions) (c .order) (c .groups)
     arrays-turnable bytes =
-        rw (k .1 .0, k .1 .1 .0, k .1 .1 .1 .1 .0, k .1 .1 .1 .1 .1 .0, k .1 .1 .1 .1 .1 .1 .0, k .1 .1 .1 .1 .1 .1 .1 .0, gates-are, groups-are) (plan-turnable s p taken bytes)
+        rw (k .quads, k .needs, k .conditions, k .group, k .places, k .order, gates-are, groups-are) (plan-turnable s p taken bytes)
 
     -- the byte V is there
     pub rule-long : 5 < length s
@@ -115,11 +115,11 @@ module _ (s p : List ℕ) (c : Checked) (k : Handed s p c) where
 
     pub records-are : stage p (c .quads) (c .answer .gates) (c .needs) (c .group) (c .places) (c .order) (c .groups) .records ≡ recordsOf s p
     records-are =
-        rw (k .1 .0, k .1 .1 .0, k .1 .1 .1 .1 .1 .0, k .1 .1 .1 .1 .1 .1 .0, k .1 .1 .1 .1 .1 .1 .1 .0, gates-are, groups-are) (last-records s p taken)
+        rw (k .quads, k .needs, k .group, k .places, k .order, gates-are, groups-are) (last-records s p taken)
 
     pub outputs-are : map (wireIn (c .group) (stage p (c .quads) (c .answer .gates) (c .needs) (c .group) (c .places) (c .order) (c .groups) .wires)) (take (variables s) (c .outputs)) ≡ outputWires s p
     outputs-are =
-        rw (k .1 .0, k .1 .1 .0, k .1 .1 .1 .0, k .1 .1 .1 .1 .1 .0, k .1 .1 .1 .1 .1 .1 .0, k .1 .1 .1 .1 .1 .1 .1 .0, gates-are, groups-are) (last-outputs s p taken)
+        rw (k .quads, k .needs, k .outputs, k .group, k .places, k .order, gates-are, groups-are) (last-outputs s p taken)
 
     abbrev records : List Record
     records = stage p (c .quads) (c .answer .gates) (c .needs) (c .group) (c .places) (c .order) (c .groups) .records
@@ -133,15 +133,15 @@ module _ (s p : List ℕ) (c : Checked) (k : Handed s p c) where
     outputs-held =
         let e = accepted-builds s (rule-taken s p taken) (outputsOf s) in
         let few : length (ifAccepted s (outputsOf s)) ≤ mostVariables = rw e (omega (arith, built-outputs-length s (rule-taken s p taken), built-variables s (rule-taken s p taken))) in
-        ap length (k .1 .1 .1 .0) ∙ padded-length mostVariables (ifAccepted s (outputsOf s)) few
+        ap length (k .outputs) ∙ padded-length mostVariables (ifAccepted s (outputsOf s)) few
 
     pub outputs-placed : OutputsPlaced (c .outputs) (variables s) (c .group)
     outputs-placed = record {
       held = outputs-held;
       few = built-variables s (rule-taken s p taken);
       placed = λ x l.
-          let o : getD (c .outputs) x 0 < gateCount s = rw (k .1 .1 .1 .0) (built-output-inside s (rule-taken s p taken) x l) in
-          let g : getD (c .group) (getD (c .outputs) x 0) 0 < mostGates = rw (k .1 .1 .1 .1 .1 .0) (table-named s p taken (getD (c .outputs) x 0) o) in
+          let o : getD (c .outputs) x 0 < gateCount s = rw (k .outputs) (built-output-inside s (rule-taken s p taken) x l) in
+          let g : getD (c .group) (getD (c .outputs) x 0) 0 < mostGates = rw (k .group) (table-named s p taken (getD (c .outputs) x 0) o) in
           (omega (arith, o, built-room s (rule-taken s p taken)), g);
     }
 

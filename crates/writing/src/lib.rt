@@ -14,8 +14,8 @@ ghost use Rattle.answers.specs.Answers.{success};
 ghost use Rattle.fused.specs.CircuitFile.{mark, wiresBytes, recordsBytes};
 ghost use Rattle.fused.specs.Answers.{writeAnswer, writtenOver};
 ghost use Rattle.emitting.specs.Emitted.{wireIn, emitIn, Measured};
-ghost use Rattle.writing.specs.Staged.{stage, Turnable};
-ghost use Rattle.writing.specs.Turns.{membersOf, wiresOf, Measurable, Puttable, Measures, Sum, OutputsPlaced, fileIn};
+ghost use Rattle.writing.specs.Staged.{membersOf, stage, Turnable};
+ghost use Rattle.writing.specs.Turns.{wiresOf, Measurable, Puttable, Measures, Sum, OutputsPlaced, fileIn};
 
 // The bytes before the first record.
 const HEAD: usize = 8;

@@ -8,16 +8,32 @@ use Rattle.grouping.proofs.check_groups.Statement.{statement}
 use Rattle.grouping.proofs.check_groups.Tie as tie
 
 returns : tie.Need-returns
-returns c = row-27 (gatesIn (now (c .before .before .before .args .quads)) (c .before .before .before .args .count)) (now (c .before .before .before .args .needs)) (now (c .before .before .before .args .plan)) (sym (c .before .every-join .ensures) ∙ not-true _ (c .if1 .taken))
+returns c =
+    let c3 = c .before .before .before in
+    row-27 (gatesIn (now (c3 .args .quads)) (c3 .args .count)) (now (c3 .args .needs)) (now (c3 .args .plan))
+    (sym (c .before .every-join .ensures) ∙ not-true _ (c .if1 .taken))
 
 returns-2 : tie.Need-returns-2
-returns-2 c = row-28 (gatesIn (now (c .before .before .before .before .before .args .quads)) (c .before .before .before .before .before .args .count)) (now (c .before .before .before .before .before .args .needs)) (now (c .before .before .before .before .before .args .plan)) (sym (c .before .before .before .every-join .ensures) ∙ not-false _ (c .before .before .if1 .left)) (sym (c .before .every-join2 .ensures) ∙ not-true _ (c .if2 .taken))
+returns-2 c =
+    let c5 = c .before .before .before .before .before in
+    row-28 (gatesIn (now (c5 .args .quads)) (c5 .args .count)) (now (c5 .args .needs)) (now (c5 .args .plan))
+    (sym (c .before .before .before .every-join .ensures) ∙ not-false _ (c .before .before .if1 .left)) (sym (c .before .every-join2 .ensures) ∙ not-true _ (c .if2 .taken))
 
 returns-3 : tie.Need-returns-3
-returns-3 c = row-29 (gatesIn (now (c .before .before .before .before .before .before .before .args .quads)) (c .before .before .before .before .before .before .before .args .count)) (now (c .before .before .before .before .before .before .before .args .needs)) (now (c .before .before .before .before .before .before .before .args .plan)) (sym (c .before .before .before .before .before .every-join .ensures) ∙ not-false _ (c .before .before .before .before .if1 .left)) (sym (c .before .before .before .every-join2 .ensures) ∙ not-false _ (c .before .before .if2 .left)) (sym (c .before .every-join3 .ensures) ∙ not-true _ (c .if3 .taken))
+returns-3 c =
+    let c7 = c .before .before .before .before .before .before .before in
+    row-29 (gatesIn (now (c7 .args .quads)) (c7 .args .count)) (now (c7 .args .needs)) (now (c7 .args .plan))
+    (sym (c .before .before .before .before .before .every-join .ensures) ∙ not-false _ (c .before .before .before .before .if1 .left))
+    (sym (c .before .before .before .every-join2 .ensures) ∙ not-false _ (c .before .before .if2 .left))
+    (sym (c .before .every-join3 .ensures) ∙ not-true _ (c .if3 .taken))
 
 returns-4 : tie.Need-returns-4
-returns-4 c = joins-none (gatesIn (now (c .before .before .before .before .before .before .before .args .quads)) (c .before .before .before .before .before .before .before .args .count)) (now (c .before .before .before .before .before .before .before .args .needs)) (now (c .before .before .before .before .before .before .before .args .plan)) (sym (c .before .before .before .before .before .every-join .ensures) ∙ not-false _ (c .before .before .before .before .if1 .left)) (sym (c .before .before .before .every-join2 .ensures) ∙ not-false _ (c .before .before .if2 .left)) (sym (c .before .every-join3 .ensures) ∙ not-false _ (c .if3 .left))
+returns-4 c =
+    let c7 = c .before .before .before .before .before .before .before in
+    joins-none (gatesIn (now (c7 .args .quads)) (c7 .args .count)) (now (c7 .args .needs)) (now (c7 .args .plan))
+    (sym (c .before .before .before .before .before .every-join .ensures) ∙ not-false _ (c .before .before .before .before .if1 .left))
+    (sym (c .before .before .before .every-join2 .ensures) ∙ not-false _ (c .before .before .if2 .left))
+    (sym (c .before .every-join3 .ensures) ∙ not-false _ (c .if3 .left))
 
 pub check-groups-spec : {M : Type 1} → statement M
 check-groups-spec =

@@ -17,7 +17,8 @@ groups-counted-requires : tie.Need-groups-counted-requires Inv-loop μ-loop
 groups-counted-requires c κs = c .before .pre .least
 
 loop-holds : tie.Need-loop-holds Inv-loop μ-loop
-loop-holds c = (ahead-start _ _ _ (c .before .before .pre) (c .groups-counted .ensures), testing-start _ _ _ (readable-lie _ _ (c .before .before .pre)) (c .groups-counted .ensures))
+loop-holds c =
+    (ahead-start _ _ _ (c .before .before .pre) (c .groups-counted .ensures), testing-start _ _ _ (readable-lie _ _ (c .before .before .pre)) (c .groups-counted .ensures))
 
 join-holds-requires : tie.Need-join-holds-requires Inv-loop μ-loop
 join-holds-requires c κs = ahead-fits _ _ _ _ (c .before .loop .inv .0) (c .loop-test .taken)
@@ -29,7 +30,13 @@ after-requires : tie.Need-after-requires Inv-loop μ-loop
 after-requires c κs = lie-inside _ _ _ (c .before .before .before .loop .inv .1 .lie) (c .before .before .loop-test .taken)
 
 loop-again : tie.Need-loop-again Inv-loop μ-loop
-loop-again c = (ahead-step _ _ _ _ _ (c .before .before .before .before .loop .inv .0) (c .before .before .before .loop-test .taken) (c .after .ensures), testing-step _ _ _ _ _ _ (c .before .before .before .before .loop .inv .1) (c .before .before .before .loop-test .taken) (c .before .before .join-holds .ensures) (not-false _ (c .before .if1 .left)) (c .after .ensures))
+loop-again c =
+    let c3 = c .before .before .before in
+    let c4 = c3 .before in (
+      ahead-step _ _ _ _ _ (c4 .loop .inv .0) (c3 .loop-test .taken) (c .after .ensures),
+      testing-step _ _ _ _ _ _ (c4 .loop .inv .1) (c3 .loop-test .taken)
+          (c .before .before .join-holds .ensures) (not-false _ (c .before .if1 .left)) (c .after .ensures),
+    )
 
 returns-2 : tie.Need-returns-2 Inv-loop μ-loop
 returns-2 c = testing-end _ _ _ _ (c .before .loop .inv .1) (c .loop-test .left)

@@ -24,7 +24,9 @@ after-requires : tie.Need-after-requires Inv-loop μ-loop
 after-requires c κs = lie-inside _ _ _ (c .before .before .before .loop .inv .lie) (c .before .before .loop-test .taken)
 
 loop-again : tie.Need-loop-again Inv-loop μ-loop
-loop-again c = testing-step _ _ _ _ _ _ (c .before .before .before .before .loop .inv) (c .before .before .before .loop-test .taken) (c .before .before .shape-holds .ensures) (not-false _ (c .before .if1 .left)) (c .after .ensures)
+loop-again c =
+    testing-step _ _ _ _ _ _ (c .before .before .before .before .loop .inv) (c .before .before .before .loop-test .taken) (c .before .before .shape-holds .ensures)
+    (not-false _ (c .before .if1 .left)) (c .after .ensures)
 
 returns-2 : tie.Need-returns-2 Inv-loop μ-loop
 returns-2 c = testing-end _ _ _ _ (c .before .loop .inv) (c .loop-test .left)

@@ -7,16 +7,32 @@ use Rattle.grouping.proofs.group_gates.Statement.{statement}
 use Rattle.grouping.proofs.group_gates.Tie as tie
 
 returns : tie.Need-returns
-returns c = (layout-before (c .before .before .before .args .count) (now (c .before .before .before .args .plan)) _ (c .before .layout-row .ensures) (c .if1 .taken), (λ e. absurd (c .if1 .taken e), λ e. absurd (c .if1 .taken e)))
+returns c =
+    let c3 = c .before .before .before in (
+      layout-before (c3 .args .count) (now (c3 .args .plan)) _ (c .before .layout-row .ensures) (c .if1 .taken),
+      (λ e. absurd (c .if1 .taken e), λ e. absurd (c .if1 .taken e)),
+    )
 
 join-groups-requires : tie.Need-join-groups-requires
-join-groups-requires c κs = shape-readable (c .before .before .before .before .before .args .count) (now (c .before .before .before .before .before .args .plan)) (c .before .before .before .before .before .pre) (sym (c .before .before .before .layout-row .ensures) ∙ c .before .before .if1 .left)
+join-groups-requires c κs =
+    let c5 = c .before .before .before .before .before in
+    shape-readable (c5 .args .count) (now (c5 .args .plan)) (c5 .pre) (sym (c .before .before .before .layout-row .ensures) ∙ c .before .before .if1 .left)
 
 returns-2 : tie.Need-returns-2
-returns-2 c = (layout-none (c .before .before .before .before .before .before .before .args .count) (now (c .before .before .before .before .before .before .before .args .plan)) _ _ (c .before .before .before .before .before .layout-row .ensures) (c .before .before .before .before .if1 .left) (c .before .join-groups .ensures .0) (c .if2 .taken), (λ e. c .before .join-groups .ensures .1 .0 (c .if2 .taken), λ e. c .before .join-groups .ensures .1 .1 (c .if2 .taken)))
+returns-2 c =
+    let c7 = c .before .before .before .before .before .before .before in (
+      layout-none (c7 .args .count) (now (c7 .args .plan)) _ _ (c .before .before .before .before .before .layout-row .ensures) (c .before .before .before .before .if1 .left)
+          (c .before .join-groups .ensures .0) (c .if2 .taken),
+      (λ e. c .before .join-groups .ensures .1 .0 (c .if2 .taken), λ e. c .before .join-groups .ensures .1 .1 (c .if2 .taken)),
+    )
 
 returns-3 : tie.Need-returns-3
-returns-3 c = (layout-26 (c .before .before .before .before .before .before .before .args .count) (now (c .before .before .before .before .before .before .before .args .plan)) _ _ (c .before .before .before .before .before .layout-row .ensures) (c .before .before .before .before .if1 .left) (c .before .join-groups .ensures .0) (c .if2 .left), (λ e. absurd (omega (arith, e)), λ e. absurd (omega (arith, e))))
+returns-3 c =
+    let c7 = c .before .before .before .before .before .before .before in (
+      layout-26 (c7 .args .count) (now (c7 .args .plan)) _ _ (c .before .before .before .before .before .layout-row .ensures) (c .before .before .before .before .if1 .left)
+          (c .before .join-groups .ensures .0) (c .if2 .left),
+      (λ e. absurd (omega (arith, e)), λ e. absurd (omega (arith, e))),
+    )
 
 pub group-gates-spec : {M : Type 1} → statement M
 group-gates-spec =

@@ -1,5 +1,4 @@
 use borrow.Author.Needs.{needs}
-use native.Mathlib.Omega.{arith}
 use mathlib.Core.Bool.{false≢true}
 use borrow.Author.Tests.{not-true, not-false}
 use Rattle.grouping.specs.GroupLaws.{lie-inside, ahead-fits}
@@ -20,19 +19,29 @@ groups-counted-requires : tie.Need-groups-counted-requires Inv-loop μ-loop
 groups-counted-requires c κs = c .before .before .before .before .before .pre .least
 
 loop-holds : tie.Need-loop-holds Inv-loop μ-loop
-loop-holds c = joining-start _ _ _ _ _ (c .before .before .before .before .before .before .pre) (c .groups-counted .ensures) (c .before .before .before .number-gates .ensures) (c .before .clear .ensures)
+loop-holds c =
+    let c6 = c .before .before .before .before .before .before in
+    joining-start _ _ _ _ _ (c6 .pre) (c .groups-counted .ensures) (c .before .before .before .number-gates .ensures) (c .before .clear .ensures)
 
 join-members-requires : tie.Need-join-members-requires Inv-loop μ-loop
 join-members-requires c κs = ahead-fits _ _ _ _ (c .before .before .before .loop .inv .ahead) (c .before .before .loop-test .taken)
 
 returns : tie.Need-returns Inv-loop μ-loop
-returns c = (joining-fails _ _ _ _ _ _ _ (c .before .before .before .before .before .loop .inv) (c .before .before .before .before .loop-test .taken) (c .before .join-members .ensures .0) (not-true _ (c .if1 .taken)), (λ e. absurd (false≢true e), λ e. absurd (false≢true e)))
+returns c = (
+  joining-fails _ _ _ _ _ _ _ (c .before .before .before .before .before .loop .inv) (c .before .before .before .before .loop-test .taken)
+      (c .before .join-members .ensures .0) (not-true _ (c .if1 .taken)),
+  (λ e. absurd (false≢true e), λ e. absurd (false≢true e)),
+)
 
 after-requires : tie.Need-after-requires Inv-loop μ-loop
 after-requires c κs = lie-inside _ _ _ (c .before .before .before .before .before .loop .inv .ahead .lie) (c .before .before .before .before .loop-test .taken)
 
 loop-again : tie.Need-loop-again Inv-loop μ-loop
-loop-again c = let r = not-false _ (c .before .if1 .left) in joining-step _ _ _ _ _ _ _ _ _ _ (c .before .before .before .before .before .before .loop .inv) (c .before .before .before .before .before .loop-test .taken) (c .before .before .join-members .ensures .0) r (c .after .ensures) (c .before .before .join-members .ensures .1 .0 r) (c .before .before .join-members .ensures .1 .1 r)
+loop-again c =
+    let c6 = c .before .before .before .before .before .before in
+    let r = not-false _ (c .before .if1 .left) in joining-step _ _ _ _ _ _ _ _ _ _ (c6 .loop .inv) (c .before .before .before .before .before .loop-test .taken)
+    (c .before .before .join-members .ensures .0) r (c .after .ensures) (c .before .before .join-members .ensures .1 .0 r)
+    (c .before .before .join-members .ensures .1 .1 r)
 
 returns-2 : tie.Need-returns-2 Inv-loop μ-loop
 returns-2 c = let r = joining-end _ _ _ _ _ _ (c .before .loop .inv) (c .loop-test .left) in (r .0, (λ e. r .1 .0, λ e. r .1 .1))

@@ -24,28 +24,55 @@ loop-holds : tie.Need-loop-holds Inv-loop μ-loop
 loop-holds c = putting-start _ _ _ _ _ _ (c .before .before .before .pre) (c .member .ensures)
 
 member-requires-2 : tie.Need-member-requires-2 Inv-loop μ-loop
-member-requires-2 c κs = omega (arith, c .before .loop .inv .walk .fits .lies, c .before .loop .inv .walk .fits .short, c .loop-test .taken, c .before .before .before .size-at .ensures)
+member-requires-2 c κs =
+    omega (arith, c .before .loop .inv .walk .fits .lies, c .before .loop .inv .walk .fits .short, c .loop-test .taken, c .before .before .before .size-at .ensures)
 
 element-copy-out-if1 : tie.Need-element-copy-out-if1 Inv-loop μ-loop
-element-copy-out-if1 c = walk-byte _ _ _ _ _ (c .before .before .before .loop .inv .walk) (omega (arith, c .before .before .loop-test .taken, c .before .before .before .before .before .size-at .ensures)) (c .before .member2 .ensures)
+element-copy-out-if1 c =
+    walk-byte _ _ _ _ _ (c .before .before .before .loop .inv .walk)
+    (omega (arith, c .before .before .loop-test .taken, c .before .before .before .before .before .size-at .ensures)) (c .before .member2 .ensures)
 
 returns : tie.Need-returns Inv-loop μ-loop
-returns c = (putting-fails _ _ _ _ _ _ _ _ _ _ (c .before .before .before .before .before .loop .inv) (omega (arith, c .before .before .before .before .loop-test .taken, c .before .before .before .before .before .before .before .size-at .ensures)) (c .before .before .before .member2 .ensures) (c .if1 .taken), (λ e. absurd (false≢true e), λ e. absurd (false≢true e)))
+returns c =
+    let c7 = c .before .before .before .before .before .before .before in (
+      putting-fails _ _ _ _ _ _ _ _ _ _ (c .before .before .before .before .before .loop .inv)
+          (omega (arith, c .before .before .before .before .loop-test .taken, c7 .size-at .ensures)) (c .before .before .before .member2 .ensures) (c .if1 .taken),
+      (λ e. absurd (false≢true e), λ e. absurd (false≢true e)),
+    )
 
 element-write-group : tie.Need-element-write-group Inv-loop μ-loop
-element-write-group c = walk-byte _ _ _ _ _ (c .before .before .before .before .before .loop .inv .walk) (omega (arith, c .before .before .before .before .loop-test .taken, c .before .before .before .before .before .before .before .size-at .ensures)) (c .before .before .before .member2 .ensures)
+element-write-group c =
+    let c7 = c .before .before .before .before .before .before .before in
+    walk-byte _ _ _ _ _ (c .before .before .before .before .before .loop .inv .walk)
+    (omega (arith, c .before .before .before .before .loop-test .taken, c7 .size-at .ensures)) (c .before .before .before .member2 .ensures)
 
 cast-places : tie.Need-cast-places Inv-loop μ-loop
-cast-places c = record { fits = omega (arith, c .before .before .before .before .before .loop .inv .walk .fits .lies, c .before .before .before .before .before .loop .inv .walk .fits .short) }
+cast-places c =
+    let c5 = c .before .before .before .before .before in
+    record { fits = omega (arith, c5 .loop .inv .walk .fits .lies, c5 .loop .inv .walk .fits .short) }
 
 element-write-places : tie.Need-element-write-places Inv-loop μ-loop
-element-write-places c = walk-byte _ _ _ _ _ (c .before .before .before .before .before .loop .inv .walk) (omega (arith, c .before .before .before .before .loop-test .taken, c .before .before .before .before .before .before .before .size-at .ensures)) (c .before .before .before .member2 .ensures)
+element-write-places c =
+    let c7 = c .before .before .before .before .before .before .before in
+    walk-byte _ _ _ _ _ (c .before .before .before .before .before .loop .inv .walk)
+    (omega (arith, c .before .before .before .before .loop-test .taken, c7 .size-at .ensures)) (c .before .before .before .member2 .ensures)
 
 loop-again : tie.Need-loop-again Inv-loop μ-loop
-loop-again c = putting-step _ _ _ _ _ _ _ _ _ _ (c .before .before .before .before .before .loop .inv) (omega (arith, c .before .before .before .before .loop-test .taken, c .before .before .before .before .before .before .before .size-at .ensures)) (c .before .before .before .member2 .ensures) _ _ (c .if1 .left) refl refl
+loop-again c =
+    let c7 = c .before .before .before .before .before .before .before in
+    putting-step _ _ _ _ _ _ _ _ _ _ (c .before .before .before .before .before .loop .inv)
+    (omega (arith, c .before .before .before .before .loop-test .taken, c7 .size-at .ensures)) (c .before .before .before .member2 .ensures) _ _ (c .if1 .left) refl refl
 
 returns-2 : tie.Need-returns-2 Inv-loop μ-loop
-returns-2 c = (putting-free _ _ _ _ _ _ _ _ _ (c .before .loop .inv) (omega (arith, c .loop-test .left, c .before .before .before .size-at .ensures)), (λ t. putting-groups _ _ _ _ _ _ _ _ _ (c .before .loop .inv) (omega (arith, c .loop-test .left, c .before .before .before .size-at .ensures)), λ t. putting-places _ _ _ _ _ _ _ _ _ (c .before .loop .inv) (omega (arith, c .loop-test .left, c .before .before .before .size-at .ensures))))
+returns-2 c =
+    let c3 = c .before .before .before in (
+      putting-free _ _ _ _ _ _ _ _ _ (c .before .loop .inv) (omega (arith, c .loop-test .left, c3 .size-at .ensures)),
+      (
+        λ t. putting-groups _ _ _ _ _ _ _ _ _ (c .before .loop .inv) (omega (arith, c .loop-test .left, c3 .size-at .ensures)),
+        λ t. putting-places _ _ _ _ _ _ _ _ _
+            (c .before .loop .inv) (omega (arith, c .loop-test .left, c3 .size-at .ensures)),
+      ),
+    )
 
 pub join-members-spec : {M : Type 1} → statement M
 join-members-spec =

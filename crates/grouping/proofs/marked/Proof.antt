@@ -1,6 +1,5 @@
 use borrow.Author.Needs.{needs}
 use mathlib.Core.Path.{sym, _∙_}
-use denote.Ref.{now}
 use Rattle.grouping.specs.RowLaws.{mark-past, mark-refused}
 use Rattle.grouping.proofs.marked.Statement.{statement}
 use Rattle.grouping.proofs.marked.Tie as tie

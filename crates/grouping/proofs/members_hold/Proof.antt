@@ -1,6 +1,6 @@
 use borrow.Author.Needs.{needs}
 use native.Mathlib.Omega.{arith}
-use mathlib.Core.Path.{sym, _∙_}
+use mathlib.Core.Path.{_∙_}
 use borrow.Author.Tests.{not-true, not-false}
 use Prim.Native.Nat.{_-_}
 use Rattle.grouping.specs.MemberLaws.{walk-byte}
@@ -24,16 +24,27 @@ loop-holds : tie.Need-loop-holds Inv-loop μ-loop
 loop-holds c = holding-start _ _ _ _ _ _ (c .before .before .before .pre) (c .member .ensures)
 
 member-requires-2 : tie.Need-member-requires-2 Inv-loop μ-loop
-member-requires-2 c κs = omega (arith, c .before .loop .inv .walk .fits .lies, c .before .loop .inv .walk .fits .short, c .loop-test .taken, c .before .before .before .size-at .ensures)
+member-requires-2 c κs =
+    omega (arith, c .before .loop .inv .walk .fits .lies, c .before .loop .inv .walk .fits .short, c .loop-test .taken, c .before .before .before .size-at .ensures)
 
 member-holds-requires : tie.Need-member-holds-requires Inv-loop μ-loop
-member-holds-requires c κs = (omega (arith, c .before .before .loop .inv .inside, c .before .before .loop .inv .walk .fits .room), walk-byte _ _ _ _ _ (c .before .before .loop .inv .walk) (omega (arith, c .before .loop-test .taken, c .before .before .before .before .size-at .ensures)) (c .member2 .ensures))
+member-holds-requires c κs = (
+  omega (arith, c .before .before .loop .inv .inside, c .before .before .loop .inv .walk .fits .room),
+  walk-byte _ _ _ _ _ (c .before .before .loop .inv .walk)
+      (omega (arith, c .before .loop-test .taken, c .before .before .before .before .size-at .ensures)) (c .member2 .ensures),
+)
 
 returns : tie.Need-returns Inv-loop μ-loop
-returns c = holding-fails _ _ _ _ _ _ _ _ _ (c .before .before .before .before .loop .inv) (omega (arith, c .before .before .before .loop-test .taken, c .before .before .before .before .before .before .size-at .ensures)) (c .before .before .member2 .ensures) (c .before .member-holds .ensures) (not-true _ (c .if1 .taken))
+returns c =
+    let c6 = c .before .before .before .before .before .before in
+    holding-fails _ _ _ _ _ _ _ _ _ (c .before .before .before .before .loop .inv) (omega (arith, c .before .before .before .loop-test .taken, c6 .size-at .ensures))
+    (c .before .before .member2 .ensures) (c .before .member-holds .ensures) (not-true _ (c .if1 .taken))
 
 loop-again : tie.Need-loop-again Inv-loop μ-loop
-loop-again c = holding-step _ _ _ _ _ _ _ _ _ (c .before .before .before .before .loop .inv) (omega (arith, c .before .before .before .loop-test .taken, c .before .before .before .before .before .before .size-at .ensures)) (c .before .before .member2 .ensures) (c .before .member-holds .ensures) (not-false _ (c .if1 .left))
+loop-again c =
+    let c6 = c .before .before .before .before .before .before in
+    holding-step _ _ _ _ _ _ _ _ _ (c .before .before .before .before .loop .inv) (omega (arith, c .before .before .before .loop-test .taken, c6 .size-at .ensures))
+    (c .before .before .member2 .ensures) (c .before .member-holds .ensures) (not-false _ (c .if1 .left))
 
 returns-2 : tie.Need-returns-2 Inv-loop μ-loop
 returns-2 c = holding-end _ _ _ _ _ _ _ (c .before .loop .inv) (omega (arith, c .loop-test .left, c .before .before .before .size-at .ensures))

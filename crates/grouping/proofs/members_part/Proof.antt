@@ -20,16 +20,28 @@ loop-holds : tie.Need-loop-holds Inv-loop μ-loop
 loop-holds c = parting-start _ _ _ _ _ (c .before .before .before .pre) (c .empty .ensures)
 
 member-requires : tie.Need-member-requires Inv-loop μ-loop
-member-requires c κs = omega (arith, c .before .loop .inv .walk .fits .lies, c .before .loop .inv .walk .fits .short, c .loop-test .taken, c .before .before .before .size-at .ensures)
+member-requires c κs =
+    omega (arith, c .before .loop .inv .walk .fits .lies, c .before .loop .inv .walk .fits .short, c .loop-test .taken, c .before .before .before .size-at .ensures)
 
 element-copy-out-s : tie.Need-element-copy-out-s Inv-loop μ-loop
-element-copy-out-s c = walk-byte _ _ _ _ _ (c .before .before .before .loop .inv .walk) (omega (arith, c .before .before .loop-test .taken, c .before .before .before .before .before .size-at .ensures)) (c .before .member .ensures)
+element-copy-out-s c =
+    walk-byte _ _ _ _ _ (c .before .before .before .loop .inv .walk)
+    (omega (arith, c .before .before .loop-test .taken, c .before .before .before .before .before .size-at .ensures)) (c .before .member .ensures)
 
 returns : tie.Need-returns Inv-loop μ-loop
-returns c = parting-fails _ _ _ _ _ _ _ _ (c .before .before .before .before .before .before .loop .inv) (omega (arith, c .before .before .before .before .before .loop-test .taken, c .before .before .before .before .before .before .before .before .size-at .ensures)) (c .before .before .before .before .member .ensures) (c .before .excludes .ensures) (not-true _ (c .if1 .taken))
+returns c =
+    let c6 = c .before .before .before .before .before .before in
+    let c8 = c6 .before .before in
+    parting-fails _ _ _ _ _ _ _ _ (c6 .loop .inv) (omega (arith, c .before .before .before .before .before .loop-test .taken, c8 .size-at .ensures))
+    (c .before .before .before .before .member .ensures) (c .before .excludes .ensures) (not-true _ (c .if1 .taken))
 
 loop-again : tie.Need-loop-again Inv-loop μ-loop
-loop-again c = parting-step _ _ _ _ _ _ _ _ (c .before .before .before .before .before .before .before .loop .inv) (omega (arith, c .before .before .before .before .before .before .loop-test .taken, c .before .before .before .before .before .before .before .before .before .size-at .ensures)) (c .before .before .before .before .before .member .ensures) (c .before .before .excludes .ensures) _ (not-false _ (c .before .if1 .left)) (c .union .ensures)
+loop-again c =
+    let c6 = c .before .before .before .before .before .before in
+    let c7 = c6 .before in
+    let c9 = c7 .before .before in
+    parting-step _ _ _ _ _ _ _ _ (c7 .loop .inv) (omega (arith, c6 .loop-test .taken, c9 .size-at .ensures)) (c .before .before .before .before .before .member .ensures)
+    (c .before .before .excludes .ensures) _ (not-false _ (c .before .if1 .left)) (c .union .ensures)
 
 returns-2 : tie.Need-returns-2 Inv-loop μ-loop
 returns-2 c = parting-end _ _ _ _ _ _ (c .before .loop .inv) (omega (arith, c .loop-test .left, c .before .before .before .size-at .ensures))

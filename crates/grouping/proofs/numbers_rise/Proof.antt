@@ -21,13 +21,24 @@ member-requires : tie.Need-member-requires Inv-loop μ-loop
 member-requires c κs = omega (arith, c .before .loop .inv .lies, c .before .before .size-at .ensures, c .loop-test .taken)
 
 returns : tie.Need-returns Inv-loop μ-loop
-returns c = climbing-low _ _ _ _ _ _ (c .before .before .before .before .loop .inv) (omega (arith, c .before .before .before .before .before .size-at .ensures, c .before .before .before .loop-test .taken)) (c .before .before .member .ensures) (c .if1 .taken)
+returns c =
+    climbing-low _ _ _ _ _ _ (c .before .before .before .before .loop .inv)
+    (omega (arith, c .before .before .before .before .before .size-at .ensures, c .before .before .before .loop-test .taken)) (c .before .before .member .ensures)
+    (c .if1 .taken)
 
 returns-2 : tie.Need-returns-2 Inv-loop μ-loop
-returns-2 c = climbing-high _ _ _ _ _ _ (c .before .before .before .before .before .loop .inv) (omega (arith, c .before .before .before .before .before .before .size-at .ensures, c .before .before .before .before .loop-test .taken)) (c .before .before .before .member .ensures) (c .before .if1 .left) (c .if2 .taken)
+returns-2 c =
+    let c6 = c .before .before .before .before .before .before in
+    climbing-high _ _ _ _ _ _ (c .before .before .before .before .before .loop .inv)
+    (omega (arith, c6 .size-at .ensures, c .before .before .before .before .loop-test .taken)) (c .before .before .before .member .ensures) (c .before .if1 .left)
+    (c .if2 .taken)
 
 loop-again : tie.Need-loop-again Inv-loop μ-loop
-loop-again c = climbing-step _ _ _ _ _ _ (c .before .before .before .before .before .loop .inv) (omega (arith, c .before .before .before .before .before .before .size-at .ensures, c .before .before .before .before .loop-test .taken)) (c .before .before .before .member .ensures) (c .before .if1 .left) (c .if2 .left)
+loop-again c =
+    let c6 = c .before .before .before .before .before .before in
+    climbing-step _ _ _ _ _ _ (c .before .before .before .before .before .loop .inv)
+    (omega (arith, c6 .size-at .ensures, c .before .before .before .before .loop-test .taken)) (c .before .before .before .member .ensures) (c .before .if1 .left)
+    (c .if2 .left)
 
 returns-3 : tie.Need-returns-3 Inv-loop μ-loop
 returns-3 c = climbing-end _ _ _ _ _ (c .before .loop .inv) (omega (arith, c .before .before .size-at .ensures, c .loop-test .left))

@@ -1,4 +1,3 @@
-use borrow.Author.Needs.{needs}
 use Rattle.grouping.specs.GateLaws.{operation-low, operation-high, operation-is}
 use Rattle.grouping.proofs.operation_code.Statement.{statement}
 use Rattle.grouping.proofs.operation_code.Tie as tie

@@ -1,4 +1,3 @@
-use borrow.Author.Needs.{needs}
 use denote.Ref.{now}
 use Rattle.grouping.specs.RowLaws.{size-short, size-rest}
 use Rattle.grouping.proofs.size_fits.Statement.{statement}

@@ -1,7 +1,7 @@
 use lib.ListN.{getD}
 use Rattle.emitting.specs.LoopLaws.{member-inside}
 use Rattle.emitting.specs.PieceLaws.{Summing, few-rests, summing-start, summing-step, summing-end}
-use Rattle.emitting.specs.MemberLaws.{length-group}
+use Rattle.plan.specs.NumberLaws.{length-group}
 use Rattle.plan.specs.PlanFile.{groupAt}
 use native.Mathlib.Omega.{arith}
 use Prim.Native.Nat.{_-_}

@@ -18,7 +18,9 @@ loop-holds : tie.Need-loop-holds Inv-loop μ-loop
 loop-holds c = listing-start _ _ _ (c .before .pre .0) (c .before .pre .1)
 
 put-requires : tie.Need-put-requires Inv-loop μ-loop
-put-requires c κs = (omega (arith, c .before .before .before .before .before .loop .inv .words .size), omega (arith, c .before .before .before .before .before .loop .inv .room, c .before .before .before .before .loop-test .taken))
+put-requires c κs =
+    let c5 = c .before .before .before .before .before in
+    (omega (arith, c5 .loop .inv .words .size), omega (arith, c5 .loop .inv .room, c .before .before .before .before .loop-test .taken))
 
 loop-again : tie.Need-loop-again Inv-loop μ-loop
 loop-again c =

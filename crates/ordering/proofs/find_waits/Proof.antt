@@ -26,20 +26,30 @@ group-of-requires c κs = omega (arith, c .before .loop .inv .orderable .room, c
 wait-arguments-requires : tie.Need-wait-arguments-requires Inv-loop μ-loop
 wait-arguments-requires c κs =
     let i = c .before .before .before .loop .inv in
-    let t = c .before .before .loop-test .taken in
-    ((omega (arith, i .orderable .room, t), omega (arith, i .orderable .room, t, c .before .group-of .ensures, gathering-group _ _ _ _ _ _ _ _ i t)), (i .words .size, gathering-arguments _ _ _ _ _ _ _ _ i t))
+    let t = c .before .before .loop-test .taken in (
+      (omega (arith, i .orderable .room, t), omega (arith, i .orderable .room, t, c .before .group-of .ensures, gathering-group _ _ _ _ _ _ _ _ i t)),
+      (i .words .size, gathering-arguments _ _ _ _ _ _ _ _ i t),
+    )
 
 mul-if1 : tie.Need-mul-if1 Inv-loop μ-loop
-mul-if1 c = record { fits = omega (arith, c .before .before .before .before .before .before .loop .inv .orderable .room, c .before .before .before .before .before .loop-test .taken) }
+mul-if1 c =
+    let c6 = c .before .before .before .before .before .before in
+    record { fits = omega (arith, c6 .loop .inv .orderable .room, c .before .before .before .before .before .loop-test .taken) }
 
 element-copy-out-if1 : tie.Need-element-copy-out-if1 Inv-loop μ-loop
 element-copy-out-if1 c = omega (arith, c .before .before .before .before .before .before .loop .inv .orderable .room, c .before .before .before .before .before .loop-test .taken)
 
 mul-wait-conditions : tie.Need-mul-wait-conditions Inv-loop μ-loop
-mul-wait-conditions c = record { fits = omega (arith, c .before .before .before .before .before .before .before .before .loop .inv .orderable .room, c .before .before .before .before .before .before .before .loop-test .taken) }
+mul-wait-conditions c =
+    let c7 = c .before .before .before .before .before .before .before in
+    let c8 = c7 .before in
+    record { fits = omega (arith, c8 .loop .inv .orderable .room, c7 .loop-test .taken) }
 
 element-copy-out-wait-conditions : tie.Need-element-copy-out-wait-conditions Inv-loop μ-loop
-element-copy-out-wait-conditions c = omega (arith, c .before .before .before .before .before .before .before .before .loop .inv .orderable .room, c .before .before .before .before .before .before .before .loop-test .taken)
+element-copy-out-wait-conditions c =
+    let c7 = c .before .before .before .before .before .before .before in
+    let c8 = c7 .before in
+    omega (arith, c8 .loop .inv .orderable .room, c7 .loop-test .taken)
 
 wait-conditions-requires : tie.Need-wait-conditions-requires Inv-loop μ-loop
 wait-conditions-requires c κs =
@@ -51,11 +61,15 @@ wait-conditions-requires c κs =
 
 loop-again : tie.Need-loop-again Inv-loop μ-loop
 loop-again c =
-    let i = c .before .before .before .before .before .before .before .before .loop .inv in
-    let t = c .before .before .before .before .before .before .before .loop-test .taken in
+    let c4 = c .before .before .before .before in
+    let c6 = c4 .before .before in
+    let c7 = c6 .before in
+    let c8 = c7 .before in
+    let i = c8 .loop .inv in
+    let t = c7 .loop-test .taken in
     ⊎-elim
-    (λ w. gathering-joined _ _ _ _ _ _ _ _ i t _ _ _ _ (c .before .before .before .before .before .before .group-of .ensures) (w .0 .taken) refl (c .before .before .before .before .wait-arguments .ensures) (w .6 ∙ w .3 .ensures))
-    (λ w. gathering-alone _ _ _ _ _ _ _ _ i t _ _ (c .before .before .before .before .before .before .group-of .ensures) (w .0 .left) (w .1 ∙ c .before .before .before .before .wait-arguments .ensures))
+    (λ w. gathering-joined _ _ _ _ _ _ _ _ i t _ _ _ _ (c6 .group-of .ensures) (w .0 .taken) refl (c4 .wait-arguments .ensures) (w .6 ∙ w .3 .ensures))
+    (λ w. gathering-alone _ _ _ _ _ _ _ _ i t _ _ (c6 .group-of .ensures) (w .0 .left) (w .1 ∙ c4 .wait-arguments .ensures))
     (c .if1 .came)
 
 same-length : tie.Need-same-length Inv-loop μ-loop

@@ -8,25 +8,27 @@ use Rattle.ordering.proofs.next_ready.Statement.{statement}
 use Rattle.ordering.proofs.next_ready.Tie as tie
 
 abbrev Inv-waits : tie.InvT-waits
-Inv-waits waits left from count p w₀ w = TestingWords waits left from count p w
+Inv-waits waits left count first p w₀ w = TestingWords waits left first count p w
 
 abbrev μ-waits : tie.MeasureT-waits
-μ-waits waits left from count p w₀ w = 4 - w
+μ-waits waits left count first p w₀ w = 4 - w
 
 abbrev Inv-search : tie.InvT-search
-Inv-search waits left from count p₀ p = Searching waits left from count p
+Inv-search waits left count first p₀ p = Searching waits left first count p
 
 abbrev μ-search : tie.MeasureT-search
-μ-search waits left from count p₀ p = count - p
+μ-search waits left count first p₀ p = count - p
 
 search-holds : tie.Need-search-holds Inv-waits μ-waits Inv-search μ-search
-search-holds c = searching-start _ _ _ _ (c .before .before .pre .0) (c .before .before .pre .1 .0) (c .before .before .pre .1 .1)
+search-holds c = let pre = c .before .before .before .pre in searching-start _ _ _ _ (pre .0) (pre .1 .0) (pre .1 .1)
 
 waits-holds : tie.Need-waits-holds Inv-waits μ-waits Inv-search μ-search
 waits-holds c = testing-start _ _ _ _ _ (c .before .before .before .search .inv) (c .before .before .if1 .left) (sym (c .before .has .ensures) ∙ c .if2 .taken)
 
 waits-again : tie.Need-waits-again Inv-waits μ-waits Inv-search μ-search
-waits-again c = testing-next _ _ _ _ _ _ (c .before .before .before .before .before .waits .inv) (c .before .before .before .before .if3 .left) (sym (c .before .excludes .ensures) ∙ not-false _ (c .if4 .left))
+waits-again c =
+    testing-next _ _ _ _ _ _ (c .before .before .before .before .before .waits .inv) (c .before .before .before .before .if3 .left)
+    (sym (c .before .excludes .ensures) ∙ not-false _ (c .if4 .left))
 
 search-again : tie.Need-search-again Inv-waits μ-waits Inv-search μ-search
 search-again c =
@@ -49,6 +51,7 @@ next-ready-spec =
     μ-waits
     Inv-search
     μ-search
+    (λ c. search needs)
     search-holds
     (λ c. search needs)
     (λ c κs. search needs)

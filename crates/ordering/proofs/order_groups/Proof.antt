@@ -27,13 +27,15 @@ find-left-requires : tie.Need-find-left-requires Inv-loop μ-loop
 find-left-requires c κs = (c .before .before .before .before .pre .0 .room, refl)
 
 loop-holds : tie.Need-loop-holds Inv-loop μ-loop
-loop-holds c = ([], ordering-start _ _ _ _ _ _ _ _ _ (c .before .before .before .before .before .before .pre .0) (c .before .before .before .before .find-waits .ensures) (c .before .find-left .ensures) (c .before .before .before .before .before .before .pre .1))
+loop-holds c =
+    let c6 = c .before .before .before .before .before .before in
+    ([], ordering-start _ _ _ _ _ _ _ _ _ (c6 .pre .0) (c .before .before .before .before .find-waits .ensures) (c .before .find-left .ensures) (c6 .pre .1))
 
 slice-aggregate-has : tie.Need-slice-aggregate-has Inv-loop μ-loop
 slice-aggregate-has c = sym (c .before .before .loop .inv .1 .tabled .lefts .size)
 
-cast-t22 : tie.Need-cast-t22 Inv-loop μ-loop
-cast-t22 c = record { fits = omega (arith, c .before .before .loop .inv .1 .tabled .room, c .before .loop-test .taken) }
+cast-t20 : tie.Need-cast-t20 Inv-loop μ-loop
+cast-t20 c = record { fits = omega (arith, c .before .loop .inv .1 .tabled .room, c .loop-test .taken) }
 
 has-requires : tie.Need-has-requires Inv-loop μ-loop
 has-requires c κs = (omega (arith, c .before .before .loop .inv .1 .tabled .lefts .size), omega (arith, c .before .before .loop .inv .1 .tabled .room, c .before .loop-test .taken))
@@ -45,31 +47,60 @@ slice-aggregate-next-ready-2 : tie.Need-slice-aggregate-next-ready-2 Inv-loop μ
 slice-aggregate-next-ready-2 c = sym (c .before .before .before .before .before .before .loop .inv .1 .tabled .lefts .size)
 
 next-ready-requires : tie.Need-next-ready-requires Inv-loop μ-loop
-next-ready-requires c κs = (c .before .before .before .before .before .before .loop .inv .1 .tabled .room, (c .before .before .before .before .before .before .loop .inv .1 .tabled .waiting .size, c .before .before .before .before .before .before .loop .inv .1 .tabled .lefts .size))
+next-ready-requires c κs =
+    let c6 = c .before .before .before .before .before .before in
+    (c6 .loop .inv .1 .tabled .room, (c6 .loop .inv .1 .tabled .waiting .size, c6 .loop .inv .1 .tabled .lefts .size))
 
 mul-order : tie.Need-mul-order Inv-loop μ-loop
-mul-order c = record { fits = omega (arith, placing-room _ _ _ _ _ _ _ _ _ _ (c .before .before .before .before .before .before .before .before .before .before .loop .inv .1) _ (sym (c .before .p .given .1) ∙ c .before .before .before .next-ready .ensures) .1) }
+mul-order c =
+    let c10 = c .before .before .before .before .before .before .before .before .before .before in
+    record { fits = omega (arith, placing-room _ _ _ _ _ _ _ _ _ _ (c10 .loop .inv .1) _ (sym (c .before .p .given .1) ∙ c .before .before .before .next-ready .ensures) .1) }
 
 element-write-order : tie.Need-element-write-order Inv-loop μ-loop
-element-write-order c = placing-room _ _ _ _ _ _ _ _ _ _ (c .before .before .before .before .before .before .before .before .before .before .loop .inv .1) _ (sym (c .before .p .given .1) ∙ c .before .before .before .next-ready .ensures) .1
+element-write-order c =
+    let c10 = c .before .before .before .before .before .before .before .before .before .before in
+    placing-room _ _ _ _ _ _ _ _ _ _ (c10 .loop .inv .1) _ (sym (c .before .p .given .1) ∙ c .before .before .before .next-ready .ensures) .1
 
 slice-aggregate-strike : tie.Need-slice-aggregate-strike Inv-loop μ-loop
 slice-aggregate-strike c = sym (c .before .before .before .before .before .before .before .before .before .before .before .loop .inv .1 .tabled .lefts .size)
 
 strike-requires : tie.Need-strike-requires Inv-loop μ-loop
-strike-requires c κs = (omega (arith, c .before .before .before .before .before .before .before .before .before .before .before .loop .inv .1 .tabled .lefts .size), placing-room _ _ _ _ _ _ _ _ _ _ (c .before .before .before .before .before .before .before .before .before .before .before .loop .inv .1) _ (sym (c .before .before .p .given .1) ∙ c .before .before .before .before .next-ready .ensures) .0)
+strike-requires c κs =
+    let c11 = c .before .before .before .before .before .before .before .before .before .before .before in (
+      omega (arith, c11 .loop .inv .1 .tabled .lefts .size),
+      placing-room _ _ _ _ _ _ _ _ _ _ (c11 .loop .inv .1) _
+          (sym (c .before .before .p .given .1) ∙ c .before .before .before .before .next-ready .ensures) .0,
+    )
 
 add-k : tie.Need-add-k Inv-loop μ-loop
-add-k c = record { fits = omega (arith, placing-room _ _ _ _ _ _ _ _ _ _ (c .before .before .before .before .before .before .before .before .before .before .before .before .before .loop .inv .1) _ (sym (c .before .before .before .before .p .given .1) ∙ c .before .before .before .before .before .before .next-ready .ensures) .1) }
+add-k c =
+    let c6 = c .before .before .before .before .before .before in
+    let c13 = c6 .before .before .before .before .before .before .before in
+    record { fits = omega (arith, placing-room _ _ _ _ _ _ _ _ _ _ (c13 .loop .inv .1) _ (sym (c .before .before .before .before .p .given .1) ∙ c6 .next-ready .ensures) .1) }
 
 loop-less : tie.Need-loop-less Inv-loop μ-loop
-loop-less c = omega (arith, placing-room _ _ _ _ _ _ _ _ _ _ (c .before .before .before .before .before .before .before .before .before .before .before .before .before .loop .inv .1) _ (sym (c .before .before .before .before .p .given .1) ∙ c .before .before .before .before .before .before .next-ready .ensures) .1)
+loop-less c =
+    let c6 = c .before .before .before .before .before .before in
+    let c13 = c6 .before .before .before .before .before .before .before in
+    omega (arith, placing-room _ _ _ _ _ _ _ _ _ _ (c13 .loop .inv .1) _ (sym (c .before .before .before .before .p .given .1) ∙ c6 .next-ready .ensures) .1)
 
 loop-again : tie.Need-loop-again Inv-loop μ-loop
-loop-again c = (_, placing-take _ _ _ _ _ _ _ _ _ _ (c .before .before .before .before .before .before .before .before .before .before .before .before .before .loop .inv .1) _ (sym (c .before .before .before .before .p .given .1) ∙ c .before .before .before .before .before .before .next-ready .ensures) _ _ refl (c .before .strike .ensures))
+loop-again c =
+    let c6 = c .before .before .before .before .before .before in
+    let c13 = c6 .before .before .before .before .before .before .before in (
+      _,
+      placing-take _ _ _ _ _ _ _ _ _ _ (c13 .loop .inv .1) _ (sym (c .before .before .before .before .p .given .1) ∙ c6 .next-ready .ensures) _ _ refl
+          (c .before .strike .ensures),
+    )
 
 returns : tie.Need-returns Inv-loop μ-loop
-returns c = ordering-circle _ _ _ (c .before .before .before .before .before .before .before .before .before .before .before .before .before .before .before .before .args .group .now) _ _ _ _ _ _ _ (c .before .before .before .before .before .before .before .before .before .loop .inv .1) (sym (c .enum-told .given .1) ∙ c .before .before .next-ready .ensures) (c .before .before .before .before .before .before .before .before .loop-test .taken) (sym (c .before .before .before .before .before .before .has .ensures) ∙ c .before .before .before .before .before .if1 .taken)
+returns c =
+    let c6 = c .before .before .before .before .before .before in
+    let c8 = c6 .before .before in
+    let c9 = c8 .before in
+    let c16 = c9 .before .before .before .before .before .before .before in
+    ordering-circle _ _ _ (c16 .args .group .now) _ _ _ _ _ _ _ (c9 .loop .inv .1) (sym (c .enum-told .given .1) ∙ c .before .before .next-ready .ensures)
+    (c8 .loop-test .taken) (sym (c6 .has .ensures) ∙ c .before .before .before .before .before .if1 .taken)
 
 add-from : tie.Need-add-from Inv-loop μ-loop
 add-from c = record { fits = omega (arith, c .before .before .before .before .loop .inv .1 .tabled .room, c .before .before .before .loop-test .taken) }
@@ -78,7 +109,11 @@ loop-less-2 : tie.Need-loop-less-2 Inv-loop μ-loop
 loop-less-2 c = omega (arith, c .before .before .before .loop-test .taken)
 
 loop-again-2 : tie.Need-loop-again-2 Inv-loop μ-loop
-loop-again-2 c = (_, placing-pass _ _ _ _ _ _ _ _ _ _ (c .before .before .before .before .loop .inv .1) (c .before .before .before .loop-test .taken) (sym (c .before .has .ensures) ∙ c .if1 .left))
+loop-again-2 c = (
+  _,
+  placing-pass _ _ _ _ _ _ _ _ _ _ (c .before .before .before .before .loop .inv .1) (c .before .before .before .loop-test .taken)
+      (sym (c .before .has .ensures) ∙ c .if1 .left),
+)
 
 returns-2 : tie.Need-returns-2 Inv-loop μ-loop
 returns-2 c = ordering-end _ _ _ (c .before .before .before .before .before .before .before .before .args .group .now) _ _ _ _ _ _ _ (c .before .loop .inv .1) (c .loop-test .left)
@@ -94,8 +129,8 @@ order-groups-spec =
     slice-aggregate-find-left
     find-left-requires
     loop-holds
+    cast-t20
     slice-aggregate-has
-    cast-t22
     has-requires
     slice-aggregate-next-ready
     slice-aggregate-next-ready-2

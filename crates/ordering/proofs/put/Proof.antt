@@ -10,8 +10,9 @@ use Rattle.ordering.proofs.put.Tie as tie
 returns : tie.Need-returns
 unfolding putBit
 returns c =
-    ap (λ (x : ℕ). set (c .before .before .before .before .before .args .words .now) (c .before .before .before .before .before .args .base + c .before .before .before .before .before .args .q .0 / 64) x)
-    (c .union .ensures ∙ ap (λ (y : ℕ). union (getD (c .before .before .before .before .before .args .words .now) (c .before .before .before .before .before .args .base + c .before .before .before .before .before .args .q .0 / 64) 0) y) (c .before .mark .ensures))
+    let c5 = c .before .before .before .before .before in
+    ap (λ (x : ℕ). set (c5 .args .words .now) (c5 .args .base + c5 .args .q .0 / 64) x)
+    (c .union .ensures ∙ ap (λ (y : ℕ). union (getD (c5 .args .words .now) (c5 .args .base + c5 .args .q .0 / 64) 0) y) (c .before .mark .ensures))
 
 pub put-spec : {M : Type 1} → statement M
 put-spec =

@@ -9,7 +9,9 @@ use Rattle.ordering.proofs.strike.Tie as tie
 
 returns : tie.Need-returns
 unfolding strikeBit
-returns c = ap (λ (x : ℕ). set (c .before .before .before .before .args .words .now) (c .before .before .before .before .args .q .0 / 64) (bitXor (getD (c .before .before .before .before .args .words .now) (c .before .before .before .before .args .q .0 / 64) 0) x)) (c .mark .ensures)
+returns c =
+    let c4 = c .before .before .before .before in
+    ap (λ (x : ℕ). set (c4 .args .words .now) (c4 .args .q .0 / 64) (bitXor (getD (c4 .args .words .now) (c4 .args .q .0 / 64) 0) x)) (c .mark .ensures)
 
 pub strike-spec : {M : Type 1} → statement M
 strike-spec =

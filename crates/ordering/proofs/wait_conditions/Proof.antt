@@ -17,22 +17,29 @@ loop-holds : tie.Need-loop-holds Inv-loop μ-loop
 loop-holds c = resting-start _ _ _ _ _ (omega (arith, c .before .pre .0)) (c .before .pre .1 .0) (c .before .pre .1 .1)
 
 group-of-requires : tie.Need-group-of-requires Inv-loop μ-loop
-group-of-requires c κs = resting-into _ _ _ _ _ _ _ (c .before .before .before .before .before .loop .inv) (c .before .before .before .before .loop-test .taken) (sym (c .before .before .before .rests-on .ensures) ∙ c .before .before .if1 .taken) .0
+group-of-requires c κs =
+    resting-into _ _ _ _ _ _ _ (c .before .before .before .before .before .loop .inv) (c .before .before .before .before .loop-test .taken)
+    (sym (c .before .before .before .rests-on .ensures) ∙ c .before .before .if1 .taken) .0
 
 wait-for-requires : tie.Need-wait-for-requires Inv-loop μ-loop
-wait-for-requires c κs = (
-  c .before .before .before .before .before .before .loop .inv .size,
-  (
-    omega (arith, c .before .before .before .before .before .before .loop .inv .room),
-    rw (c .group-of .ensures) (resting-into _ _ _ _ _ _ _ (c .before .before .before .before .before .before .loop .inv) (c .before .before .before .before .before .loop-test .taken) (sym (c .before .before .before .before .rests-on .ensures) ∙ c .before .before .before .if1 .taken) .1),
-  ),
-)
+wait-for-requires c κs =
+    let c6 = c .before .before .before .before .before .before in (
+      c6 .loop .inv .size,
+      (
+        omega (arith, c6 .loop .inv .room),
+        rw (c .group-of .ensures)
+            (resting-into _ _ _ _ _ _ _ (c6 .loop .inv) (c .before .before .before .before .before .loop-test .taken)
+            (sym (c .before .before .before .before .rests-on .ensures) ∙ c .before .before .before .if1 .taken) .1),
+      ),
+    )
 
 loop-again : tie.Need-loop-again Inv-loop μ-loop
 loop-again c =
+    let c3 = c .before .before .before in
     ⊎-elim
-    (λ w. resting-yes _ _ _ _ _ _ _ _ _ (c .before .before .before .loop .inv) (c .before .before .loop-test .taken) (sym (c .before .rests-on .ensures) ∙ w .0 .taken) (w .3 .ensures) (w .7 ∙ w .4 .ensures))
-    (λ w. resting-no _ _ _ _ _ _ _ _ (c .before .before .before .loop .inv) (c .before .before .loop-test .taken) (sym (c .before .rests-on .ensures) ∙ w .0 .left) (w .1))
+    (λ w. resting-yes _ _ _ _ _ _ _ _ _ (c3 .loop .inv) (c .before .before .loop-test .taken) (sym (c .before .rests-on .ensures) ∙ w .0 .taken) (w .3 .ensures)
+    (w .7 ∙ w .4 .ensures))
+    (λ w. resting-no _ _ _ _ _ _ _ _ (c3 .loop .inv) (c .before .before .loop-test .taken) (sym (c .before .rests-on .ensures) ∙ w .0 .left) (w .1))
     (c .if1 .came)
 
 returns : tie.Need-returns Inv-loop μ-loop

@@ -21,25 +21,61 @@ element-copy-out-q : tie.Need-element-copy-out-q Inv-loop μ-loop
 element-copy-out-q c = omega (arith, c .loop-test .taken, c .before .loop .inv .measures .turnable .few)
 
 mul-wide16 : tie.Need-mul-wide16 Inv-loop μ-loop
-mul-wide16 c = record { fits = omega (arith, measuring-inside _ _ _ _ _ _ _ _ _ _ _ (c .before .before .before .loop .inv) (c .before .before .loop-test .taken) (c .wide16 .ensures .0)) }
+mul-wide16 c =
+    record { fits = omega (arith, measuring-inside _ _ _ _ _ _ _ _ _ _ _ (c .before .before .before .loop .inv) (c .before .before .loop-test .taken) (c .wide16 .ensures .0)) }
 
 element-copy-out-wide16 : tie.Need-element-copy-out-wide16 Inv-loop μ-loop
 element-copy-out-wide16 c = measuring-inside _ _ _ _ _ _ _ _ _ _ _ (c .before .before .before .loop .inv) (c .before .before .loop-test .taken) (c .wide16 .ensures .0)
 
 size-group-requires : tie.Need-size-group-requires Inv-loop μ-loop
-size-group-requires c κs = measuring-group _ _ _ _ _ _ _ _ _ _ _ (c .before .before .before .before .before .loop .inv) (c .before .before .before .before .loop-test .taken) (c .before .before .wide16 .ensures .0) _ (c .wide162 .ensures .0)
+size-group-requires c κs =
+    measuring-group _ _ _ _ _ _ _ _ _ _ _ (c .before .before .before .before .before .loop .inv) (c .before .before .before .before .loop-test .taken)
+    (c .before .before .wide16 .ensures .0) _ (c .wide162 .ensures .0)
 
 add-wires : tie.Need-add-wires Inv-loop μ-loop
-add-wires c = record { fits = omega (arith, measuring-small _ _ _ _ _ _ _ _ _ _ _ (c .before .before .before .before .before .before .before .loop .inv) (c .before .before .before .before .before .before .loop-test .taken) (c .before .before .before .before .wide16 .ensures .0) _ (c .before .before .wide162 .ensures .0) _ _ _ (c .before .size-group .ensures) .0) }
+add-wires c =
+    let c6 = c .before .before .before .before .before .before in
+    let c7 = c6 .before in
+    record {
+      fits = omega (
+        arith,
+        measuring-small _ _ _ _ _ _ _ _ _ _ _ (c7 .loop .inv) (c6 .loop-test .taken) (c .before .before .before .before .wide16 .ensures .0) _
+            (c .before .before .wide162 .ensures .0) _ _ _ (c .before .size-group .ensures) .0,
+      );
+    }
 
 add-bytes : tie.Need-add-bytes Inv-loop μ-loop
-add-bytes c = record { fits = omega (arith, measuring-small _ _ _ _ _ _ _ _ _ _ _ (c .before .before .before .before .before .before .before .before .loop .inv) (c .before .before .before .before .before .before .before .loop-test .taken) (c .before .before .before .before .before .wide16 .ensures .0) _ (c .before .before .before .wide162 .ensures .0) _ _ _ (c .before .before .size-group .ensures) .1) }
+add-bytes c =
+    let c7 = c .before .before .before .before .before .before .before in
+    let c8 = c7 .before in
+    record {
+      fits = omega (
+        arith,
+        measuring-small _ _ _ _ _ _ _ _ _ _ _ (c8 .loop .inv) (c7 .loop-test .taken) (c .before .before .before .before .before .wide16 .ensures .0) _
+            (c .before .before .before .wide162 .ensures .0) _ _ _ (c .before .before .size-group .ensures) .1,
+      );
+    }
 
 add-cost : tie.Need-add-cost Inv-loop μ-loop
-add-cost c = record { fits = omega (arith, measuring-small _ _ _ _ _ _ _ _ _ _ _ (c .before .before .before .before .before .before .before .before .before .loop .inv) (c .before .before .before .before .before .before .before .before .loop-test .taken) (c .before .before .before .before .before .before .wide16 .ensures .0) _ (c .before .before .before .before .wide162 .ensures .0) _ _ _ (c .before .before .before .size-group .ensures) .2) }
+add-cost c =
+    let c6 = c .before .before .before .before .before .before in
+    let c8 = c6 .before .before in
+    let c9 = c8 .before in
+    record {
+      fits = omega (
+        arith,
+        measuring-small _ _ _ _ _ _ _ _ _ _ _ (c9 .loop .inv) (c8 .loop-test .taken) (c6 .wide16 .ensures .0) _ (c .before .before .before .before .wide162 .ensures .0)
+            _ _ _ (c .before .before .before .size-group .ensures) .2,
+      );
+    }
 
 loop-again : tie.Need-loop-again Inv-loop μ-loop
-loop-again c = measuring-step _ _ _ _ _ _ _ _ _ _ _ (c .before .before .before .before .before .before .before .before .before .loop .inv) (c .before .before .before .before .before .before .before .before .loop-test .taken) (c .before .before .before .before .before .before .wide16 .ensures .0) _ (c .before .before .before .before .wide162 .ensures .0) _ _ _ (c .before .before .before .size-group .ensures)
+loop-again c =
+    let c6 = c .before .before .before .before .before .before in
+    let c8 = c6 .before .before in
+    let c9 = c8 .before in
+    measuring-step _ _ _ _ _ _ _ _ _ _ _ (c9 .loop .inv) (c8 .loop-test .taken) (c6 .wide16 .ensures .0) _ (c .before .before .before .before .wide162 .ensures .0) _ _ _
+    (c .before .before .before .size-group .ensures)
 
 returns : tie.Need-returns Inv-loop μ-loop
 returns c = measuring-end _ _ _ _ _ _ _ _ _ _ (c .before .loop .inv) (c .loop-test .left)

@@ -25,16 +25,22 @@ sub-put16 : tie.Need-sub-put16
 sub-put16 c = simp length-set (omega (arith, c .before .pre))
 
 part-put16-start : tie.Need-part-put16-start
-part-put16-start c = let z : 6 ≤ length (headStores (c .before .args .out .now) (c .before .args .v)) = omega (arith, head-length (c .before .args .out .now) (c .before .args .v) (c .before .pre), c .before .pre) in search needs
+part-put16-start c =
+    let z : 6 ≤ length (headStores (c .before .args .out .now) (c .before .args .v)) = omega
+    (arith, head-length (c .before .args .out .now) (c .before .args .v) (c .before .pre), c .before .pre) in search needs
 
 put16-requires : tie.Need-put16-requires
 put16-requires c κs = head-room (c .before .before .args .out .now) (c .before .before .args .v) (c .before .before .pre)
 
 same-length : tie.Need-same-length
-same-length c = head-same (c .before .before .before .before .before .args .out .now) (c .before .before .before .before .before .args .v) (c .before .before .before .before .before .pre) _ _ (c .before .before .put16 .ensures)
+same-length c =
+    let c5 = c .before .before .before .before .before in
+    head-same (c5 .args .out .now) (c5 .args .v) (c5 .pre) _ _ (c .before .before .put16 .ensures)
 
 returns : tie.Need-returns
-returns c = head-put (c .before .before .before .before .before .args .out .now) (c .before .before .before .before .before .args .v) (c .before .before .before .before .before .pre) _ _ (c .before .before .put16 .ensures)
+returns c =
+    let c5 = c .before .before .before .before .before in
+    head-put (c5 .args .out .now) (c5 .args .v) (c5 .pre) _ _ (c .before .before .put16 .ensures)
 
 pub put-head-spec : {M : Type 1} → statement M
 put-head-spec =

@@ -18,51 +18,113 @@ returns c = refused-writes _ _ _ (c .before .before .before .check .ensures) (c 
 
 -- src/lib.rt:267:13
 shared-slice-read-v : tie.Need-shared-slice-read-v
-shared-slice-read-v c = rule-long _ (c .before .before .before .before .before .before .before .before .before .before .before .before .before .before .before .args .plan .now) _ (c .before .before .before .before .before .before .before .before .before .before .before .check .ensures) (c .before .before .before .before .before .before .before .before .if1 .left)
+shared-slice-read-v c =
+    let c8 = c .before .before .before .before .before .before .before .before in
+    let c11 = c8 .before .before .before in
+    let c15 = c11 .before .before .before .before in
+    rule-long _ (c15 .args .plan .now) _ (c11 .check .ensures) (c8 .if1 .left)
 
 -- src/lib.rt:268:9
 measure-requires : tie.Need-measure-requires
-measure-requires c κs = record {
-  count = c .before .before .before .before .before .before .before .before .before .before .before .before .before .before .before .check .result .answer .gates;
-  group = c .before .before .before .before .before .before .before .before .before .before .before .before .before .before .before .check .result .group;
-  conds = c .before .before .before .before .before .before .before .before .before .before .before .before .before .before .before .check .result .conditions;
-  turnable = arrays-turnable _ _ _ (c .before .before .before .before .before .before .before .before .before .before .before .before .before .before .before .check .ensures) (c .before .before .before .before .before .before .before .before .before .before .before .before .if1 .left) (λ i _. omega (arith, c .before .before .before .before .before .before .before .before .before .before .before .before .before .before .before .before .before .before .shared-slice-known .given i));
-}
+measure-requires c κs =
+    let c12 = c .before .before .before .before .before .before .before .before .before .before .before .before in
+    let c15 = c12 .before .before .before in
+    let c18 = c15 .before .before .before in
+    record {
+      count = c15 .check .result .answer .gates;
+      group = c15 .check .result .group;
+      conds = c15 .check .result .conditions;
+      turnable = arrays-turnable _ _ _ (c15 .check .ensures) (c12 .if1 .left) (λ i _. omega (arith, c18 .shared-slice-known .given i));
+    }
 
 -- src/lib.rt:269:17
 add-bytes : tie.Need-add-bytes
-add-bytes c = omega (arith, bytes-few _ _ _ (c .before .before .before .before .before .before .before .before .before .before .before .before .before .before .before .before .before .check .ensures) (c .before .before .before .before .before .before .before .before .before .before .before .before .before .before .if1 .left) _ _ _ (measured _ _ _ (c .before .before .before .before .before .before .before .before .before .before .before .before .before .before .before .before .before .check .ensures) (c .before .before .before .before .before .before .before .before .before .before .before .before .before .before .if1 .left) _ _ _ (c .before .measure .ensures) (λ i _. omega (arith, c .before .before .before .before .before .before .before .before .before .before .before .before .before .before .before .before .before .before .before .before .shared-slice-known .given i))))
+add-bytes c =
+    let c14 = c .before .before .before .before .before .before .before .before .before .before .before .before .before .before in
+    let c17 = c14 .before .before .before in
+    let c20 = c17 .before .before .before in
+    omega (
+      arith,
+      bytes-few _ _ _ (c17 .check .ensures) (c14 .if1 .left) _ _ _
+          (measured _ _ _ (c17 .check .ensures) (c14 .if1 .left) _ _ _ (c .before .measure .ensures) (λ i _. omega (arith, c20 .shared-slice-known .given i))),
+    )
 
 -- src/lib.rt:269:42
 cast-bytes : tie.Need-cast-bytes
-cast-bytes c = omega (arith, c .before .before .before .before .before .before .before .before .before .before .before .before .before .before .before .before .before .before .before .before .shared-slice-known .given 5)
+cast-bytes c =
+    let c16 = c .before .before .before .before .before .before .before .before .before .before .before .before .before .before .before .before in
+    let c20 = c16 .before .before .before .before in
+    omega (arith, c20 .shared-slice-known .given 5)
 
 -- src/lib.rt:269:37
 mul-bytes : tie.Need-mul-bytes
-mul-bytes c = omega (arith, c .before .before .before .before .before .before .before .before .before .before .before .before .before .before .before .before .before .before .before .before .shared-slice-known .given 5)
+mul-bytes c =
+    let c16 = c .before .before .before .before .before .before .before .before .before .before .before .before .before .before .before .before in
+    let c20 = c16 .before .before .before .before in
+    omega (arith, c20 .shared-slice-known .given 5)
 
 -- src/lib.rt:269:17
 add-bytes-2 : tie.Need-add-bytes-2
-add-bytes-2 c = omega (arith, bytes-few _ _ _ (c .before .before .before .before .before .before .before .before .before .before .before .before .before .before .before .before .before .check .ensures) (c .before .before .before .before .before .before .before .before .before .before .before .before .before .before .if1 .left) _ _ _ (measured _ _ _ (c .before .before .before .before .before .before .before .before .before .before .before .before .before .before .before .before .before .check .ensures) (c .before .before .before .before .before .before .before .before .before .before .before .before .before .before .if1 .left) _ _ _ (c .before .measure .ensures) (λ i _. omega (arith, c .before .before .before .before .before .before .before .before .before .before .before .before .before .before .before .before .before .before .before .before .shared-slice-known .given i))), c .before .before .before .before .before .before .before .before .before .before .before .before .before .before .before .before .before .before .before .before .shared-slice-known .given 5)
+add-bytes-2 c =
+    let c14 = c .before .before .before .before .before .before .before .before .before .before .before .before .before .before in
+    let c17 = c14 .before .before .before in
+    let c20 = c17 .before .before .before in
+    omega (
+      arith,
+      bytes-few _ _ _ (c17 .check .ensures) (c14 .if1 .left) _ _ _
+          (measured _ _ _ (c17 .check .ensures) (c14 .if1 .left) _ _ _ (c .before .measure .ensures) (λ i _. omega (arith, c20 .shared-slice-known .given i))),
+      c20 .shared-slice-known .given 5,
+    )
 
 -- src/lib.rt:271:9
 returns-2 : tie.Need-returns-2
 returns-2 c =
-    let w = short-writes _ _ _ (c .before .before .before .before .before .before .before .before .before .before .before .before .before .before .before .before .before .before .before .check .ensures) (c .before .before .before .before .before .before .before .before .before .before .before .before .before .before .before .before .if1 .left) _ _ _ (measured _ _ _ (c .before .before .before .before .before .before .before .before .before .before .before .before .before .before .before .before .before .before .before .check .ensures) (c .before .before .before .before .before .before .before .before .before .before .before .before .before .before .before .before .if1 .left) _ _ _ (c .before .before .before .measure .ensures) (λ i _. omega (arith, c .before .before .before .before .before .before .before .before .before .before .before .before .before .before .before .before .before .before .before .before .before .before .shared-slice-known .given i))) _ (c .before .if2 .taken) in
+    let c16 = c .before .before .before .before .before .before .before .before .before .before .before .before .before .before .before .before in
+    let c19 = c16 .before .before .before in
+    let c22 = c19 .before .before .before in
+    let w = short-writes _ _ _ (c19 .check .ensures) (c16 .if1 .left) _ _ _
+    (measured _ _ _ (c19 .check .ensures) (c16 .if1 .left) _ _ _ (c .before .before .before .measure .ensures) (λ i _. omega (arith, c22 .shared-slice-known .given i))) _
+    (c .before .if2 .taken) in
     (c .refused .ensures ∙ w .0, w .1)
 
 -- src/lib.rt:276:9
 cast-put-file : tie.Need-cast-put-file
-cast-put-file c = omega (arith, wires-few _ _ _ (c .before .before .before .before .before .before .before .before .before .before .before .before .before .before .before .before .before .before .before .before .check .ensures) (c .before .before .before .before .before .before .before .before .before .before .before .before .before .before .before .before .before .if1 .left) _ _ _ (measured _ _ _ (c .before .before .before .before .before .before .before .before .before .before .before .before .before .before .before .before .before .before .before .before .check .ensures) (c .before .before .before .before .before .before .before .before .before .before .before .before .before .before .before .before .before .if1 .left) _ _ _ (c .before .before .before .before .measure .ensures) (λ i _. omega (arith, c .before .before .before .before .before .before .before .before .before .before .before .before .before .before .before .before .before .before .before .before .before .before .before .shared-slice-known .given i))))
+cast-put-file c =
+    let c16 = c .before .before .before .before .before .before .before .before .before .before .before .before .before .before .before .before in
+    let c17 = c16 .before in
+    let c20 = c17 .before .before .before in
+    let c23 = c20 .before .before .before in
+    omega (
+      arith,
+      wires-few _ _ _ (c20 .check .ensures) (c17 .if1 .left) _ _ _
+          (measured _ _ _ (c20 .check .ensures) (c17 .if1 .left) _ _ _ (c .before .before .before .before .measure .ensures)
+          (λ i _. omega (arith, c23 .shared-slice-known .given i))),
+    )
 
 -- src/lib.rt:273:5
 put-file-requires : tie.Need-put-file-requires
-put-file-requires c κs = file-ready _ _ _ (c .before .before .before .before .before .before .before .before .before .before .before .before .before .before .before .before .before .before .before .before .before .before .before .before .before .before .before .check .ensures) (c .before .before .before .before .before .before .before .before .before .before .before .before .before .before .before .before .before .before .before .before .before .before .before .before .if1 .left) _ _ _ (measured _ _ _ (c .before .before .before .before .before .before .before .before .before .before .before .before .before .before .before .before .before .before .before .before .before .before .before .before .before .before .before .check .ensures) (c .before .before .before .before .before .before .before .before .before .before .before .before .before .before .before .before .before .before .before .before .before .before .before .before .if1 .left) _ _ _ (c .before .before .before .before .before .before .before .before .before .before .before .measure .ensures) (λ i _. omega (arith, c .before .before .before .before .before .before .before .before .before .before .before .before .before .before .before .before .before .before .before .before .before .before .before .before .before .before .before .before .before .before .shared-slice-known .given i))) (λ i _. omega (arith, c .before .before .before .before .before .before .before .before .before .before .before .before .before .before .before .before .before .before .before .before .before .before .before .before .before .before .before .before .before .before .shared-slice-known .given i)) (c .before .before .before .before .before .before .before .before .before .before .before .before .before .before .before .before .before .before .before .before .before .before .before .before .before .before .before .before .before .before .before .args .out .now) (c .before .before .before .before .before .before .before .before .before .if2 .left)
+put-file-requires c κs =
+    let c9 = c .before .before .before .before .before .before .before .before .before in
+    let c11 = c9 .before .before in
+    let c24 = c11 .before .before .before .before .before .before .before .before .before .before .before .before .before in
+    let c27 = c24 .before .before .before in
+    let c30 = c27 .before .before .before in
+    let c31 = c30 .before in
+    file-ready _ _ _ (c27 .check .ensures) (c24 .if1 .left) _ _ _
+    (measured _ _ _ (c27 .check .ensures) (c24 .if1 .left) _ _ _ (c11 .measure .ensures) (λ i _. omega (arith, c30 .shared-slice-known .given i)))
+    (λ i _. omega (arith, c30 .shared-slice-known .given i)) (c31 .args .out .now) (c9 .if2 .left)
 
 -- src/lib.rt:250:1
 returns-3 : tie.Need-returns-3
 returns-3 c =
-    let w = file-writes _ _ _ (c .before .before .before .before .before .before .before .before .before .before .before .before .before .before .before .before .before .before .before .before .before .before .before .before .before .before .before .before .before .before .before .check .ensures) (c .before .before .before .before .before .before .before .before .before .before .before .before .before .before .before .before .before .before .before .before .before .before .before .before .before .before .before .before .if1 .left) _ _ _ (measured _ _ _ (c .before .before .before .before .before .before .before .before .before .before .before .before .before .before .before .before .before .before .before .before .before .before .before .before .before .before .before .before .before .before .before .check .ensures) (c .before .before .before .before .before .before .before .before .before .before .before .before .before .before .before .before .before .before .before .before .before .before .before .before .before .before .before .before .if1 .left) _ _ _ (c .before .before .before .before .before .before .before .before .before .before .before .before .before .before .before .measure .ensures) (λ i _. omega (arith, c .before .before .before .before .before .before .before .before .before .before .before .before .before .before .before .before .before .before .before .before .before .before .before .before .before .before .before .before .before .before .before .before .before .before .shared-slice-known .given i))) _ _ _ refl (c .before .before .before .before .before .before .before .before .before .before .before .before .before .if2 .left) (c .before .before .before .put-file .ensures) in
+    let c13 = c .before .before .before .before .before .before .before .before .before .before .before .before .before in
+    let c15 = c13 .before .before in
+    let c28 = c15 .before .before .before .before .before .before .before .before .before .before .before .before .before in
+    let c31 = c28 .before .before .before in
+    let c34 = c31 .before .before .before in
+    let w = file-writes _ _ _ (c31 .check .ensures) (c28 .if1 .left) _ _ _
+    (measured _ _ _ (c31 .check .ensures) (c28 .if1 .left) _ _ _ (c15 .measure .ensures) (λ i _. omega (arith, c34 .shared-slice-known .given i))) _ _ _ refl
+    (c13 .if2 .left) (c .before .before .before .put-file .ensures) in
     (c .counted .ensures ∙ w .0, w .1)
 
 pub write-spec : {M : Type 1} → statement M

@@ -1,8 +1,8 @@
 use mathlib.Core.Path.{_∙_}
-use Rattle.emitting.specs.MemberLaws.{member-at}
+use Rattle.plan.specs.NumberLaws.{member-at}
 use borrow.Author.Needs.{needs}
-use Rattle.emitting.proofs.member.Statement.{statement}
-use Rattle.emitting.proofs.member.Tie as tie
+use Rattle.plan.proofs.member.Statement.{statement}
+use Rattle.plan.proofs.member.Tie as tie
 
 returns : tie.Need-returns
 returns c = c .read16 .ensures ∙ member-at _ _ _ (c .before .before .pre .1)

@@ -1,24 +1,26 @@
--- Document 01, "The fused circuit file", Order: it looks at no group of a gate past the circuit, nor at how the sets are held past their end. Assumes nothing.
-use Prim.Native.Nat.{ℕ, zero, suc, _+_, _≤_, _<_}
+-- Laws of what the check of a plan depends on: no group of a gate past the circuit, nor how the sets are held past their end. Assumes nothing.
+use Prim.Native.Nat.{ℕ, zero, suc, _<_}
 use mathlib.Core.Path.{_≡_, refl, ap, ap₂, _∙_}
-use mathlib.Core.Bool.{cond}
+use mathlib.Core.Bool.{Bool, true, cond}
 use mathlib.Core.List.{List, [], _∷_, _++_, map}
+use mathlib.Core.Logic.{inl, inr}
 use mathlib.Core.Option.{Option, none, some}
 use native.Mathlib.Omega.{arith}
 use lib.Dec.{eqb, leb}
 use lib.ListN.{length, getD}
-use Rattle.words.specs.Lists.{upto, from-below, flat, flat-in, keep-same}
+use Rattle.words.specs.Lists.{_∈_, upto, from-below, flat, flat-in, keep-same}
 use Rattle.words.specs.ListLaws.{map-same}
-use Rattle.settings.specs.Sets.{rests}
+use Rattle.settings.specs.Sets.{rests, excludes}
 use Rattle.gates.specs.Gates.{Gates, gateAt, arguments, Earlier, conditions}
 use Rattle.gates.specs.Limits.{mostConditions}
+use Rattle.gates.specs.PlainCircuit.{gatesOf}
+use Rattle.needed.specs.Pass.{rulePreconditions}
+use Rattle.plan.specs.PlanFile.{Plan, groupsIn}
 use Rattle.plan.specs.Groups.{groups, members, restsOf, readsOf, waitsFor}
 use Rattle.plan.specs.GroupLaws.{of-member}
 use Rattle.plan.specs.Order.{allIn, firstReady, schedule, order}
-use Rattle.plan.specs.Rows.{placed}
-use Rattle.ordering.specs.ReadLaws.{flat-same}
-use Rattle.ordering.specs.WaitsLaws.{reads-inside}
-use Rattle.ordering.specs.TurnLaws.{groups-most}
+use Rattle.plan.specs.Rows.{every, everyGroup, parted, layoutRows, joinRows, orderRows, firstFailing, placed, planRow}
+use Rattle.plan.specs.ReadsLaws.{reads-inside}
 
 -- The order over the same waits.
 
@@ -69,6 +71,10 @@ module _ (C : Gates) (earlier : Earlier C) (sets : List ℕ) (f h : ℕ → ℕ)
 
 -- Two lists of sets that read alike: an array padded with zeros reads as the list.
 
+flat-same : (f h : ℕ → List ℕ) (l : List ℕ) → ((a : ℕ) → a ∈ l → f a ≡ h a) → flat f l ≡ flat h l
+flat-same f h [] e = refl
+flat-same f h (x ∷ l) e = rw (e x (inl refl), flat-same f h l (λ a m. e a (inr m)))
+
 module _ (C : Gates) (sets tabs : List ℕ) (e : (m : ℕ) → getD sets m 0 ≡ getD tabs m 0) where
   pub rests-same : (m : ℕ) → restsOf C sets m ≡ restsOf C tabs m
   unfolding restsOf
@@ -89,18 +95,30 @@ module _ (C : Gates) (sets tabs : List ℕ) (e : (m : ℕ) → getD sets m 0 ≡
   pub placed-sets-same : placed C sets group ≡ placed C tabs group
   placed-sets-same = ap (allIn (groups (length C) group)) order-sets-same
 
--- How many groups the order places.
+-- The rows over the same sets.
 
-schedule-length : (W : ℕ → List ℕ) (gs : List ℕ) (k : ℕ) (done : List ℕ) → length (schedule W gs k done) ≤ k + length done
-schedule-length W gs zero done = omega arith
-schedule-length W gs (suc k) done = go (firstReady W done gs) (λ p. schedule-length W gs k (p ∷ done))
-  where
-    go : (f : Option ℕ) → ((p : ℕ) → length (schedule W gs k (p ∷ done)) ≤ k + suc (length done))
-        → length {A = ℕ} (elim f [ none ↦ done | some p ↦ schedule W gs k (p ∷ done) ]) ≤ suc k + length done
-    go none ih = omega arith
-    go (some p) ih = omega (arith, ih p)
+pub every-same : (s t : ℕ → Bool) (l : List ℕ) → ((g : ℕ) → g ∈ l → s g ≡ t g) → every s l ≡ every t l
+every-same s t [] h = refl
+every-same s t (a ∷ l) h = rw (h a (inl refl), every-same s t l (λ g m. h g (inr m)))
 
-pub order-length : (C : Gates) (sets : List ℕ) (group : ℕ → ℕ) → length (order C sets group) ≤ length C
-unfolding order
-order-length C sets group =
-    omega (arith, schedule-length (waitsFor C sets group) (groups (length C) group) (length (groups (length C) group)) [], groups-most (length C) group)
+parted-same : (s t : List ℕ) → ((g : ℕ) → getD s g 0 ≡ getD t g 0) → (G : List ℕ) → parted s G ≡ parted t G
+parted-same s t h G =
+    every-same
+    (λ m. every (λ k. cond (eqb m k) true (excludes (getD s m 0) (getD s k 0))) G)
+    (λ m. every (λ k. cond (eqb m k) true (excludes (getD t m 0) (getD t k 0))) G)
+    G
+    (λ m i. every-same (λ k. cond (eqb m k) true (excludes (getD s m 0) (getD s k 0))) (λ k. cond (eqb m k) true (excludes (getD t m 0) (getD t k 0))) G
+    (λ k j. rw (h m, h k)))
+
+each-same : (s t : List ℕ → Bool) → ((G : List ℕ) → s G ≡ t G) → (Gs : Plan) → everyGroup s Gs ≡ everyGroup t Gs
+each-same s t h [] = refl
+each-same s t h (G ∷ Gs) = rw (h G, each-same s t h Gs)
+
+-- the rows 27 to 29 with the one are those with the other
+pub joins-same : (C : Gates) (s t p : List ℕ) → ((g : ℕ) → getD s g 0 ≡ getD t g 0) → firstFailing (joinRows C s p) ≡ firstFailing (joinRows C t p)
+joins-same C s t p h = rw (each-same (parted s) (parted t) (parted-same s t h) (groupsIn p))
+
+-- the row of a plan depends on the rule's gates and their preconditions alone
+pub row-same : (s t p : List ℕ) → gatesOf s ≡ gatesOf t → rulePreconditions s ≡ rulePreconditions t → planRow s p ≡ planRow t p
+unfolding planRow
+row-same s t p g e = ap₂ (λ (C : Gates) (S : List ℕ). firstFailing (layoutRows (length C) p ++ (joinRows C S p ++ orderRows C S p))) g e

@@ -1,17 +1,18 @@
--- Document 01, "The plan file and its check (001, section 5.1)": the place of a gate's group in the plan, and what stands there. Assumes nothing.
+-- Laws of the place of a gate's group in the plan: what stands there. Assumes nothing.
 use Prim.Native.Nat.{ℕ, zero, suc, _≤_, _<_}
 use native.Mathlib.Omega.{arith}
-use mathlib.Core.Path.{_≡_, refl, sym, _∙_}
+use mathlib.Core.Path.{_≡_, refl, sym, ap, _∙_}
 use mathlib.Core.Bool.{false, true≢false}
 use mathlib.Core.List.{List, _∷_, []}
 use mathlib.Core.Logic.{_⊎_, inl, inr}
 use lib.ListN.{length}
 use Rattle.words.specs.Lists.{_∈_, elem, elem→∈, ∈→elem, split}
+use Rattle.gates.specs.PlainCircuit.{gateCount}
 use Rattle.plan.specs.PlanFile.{leastBytes, groupsCounted, groupAt, after, groupsFrom, groupsIn, Ends, Rising, EachGroup, Listed, Apart}
 use Rattle.plan.specs.Groups.{smallest, groupOf, members}
-use Rattle.plan.specs.Accepted.{Exist}
+use Rattle.plan.specs.Accepted.{Acceptable, Exist}
 use Rattle.plan.specs.ListedLaws.{StandsIn, stands-each, name-to, members-listed, members-alone}
-use Rattle.grouping.specs.Tables.{placeFrom, placeOf}
+use Rattle.plan.specs.Places.{placeFrom, placeOf}
 
 -- what stands at a place of the plan: a group of the list, which lies in the file and lists the gate
 pub record FoundAt (n : ℕ) (p : List ℕ) (at g place : ℕ) : Type 0 where
@@ -64,3 +65,28 @@ module _ (n : ℕ) (p : List ℕ) (two : EachGroup (λ G. 2 ≤ length G) (group
   pub place-two : Ends (groupsCounted p) p leastBytes → (placeOf p g ≡ 0 → ⊥) → 2 ≤ length (groupAt p (placeOf p g))
   unfolding groupsIn
   place-two e h = stands-each (λ G. 2 ≤ length G) (groupsIn p) (groupAt p (placeOf p g)) (placed-group p g e h .stands) two
+
+-- what an accepted plan p for the rule s lists at the place of the group q
+pub record ListedAt (s p : List ℕ) (q place : ℕ) : Type 0 where
+  pub listed : members (gateCount s) (groupOf (groupsIn p)) q ≡ groupAt p place
+  pub two : 2 ≤ length (groupAt p place)
+  pub exist : Exist (gateCount s) (groupAt p place)
+  pub lies : after p place ≤ length p
+
+-- a group by its name, which is its smallest member
+module _ (s p : List ℕ) (a : Acceptable s p) (q : ℕ) where
+  pub group-alone : q < gateCount s → placeOf p q ≡ 0 → members (gateCount s) (groupOf (groupsIn p)) q ≡ q ∷ []
+  group-alone l e = place-alone (gateCount s) p (a .laid-out .joins) (a .laid-out .rising) (a .once) q l e
+
+  pub group-listed : groupOf (groupsIn p) q ≡ q → (placeOf p q ≡ 0 → ⊥) → ListedAt s p q (placeOf p q)
+  unfolding groupsIn
+  group-listed e h =
+      let r = placed-group p q (a .laid-out .ended) h in
+      let n = place-name (gateCount s) p (a .laid-out .joins) (a .laid-out .rising) (a .once) q (a .laid-out .ended) h in
+      record {
+        listed = ap (members (gateCount s) (groupOf (groupsIn p))) (sym e ∙ n)
+            ∙ place-members (gateCount s) p (a .laid-out .joins) (a .laid-out .rising) (a .once) q (a .exist) (a .laid-out .ended) h;
+        two = place-two (gateCount s) p (a .laid-out .joins) (a .laid-out .rising) (a .once) q (a .laid-out .ended) h;
+        exist = stands-each (Exist (gateCount s)) (groupsIn p) (groupAt p (placeOf p q)) (r .stands) (a .exist);
+        lies = r .lies;
+      }

@@ -1,0 +1,79 @@
+-- Laws of how many groups there are, and how many the order of writing places. Assumes nothing.
+use Prim.Native.Nat.{ℕ, zero, suc, _+_, _≤_}
+use mathlib.Core.Path.{_≡_, refl, sym, ap, _∙_}
+use mathlib.Core.Bool.{true, cond}
+use mathlib.Core.List.{List, [], _∷_}
+use mathlib.Core.Logic.{inl, inr}
+use native.Mathlib.Omega.{arith}
+use lib.Dec.{eqb}
+use lib.ListN.{length}
+use borrow.Author.Tests.{eq-eqb, eqb-true}
+use mathlib.Core.Option.{Option, none, some}
+use Rattle.words.specs.Lists.{_∈_, split, upto, length-from}
+use Rattle.settings.specs.Settings.{Once}
+use Rattle.settings.specs.ListLaws.{keep-once, from-once, length-keep}
+use Rattle.gates.specs.Gates.{Gates}
+use Rattle.plan.specs.Groups.{groups, waitsFor}
+use Rattle.plan.specs.Order.{firstReady, schedule, order}
+use Rattle.plan.specs.Rows.{placed}
+use Rattle.plan.specs.CircleLaws.{allIn-each}
+use Rattle.plan.specs.WaitLaws.{order-from, order-once}
+
+-- Lists without repetition: one that lies in another is no longer.
+
+-- the list without the first place where a stands
+abbrev remove : ℕ → List ℕ → List ℕ
+remove a [] = []
+remove a (x ∷ l) = cond (eqb a x) l (x ∷ remove a l)
+
+remove-length : (a : ℕ) (l : List ℕ) → a ∈ l → length l ≡ suc (length (remove a l))
+remove-length a [] m = absurd m
+remove-length a (x ∷ l) (inl e) = rw (eq-eqb a x e)
+remove-length a (x ∷ l) (inr m) = split (eqb a x) (λ e. rw e) (λ e. rw e (ap suc (remove-length a l m)))
+
+remove-keeps : (a b : ℕ) (l : List ℕ) → (b ≡ a → ⊥) → b ∈ l → b ∈ remove a l
+remove-keeps a b [] n m = m
+remove-keeps a b (x ∷ l) n (inl e) = split (eqb a x) (λ f. absurd (n (e ∙ sym (eqb-true a x f)))) (λ f. rw f (inl e))
+remove-keeps a b (x ∷ l) n (inr m) = split (eqb a x) (λ f. rw f m) (λ f. rw f (inr (remove-keeps a b l n m)))
+
+pub once-length : (l m : List ℕ) → Once l → ((a : ℕ) → a ∈ l → a ∈ m) → length l ≤ length m
+once-length [] m o h = omega arith
+once-length (x ∷ l) m (new, o) h =
+    let k : length l ≤ length (remove x m) = once-length l (remove x m) o (λ a i. remove-keeps x a m (λ e. new (rw e at i)) (h a (inr i))) in
+    omega (arith, remove-length x m (h x (inl refl)))
+
+-- The groups.
+
+pub groups-once : (n : ℕ) (group : ℕ → ℕ) → Once (groups n group)
+unfolding groups
+groups-once n group = keep-once (λ p. eqb (group p) p) (upto n) (from-once 0 n)
+
+pub groups-most : (n : ℕ) (group : ℕ → ℕ) → length (groups n group) ≤ n
+unfolding groups
+groups-most n group = omega (arith, length-keep (λ p. eqb (group p) p) (upto n), length-from 0 n)
+
+-- The order.
+
+schedule-length : (W : ℕ → List ℕ) (gs : List ℕ) (k : ℕ) (done : List ℕ) → length (schedule W gs k done) ≤ k + length done
+schedule-length W gs zero done = omega arith
+schedule-length W gs (suc k) done = go (firstReady W done gs) (λ p. schedule-length W gs k (p ∷ done))
+  where
+    go : (f : Option ℕ) → ((p : ℕ) → length (schedule W gs k (p ∷ done)) ≤ k + suc (length done))
+        → length {A = ℕ} (elim f [ none ↦ done | some p ↦ schedule W gs k (p ∷ done) ]) ≤ suc k + length done
+    go none ih = omega arith
+    go (some p) ih = omega (arith, ih p)
+
+pub order-length : (C : Gates) (sets : List ℕ) (group : ℕ → ℕ) → length (order C sets group) ≤ length C
+unfolding order
+order-length C sets group =
+    omega (arith, schedule-length (waitsFor C sets group) (groups (length C) group) (length (groups (length C) group)) [], groups-most (length C) group)
+
+module _ (C : Gates) (sets : List ℕ) (group : ℕ → ℕ) where
+  -- an order that places every group has as many
+  pub placed-count : placed C sets group ≡ true → length (order C sets group) ≡ length (groups (length C) group)
+  placed-count t =
+      omega (
+        arith,
+        once-length (order C sets group) (groups (length C) group) (order-once C sets group) (order-from C sets group),
+        once-length (groups (length C) group) (order C sets group) (groups-once (length C) group) (allIn-each (groups (length C) group) (order C sets group) t),
+      )
