@@ -15,13 +15,14 @@ use Rattle.reading.specs.FirstStatement.{rule-read}
 use Rattle.gates.specs.Limits.{mostGates, mostConditions}
 use Rattle.gates.specs.Gates.{Earlier, conditions}
 use Rattle.gates.specs.PlainCircuit.{plainCircuit, gatesOf, outputsOf, gateCount}
+use Rattle.gates.specs.QuadLaws.{quads-length}
 use Rattle.gates.specs.EarlierLaws.{Inside}
 use Rattle.gates.specs.SoundLaws.{Sound}
 use Rattle.gates.specs.StartLaws.{plain-sound}
 use Rattle.gates.specs.Quads.{quadsOf}
 use Rattle.needed.specs.Pass.{rulePreconditions}
 use Rattle.needed.specs.Held.{gatesIn}
-use Rattle.needed.specs.HeldQuads.{quads-length, rule-held}
+use Rattle.needed.specs.HeldQuads.{rule-held}
 use Rattle.needed.specs.MarkSteps.{getD-zeros}
 use Rattle.circuit.specs.Whole.{ruleAnswer}
 use Rattle.circuit.specs.WholeLaws.{Accepted, accepted}

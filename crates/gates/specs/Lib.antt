@@ -6,6 +6,7 @@ pub mod OnlyOrder
 pub mod Quads
 pub mod Kinds
 pub mod GateKinds
+pub mod QuadLaws
 pub mod ApplyLaws
 pub mod FigureLaws
 pub mod CostLaws

@@ -1,5 +1,5 @@
 -- Laws of making a block, statement after statement, and a whole rule. Assumes nothing.
-use Prim.Native.Nat.{ℕ, _+_, _-_, _*_, _≤_, _<_}
+use Prim.Native.Nat.{ℕ, _+_, _-_, _≤_, _<_}
 use native.Mathlib.Omega.{arith}
 use mathlib.Core.Path.{_≡_, refl, sym, ap, subst, subst⁻¹, _∙_}
 use mathlib.Core.Bool.{Bool, true, false, _||_}
@@ -21,7 +21,6 @@ use Rattle.reading.specs.Rule.{readRule}
 use Rattle.reading.specs.FirstStatement as read
 use Rattle.gates.specs.PlainCircuit.{Making, assignsIn, assigns, makeStatement, makeBlock, starts, plainCircuit}
 use Rattle.gates.specs.StartLaws.{read-plain, plain-sound}
-use Rattle.gates.specs.Quads.{quadsOf}
 use Rattle.making.specs.RuleMade.{RuleMade}
 use Rattle.making.specs.Holding.{Held, Done, Walked}
 use Rattle.making.specs.StatementLaws.{statement-length}
@@ -116,9 +115,6 @@ module _ (s : List ℕ) (m : Making) (quads present : List ℕ) (count : ℕ) (h
   pub held-many : 256 < length (m .gates) → count ≡ 257
   held-many many = omega (arith, held .stored .counted)
 
-  pub held-quads : length (m .gates) ≤ 256 → take (4 * count) quads ≡ quadsOf s (m .gates)
-  held-quads few = ap (λ (k : ℕ). take (4 * k) quads) (held-count few) ∙ held .stored .lie few
-
   pub held-present : length (m .gates) ≤ 256 → (v : ℕ) → length (m .present) ≡ v → v ≤ 32 → take v present ≡ m .present
   held-present few v l small =
       let e : length (take v present) ≡ v = length-take v present ∙ omega (arith, held .wide) in
@@ -136,8 +132,7 @@ rule-made s h quads present count held next more mask quads′ present′ d =
     let o : length (plainCircuit s .present) ≡ variables s = plain-sound s (d .what) next (b .block ∙ d .read) .count in
     record {
       counted = λ few. held-count s (plainCircuit s) quads′ present′ more r few;
-      lie = λ few. held-quads s (plainCircuit s) quads′ present′ more r few;
+      lie = λ few. r .stored .lie few;
       outputs = λ few. held-present s (plainCircuit s) quads′ present′ more r few (variables s) o (b .header .few);
       many = held-many s (plainCircuit s) quads′ present′ more r;
-      wide = r .stored .room;
     }

@@ -5,7 +5,7 @@ use mathlib.Core.Path.{_≡_, refl, sym, ap, subst, subst⁻¹, _∙_}
 use mathlib.Core.Logic.{_⊎_, inl, inr}
 use mathlib.Core.Bool.{Bool, true, false, cond}
 use mathlib.Core.List.{List, [], _∷_, _++_, map, map-append}
-use lib.ListN.{length, getD, set, length-set, length-append}
+use lib.ListN.{length, getD, set, replicate, length-set, length-append}
 use lib.Dec.{eqb}
 use borrow.Author.Tests.{eqb-true, eqb-false, eq-eqb, ne-eqb}
 use lib.Seq.{getD-set-same, getD-set-other}
@@ -131,10 +131,10 @@ starts-more x = let e : x + 1 ≡ suc x = omega arith in ap (λ (k : ℕ). map s
 
 -- the starting values, one variable after another
 module _ (s quads present : List ℕ) where
-  pub started-none : length quads ≡ 1024 → length present ≡ 32 → Started s 0 quads present 0
+  pub started-none : quads ≡ replicate 1024 0 → length present ≡ 32 → Started s 0 quads present 0
   unfolding quadsOf
   started-none r w =
-      record { inside = omega arith; wide = w; stored = record { room = r; counted = omega arith; lie = λ few. refl }; stand = λ y h. absurd (omega arith) }
+      record { inside = omega arith; wide = w; stored = record { counted = omega arith; lie = λ few. r }; stand = λ y h. absurd (omega arith) }
 
   pub started-more : (x n code more : ℕ) (after : List ℕ) → Started s x quads present n → x < variables s → variables s ≤ 32 → code ≡ startCode (kindAt s x)
       → Pushed (code ∷ x ∷ 0 ∷ 0 ∷ []) quads n after more → Started s (x + 1) after (set present x x) more

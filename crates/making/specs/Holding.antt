@@ -1,11 +1,12 @@
 -- The inner contract of making: what the lent arrays hold of the gates made so far, and what each function does to them.
 -- The outermost function's promise is stated without it. At most 256 gates are stored; a count of 257 says that there are more.
-use Prim.Native.Nat.{ℕ, _-_, _*_, _≤_, _<_, min}
+use Prim.Native.Nat.{ℕ, _-_, _≤_, _<_, min}
 use mathlib.Core.Path.{_≡_}
 use mathlib.Core.Bool.{Bool, _||_}
 use mathlib.Core.List.{List, [], _∷_, _++_, map}
-use lib.ListN.{length, getD, set, take}
+use lib.ListN.{length, getD, set}
 use Rattle.settings.specs.Sets.{has}
+use Rattle.words.specs.Buffers.{padded}
 use Rattle.words.specs.Lists.{keep, from, upto}
 use Rattle.answers.specs.Parsing.{Parsed, parsed}
 use Rattle.reading.specs.Header.{variables}
@@ -15,11 +16,10 @@ use Rattle.gates.specs.Gates.{Gate, start, Gates}
 use Rattle.gates.specs.PlainCircuit.{Making, makeExpr, assigns, choices, makeBlock}
 use Rattle.gates.specs.Quads.{quadOf, quadsOf}
 
--- the count of the gates, up to 257, and their quads while there are at most 256
+-- the count of the gates, up to 257, and while there are at most 256 their quads, zeros after them
 pub record Stored (s : List ℕ) (C : Gates) (quads : List ℕ) (count : ℕ) : Type 0 where
-  pub room : length quads ≡ 1024
   pub counted : count ≡ min 257 (length C)
-  pub lie : length C ≤ 256 → take (4 * length C) quads ≡ quadsOf s C
+  pub lie : length C ≤ 256 → quads ≡ padded 1024 (quadsOf s C)
 
 -- the first entries of the array are the variables' gates p
 abbrev pub StandsFor : List ℕ → List ℕ → Type 0

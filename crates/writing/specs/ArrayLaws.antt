@@ -12,7 +12,7 @@ use Rattle.gates.specs.Limits.{mostGates}
 use Rattle.gates.specs.PlainCircuit.{gatesOf, gateCount}
 use Rattle.gates.specs.Quads.{quadsOf}
 use Rattle.needed.specs.Held.{Shaped}
-use Rattle.needed.specs.HeldQuads.{quads-length}
+use Rattle.gates.specs.QuadLaws.{quads-length}
 use Rattle.needed.specs.ShapedLaws.{rule-shaped}
 use Rattle.needed.specs.Pass.{rulePreconditions}
 use Rattle.circuit.specs.Whole.{ruleAnswer}
