@@ -8,10 +8,10 @@ use Rattle.writing.proofs.put_records.Statement.{statement}
 use Rattle.writing.proofs.put_records.Tie as tie
 
 abbrev Inv-loop : tie.InvT-loop
-Inv-loop out₀ plan quads count needs conditions group places order groups wires₀ at₀ n₀ i₀ out wires at n i = PuttingGroups plan quads count needs group places order groups out out₀ wires at n i
+Inv-loop out₀ plan quads count needs conditions group places order groups wires₀ at₀ first₀ i₀ out wires at first i = PuttingGroups plan quads count needs group places order groups out out₀ wires at (first .0) i
 
 abbrev μ-loop : tie.MeasureT-loop
-μ-loop out₀ plan quads count needs conditions group places order groups wires₀ at₀ n₀ i₀ out wires at n i = groups - i
+μ-loop out₀ plan quads count needs conditions group places order groups wires₀ at₀ first₀ i₀ out wires at first i = groups - i
 
 loop-holds : tie.Need-loop-holds Inv-loop μ-loop
 loop-holds c = putting-start _ _ _ _ _ _ _ _ _ _ (c .before .before .pre .0) (c .before .before .pre .1 .1)
@@ -48,20 +48,20 @@ add-at c = let f = putting-fits _ _ _ _ _ _ _ _ _ _ _ _ _ _ (c .before .before .
 wires-of-requires : tie.Need-wires-of-requires Inv-loop μ-loop
 wires-of-requires c κs = turn-listed _ _ _ _ _ _ _ _ _ (c .before .before .before .before .before .before .before .before .before .before .before .before .before .pre .1 .0) _ _ _ (c .before .before .before .before .before .before .before .before .before .loop-test .taken) (c .before .before .before .before .before .before .before .wide16 .ensures .0) (c .before .before .before .before .before .wide162 .ensures .0)
 
-add-n : tie.Need-add-n Inv-loop μ-loop
-add-n c = record { fits = omega (arith, c .wires-of .ensures, turn-fits _ _ _ _ _ _ _ _ _ (c .before .before .before .before .before .before .before .before .before .before .before .before .before .before .pre .1 .0) _ _ _ (c .before .before .before .before .before .before .before .before .before .before .loop-test .taken) (c .before .before .before .before .before .before .before .before .wide16 .ensures .0) (c .before .before .before .before .before .before .wide162 .ensures .0) _ (c .before .before .before .before .before .before .before .before .before .before .before .loop .inv .counted) .1) }
+add-first : tie.Need-add-t31 Inv-loop μ-loop
+add-first c = record { fits = omega (arith, c .before .wires-of .ensures, turn-fits _ _ _ _ _ _ _ _ _ (c .before .before .before .before .before .before .before .before .before .before .before .before .before .before .before .pre .1 .0) _ _ _ (c .before .before .before .before .before .before .before .before .before .before .before .loop-test .taken) (c .before .before .before .before .before .before .before .before .before .wide16 .ensures .0) (c .before .before .before .before .before .before .before .wide162 .ensures .0) _ (c .before .before .before .before .before .before .before .before .before .before .before .before .loop .inv .counted) .1) }
 
 sub-wires : tie.Need-sub-wires Inv-loop μ-loop
-sub-wires c = omega (arith, c .wires-of .ensures, turn-fits _ _ _ _ _ _ _ _ _ (c .before .before .before .before .before .before .before .before .before .before .before .before .before .before .pre .1 .0) _ _ _ (c .before .before .before .before .before .before .before .before .before .before .loop-test .taken) (c .before .before .before .before .before .before .before .before .wide16 .ensures .0) (c .before .before .before .before .before .before .wide162 .ensures .0) _ (c .before .before .before .before .before .before .before .before .before .before .before .loop .inv .counted) .0)
+sub-wires c = omega (arith, c .before .before .wires-of .ensures, turn-fits _ _ _ _ _ _ _ _ _ (c .before .before .before .before .before .before .before .before .before .before .before .before .before .before .before .before .pre .1 .0) _ _ _ (c .before .before .before .before .before .before .before .before .before .before .before .before .loop-test .taken) (c .before .before .before .before .before .before .before .before .before .before .wide16 .ensures .0) (c .before .before .before .before .before .before .before .before .wide162 .ensures .0) _ (c .before .before .before .before .before .before .before .before .before .before .before .before .before .loop .inv .counted) .0)
 
 mul-wires : tie.Need-mul-wires Inv-loop μ-loop
-mul-wires c = record { fits = omega (arith, c .before .before .before .before .before .before .before .before .before .before .before .before .before .before .pre .1 .0 .inside _ (c .before .before .before .before .before .before .before .before .before .before .loop-test .taken), c .before .before .before .before .before .before .before .before .wide16 .ensures .0) }
+mul-wires c = record { fits = omega (arith, c .before .before .before .before .before .before .before .before .before .before .before .before .before .before .before .before .pre .1 .0 .inside _ (c .before .before .before .before .before .before .before .before .before .before .before .before .loop-test .taken), c .before .before .before .before .before .before .before .before .before .before .wide16 .ensures .0) }
 
 element-write-wires : tie.Need-element-write-wires Inv-loop μ-loop
-element-write-wires c = omega (arith, c .before .before .before .before .before .before .before .before .before .before .before .before .before .before .pre .1 .0 .inside _ (c .before .before .before .before .before .before .before .before .before .before .loop-test .taken), c .before .before .before .before .before .before .before .before .wide16 .ensures .0)
+element-write-wires c = omega (arith, c .before .before .before .before .before .before .before .before .before .before .before .before .before .before .before .before .pre .1 .0 .inside _ (c .before .before .before .before .before .before .before .before .before .before .before .before .loop-test .taken), c .before .before .before .before .before .before .before .before .before .before .wide16 .ensures .0)
 
 loop-again : tie.Need-loop-again Inv-loop μ-loop
-loop-again c = putting-step _ _ _ _ _ _ _ _ _ _ _ _ _ _ (c .before .before .before .before .before .before .before .before .before .before .before .loop .inv) (c .before .before .before .before .before .before .before .before .before .before .loop-test .taken) _ _ (c .before .before .before .before .before .before .before .before .wide16 .ensures .0) (c .before .before .before .before .before .before .wide162 .ensures .0) _ (c .before .before .before .before .before .before .before .before .before .before .before .before .before .before .pre .1 .0) _ _ _ (c .before .before .before .put-group .ensures .0) (c .before .before .before .put-group .ensures .1) (c .wires-of .ensures)
+loop-again c = putting-step _ _ _ _ _ _ _ _ _ _ _ _ _ _ (c .before .before .before .before .before .before .before .before .before .before .before .before .before .loop .inv) (c .before .before .before .before .before .before .before .before .before .before .before .before .loop-test .taken) _ _ (c .before .before .before .before .before .before .before .before .before .before .wide16 .ensures .0) (c .before .before .before .before .before .before .before .before .wide162 .ensures .0) _ (c .before .before .before .before .before .before .before .before .before .before .before .before .before .before .before .before .pre .1 .0) _ _ _ (c .before .before .before .before .before .put-group .ensures .0) (c .before .before .before .before .before .put-group .ensures .1) (c .before .before .wires-of .ensures)
 
 same-length : tie.Need-same-length Inv-loop μ-loop
 same-length c = putting-same _ _ _ _ _ _ _ _ _ _ _ _ _ _ (c .before .loop .inv) (c .loop-test .left)
@@ -88,7 +88,7 @@ put-records-spec =
     put-group-requires
     add-at
     wires-of-requires
-    add-n
+    add-first
     sub-wires
     mul-wires
     element-write-wires
