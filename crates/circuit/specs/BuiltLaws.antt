@@ -30,7 +30,7 @@ use Rattle.circuit.specs.Whole.{ruleAnswer}
 use Rattle.circuit.specs.WholeLaws.{Accepted}
 use Rattle.circuit.specs.Built.{padded, ifAccepted, builtQuads, builtNeeds, builtOutputs, builtConditions}
 use Rattle.circuit.specs.Making.{MadeWhole}
-use Rattle.circuit.specs.MakingLaws.{made-held}
+use Rattle.circuit.specs.MakingLaws.{made-held, made-outputs}
 
 -- of a refused rule nothing is built, of an accepted one the list
 pub refused-shows : (s : List ℕ) → (ruleAnswer s .number ≡ 0 → ⊥) → (l : List ℕ) → ifAccepted s l ≡ []
@@ -81,6 +81,9 @@ module _ (s quads present ranks : List ℕ) (count : ℕ) (ready : MadeWhole s q
   held : take (4 * gateCount s) quads ≡ quadsOf s (gatesOf s)
   held = made-held s quads present count (acc .read) made (acc .gates)
 
+  outputs : take (variables s) present ≡ outputsOf s
+  outputs = made-outputs s quads present count (acc .read) made (acc .gates)
+
   pub ready-passable : Passable quads ranks count
   ready-passable =
       let r = is-read (readRule s) (acc .read) in
@@ -89,7 +92,7 @@ module _ (s quads present ranks : List ℕ) (count : ℕ) (ready : MadeWhole s q
   pub ready-wanted : Inside count (take (variables s) present)
   ready-wanted =
       let r = is-read (readRule s) (acc .read) in
-      subst⁻¹ (λ (n : ℕ). Inside n (take (variables s) present)) counted (quads-wanted s (r .0) (r .1) (r .2) quads held (take (variables s) present) (made .outputs (acc .gates)))
+      subst⁻¹ (λ (n : ℕ). Inside n (take (variables s) present)) counted (quads-wanted s (r .0) (r .1) (r .2) quads held (take (variables s) present) outputs)
 
   -- the conditions' gates are those that have a number
   same-conditions : markedIn ranks count ≡ conditions (gatesOf s)
@@ -107,11 +110,8 @@ module _ (s quads present ranks : List ℕ) (count : ℕ) (ready : MadeWhole s q
   pub ready-quads : quads ≡ builtQuads s
   ready-quads = made .lie (acc .gates) ∙ ap (padded (4 * mostGates)) (sym (accepted-is (quadsOf s (gatesOf s))))
 
-  pub ready-outputs : (shown : List ℕ) → shown ≡ over (take (variables s - 0) (drop 0 present)) (replicate 32 0) → shown ≡ builtOutputs s
-  ready-outputs shown e =
-      let z : variables s - 0 ≡ variables s = omega arith in
-      e ∙ ap (λ (m : ℕ). over (take m present) (replicate 32 0)) z ∙ ap (λ (k : List ℕ). over k (replicate 32 0)) (made .outputs (acc .gates))
-      ∙ over-zeros (outputsOf s) 32 ∙ ap (padded 32) (sym (accepted-is (outputsOf s)))
+  pub ready-outputs : present ≡ builtOutputs s
+  ready-outputs = made .outputs (acc .gates) ∙ ap (padded mostVariables) (sym (accepted-is (outputsOf s)))
 
   pub ready-conditions : (shown : List ℕ) → shown ≡ over (markedIn ranks count) (replicate mostConditions 0) → shown ≡ builtConditions s
   ready-conditions shown e =
@@ -123,7 +123,7 @@ module _ (s quads present ranks : List ℕ) (count : ℕ) (ready : MadeWhole s q
       let r = is-read (readRule s) (acc .read) in
       let sets : preconditionSets mostConditions (gatesIn quads count) (take (variables s) present) ≡ rulePreconditions s
       = ap (λ (n : ℕ). preconditionSets mostConditions (gatesIn quads n) (take (variables s) present)) counted
-      ∙ quads-preconditions s (r .0) (r .1) (r .2) quads held (take (variables s) present) (made .outputs (acc .gates)) in
+      ∙ quads-preconditions s (r .0) (r .1) (r .2) quads held (take (variables s) present) outputs in
       e ∙ ap (λ (l : List ℕ). l ++ replicate (mostGates - count) 0) sets
       ∙ ap (λ (n : ℕ). rulePreconditions s ++ replicate (mostGates - n) 0) (counted ∙ sym (sets-length mostConditions (gatesOf s) (outputsOf s)))
       ∙ ap (padded mostGates) (sym (accepted-is (rulePreconditions s)))

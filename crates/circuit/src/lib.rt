@@ -80,11 +80,11 @@ fn filled(
     rule: &[u8],
     answer: Answer,
     quads: [u32; 1024],
-    present: &[u16; 32],
+    outputs: [u16; 32],
     ranks: &[u16; 256],
     count: usize,
 ) -> Built
-    requires { ⌜ MadeWhole (now rule) quads (now present) (now ranks) count ⌝ }
+    requires { ⌜ MadeWhole (now rule) quads outputs (now ranks) count ⌝ }
     ensures answer { λ r. ⌜ r .answer ≡ answer ⌝ }
     ensures quads { λ r. ⌜ r .quads ≡ builtQuads (now (rule .entry)) ⌝ }
     ensures needs { λ r. ⌜ r .needs ≡ builtNeeds (now (rule .entry)) ⌝ }
@@ -93,10 +93,7 @@ fn filled(
 {
     let v = rule[5] as usize;
     let mut needs = [0u64; 256];
-    let mut outputs = [0u16; 32];
-    needed::find_needed(&quads, count, ranks, present, v, &mut needs);
-    let last = &present[..];
-    words::copy16(&last[0..v], &mut outputs);
+    needed::find_needed(&quads, count, ranks, &outputs, v, &mut needs);
     Built {
         answer,
         quads,
@@ -119,12 +116,12 @@ pub fn build(rule: &[u8]) -> Built
         return nothing(a);
     }
     let mut quads = [0u32; 1024];
-    let mut present = [0u16; 32];
+    let mut outputs = [0u16; 32];
     let mut ranks = [0u16; 256];
-    let count = making::make_rule(rule, &mut quads, &mut present);
+    let count = making::make_rule(rule, &mut quads, &mut outputs);
     let answer = whole(rule.len(), &quads, count, &mut ranks);
     if answer.number != 0 {
         return nothing(answer);
     }
-    filled(rule, answer, quads, &present, &ranks, count as usize)
+    filled(rule, answer, quads, outputs, &ranks, count as usize)
 }

@@ -240,7 +240,7 @@ fn make_choices(
 
 // Gates 0 to V - 1: the variables' starting values.
 fn make_starts(s: &[u8], present: &mut [u16; 32], quads: &mut [u32; 1024]) -> u16
-    requires { ⌜ Headed (now s) (6 + variables (now s)) × ((now quads ≡ replicate 1024 0) × (length (now present) ≡ 32)) ⌝ }
+    requires { ⌜ Headed (now s) (6 + variables (now s)) × ((now quads ≡ replicate 1024 0) × (now present ≡ replicate 32 0)) ⌝ }
     ensures { λ r. ⌜ Held (now (s .entry)) (starts (variables (now (s .entry)))) (now (quads .exit)) (now (present .exit)) r ⌝ }
 {
     let v = s[5];

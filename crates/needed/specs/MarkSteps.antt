@@ -9,6 +9,7 @@ use lib.ListN.{length, getD, set, replicate, length-set}
 use lib.Seq.{getD-set-same, getD-set-other, ext-getD}
 use lib.Dec.{eqb}
 use borrow.Author.Tests.{eq-eqb, ne-eqb}
+pub use Rattle.words.specs.BufferLaws.{getD-zeros}
 use Rattle.words.specs.Lists.{elem, same?, upto, keep-same, elem-more}
 use Rattle.settings.specs.Settings.{bitOf}
 use Rattle.codes.specs.Codes.{codeOf}
@@ -57,11 +58,6 @@ module _ (quads : List ℕ) (i : ℕ) where
 
 more : (i : ℕ) → i + 1 ≡ suc i
 more i = omega arith
-
-pub getD-zeros : (n g : ℕ) → _≡_ {A = ℕ} (getD (replicate n 0) g 0) 0
-getD-zeros zero g = refl
-getD-zeros (suc n) zero = refl
-getD-zeros (suc n) (suc g) = getD-zeros n g
 
 -- the condition of a choice comes before it
 pub head-before : (quads : List ℕ) (count i c : ℕ) → Earlier (gatesIn quads count) → i < count → codeAt quads i ≡ choiceCode → c ≡ firstAt quads i → c < i
