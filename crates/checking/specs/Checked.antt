@@ -8,7 +8,7 @@ use Rattle.words.specs.Lists.{upto}
 use Rattle.gates.specs.Limits.{mostGates}
 use Rattle.gates.specs.PlainCircuit.{gatesOf, gateCount}
 use Rattle.needed.specs.Pass.{rulePreconditions}
-use Rattle.circuit.specs.Built.{padded}
+use Rattle.words.specs.Buffers.{padded}
 use Rattle.plan.specs.PlanFile.{groupsIn}
 use Rattle.plan.specs.Groups.{groupOf}
 use Rattle.plan.specs.Places.{placeOf}

@@ -9,8 +9,8 @@ use Rattle.words.specs.Lists.{upto}
 use Rattle.gates.specs.Limits.{mostGates}
 use Rattle.gates.specs.PlainCircuit.{gateCount}
 use Rattle.words.specs.ListLaws.{getD-run}
-use Rattle.circuit.specs.Built.{padded}
-use Rattle.circuit.specs.BuiltParts.{padded-at}
+use Rattle.words.specs.Buffers.{padded}
+use Rattle.words.specs.BufferLaws.{padded-at}
 use Rattle.plan.specs.PlanFile.{groupsIn}
 use Rattle.plan.specs.Groups.{groupOf}
 use Rattle.plan.specs.Places.{placeOf}

@@ -13,7 +13,7 @@ use Rattle.answers.specs.Answers.{refusal}
 use Rattle.answers.specs.declared.Answer.{Answer}
 use Rattle.gates.specs.Gates.{conditions}
 use Rattle.gates.specs.Limits.{mostGates}
-use Rattle.circuit.specs.Built.{padded}
+use Rattle.words.specs.Buffers.{padded}
 use Rattle.circuit.specs.declared.Built.{Built}
 use Rattle.plan.specs.PlanFile.{groupsIn, Apart}
 use Rattle.plan.specs.Groups.{groupOf, Named, groups, members}

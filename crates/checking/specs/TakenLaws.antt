@@ -6,7 +6,7 @@ use mathlib.Core.Bool.{Bool, true, cond}
 use native.Mathlib.Omega.{arith}
 use lib.ListN.{length, getD, replicate, length-reverse}
 use Rattle.words.specs.Lists.{upto}
-use Rattle.words.specs.Buffers.{over}
+use Rattle.words.specs.Buffers.{over, padded}
 use Rattle.answers.specs.Answers.{refusal}
 use Rattle.answers.specs.declared.Answer.{Answer}
 use Rattle.gates.specs.Gates.{Gates, Earlier, conditions}
@@ -14,7 +14,6 @@ use Rattle.gates.specs.Limits.{mostGates}
 use Rattle.gates.specs.PlainCircuit.{gatesOf}
 use Rattle.needed.specs.Held.{gatesIn}
 use Rattle.needed.specs.Pass.{rulePreconditions}
-use Rattle.circuit.specs.Built.{padded}
 use Rattle.circuit.specs.BuiltLaws.{over-zeros}
 use Rattle.circuit.specs.BuiltParts.{built-earlier, built-condition}
 use Rattle.circuit.specs.declared.Built.{Built}

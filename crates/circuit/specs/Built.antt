@@ -1,9 +1,9 @@
 -- Document 01, "The plain circuit" and "Needed gates": what the operation that builds a rule's plain circuit gives, besides the answer of reading it.
 use mathlib.Core.Bool.{cond}
-use Prim.Native.Nat.{ℕ, _-_, _*_}
-use mathlib.Core.List.{List, [], _++_}
-use lib.ListN.{length, replicate}
+use Prim.Native.Nat.{ℕ, _*_}
+use mathlib.Core.List.{List, []}
 use lib.Dec.{eqb}
+pub use Rattle.words.specs.Buffers.{padded}
 use Rattle.reading.specs.Limits.{mostVariables}
 use Rattle.gates.specs.Limits.{mostGates, mostConditions}
 use Rattle.gates.specs.Gates.{conditions}
@@ -11,10 +11,6 @@ use Rattle.gates.specs.PlainCircuit.{gatesOf, outputsOf}
 use Rattle.gates.specs.Quads.{quadsOf}
 use Rattle.needed.specs.Pass.{rulePreconditions}
 use Rattle.circuit.specs.Whole.{ruleAnswer}
-
--- a list in an array of so many places, zeros after it
-abbrev pub padded : ℕ → List ℕ → List ℕ
-padded room l = l ++ replicate (room - length l) 0
 
 -- of an accepted rule the list, of a refused one nothing
 unfoldable pub ifAccepted : List ℕ → List ℕ → List ℕ

@@ -5,7 +5,7 @@ use mathlib.Core.Path.{_≡_, sym, ap, subst⁻¹, _∙_}
 use mathlib.Core.List.{List, [], _++_}
 use lib.ListN.{length, take, drop, replicate}
 use borrow.Author.Tests.{eq-eqb, ne-eqb}
-use Rattle.words.specs.Buffers.{over}
+use Rattle.words.specs.Buffers.{over, padded}
 use Rattle.answers.specs.ParsingLaws.{is-read}
 use Rattle.answers.specs.declared.Answer.{Answer}
 use Rattle.reading.specs.Limits.{mostVariables}
@@ -28,8 +28,9 @@ use Rattle.needed.specs.PassingLaws.{sets-length}
 use Rattle.needed.specs.RuleQuads.{quads-passable, quads-wanted, quads-preconditions}
 use Rattle.circuit.specs.Whole.{ruleAnswer}
 use Rattle.circuit.specs.WholeLaws.{Accepted}
-use Rattle.circuit.specs.Built.{padded, ifAccepted, builtQuads, builtNeeds, builtOutputs, builtConditions}
+use Rattle.circuit.specs.Built.{ifAccepted, builtQuads, builtNeeds, builtOutputs, builtConditions}
 use Rattle.circuit.specs.Making.{MadeWhole}
+use Rattle.circuit.specs.MakingLaws.{made-held, made-outputs}
 
 -- of a refused rule nothing is built, of an accepted one the list
 pub refused-shows : (s : List ℕ) → (ruleAnswer s .number ≡ 0 → ⊥) → (l : List ℕ) → ifAccepted s l ≡ []
@@ -68,7 +69,7 @@ module _ (s quads present ranks : List ℕ) (count : ℕ) (ready : MadeWhole s q
   counted : count ≡ gateCount s
   counted = made .counted (acc .gates)
 
-  pub ready-room : count ≤ mostGates
+  ready-room : count ≤ mostGates
   ready-room = rw counted (acc .gates)
 
   pub ready-variables : variables s ≤ mostVariables
@@ -78,7 +79,10 @@ module _ (s quads present ranks : List ℕ) (count : ℕ) (ready : MadeWhole s q
   placed = ready .placed ready-room ∙ ap (λ (n : ℕ). ranksOf (gatesIn quads n) mostGates) counted
 
   held : take (4 * gateCount s) quads ≡ quadsOf s (gatesOf s)
-  held = ap (λ (n : ℕ). take (4 * n) quads) (sym counted) ∙ made .lie (acc .gates)
+  held = made-held s quads present count (acc .read) made (acc .gates)
+
+  outputs : take (variables s) present ≡ outputsOf s
+  outputs = made-outputs s quads present count (acc .read) made (acc .gates)
 
   pub ready-passable : Passable quads ranks count
   ready-passable =
@@ -88,7 +92,7 @@ module _ (s quads present ranks : List ℕ) (count : ℕ) (ready : MadeWhole s q
   pub ready-wanted : Inside count (take (variables s) present)
   ready-wanted =
       let r = is-read (readRule s) (acc .read) in
-      subst⁻¹ (λ (n : ℕ). Inside n (take (variables s) present)) counted (quads-wanted s (r .0) (r .1) (r .2) quads held (take (variables s) present) (made .outputs (acc .gates)))
+      subst⁻¹ (λ (n : ℕ). Inside n (take (variables s) present)) counted (quads-wanted s (r .0) (r .1) (r .2) quads held (take (variables s) present) outputs)
 
   -- the conditions' gates are those that have a number
   same-conditions : markedIn ranks count ≡ conditions (gatesOf s)
@@ -103,18 +107,11 @@ module _ (s quads present ranks : List ℕ) (count : ℕ) (ready : MadeWhole s q
   accepted-is : (l : List ℕ) → ifAccepted s l ≡ l
   accepted-is = accepted-builds s (ap (λ (b : Answer). b .number) (acc .answer))
 
-  -- numbers copied to the start of zeros
-  copied : (from l shown : List ℕ) (n size : ℕ) → take n from ≡ l → shown ≡ over (take (n - 0) (drop 0 from)) (replicate size 0) → shown ≡ padded size (ifAccepted s l)
-  copied from l shown n size q e =
-      let z : n - 0 ≡ n = omega arith in
-      e ∙ ap (λ (m : ℕ). over (take m from) (replicate size 0)) z ∙ ap (λ (k : List ℕ). over k (replicate size 0)) q
-      ∙ over-zeros l size ∙ ap (padded size) (sym (accepted-is l))
+  pub ready-quads : quads ≡ builtQuads s
+  ready-quads = made .lie (acc .gates) ∙ ap (padded (4 * mostGates)) (sym (accepted-is (quadsOf s (gatesOf s))))
 
-  pub ready-quads : (shown : List ℕ) → shown ≡ over (take (4 * count - 0) (drop 0 quads)) (replicate 1024 0) → shown ≡ builtQuads s
-  ready-quads shown e = copied quads (quadsOf s (gatesOf s)) shown (4 * count) 1024 (made .lie (acc .gates)) e
-
-  pub ready-outputs : (shown : List ℕ) → shown ≡ over (take (variables s - 0) (drop 0 present)) (replicate 32 0) → shown ≡ builtOutputs s
-  ready-outputs shown e = copied present (outputsOf s) shown (variables s) 32 (made .outputs (acc .gates)) e
+  pub ready-outputs : present ≡ builtOutputs s
+  ready-outputs = made .outputs (acc .gates) ∙ ap (padded mostVariables) (sym (accepted-is (outputsOf s)))
 
   pub ready-conditions : (shown : List ℕ) → shown ≡ over (markedIn ranks count) (replicate mostConditions 0) → shown ≡ builtConditions s
   ready-conditions shown e =
@@ -126,7 +123,7 @@ module _ (s quads present ranks : List ℕ) (count : ℕ) (ready : MadeWhole s q
       let r = is-read (readRule s) (acc .read) in
       let sets : preconditionSets mostConditions (gatesIn quads count) (take (variables s) present) ≡ rulePreconditions s
       = ap (λ (n : ℕ). preconditionSets mostConditions (gatesIn quads n) (take (variables s) present)) counted
-      ∙ quads-preconditions s (r .0) (r .1) (r .2) quads held (take (variables s) present) (made .outputs (acc .gates)) in
+      ∙ quads-preconditions s (r .0) (r .1) (r .2) quads held (take (variables s) present) outputs in
       e ∙ ap (λ (l : List ℕ). l ++ replicate (mostGates - count) 0) sets
       ∙ ap (λ (n : ℕ). rulePreconditions s ++ replicate (mostGates - n) 0) (counted ∙ sym (sets-length mostConditions (gatesOf s) (outputsOf s)))
       ∙ ap (padded mostGates) (sym (accepted-is (rulePreconditions s)))

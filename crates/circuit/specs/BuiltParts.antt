@@ -1,12 +1,11 @@
 -- What is built of an accepted rule, part by part: its gates, their preconditions, its conditions and its outputs. Assumes nothing.
-use Prim.Native.Nat.{ℕ, zero, suc, _-_, _*_, _<_, _≤_}
-use native.Mathlib.Omega.{arith}
-use mathlib.Core.Path.{_≡_, refl, ap, _∙_}
-use mathlib.Core.List.{List, [], _∷_, _++_}
-use lib.ListN.{length, getD, take, replicate, length-append, length-replicate}
+use Prim.Native.Nat.{ℕ, _-_, _*_, _<_, _≤_}
+use mathlib.Core.Path.{_≡_, ap, _∙_}
+use mathlib.Core.List.{List}
+use lib.ListN.{length, getD, take, replicate}
 use lib.Seq.{take-at}
+pub use Rattle.words.specs.BufferLaws.{padded-at, padded-length}
 use Rattle.words.specs.Lists.{getD-in}
-use Rattle.words.specs.ListLaws.{getD-zeros}
 use Rattle.answers.specs.ParsingLaws.{is-read}
 use Rattle.answers.specs.declared.Answer.{Answer}
 use Rattle.reading.specs.Limits.{mostVariables}
@@ -16,29 +15,19 @@ use Rattle.reading.specs.FirstStatement.{rule-read}
 use Rattle.gates.specs.Limits.{mostGates, mostConditions}
 use Rattle.gates.specs.Gates.{Earlier, conditions}
 use Rattle.gates.specs.PlainCircuit.{plainCircuit, gatesOf, outputsOf, gateCount}
+use Rattle.gates.specs.QuadLaws.{quads-length}
 use Rattle.gates.specs.EarlierLaws.{Inside}
 use Rattle.gates.specs.SoundLaws.{Sound}
 use Rattle.gates.specs.StartLaws.{plain-sound}
 use Rattle.gates.specs.Quads.{quadsOf}
 use Rattle.needed.specs.Pass.{rulePreconditions}
 use Rattle.needed.specs.Held.{gatesIn}
-use Rattle.needed.specs.HeldQuads.{quads-length, rule-held}
+use Rattle.needed.specs.HeldQuads.{rule-held}
 use Rattle.circuit.specs.Whole.{ruleAnswer}
 use Rattle.circuit.specs.WholeLaws.{Accepted, accepted}
-use Rattle.circuit.specs.Built.{padded, ifAccepted, builtQuads, builtNeeds, builtOutputs, builtConditions}
+use Rattle.circuit.specs.Built.{ifAccepted, builtQuads, builtNeeds, builtOutputs, builtConditions}
+use Rattle.words.specs.Buffers.{padded}
 use Rattle.circuit.specs.BuiltLaws.{accepted-builds}
-
-zeros-after : (l : List ℕ) (n i : ℕ) → getD (l ++ replicate n 0) i 0 ≡ getD l i 0
-zeros-after [] n i = getD-zeros n i
-zeros-after (a ∷ l) n zero = refl
-zeros-after (a ∷ l) n (suc i) = zeros-after l n i
-
--- zeros after a list change no element that is read
-pub padded-at : (room : ℕ) (l : List ℕ) (i : ℕ) → getD (padded room l) i 0 ≡ getD l i 0
-padded-at room l i = zeros-after l (room - length l) i
-
-pub padded-length : (room : ℕ) (l : List ℕ) → length l ≤ room → length (padded room l) ≡ room
-padded-length room l h = rw (length-append, length-replicate {A = ℕ} (room - length l) 0) (omega arith)
 
 -- an accepted rule
 module _ (s : List ℕ) (h : ruleAnswer s .number ≡ 0) where

@@ -1,18 +1,22 @@
 -- Laws of a rule's gates in quads, once they are made. Assumes nothing.
-use Prim.Native.Nat.{ℕ, _*_, _<_, _≤_}
+use Prim.Native.Nat.{ℕ, _-_, _*_, _<_, _≤_}
 use native.Mathlib.Omega.{arith}
 use mathlib.Core.Path.{_≡_, sym, ap, subst⁻¹, _∙_}
 use mathlib.Core.List.{List}
-use lib.ListN.{length, take}
+use lib.ListN.{length, take, replicate}
+use lib.Seq.{take-at}
 use lib.Dec.{leb}
 use borrow.Author.Tests.{le-leb, lt-leb, leb-true, leb-false}
 use Rattle.words.specs.Lists.{split}
 use Rattle.answers.specs.Answers.{success, refusal}
 use Rattle.answers.specs.ParsingLaws.{IsRead, is-read}
+use Rattle.reading.specs.Header.{variables}
 use Rattle.reading.specs.Rule.{readRule}
 use Rattle.gates.specs.Limits.{mostGates, mostConditions}
 use Rattle.gates.specs.Gates.{Gates, Earlier, costs, conditions}
-use Rattle.gates.specs.PlainCircuit.{gatesOf}
+use Rattle.gates.specs.PlainCircuit.{gatesOf, outputsOf}
+use Rattle.gates.specs.Quads.{quadsOf}
+use Rattle.gates.specs.QuadLaws.{quads-length}
 use Rattle.gates.specs.StartLaws.{plain-sound}
 use Rattle.making.specs.RuleMade.{RuleMade}
 use Rattle.needed.specs.Held.{gatesIn}
@@ -50,12 +54,25 @@ module _ (s quads present : List ℕ) (count : ℕ) (read : IsRead (readRule s))
   within : count ≤ mostGates → length (gatesOf s) ≤ mostGates
   within h = split (leb (length (gatesOf s)) mostGates) (λ t. leb-true _ _ t) (λ t. absurd (omega (arith, made .many (leb-false _ _ t))))
 
+  -- the rule's quads stand at the start
+  pub made-held : length (gatesOf s) ≤ mostGates → take (4 * length (gatesOf s)) quads ≡ quadsOf s (gatesOf s)
+  made-held few =
+      ap (take (4 * length (gatesOf s))) (made .lie few)
+      ∙ take-at (quadsOf s (gatesOf s)) (replicate (1024 - length (quadsOf s (gatesOf s))) 0) (4 * length (gatesOf s)) (quads-length s (gatesOf s))
+
+  -- and its outputs
+  pub made-outputs : length (gatesOf s) ≤ mostGates → take (variables s) present ≡ outputsOf s
+  made-outputs few =
+      let r = is-read (readRule s) read in
+      ap (take (variables s)) (made .outputs few)
+      ∙ take-at (outputsOf s) (replicate (32 - length (outputsOf s)) 0) (variables s) (plain-sound s (r .0) (r .1) (r .2) .count)
+
   pub made-gates : count ≤ mostGates → gatesIn quads count ≡ gatesOf s
   made-gates h =
       let e = made .counted (within h) in
       let r = is-read (readRule s) read in
       ap (gatesIn quads) e
-      ∙ rule-held s (r .0) (r .1) (r .2) quads (ap (λ (n : ℕ). take (4 * n) quads) (sym e) ∙ made .lie (within h))
+      ∙ rule-held s (r .0) (r .1) (r .2) quads (made-held (within h))
 
   pub made-earlier : count ≤ mostGates → Earlier (gatesIn quads count)
   made-earlier h = let r = is-read (readRule s) read in subst⁻¹ Earlier (made-gates h) (plain-sound s (r .0) (r .1) (r .2) .earlier)

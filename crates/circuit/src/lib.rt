@@ -79,12 +79,12 @@ fn nothing(answer: Answer) -> Built
 fn filled(
     rule: &[u8],
     answer: Answer,
-    made: &[u32; 1024],
-    present: &[u16; 32],
+    quads: [u32; 1024],
+    outputs: [u16; 32],
     ranks: &[u16; 256],
     count: usize,
 ) -> Built
-    requires { ⌜ MadeWhole (now rule) (now made) (now present) (now ranks) count ⌝ }
+    requires { ⌜ MadeWhole (now rule) quads outputs (now ranks) count ⌝ }
     ensures answer { λ r. ⌜ r .answer ≡ answer ⌝ }
     ensures quads { λ r. ⌜ r .quads ≡ builtQuads (now (rule .entry)) ⌝ }
     ensures needs { λ r. ⌜ r .needs ≡ builtNeeds (now (rule .entry)) ⌝ }
@@ -92,14 +92,8 @@ fn filled(
     ensures conditions { λ r. ⌜ r .conditions ≡ builtConditions (now (rule .entry)) ⌝ }
 {
     let v = rule[5] as usize;
-    let mut quads = [0u32; 1024];
     let mut needs = [0u64; 256];
-    let mut outputs = [0u16; 32];
-    needed::find_needed(made, count, ranks, present, v, &mut needs);
-    let gates = &made[..];
-    words::copy32(&gates[0..4 * count], &mut quads);
-    let last = &present[..];
-    words::copy16(&last[0..v], &mut outputs);
+    needed::find_needed(&quads, count, ranks, &outputs, v, &mut needs);
     Built {
         answer,
         quads,
@@ -121,13 +115,13 @@ pub fn build(rule: &[u8]) -> Built
     if a.number != 0 {
         return nothing(a);
     }
-    let mut made = [0u32; 1024];
-    let mut present = [0u16; 32];
+    let mut quads = [0u32; 1024];
+    let mut outputs = [0u16; 32];
     let mut ranks = [0u16; 256];
-    let count = making::make_rule(rule, &mut made, &mut present);
-    let answer = whole(rule.len(), &made, count, &mut ranks);
+    let count = making::make_rule(rule, &mut quads, &mut outputs);
+    let answer = whole(rule.len(), &quads, count, &mut ranks);
     if answer.number != 0 {
         return nothing(answer);
     }
-    filled(rule, answer, &made, &present, &ranks, count as usize)
+    filled(rule, answer, quads, outputs, &ranks, count as usize)
 }

@@ -1,3 +1,4 @@
-pub mod Shown
 pub mod Starred
+pub mod MeaningLaws
+pub mod StarredProved
 pub mod ArgumentOrder

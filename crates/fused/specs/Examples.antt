@@ -2,7 +2,7 @@
 use Prim.Native.Nat.{ℕ}
 use mathlib.Core.Path.{_≡_, refl}
 use mathlib.Core.List.{List, [], _∷_, _++_, map}
-use Rattle.words.specs.Numbers.{number}
+use Rattle.words.specs.Numbers.{number, bytesOf}
 use Rattle.codes.specs.Results.{resultOf}
 use Rattle.codes.specs.Codes.{kindOf, operationOf, codeOf}
 use Rattle.answers.specs.Answers.{success, refusal}
@@ -22,7 +22,6 @@ use Rattle.plan.specs.PlanFile.{groupsIn}
 use Rattle.plan.specs.Groups.{groups, restsOf, waitsFor}
 use Rattle.plan.specs.Order.{order}
 use Rattle.plan.specs.Rows.{planRow, planAnswer}
-use Rattle.words.specs.Numbers.{bytesOf}
 use Rattle.settings.specs.Guards.{spread, tableOver, table}
 use Rattle.plan.specs.Examples.{p1}
 use Rattle.fused.specs.FusedCircuit.{written, fused}

@@ -4,6 +4,7 @@ pub mod Gates
 pub mod PlainCircuit
 pub mod Quads
 pub mod GateKinds
+pub mod QuadLaws
 pub mod ApplyLaws
 pub mod FigureLaws
 pub mod CostLaws

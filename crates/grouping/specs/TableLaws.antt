@@ -13,8 +13,8 @@ use borrow.Author.Tests.{eq-eqb, ne-eqb, ltb-true, ltb-false}
 use Rattle.words.specs.Lists.{_∈_, elem, split, same?, upto, length-from}
 use Rattle.words.specs.ListLaws.{getD-run, getD-zeros}
 use Rattle.gates.specs.Limits.{mostGates}
-use Rattle.circuit.specs.Built.{padded}
-use Rattle.circuit.specs.BuiltParts.{padded-at, padded-length}
+use Rattle.words.specs.Buffers.{padded}
+use Rattle.words.specs.BufferLaws.{padded-at, padded-length}
 use Rattle.plan.specs.PlanFile.{groupsIn}
 use Rattle.plan.specs.Groups.{groupOf}
 use Rattle.plan.specs.Places.{placeOf}

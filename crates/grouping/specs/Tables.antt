@@ -3,7 +3,7 @@ use Prim.Native.Nat.{ℕ}
 use mathlib.Core.List.{List, map}
 use Rattle.words.specs.Lists.{upto}
 use Rattle.gates.specs.Limits.{mostGates}
-use Rattle.circuit.specs.Built.{padded}
+use Rattle.words.specs.Buffers.{padded}
 use Rattle.plan.specs.PlanFile.{Plan}
 use Rattle.plan.specs.Groups.{groupOf}
 use Rattle.plan.specs.Places.{placeOf}

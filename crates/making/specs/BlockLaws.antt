@@ -1,12 +1,14 @@
 -- Laws of making a block, statement after statement, and a whole rule. Assumes nothing.
-use Prim.Native.Nat.{ℕ, _+_, _-_, _*_, _≤_, _<_}
+use Prim.Native.Nat.{ℕ, _+_, _-_, _≤_, _<_}
 use native.Mathlib.Omega.{arith}
 use mathlib.Core.Path.{_≡_, refl, sym, ap, subst, subst⁻¹, _∙_}
 use mathlib.Core.Bool.{Bool, true, false, _||_}
 use mathlib.Core.List.{List}
-use lib.ListN.{length, getD, take, length-take}
+use lib.ListN.{length, getD}
 use lib.Bits.{bitOr}
-use lib.Seq.{ext-getD, getD-take}
+use lib.Seq.{ext-getD}
+use Rattle.words.specs.Buffers.{padded}
+use Rattle.words.specs.BufferLaws.{padded-at, padded-length}
 use Rattle.words.specs.Lists.{length-from}
 use Rattle.settings.specs.Sets.{has}
 use Rattle.settings.specs.BitLaws.{bit-or, bit-none}
@@ -21,7 +23,6 @@ use Rattle.reading.specs.Rule.{readRule}
 use Rattle.reading.specs.FirstStatement as read
 use Rattle.gates.specs.PlainCircuit.{Making, assignsIn, assigns, makeStatement, makeBlock, starts, plainCircuit}
 use Rattle.gates.specs.StartLaws.{read-plain, plain-sound}
-use Rattle.gates.specs.Quads.{quadsOf}
 use Rattle.making.specs.RuleMade.{RuleMade}
 use Rattle.making.specs.Holding.{Held, Done, Walked}
 use Rattle.making.specs.StatementLaws.{statement-length}
@@ -116,14 +117,9 @@ module _ (s : List ℕ) (m : Making) (quads present : List ℕ) (count : ℕ) (h
   pub held-many : 256 < length (m .gates) → count ≡ 257
   held-many many = omega (arith, held .stored .counted)
 
-  pub held-quads : length (m .gates) ≤ 256 → take (4 * count) quads ≡ quadsOf s (m .gates)
-  held-quads few = ap (λ (k : ℕ). take (4 * k) quads) (held-count few) ∙ held .stored .lie few
-
-  pub held-present : length (m .gates) ≤ 256 → (v : ℕ) → length (m .present) ≡ v → v ≤ 32 → take v present ≡ m .present
-  held-present few v l small =
-      let e : length (take v present) ≡ v = length-take v present ∙ omega (arith, held .wide) in
-      ext-getD 0 (take v present) (m .present) (e ∙ sym l)
-      (λ x i. getD-take v present x 0 (omega arith) ∙ held .stand few x (omega arith))
+  pub held-present : length (m .gates) ≤ 256 → length (m .present) ≤ 32 → present ≡ padded 32 (m .present)
+  held-present few small =
+      ext-getD 0 present (padded 32 (m .present)) (held .wide ∙ sym (padded-length 32 (m .present) small)) (λ x i. held .stand few x ∙ sym (padded-at 32 (m .present) x))
 
 -- the promise of a whole rule: the gates and outputs of its plain circuit
 pub rule-made : (s : List ℕ) → IsRead (readRule s) → (quads present : List ℕ) (count : ℕ) → Held s (starts (variables s)) quads present count
@@ -136,8 +132,7 @@ rule-made s h quads present count held next more mask quads′ present′ d =
     let o : length (plainCircuit s .present) ≡ variables s = plain-sound s (d .what) next (b .block ∙ d .read) .count in
     record {
       counted = λ few. held-count s (plainCircuit s) quads′ present′ more r few;
-      lie = λ few. held-quads s (plainCircuit s) quads′ present′ more r few;
-      outputs = λ few. held-present s (plainCircuit s) quads′ present′ more r few (variables s) o (b .header .few);
+      lie = λ few. r .stored .lie few;
+      outputs = λ few. held-present s (plainCircuit s) quads′ present′ more r few (omega (arith, o, b .header .few));
       many = held-many s (plainCircuit s) quads′ present′ more r;
-      wide = r .stored .room;
     }

@@ -5,11 +5,12 @@ use mathlib.Core.Path.{_≡_, refl, sym, ap, subst, subst⁻¹, _∙_}
 use mathlib.Core.Logic.{_⊎_, inl, inr}
 use mathlib.Core.Bool.{Bool, true, false, cond}
 use mathlib.Core.List.{List, [], _∷_, _++_, map, map-append}
-use lib.ListN.{length, getD, set, length-set, length-append}
+use lib.ListN.{length, getD, set, replicate, length-set, length-append}
 use lib.Dec.{eqb}
 use borrow.Author.Tests.{eqb-true, eqb-false, eq-eqb, ne-eqb}
 use lib.Seq.{getD-set-same, getD-set-other}
-use Rattle.words.specs.Lists.{keep, from, upto, split, same?, length-from, getD-from, from-more}
+use Rattle.words.specs.BufferLaws.{getD-zeros}
+use Rattle.words.specs.Lists.{keep, from, upto, split, same?, getD-from, from-more}
 use Rattle.settings.specs.Settings.{bit}
 use Rattle.settings.specs.Sets.{has}
 use Rattle.settings.specs.BitLaws.{bit-zero, bit-suc, bit-none}
@@ -32,11 +33,11 @@ only-bit (suc t) (suc j) = let e : 2 ^ suc t / 2 ≡ 2 ^ t = omega arith in bit-
 
 -- a variable's gate stored in both
 pub stands-set : (p l : List ℕ) (x a b : ℕ) → a ≡ b → x < length l → x < length p → StandsFor p l → StandsFor (set p x b) (set l x a)
-stands-set p l x a b e h k st y i = go (same? y x)
+stands-set p l x a b e h k st y = go (same? y x)
   where
     go : (y ≡ x) ⊎ (y ≡ x → ⊥) → getD (set l x a) y 0 ≡ getD (set p x b) y 0
     go (inl q) = rw q (getD-set-same l x a 0 h ∙ e ∙ sym (getD-set-same p x b 0 k))
-    go (inr n) = getD-set-other l x y a 0 n ∙ st y (subst (λ (j : ℕ). y < j) (length-set p x b) i) ∙ sym (getD-set-other p x y b 0 n)
+    go (inr n) = getD-set-other l x y a 0 n ∙ st y ∙ sym (getD-set-other p x y b 0 n)
 
 -- a gate that variable x stands for
 pub pushed-chose : (k : Gate) (code a b c x : ℕ) (quads present : List ℕ) (count : ℕ) (after : List ℕ) (more : ℕ) → x < 32
@@ -66,7 +67,7 @@ module _ (condition : ℕ) (first second : List ℕ) (mask v : ℕ) (quads prese
   chosen-none =
       record {
         inside = omega arith;
-        to = λ s m c p q l lp lq ready held.
+        to = λ s m c p q l ready held.
             let e : v - 0 ≡ v = omega arith in
             record { now = m; count = l; grown = omega arith; held = held; same = ap (λ (k : ℕ). choices c p q (keep (has mask) (from 0 k)) m) e };
       }
@@ -83,8 +84,8 @@ module _ (condition : ℕ) (first second : List ℕ) (mask v : ℕ) (quads prese
     chosen-not b =
         record {
           inside = omega arith;
-          to = λ s m c p q l lp lq ready held.
-              let z = r .to s m c p q l lp lq ready held in
+          to = λ s m c p q l ready held.
+              let z = r .to s m c p q l ready held in
               let e = step x inside ∙ ap (λ (t : Bool). cond t (x ∷ keep (has mask) (from (x + 1) (v - (x + 1)))) (keep (has mask) (from (x + 1) (v - (x + 1))))) b in
               record { now = z .now; count = z .count; grown = z .grown; held = z .held; same = ap (λ (k : List ℕ). choices c p q k (z .now)) (sym e) ∙ z .same };
         }
@@ -95,8 +96,8 @@ module _ (condition : ℕ) (first second : List ℕ) (mask v : ℕ) (quads prese
     chosen-one b more quads″ present″ y =
         record {
           inside = omega arith;
-          to = λ s m c p q l lp lq ready held.
-              let z = r .to s m c p q l lp lq ready held in
+          to = λ s m c p q l ready held.
+              let z = r .to s m c p q l ready held in
               let k = choice c (getD p x 0) (getD q x 0) in
               let rest = keep (has mask) (from (x + 1) (v - (x + 1))) in
               let e = step x inside ∙ ap (λ (t : Bool). cond t (x ∷ rest) rest) b in
@@ -105,8 +106,8 @@ module _ (condition : ℕ) (first second : List ℕ) (mask v : ℕ) (quads prese
               = λ h.
               let u = ready (omega (arith, z .grown)) in
               ap (λ (j : ℕ). choice j (getD p x 0) (getD q x 0)) (sym (u .test))
-              ∙ ap (λ (j : ℕ). choice condition j (getD q x 0)) (sym (u .yes x (omega arith)))
-              ∙ ap (λ (j : ℕ). choice condition (getD first x 0) j) (sym (u .no x (omega arith))) in
+              ∙ ap (λ (j : ℕ). choice condition j (getD q x 0)) (sym (u .yes x))
+              ∙ ap (λ (j : ℕ). choice condition (getD first x 0) j) (sym (u .no x)) in
               record {
                 now = choose c p q x (z .now);
                 count = length-set (z .now .present) x (length (z .now .gates)) ∙ z .count;
@@ -120,8 +121,8 @@ module _ (condition : ℕ) (first second : List ℕ) (mask v : ℕ) (quads prese
   unfolding choices
   chosen-all x n quads′ present′ r h =
       record {
-        chosen = λ s m c p q l lp lq ready held.
-            let z = r .to s m c p q l lp lq ready held in
+        chosen = λ s m c p q l ready held.
+            let z = r .to s m c p q l ready held in
             let e : v - x ≡ 0 = omega arith in
             subst (λ (w : Making). Held s w quads′ present′ n) (ap (λ (k : ℕ). choices c p q (keep (has mask) (from x k)) (z .now)) (sym e) ∙ z .same) (z .held);
       }
@@ -129,12 +130,24 @@ module _ (condition : ℕ) (first second : List ℕ) (mask v : ℕ) (quads prese
 starts-more : (x : ℕ) → map start (upto (x + 1)) ≡ map start (upto x) ++ (start x ∷ [])
 starts-more x = let e : x + 1 ≡ suc x = omega arith in ap (λ (k : ℕ). map start (upto k)) e ∙ ap (map start) (from-more 0 x) ∙ map-append start (upto x) ((0 + x) ∷ []) ∙ ap (λ (k : ℕ). map start (upto x) ++ (start k ∷ [])) (omega arith)
 
+-- the next variable's place is the only one that changes
+from-next : (i n k : ℕ) → (k ≡ n → ⊥) → getD (from i n) k 0 ≡ getD (from i (suc n)) k 0
+from-next i zero zero h = absurd (h refl)
+from-next i zero (suc k) h = refl
+from-next i (suc n) zero h = refl
+from-next i (suc n) (suc k) h = from-next (suc i) n k (λ e. h (ap suc e))
+
 -- the starting values, one variable after another
 module _ (s quads present : List ℕ) where
-  pub started-none : length quads ≡ 1024 → length present ≡ 32 → Started s 0 quads present 0
+  pub started-none : quads ≡ replicate 1024 0 → present ≡ replicate 32 0 → Started s 0 quads present 0
   unfolding quadsOf
   started-none r w =
-      record { inside = omega arith; wide = w; stored = record { room = r; counted = omega arith; lie = λ few. refl }; stand = λ y h. absurd (omega arith) }
+      record {
+        inside = omega arith;
+        wide = ap length w;
+        stored = record { counted = omega arith; lie = λ few. r };
+        stand = λ y. ap (λ (l : List ℕ). getD l y 0) w ∙ getD-zeros 32 y;
+      }
 
   pub started-more : (x n code more : ℕ) (after : List ℕ) → Started s x quads present n → x < variables s → variables s ≤ 32 → code ≡ startCode (kindAt s x)
       → Pushed (code ∷ x ∷ 0 ∷ 0 ∷ []) quads n after more → Started s (x + 1) after (set present x x) more
@@ -145,12 +158,18 @@ module _ (s quads present : List ℕ) where
         stored =
             subst⁻¹ (λ (C : Gates). Stored s C after more) (starts-more x)
             (q .pushed s (map start (upto x)) (start x) (λ i. ap (λ (k : ℕ). k ∷ x ∷ 0 ∷ 0 ∷ []) (sym e)) (r .stored));
-        stand = λ y i. later y i (same? y x);
+        stand = λ y. later y (same? y x);
       }
     where
-      later : (y : ℕ) → y < x + 1 → (y ≡ x) ⊎ (y ≡ x → ⊥) → getD (set present x x) y 0 ≡ y
-      later y i (inl z) = rw z (getD-set-same present x x 0 (omega (arith, r .wide)))
-      later y i (inr z) = getD-set-other present x y x 0 z ∙ r .stand y (omega arith)
+      one : suc x ≡ x + 1
+      one = omega arith
+
+      here : getD (upto (x + 1)) x 0 ≡ x
+      here = getD-from 0 (x + 1) x (omega arith) ∙ omega arith
+
+      later : (y : ℕ) → (y ≡ x) ⊎ (y ≡ x → ⊥) → getD (set present x x) y 0 ≡ getD (upto (x + 1)) y 0
+      later y (inl z) = rw z (getD-set-same present x x 0 (omega (arith, r .wide)) ∙ sym here)
+      later y (inr z) = getD-set-other present x y x 0 z ∙ r .stand y ∙ from-next 0 x y z ∙ ap (λ (k : ℕ). getD (upto k) y 0) one
 
   pub started-all : (x n : ℕ) → Started s x quads present n → variables s ≤ x → Held s (starts (variables s)) quads present n
   started-all x n r h =
@@ -158,7 +177,5 @@ module _ (s quads present : List ℕ) where
       record {
         stored = subst (λ (k : ℕ). Stored s (map start (upto k)) quads n) e (r .stored);
         wide = r .wide;
-        stand = λ few y i.
-            let j : y < variables s = subst (λ (k : ℕ). y < k) (length-from 0 (variables s)) i in
-            r .stand y (omega arith) ∙ sym (getD-from 0 (variables s) y j ∙ omega arith);
+        stand = λ few. subst (λ (k : ℕ). StandsFor (upto k) present) e (r .stand);
       }

@@ -12,7 +12,6 @@ use Rattle.codes.specs.declared.Code.{Code}
 use Rattle.codes.specs.declared.Form.the-variants.{Apply}
 use Rattle.answers.specs.Parsing.{Parsed, parsed}
 use Rattle.answers.specs.ParsingLaws.{IsRead}
-use Rattle.reading.specs.Header.{variables}
 use Rattle.reading.specs.Tree.{Expr, variable, word, bit, one, two}
 use Rattle.reading.specs.Expressions.{argumentsWith, readExpr}
 use Rattle.reading.specs.FirstByte as read
@@ -31,14 +30,14 @@ before-last C k few = let more : length (C ++ (k ∷ [])) ≡ length C + 1 = len
 
 module _ (s : List ℕ) (m : Parsed Expr) (present quads : List ℕ) (count : ℕ) where
   -- a variable makes no gate
-  pub made-variable : (x next : ℕ) → m ≡ parsed (variable x) next → x < variables s → ExprMade s m present quads count next (getD present x 0) count quads
+  pub made-variable : (x next : ℕ) → m ≡ parsed (variable x) next → ExprMade s m present quads count next (getD present x 0) count quads
   unfolding makeExpr
-  made-variable x next e h =
+  made-variable x next e =
       record {
         what = variable x;
         read = e;
-        made = λ p C l held st. held;
-        stands = λ p C l held st few. st few x (subst⁻¹ (λ (v : ℕ). x < v) l h);
+        made = λ p C held st. held;
+        stands = λ p C held st few. st few x;
       }
 
   -- each written constant is a gate
@@ -48,8 +47,8 @@ module _ (s : List ℕ) (m : Parsed Expr) (present quads : List ℕ) (count : �
       record {
         what = word n;
         read = e;
-        made = λ p C l held st. q .pushed s C (gate.word n) (λ h. refl) held;
-        stands = λ p C l held st few. last-place s C (gate.word n) held few;
+        made = λ p C held st. q .pushed s C (gate.word n) (λ h. refl) held;
+        stands = λ p C held st few. last-place s C (gate.word n) held few;
       }
 
   pub made-bit : (n next more : ℕ) (after : List ℕ) → m ≡ parsed (bit n) next → Pushed (0x12 ∷ n ∷ 0 ∷ 0 ∷ []) quads count after more → ExprMade s m present quads count next count more after
@@ -58,8 +57,8 @@ module _ (s : List ℕ) (m : Parsed Expr) (present quads : List ℕ) (count : �
       record {
         what = bit n;
         read = e;
-        made = λ p C l held st. q .pushed s C (gate.bit n) (λ h. refl) held;
-        stands = λ p C l held st few. last-place s C (gate.bit n) held few;
+        made = λ p C held st. q .pushed s C (gate.bit n) (λ h. refl) held;
+        stands = λ p C held st few. last-place s C (gate.bit n) held few;
       }
 
   -- an operation, after its arguments
@@ -71,14 +70,14 @@ module _ (s : List ℕ) (m : Parsed Expr) (present quads : List ℕ) (count : �
         record {
           what = one op (x .what);
           read = e;
-          made = λ p C l held st.
+          made = λ p C held st.
               let y = makeExpr (x .what) p C in
-              let r : Stored s (y .gates) between k = x .made p C l held st in
+              let r : Stored s (y .gates) between k = x .made p C held st in
               q .pushed s (y .gates) (operation op (y .place ∷ []))
               (λ h.
-              let u : place ≡ y .place = x .stands p C l held st (omega arith) in
+              let u : place ≡ y .place = x .stands p C held st (omega arith) in
               ap (λ (j : ℕ). byteOf op ∷ j ∷ 0 ∷ 0 ∷ []) (sym u) ∙ ap (λ (j : ℕ). j ∷ place ∷ 0 ∷ 0 ∷ []) (sym b)) r;
-          stands = λ p C l held st few. last-place s (makeExpr (x .what) p C .gates) (operation op (makeExpr (x .what) p C .place ∷ [])) (x .made p C l held st) few;
+          stands = λ p C held st few. last-place s (makeExpr (x .what) p C .gates) (operation op (makeExpr (x .what) p C .place ∷ [])) (x .made p C held st) few;
         }
 
     two-made : (f : Parsed Expr) (place′ n′ k′ : ℕ) (between′ : List ℕ) (y : ExprMade s f present between k n′ place′ k′ between′) (more : ℕ) (after : List ℕ)
@@ -88,26 +87,26 @@ module _ (s : List ℕ) (m : Parsed Expr) (present quads : List ℕ) (count : �
         record {
           what = two op (x .what) (y .what);
           read = e;
-          made = λ p C l held st.
+          made = λ p C held st.
               let a = makeExpr (x .what) p C in
               let b = makeExpr (y .what) p (a .gates) in
-              let r : Stored s (a .gates) between k = x .made p C l held st in
+              let r : Stored s (a .gates) between k = x .made p C held st in
               let grown = extends-length (expr-extends (x .what) p C) in
               let grown′ = extends-length (expr-extends (y .what) p (a .gates)) in
               let st′ : length (a .gates) ≤ 256 → StandsFor p present = λ h. st (omega arith) in
               q .applied s (b .gates) (applyGate op (a .place) (b .place))
               (λ h.
-              let u : place ≡ a .place = x .stands p C l held st (omega arith) in
-              let v : place′ ≡ b .place = y .stands p (a .gates) l r st′ (omega arith) in
+              let u : place ≡ a .place = x .stands p C held st (omega arith) in
+              let v : place′ ≡ b .place = y .stands p (a .gates) r st′ (omega arith) in
               ap (λ (j : ℕ). applyGate op j (b .place)) (sym u) ∙ ap (λ (j : ℕ). applyGate op place j) (sym v))
-              (y .made p (a .gates) l r st′);
-          stands = λ p C l held st few.
+              (y .made p (a .gates) r st′);
+          stands = λ p C held st few.
               let a = makeExpr (x .what) p C in
               let b = makeExpr (y .what) p (a .gates) in
-              let r : Stored s (a .gates) between k = x .made p C l held st in
+              let r : Stored s (a .gates) between k = x .made p C held st in
               let grown = extends-length (expr-extends (x .what) p C) in
               let st′ : length (a .gates) ≤ 256 → StandsFor p present = λ h. st (omega arith) in
-              last-place s (b .gates) (applyGate op (a .place) (b .place)) (y .made p (a .gates) l r st′) few;
+              last-place s (b .gates) (applyGate op (a .place) (b .place)) (y .made p (a .gates) r st′) few;
         }
 
 -- by the code c that stands there, an operation's

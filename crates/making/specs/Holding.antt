@@ -1,11 +1,12 @@
 -- The inner contract of making: what the lent arrays hold of the gates made so far, and what each function does to them.
 -- The outermost function's promise is stated without it. At most 256 gates are stored; a count of 257 says that there are more.
-use Prim.Native.Nat.{ℕ, _-_, _*_, _≤_, _<_, min}
+use Prim.Native.Nat.{ℕ, _-_, _≤_, _<_, min}
 use mathlib.Core.Path.{_≡_}
 use mathlib.Core.Bool.{Bool, _||_}
 use mathlib.Core.List.{List, [], _∷_, _++_, map}
-use lib.ListN.{length, getD, set, take}
+use lib.ListN.{length, getD, set}
 use Rattle.settings.specs.Sets.{has}
+use Rattle.words.specs.Buffers.{padded}
 use Rattle.words.specs.Lists.{keep, from, upto}
 use Rattle.answers.specs.Parsing.{Parsed, parsed}
 use Rattle.reading.specs.Header.{variables}
@@ -15,15 +16,14 @@ use Rattle.gates.specs.Gates.{Gate, start, Gates}
 use Rattle.gates.specs.PlainCircuit.{Making, makeExpr, assigns, choices, makeBlock}
 use Rattle.gates.specs.Quads.{quadOf, quadsOf}
 
--- the count of the gates, up to 257, and their quads while there are at most 256
+-- the count of the gates, up to 257, and while there are at most 256 their quads, zeros after them
 pub record Stored (s : List ℕ) (C : Gates) (quads : List ℕ) (count : ℕ) : Type 0 where
-  pub room : length quads ≡ 1024
   pub counted : count ≡ min 257 (length C)
-  pub lie : length C ≤ 256 → take (4 * length C) quads ≡ quadsOf s C
+  pub lie : length C ≤ 256 → quads ≡ padded 1024 (quadsOf s C)
 
--- the first entries of the array are the variables' gates p
+-- the array holds the variables' gates p, zeros after them
 abbrev pub StandsFor : List ℕ → List ℕ → Type 0
-StandsFor p present = (x : ℕ) → x < length p → getD present x 0 ≡ getD p x 0
+StandsFor p present = (x : ℕ) → getD present x 0 ≡ getD p x 0
 
 -- the gates, and the present gate of each variable
 pub record Held (s : List ℕ) (m : Making) (quads present : List ℕ) (count : ℕ) : Type 0 where
@@ -43,9 +43,9 @@ pub record Applied (k : Gate) (quads : List ℕ) (count : ℕ) (after : List ℕ
 pub record ExprMade (s : List ℕ) (m : Parsed Expr) (present quads : List ℕ) (count next place more : ℕ) (after : List ℕ) : Type 0 where
   pub what : Expr
   pub read : m ≡ parsed what next
-  pub made : (p : List ℕ) (C : Gates) → length p ≡ variables s → Stored s C quads count → (length C ≤ 256 → StandsFor p present)
+  pub made : (p : List ℕ) (C : Gates) → Stored s C quads count → (length C ≤ 256 → StandsFor p present)
       → Stored s (makeExpr what p C .gates) after more
-  pub stands : (p : List ℕ) (C : Gates) → length p ≡ variables s → Stored s C quads count → (length C ≤ 256 → StandsFor p present)
+  pub stands : (p : List ℕ) (C : Gates) → Stored s C quads count → (length C ≤ 256 → StandsFor p present)
       → length (makeExpr what p C .gates) ≤ 256 → place ≡ makeExpr what p C .place
 
 -- what was made of a statement or block: read up to `next`, the variables assigned in it, and the arrays after it
@@ -69,7 +69,7 @@ pub record ChoiceParts (c : ℕ) (p q : List ℕ) (condition : ℕ) (first secon
 
 -- the choices for the variables of a mask were made
 pub record Chosen (condition : ℕ) (first second : List ℕ) (mask v : ℕ) (quads present : List ℕ) (count more : ℕ) (quads′ present′ : List ℕ) : Type 0 where
-  pub chosen : (s : List ℕ) (m : Making) (c : ℕ) (p q : List ℕ) → length (m .present) ≡ v → length p ≡ v → length q ≡ v
+  pub chosen : (s : List ℕ) (m : Making) (c : ℕ) (p q : List ℕ) → length (m .present) ≡ v
       → (length (m .gates) ≤ 256 → ChoiceParts c p q condition first second)
       → Held s m quads present count → Held s (choices c p q (keep (has mask) (upto v)) m) quads′ present′ more
 
@@ -83,7 +83,7 @@ pub record Choosing (s : List ℕ) (m : Making) (c : ℕ) (p q : List ℕ) (mask
 
 pub record ChosenTo (condition : ℕ) (first second : List ℕ) (mask v : ℕ) (quads present : List ℕ) (count x n : ℕ) (quads′ present′ : List ℕ) : Type 0 where
   pub inside : x ≤ v
-  pub to : (s : List ℕ) (m : Making) (c : ℕ) (p q : List ℕ) → length (m .present) ≡ v → length p ≡ v → length q ≡ v
+  pub to : (s : List ℕ) (m : Making) (c : ℕ) (p q : List ℕ) → length (m .present) ≡ v
       → (length (m .gates) ≤ 256 → ChoiceParts c p q condition first second)
       → Held s m quads present count → Choosing s m c p q mask v x quads′ present′ n
 
@@ -92,7 +92,7 @@ pub record Started (s : List ℕ) (x : ℕ) (quads present : List ℕ) (count : 
   pub inside : x ≤ variables s
   pub wide : length present ≡ 32
   pub stored : Stored s (map start (upto x)) quads count
-  pub stand : (y : ℕ) → y < x → getD present y 0 ≡ y
+  pub stand : StandsFor (upto x) present
 
 -- a block b was made up to its rest: `now` is what m was made into
 pub record WalkingBlock (s : List ℕ) (m : Making) (b rest : Block) (quads′ present′ : List ℕ) (n : ℕ) : Type 0 where

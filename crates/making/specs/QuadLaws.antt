@@ -1,16 +1,18 @@
 -- Laws of the quads of gates, and of pushing one. Assumes nothing.
-use Prim.Native.Nat.{ℕ, suc, _+_, _*_, _≤_, _<_}
+use Prim.Native.Nat.{ℕ, _+_, _*_, _≤_, _<_}
 use native.Mathlib.Omega.{arith}
 use mathlib.Core.Path.{_≡_, refl, sym, ap, _∙_}
 use mathlib.Core.List.{List, [], _∷_, _++_, append-assoc, append-nil}
-use lib.ListN.{length, set, take, length-set, length-append}
-use lib.Seq.{take-suc-set}
+use lib.ListN.{length, set, length-append}
+use Rattle.words.specs.Buffers.{padded}
+use Rattle.words.specs.BufferLaws.{padded-more}
 use Rattle.gates.specs.Gates.{Gate, operation, Gates}
 use Rattle.codes.specs.declared.Operation.{Operation}
 use Rattle.gates.specs.PlainCircuit.{inOrder, applyGate}
 use Rattle.gates.specs.ApplyLaws.{apply-is}
 use Rattle.codes.specs.Codes.{byteOf}
 use Rattle.gates.specs.Quads.{quadOf, quadsOf}
+use Rattle.gates.specs.QuadLaws.{quads-length}
 use Rattle.making.specs.Holding.{Pushed, Applied}
 
 -- one gate more
@@ -24,26 +26,25 @@ unfolding quadsOf
 quads-one s k = append-nil (quadOf s k)
 
 -- four stores, one after the other
-next : (l : List ℕ) (i k v : ℕ) → k ≡ suc i → i < length l → take k (set l i v) ≡ take i l ++ (v ∷ [])
-next l i k v e h = ap (λ (n : ℕ). take n (set l i v)) e ∙ take-suc-set l i v h
-
-pub four : (l : List ℕ) (i v w x y : ℕ) → i + 4 ≤ length l → take (i + 4) (set (set (set (set l i v) (i + 1) w) (i + 2) x) (i + 3) y) ≡ take i l ++ (v ∷ w ∷ x ∷ y ∷ [])
-four l i v w x y h =
-    let l1 = set l i v in
-    let l2 = set l1 (i + 1) w in
-    let l3 = set l2 (i + 2) x in
-    let e1 = length-set l i v in
-    let e2 = length-set l1 (i + 1) w in
-    let e3 = length-set l2 (i + 2) x in
-    next l3 (i + 3) (i + 4) y (omega arith) (omega arith)
-    ∙ (ap (λ (t : List ℕ). t ++ (y ∷ [])) (next l2 (i + 2) (i + 3) x (omega arith) (omega arith)
-    ∙ ap (λ (t : List ℕ). t ++ (x ∷ [])) (next l1 (i + 1) (i + 2) w (omega arith) (omega arith)
-    ∙ ap (λ (t : List ℕ). t ++ (w ∷ [])) (next l i (i + 1) v (omega arith) (omega arith))))
-    ∙ simp append-assoc)
-
--- pushed where there is room
 abbrev stores : List ℕ → ℕ → ℕ → ℕ → ℕ → ℕ → List ℕ
 stores l i v w x y = set (set (set (set l i v) (i + 1) w) (i + 2) x) (i + 3) y
+
+four : (l : List ℕ) (i v w x y : ℕ) → length l ≡ i → i + 4 ≤ 1024 → stores (padded 1024 l) i v w x y ≡ padded 1024 (l ++ (v ∷ w ∷ x ∷ y ∷ []))
+four l i v w x y e h =
+    let l1 = l ++ (v ∷ []) in
+    let l2 = l1 ++ (w ∷ []) in
+    let l3 = l2 ++ (x ∷ []) in
+    let e1 = length-append l (v ∷ []) in
+    let e2 = length-append l1 (w ∷ []) in
+    let e3 = length-append l2 (x ∷ []) in
+    let joined : l3 ++ (y ∷ []) ≡ l ++ (v ∷ w ∷ x ∷ y ∷ []) = simp append-assoc in
+    ap (λ (t : List ℕ). set (set (set t (i + 1) w) (i + 2) x) (i + 3) y) (padded-more 1024 l i v e (omega arith))
+    ∙ ap (λ (t : List ℕ). set (set t (i + 2) x) (i + 3) y) (padded-more 1024 l1 (i + 1) w (omega arith) (omega arith))
+    ∙ ap (λ (t : List ℕ). set t (i + 3) y) (padded-more 1024 l2 (i + 2) x (omega arith) (omega arith))
+    ∙ padded-more 1024 l3 (i + 3) y (omega arith) (omega arith)
+    ∙ ap (padded 1024) joined
+
+-- pushed where there is room
 
 pub push-stores : (quads : List ℕ) (count v w x y : ℕ) → count < 256
     → Pushed (v ∷ w ∷ x ∷ y ∷ []) quads count (stores quads (4 * count) v w x y) (count + 1)
@@ -53,17 +54,13 @@ push-stores quads count v w x y h =
           let n : count ≡ length C = omega (arith, held .counted) in
           let more : length (C ++ (k ∷ [])) ≡ length C + 1 = length-append C (k ∷ []) in
           record {
-            room = simp length-set (held .room);
             counted = omega arith;
             lie = λ few.
-                let j : 4 * length (C ++ (k ∷ [])) ≡ 4 * count + 4 = omega arith in
-                let i : 4 * count ≡ 4 * length C = omega arith in
-                ap (λ (z : ℕ). take z (stores quads (4 * count) v w x y)) j
-                ∙ four quads (4 * count) v w x y (omega (arith, held .room))
-                ∙ ap (λ (z : ℕ). take z quads ++ (v ∷ w ∷ x ∷ y ∷ [])) i
-                ∙ ap (λ (t : List ℕ). t ++ (v ∷ w ∷ x ∷ y ∷ [])) (held .lie (omega arith))
-                ∙ ap (λ (t : List ℕ). quadsOf s C ++ t) (sym (right (omega arith)) ∙ sym (quads-one s k))
-                ∙ sym (quads-append s C (k ∷ []));
+                let i : length (quadsOf s C) ≡ 4 * count = quads-length s C ∙ omega arith in
+                ap (λ (t : List ℕ). stores t (4 * count) v w x y) (held .lie (omega arith))
+                ∙ four (quadsOf s C) (4 * count) v w x y i (omega arith)
+                ∙ ap (λ (t : List ℕ). padded 1024 (quadsOf s C ++ t)) (sym (right (omega arith)) ∙ sym (quads-one s k))
+                ∙ ap (padded 1024) (sym (quads-append s C (k ∷ [])));
           };
     }
 
@@ -73,7 +70,7 @@ push-full four quads count h =
     record {
       pushed = λ s C k right held.
           let more : length (C ++ (k ∷ [])) ≡ length C + 1 = length-append C (k ∷ []) in
-          record { room = held .room; counted = omega (arith, held .counted); lie = λ few. absurd (omega (arith, held .counted)) };
+          record { counted = omega (arith, held .counted); lie = λ few. absurd (omega (arith, held .counted)) };
     }
 
 -- an operation of two arguments, pushed in the order in which its gate takes them

@@ -2,16 +2,16 @@
 use Prim.Native.Nat.{ℕ, _+_, _*_, _<_, _≤_}
 use mathlib.Core.Path.{_≡_}
 use mathlib.Core.List.{List}
-use lib.ListN.{length, take}
-use Rattle.reading.specs.Header.{variables}
+use lib.ListN.{length}
+use Rattle.words.specs.Buffers.{padded}
+use Rattle.reading.specs.Limits.{mostVariables}
 use Rattle.gates.specs.Limits.{mostGates}
 use Rattle.gates.specs.PlainCircuit.{gatesOf, outputsOf}
 use Rattle.gates.specs.Quads.{quadsOf}
 
--- within the limit: the count, the quads and each variable's last gate; above it: a count one above the limit, whatever the arrays hold
+-- within the limit: the count, the quads and each variable's last gate, zeros after them; above it: a count one above the limit, whatever the arrays hold
 pub record RuleMade (s quads present : List ℕ) (count : ℕ) : Type 0 where
   pub counted : length (gatesOf s) ≤ mostGates → count ≡ length (gatesOf s)
-  pub lie : length (gatesOf s) ≤ mostGates → take (4 * count) quads ≡ quadsOf s (gatesOf s)
-  pub outputs : length (gatesOf s) ≤ mostGates → take (variables s) present ≡ outputsOf s
+  pub lie : length (gatesOf s) ≤ mostGates → quads ≡ padded (4 * mostGates) (quadsOf s (gatesOf s))
+  pub outputs : length (gatesOf s) ≤ mostGates → present ≡ padded mostVariables (outputsOf s)
   pub many : mostGates < length (gatesOf s) → count ≡ mostGates + 1
-  pub wide : length quads ≡ 4 * mostGates

@@ -20,7 +20,7 @@ use Rattle.answers.specs.Parsing.{Parsed, parsed, _>>=_}
 use Rattle.answers.specs.ParsingLaws.{IsRead, read-is, same-what, same-next}
 use Rattle.reading.specs.Limits.{deepest}
 use Rattle.reading.specs.Header.{variables, kindAt}
-use Rattle.reading.specs.Tree.{Expr, Statement, assign, skip, branch, Block, end, then}
+use Rattle.reading.specs.Tree.{Expr, Statement, assign, skip, branch, Block}
 use Rattle.reading.specs.Expressions.{readExpr}
 use Rattle.reading.specs.Blocks.{readAssign, branchWith, statementForm, readBlock, readStatement}
 use Rattle.reading.specs.BlockLaws.{statement-as}
@@ -40,11 +40,6 @@ statement-length (branch c b d) m =
     let first = makeBlock b (record { gates = n .gates; present = m .present }) in
     let second = makeBlock d (record { gates = first .gates; present = m .present }) in
     choices-length (n .place) (first .present) (second .present) (assignedIn b d (length (m .present))) (record { gates = second .gates; present = m .present })
-
-pub block-length : (b : Block) (m : Making) → length (makeBlock b m .present) ≡ length (m .present)
-unfolding makeBlock
-block-length end m = refl
-block-length (then t b) m = block-length b (makeStatement t m) ∙ statement-length t m
 
 -- the same thing read another way
 pub done-as : {A : Type 0} (make : A → Making → Making) (assigned : A → ℕ → Bool) (s : List ℕ) (m k : Parsed A) {quads present quads′ present′ : List ℕ} {count next more mask : ℕ}
@@ -69,10 +64,10 @@ made-assign s at h few present quads count next place more mask after want k v b
           let e = makeExpr (v .what) (n .present) (n .gates) in
           let grown = extends-length (expr-extends (v .what) (n .present) (n .gates)) in
           record {
-            stored = v .made (n .present) (n .gates) l (held .stored) (held .stand);
+            stored = v .made (n .present) (n .gates) (held .stored) (held .stand);
             wide = length-set present x place ∙ held .wide;
             stand = λ small.
-                stands-set (n .present) present x place (e .place) (v .stands (n .present) (n .gates) l (held .stored) (held .stand) small)
+                stands-set (n .present) present x place (e .place) (v .stands (n .present) (n .gates) (held .stored) (held .stand) small)
                 (omega (arith, r .range, held .wide)) (omega (arith, r .range)) (held .stand (omega arith));
           };
     }
@@ -136,7 +131,7 @@ module _ (s : List ℕ) (nest at : ℕ) (h : IsRead (branchWith (readBlock s) s 
                   let m1 : Making = record { gates = e .gates; present = m .present } in
                   let g1 = extends-length (expr-extends (t .what) (m .present) (m .gates)) in
                   let h1 : Held s m1 quads1 present k
-                  = record { stored = t .made (m .present) (m .gates) l (held .stored) (held .stand); wide = held .wide; stand = λ u. held .stand (omega arith) } in
+                  = record { stored = t .made (m .present) (m .gates) (held .stored) (held .stand); wide = held .wide; stand = λ u. held .stand (omega arith) } in
                   let f = makeBlock (x .what) m1 in
                   let g2 = extends-length (block-extends (x .what) m1) in
                   let hf : Held s f quads2 first k1 = x .done m1 l h1 in
@@ -148,13 +143,13 @@ module _ (s : List ℕ) (nest at : ℕ) (h : IsRead (branchWith (readBlock s) s 
                   let m3 : Making = record { gates = g .gates; present = m .present } in
                   let h3 : Held s m3 quads3 present k2 = record { stored = hg .stored; wide = held .wide; stand = λ u. held .stand (omega arith) } in
                   let ready : length (m3 .gates) ≤ 256 → ChoiceParts (e .place) (f .present) (g .present) place first second
-                  = λ u. record { test = t .stands (m .present) (m .gates) l (held .stored) (held .stand) (omega arith); yes = hf .stand (omega arith); no = hg .stand u } in
+                  = λ u. record { test = t .stands (m .present) (m .gates) (held .stored) (held .stand) (omega arith); yes = hf .stand (omega arith); no = hg .stand u } in
                   let list : keep (has (bitOr mask1 mask2)) (upto v) ≡ assignedIn (x .what) (y .what) (length (m .present))
                   = ap (λ (j : ℕ). keep (has (bitOr mask1 mask2)) (upto j)) (same ∙ sym l)
                   ∙ keep-same (has (bitOr mask1 mask2)) (λ j. assigns (x .what) j || assigns (y .what) j) (upto (length (m .present)))
                   (λ j i. either j (omega (arith, from-below 0 (length (m .present)) j i))) in
                   subst (λ (w : List ℕ). Held s (choices (e .place) (f .present) (g .present) w m3) quads4 present4 more) list
-                  (z .chosen s m3 (e .place) (f .present) (g .present) (l ∙ sym same) (block-length (x .what) m1 ∙ l ∙ sym same) (block-length (y .what) m2 ∙ l ∙ sym same) ready h3);
+                  (z .chosen s m3 (e .place) (f .present) (g .present) (l ∙ sym same) ready h3);
             }
 
 -- a statement, by the code c that stands there

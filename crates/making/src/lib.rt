@@ -6,7 +6,7 @@ use gates::GateId;
 ghost use mathlib.Core.Path.{_≡_};
 ghost use mathlib.Core.List.{[], _∷_};
 ghost use Prim.Native.Nat.{_+_, _*_, _^_, _≤_, _<_};
-ghost use lib.ListN.{length};
+ghost use lib.ListN.{length, replicate};
 ghost use Rattle.answers.specs.ParsingLaws.{IsRead};
 ghost use Rattle.reading.specs.Header.{variables};
 ghost use Rattle.reading.specs.RuleLaws.{Headed};
@@ -240,7 +240,7 @@ fn make_choices(
 
 // Gates 0 to V - 1: the variables' starting values.
 fn make_starts(s: &[u8], present: &mut [u16; 32], quads: &mut [u32; 1024]) -> u16
-    requires { ⌜ Headed (now s) (6 + variables (now s)) × ((length (now quads) ≡ 1024) × (length (now present) ≡ 32)) ⌝ }
+    requires { ⌜ Headed (now s) (6 + variables (now s)) × ((now quads ≡ replicate 1024 0) × (now present ≡ replicate 32 0)) ⌝ }
     ensures { λ r. ⌜ Held (now (s .entry)) (starts (variables (now (s .entry)))) (now (quads .exit)) (now (present .exit)) r ⌝ }
 {
     let v = s[5];

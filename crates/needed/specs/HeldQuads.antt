@@ -4,10 +4,9 @@ use mathlib.Core.Path.{_≡_, refl, sym, ap, _∙_}
 use mathlib.Core.List.{List, [], _∷_}
 use native.Mathlib.Nat.{add-zero}
 use native.Mathlib.Omega.{arith}
-use lib.ListN.{length, getD, take, length-append, List·getD-append}
+use lib.ListN.{length, getD, take, List·getD-append}
 use lib.Seq.{getD-append-add, getD-take, take-suc, take-length}
 use Rattle.codes.specs.Codes.{entryOf, operationOf, codeOf, byteOf}
-use Rattle.codes.specs.declared.Code.{Code}
 use Rattle.codes.specs.declared.Kind.{Kind}
 use Rattle.codes.specs.declared.Kind.the-variants as kind
 use Rattle.codes.specs.declared.Operation.{Operation}
@@ -18,32 +17,21 @@ use Rattle.reading.specs.Tree.{Block}
 use Rattle.reading.specs.Rule.{readRule}
 use Rattle.gates.specs.Gates.{Gate, start, word, bit, operation, choice, Gates, gateAt}
 use Rattle.gates.specs.Quads.{startCode, quadOf, quadsOf}
+use Rattle.gates.specs.QuadLaws.{quad-length}
 use Rattle.gates.specs.PlainCircuit.{gatesOf, gateCount}
 use Rattle.needed.specs.Held.{gateOf, gateIn, gatesIn, ShapedGate, Shaped}
 use Rattle.needed.specs.ShapedLaws.{rule-shaped}
 
 -- The numbers of gate i.
 
-four-length : (s : List ℕ) (g : Gate) → length (quadOf s g) ≡ 4
-four-length s (start x) = refl
-four-length s (word n) = refl
-four-length s (bit b) = refl
-four-length s (operation op l) = refl
-four-length s (choice c a b) = refl
-
-pub quads-length : (s : List ℕ) (C : Gates) → length (quadsOf s C) ≡ 4 * length C
-unfolding quadsOf
-quads-length s [] = refl
-quads-length s (g ∷ C) = rw (length-append, four-length s g, quads-length s C) (omega arith)
-
 quads-at : (s : List ℕ) (C : Gates) (i k : ℕ) → i < length C → k < 4 → getD (quadsOf s C) (4 * i + k) 0 ≡ getD (quadOf s (gateAt C i)) k 0
 unfolding quadsOf
 quads-at s [] i k h l = absurd (omega arith)
 quads-at s (g ∷ C) zero k h l =
     let e : 4 * 0 + k ≡ k = omega arith in
-    rw e (List·getD-append (quadOf s g) (quadsOf s C) 0 k (rw (four-length s g) l))
+    rw e (List·getD-append (quadOf s g) (quadsOf s C) 0 k (rw (quad-length s g) l))
 quads-at s (g ∷ C) (suc i) k h l =
-    let e : 4 * suc i + k ≡ length (quadOf s g) + (4 * i + k) = rw (four-length s g) (omega arith) in
+    let e : 4 * suc i + k ≡ length (quadOf s g) + (4 * i + k) = rw (quad-length s g) (omega arith) in
     rw e (getD-append-add (quadOf s g) (quadsOf s C) (4 * i + k) 0 ∙ quads-at s C i k (omega arith) l)
 
 -- Each gate reads back.

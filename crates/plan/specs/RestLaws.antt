@@ -15,9 +15,8 @@ use Rattle.settings.specs.RestLaws.{unmoved}
 use Rattle.settings.specs.HoldLaws.{rests-places}
 use Rattle.gates.specs.Gates.{Gates, Earlier, conditions}
 use Rattle.gates.specs.ConditionLaws.{condition-below}
-use Rattle.words.specs.ListLaws.{map-same}
+use Rattle.words.specs.ListLaws.{map-same, inside-list}
 use Rattle.gates.specs.Limits.{mostConditions}
-use Rattle.words.specs.ListLaws.{inside-list}
 use Rattle.needed.specs.Needed.{Needed}
 use Rattle.needed.specs.Pass.{needed, preconditionSets, preconditionOf}
 use Rattle.needed.specs.PassLaws.{needed-sound, needed-complete}

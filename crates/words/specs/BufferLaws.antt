@@ -1,14 +1,14 @@
--- Laws of `over`: what a lent buffer holds after stores, and after its rest was handed on.
+-- Laws of `over` and `padded`: what a lent buffer or an array holds after stores, and after its rest was handed on.
 use mathlib.Core.Path.{_≡_, refl, sym, ap, _∙_}
 use mathlib.Core.List.{List, [], _∷_, _++_, append-assoc, append-nil}
-use Prim.Native.Nat.{ℕ, _+_, _-_, _≤_, _<_}
+use Prim.Native.Nat.{ℕ, zero, suc, _+_, _-_, _≤_, _<_}
 use native.Mathlib.Nat.{zero-add}
 use native.Mathlib.Numerals.{add-one}
 use native.Mathlib.Omega.{arith}
-use lib.ListN.{length, take, drop, getD, set, length-append, length-take, length-drop}
+use lib.ListN.{length, take, drop, getD, set, replicate, length-append, length-take, length-drop, length-replicate}
 use lib.Seq.{sets, sets-eq, take-suc, length-take-le, set-at, take-at, drop-at, drop-drop, take-append-seam, drop-append-seam, drop-append-add, drop-cons, take-length, drop-length, take-all}
 use borrow.Rule.Slice.PartMut.{putMid}
-use Rattle.words.specs.Buffers.{over}
+use Rattle.words.specs.Buffers.{over, padded}
 
 -- nothing written
 pub over-nil : (d : List ℕ) → over [] d ≡ d
@@ -81,3 +81,29 @@ copy-more from d i h l =
 -- all of it
 pub copy-all : (from d : List ℕ) (i : ℕ) → length from ≤ i → over (take i from) d ≡ over from d
 copy-all from d i h = ap (λ (t : List ℕ). over t d) (take-all i from h)
+
+-- zeros after a list change no element that is read
+pub getD-zeros : (n i : ℕ) → _≡_ {A = ℕ} (getD (replicate n 0) i 0) 0
+getD-zeros zero i = refl
+getD-zeros (suc n) zero = refl
+getD-zeros (suc n) (suc i) = getD-zeros n i
+
+zeros-after : (l : List ℕ) (n i : ℕ) → getD (l ++ replicate n 0) i 0 ≡ getD l i 0
+zeros-after [] n i = getD-zeros n i
+zeros-after (a ∷ l) n zero = refl
+zeros-after (a ∷ l) n (suc i) = zeros-after l n i
+
+pub padded-at : (room : ℕ) (l : List ℕ) (i : ℕ) → getD (padded room l) i 0 ≡ getD l i 0
+padded-at room l i = zeros-after l (room - length l) i
+
+pub padded-length : (room : ℕ) (l : List ℕ) → length l ≤ room → length (padded room l) ≡ room
+padded-length room l h = rw (length-append, length-replicate {A = ℕ} (room - length l) 0) (omega arith)
+
+-- one store behind a list that lies in an array
+pub padded-more : (room : ℕ) (l : List ℕ) (i v : ℕ) → length l ≡ i → i < room → set (padded room l) i v ≡ padded room (l ++ (v ∷ []))
+padded-more room l i v e h =
+    let more : length (l ++ (v ∷ [])) ≡ length l + 1 = length-append l (v ∷ []) in
+    let n : room - length l ≡ suc (room - length (l ++ (v ∷ []))) = omega arith in
+    ap (λ (k : ℕ). set (l ++ replicate k 0) i v) n
+    ∙ set-at l 0 (replicate (room - length (l ++ (v ∷ []))) 0) v i e
+    ∙ sym (append-assoc l (v ∷ []) (replicate (room - length (l ++ (v ∷ []))) 0))

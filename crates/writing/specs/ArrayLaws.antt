@@ -12,10 +12,11 @@ use Rattle.gates.specs.Limits.{mostGates}
 use Rattle.gates.specs.PlainCircuit.{gatesOf, gateCount}
 use Rattle.gates.specs.Quads.{quadsOf}
 use Rattle.needed.specs.Held.{Shaped}
-use Rattle.needed.specs.HeldQuads.{quads-length}
+use Rattle.gates.specs.QuadLaws.{quads-length}
 use Rattle.needed.specs.ShapedLaws.{rule-shaped}
 use Rattle.circuit.specs.Whole.{ruleAnswer}
-use Rattle.circuit.specs.Built.{padded, builtQuads}
+use Rattle.circuit.specs.Built.{builtQuads}
+use Rattle.words.specs.Buffers.{padded}
 use Rattle.circuit.specs.BuiltLaws.{accepted-builds}
 use Rattle.plan.specs.PlanFile.{groupsIn}
 use Rattle.plan.specs.Groups.{groupOf, members}

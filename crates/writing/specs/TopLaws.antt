@@ -19,7 +19,8 @@ use Rattle.gates.specs.Limits.{mostGates}
 use Rattle.gates.specs.PlainCircuit.{gatesOf, outputsOf, gateCount}
 use Rattle.gates.specs.EachGateLaws.{StartGate, rule-starting}
 use Rattle.needed.specs.Pass.{rulePreconditions}
-use Rattle.circuit.specs.Built.{padded, builtQuads, builtNeeds, builtOutputs, builtConditions}
+use Rattle.circuit.specs.Built.{builtQuads, builtNeeds, builtOutputs, builtConditions}
+use Rattle.words.specs.Buffers.{padded}
 use Rattle.circuit.specs.BuiltLaws.{accepted-builds}
 use Rattle.circuit.specs.BuiltParts.{built-room, built-earlier, built-condition, built-outputs-length, built-outputs-inside, built-variables}
 use Rattle.plan.specs.PlanFile.{groupsIn}

@@ -18,7 +18,8 @@ use Rattle.circuit.specs.Whole.{ruleAnswer}
 use Rattle.circuit.specs.WholeLaws.{Accepted, accepted}
 use Rattle.circuit.specs.Built.{ifAccepted}
 use Rattle.circuit.specs.BuiltLaws.{accepted-builds}
-use Rattle.circuit.specs.BuiltParts.{padded-length, built-output-inside, built-outputs-length, built-room, built-variables}
+use Rattle.circuit.specs.BuiltParts.{built-output-inside, built-outputs-length, built-room, built-variables}
+use Rattle.words.specs.BufferLaws.{padded-length}
 use Rattle.plan.specs.Rows.{planAnswer}
 use Rattle.plan.specs.AcceptedLaws.{answer-accepted, plan-accepted, row-right}
 use Rattle.checking.specs.Checked.{writingOrder}

@@ -130,7 +130,7 @@ fn put_records(
     ensures wired { λ r. ⌜ now (wires .exit) ≡ stage (now (plan .entry)) (now (quads .entry)) count (now (needs .entry)) (now (group .entry)) (now (places .entry)) (now (order .entry)) groups .wires ⌝ }
 {
     let mut at: usize = 0;
-    let mut n: u16 = 0;
+    let mut first = WireId(0);
     let mut i: usize = 0;
     while i < groups {
         let q = order[i];
@@ -141,7 +141,7 @@ fn put_records(
             plan,
             place,
             GateId(q),
-            WireId(n),
+            first,
             quads,
             count,
             needs,
@@ -150,8 +150,8 @@ fn put_records(
             wires,
         );
         at = at + k;
-        n = n + wires_of(plan, place);
-        wires[g] = n - 1;
+        first = WireId(first.0 + wires_of(plan, place));
+        wires[g] = first.0 - 1;
         i = i + 1;
     }
     at

@@ -28,16 +28,16 @@ returns-2 c =
 
 filled-requires : tie.Need-filled-requires
 filled-requires c κs =
-    let s = now (c .before .before .before .before .before .before .before .before .before .before .before .before .before .before .before .args .rule) in
-    let read = answer-read s (c .before .before .before .before .before .before .before .before .before .before .before .before .before .read-rule .result) (c .before .before .before .before .before .before .before .before .before .before .before .before .before .read-rule .ensures) (c .before .before .before .before .before .before .before .before .before .before .before .if1 .left) in
-    let e = c .before .before .before .before .before .whole .ensures .0 ∙ made-whole s _ _ _ read (c .before .before .before .before .before .before .before .before .make-rule .ensures) _ ∙ sym (answer-whole s read) in
-    record { accepted = accepted s (ap (λ (b : Answer). b .number) (sym e) ∙ c .before .before .before .if2 .left); made = c .before .before .before .before .before .before .before .before .make-rule .ensures; placed = c .before .before .before .before .before .whole .ensures .1 }
+    let s = now (c .before .before .before .before .before .before .before .before .before .before .before .before .before .args .rule) in
+    let read = answer-read s (c .before .before .before .before .before .before .before .before .before .before .before .read-rule .result) (c .before .before .before .before .before .before .before .before .before .before .before .read-rule .ensures) (c .before .before .before .before .before .before .before .before .before .if1 .left) in
+    let e = c .before .before .before .whole .ensures .0 ∙ made-whole s _ _ _ read (c .before .before .before .before .before .before .make-rule .ensures) _ ∙ sym (answer-whole s read) in
+    record { accepted = accepted s (ap (λ (b : Answer). b .number) (sym e) ∙ c .before .if2 .left); made = c .before .before .before .before .before .before .make-rule .ensures; placed = c .before .before .before .whole .ensures .1 }
 
 returns-3 : tie.Need-returns-3
 returns-3 c =
-    let s = now (c .before .before .before .before .before .before .before .before .before .before .before .before .before .before .before .before .args .rule) in
-    let read = answer-read s (c .before .before .before .before .before .before .before .before .before .before .before .before .before .before .read-rule .result) (c .before .before .before .before .before .before .before .before .before .before .before .before .before .before .read-rule .ensures) (c .before .before .before .before .before .before .before .before .before .before .before .before .if1 .left) in
-    let e = c .before .before .before .before .before .before .whole .ensures .0 ∙ made-whole s _ _ _ read (c .before .before .before .before .before .before .before .before .before .make-rule .ensures) _ ∙ sym (answer-whole s read) in
+    let s = now (c .before .before .before .before .before .before .before .before .before .before .before .before .before .before .args .rule) in
+    let read = answer-read s (c .before .before .before .before .before .before .before .before .before .before .before .before .read-rule .result) (c .before .before .before .before .before .before .before .before .before .before .before .before .read-rule .ensures) (c .before .before .before .before .before .before .before .before .before .before .if1 .left) in
+    let e = c .before .before .before .before .whole .ensures .0 ∙ made-whole s _ _ _ read (c .before .before .before .before .before .before .before .make-rule .ensures) _ ∙ sym (answer-whole s read) in
     (c .filled .ensures .0 ∙ e, c .filled .ensures .1)
 
 pub build-spec : {M : Type 1} → statement M

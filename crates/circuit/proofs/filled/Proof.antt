@@ -1,10 +1,8 @@
 use native.Mathlib.Omega.{arith}
 use mathlib.Core.Path.{refl}
-use lib.ListN.{length-take}
 use denote.Ref.{now}
 use Rattle.reading.specs.FirstStatement.{rule-read}
-use Rattle.circuit.specs.BuiltLaws.{ready-room, ready-variables, ready-passable, ready-wanted, ready-few, ready-quads, ready-needs, ready-outputs, ready-conditions}
-use borrow.Author.Needs.{needs}
+use Rattle.circuit.specs.BuiltLaws.{ready-variables, ready-passable, ready-wanted, ready-few, ready-quads, ready-needs, ready-outputs, ready-conditions}
 use Rattle.circuit.proofs.filled.Statement.{statement}
 use Rattle.circuit.proofs.filled.Tie as tie
 
@@ -15,48 +13,17 @@ cast-v : tie.Need-cast-v
 cast-v c = record { fits = omega (arith, ready-variables _ _ _ _ _ (c .before .before .pre)) }
 
 find-needed-requires : tie.Need-find-needed-requires
-find-needed-requires c κs = let p = c .before .before .before .pre in (ready-passable _ _ _ _ _ p, (ready-variables _ _ _ _ _ p, ready-wanted _ _ _ _ _ p))
-
-mul-copy32 : tie.Need-mul-copy32
-mul-copy32 c = record { fits = omega (arith, ready-room _ _ _ _ _ (c .before .before .before .before .before .pre)) }
-
-part-copy32-end : tie.Need-part-copy32-end
-part-copy32-end c = let p = c .before .before .before .before .before .pre in omega (arith, p .made .wide, ready-room _ _ _ _ _ p)
-
-copy32-requires : tie.Need-copy32-requires
-copy32-requires c κs = simp length-take (omega (arith, ready-room _ _ _ _ _ (c .before .before .before .before .before .before .before .pre)))
-
-part-copy16-end : tie.Need-part-copy16-end
-part-copy16-end c = omega (arith, ready-variables _ _ _ _ _ (c .before .before .before .before .before .before .before .before .before .before .pre))
-
-copy16-requires : tie.Need-copy16-requires
-copy16-requires c κs = simp length-take (omega (arith, ready-variables _ _ _ _ _ (c .before .before .before .before .before .before .before .before .before .before .before .before .pre)))
+find-needed-requires c κs = let p = c .before .before .before .before .before .pre in (ready-passable _ _ _ _ _ p, (ready-variables _ _ _ _ _ p, ready-wanted _ _ _ _ _ p))
 
 condition-gates-requires : tie.Need-condition-gates-requires
-condition-gates-requires c κs = ready-few _ _ _ _ _ (c .before .before .before .before .before .before .before .before .before .before .before .before .before .before .pre)
+condition-gates-requires c κs = ready-few _ _ _ _ _ (c .before .before .before .before .before .before .pre)
 
 returns : tie.Need-returns
 returns c =
-    let p = c .before .before .before .before .before .before .before .before .before .before .before .before .before .before .before .pre in
-    (refl, (ready-quads _ _ _ _ _ p _ (c .before .before .before .before .before .before .before .copy32 .ensures), (ready-needs _ _ _ _ _ p _ (c .before .before .before .before .before .before .before .before .before .before .before .find-needed .ensures), (ready-outputs _ _ _ _ _ p _ (c .before .before .copy16 .ensures), ready-conditions _ _ _ _ _ p _ (c .condition-gates .ensures)))))
+    let p = c .before .before .before .before .before .before .before .pre in
+    (refl, (ready-quads _ _ _ _ _ p, (ready-needs _ _ _ _ _ p _ (c .before .find-needed .ensures), (ready-outputs _ _ _ _ _ p, ready-conditions _ _ _ _ _ p _ (c .condition-gates .ensures)))))
 
 pub filled-spec : {M : Type 1} → statement M
 filled-spec =
     tie.close
-    (tie.spec
-    shared-slice-read-v
-    cast-v
-    find-needed-requires
-    mul-copy32
-    (λ c. search needs)
-    (λ c. search needs)
-    part-copy32-end
-    (λ c. search needs)
-    copy32-requires
-    (λ c. search needs)
-    (λ c. search needs)
-    part-copy16-end
-    (λ c. search needs)
-    copy16-requires
-    condition-gates-requires
-    returns)
+    (tie.spec shared-slice-read-v cast-v find-needed-requires condition-gates-requires returns)

@@ -116,7 +116,7 @@ make-expr-make-expr-requires-2 t c κs =
 
 make-expr-returns : (t : ℕ) → make-expr-lts.Need-returns (make-expr-claims t) (make-expr-at t) make-expr.Post
 make-expr-returns t c =
-    let a = c .before .before .before .before .before .before .before .args in let h = c .before .before .before .before .before .before .before .pre .1 .1 in let code = c .before .before .before .before .code-of .result in let is = c .before .before .before .before .code-of .ensures in let v = as-variable (a .deep) (now (a .s)) (a .want) (a .at) h code is (c .before .before .enum-told .given .1) in made-variable (now (a .s)) (readExpr (a .deep) (now (a .s)) (a .want) (a .at)) (now (a .present)) (now (a .quads)) (a .count) (getD (now (a .s)) (a .at + 1) 0) (a .at + 2) (v .is) (v .range)
+    let a = c .before .before .before .before .before .before .before .args in let h = c .before .before .before .before .before .before .before .pre .1 .1 in let code = c .before .before .before .before .code-of .result in let is = c .before .before .before .before .code-of .ensures in let v = as-variable (a .deep) (now (a .s)) (a .want) (a .at) h code is (c .before .before .enum-told .given .1) in made-variable (now (a .s)) (readExpr (a .deep) (now (a .s)) (a .want) (a .at)) (now (a .present)) (now (a .quads)) (a .count) (getD (now (a .s)) (a .at + 1) 0) (a .at + 2) (v .is)
 
 make-expr-returns-2 : (t : ℕ) → make-expr-lts.Need-returns-2 (make-expr-claims t) (make-expr-at t) make-expr.Post
 make-expr-returns-2 t c =

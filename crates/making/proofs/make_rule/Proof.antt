@@ -1,7 +1,5 @@
-use mathlib.Core.Path.{subst}
+use mathlib.Core.Path.{refl, subst}
 use native.Mathlib.Omega.{arith}
-use Prim.Native.Nat.{ℕ}
-use lib.ListN.{length-replicate}
 use denote.Ref.{now}
 use Rattle.answers.specs.ParsingLaws.{IsRead}
 use Rattle.reading.specs.FirstStatement.{rule-read}
@@ -16,7 +14,7 @@ cast-v : tie.Need-cast-v
 cast-v c = let a = c .before .before .before .before .args in let r = rule-read (now (a .s)) (c .before .before .before .before .pre) in omega (arith, r .header .few)
 
 make-starts-requires : tie.Need-make-starts-requires
-make-starts-requires c κs = let a = c .before .before .before .before .before .before .args in let r = rule-read (now (a .s)) (c .before .before .before .before .before .before .pre) in (r .header, (length-replicate {A = ℕ} 1024 0, length-replicate {A = ℕ} 32 0))
+make-starts-requires c κs = let a = c .before .before .before .before .before .before .args in let r = rule-read (now (a .s)) (c .before .before .before .before .before .before .pre) in (r .header, (refl, refl))
 
 add-make-block : tie.Need-add-make-block
 add-make-block c = let a = c .before .before .before .before .before .before .before .args in let r = rule-read (now (a .s)) (c .before .before .before .before .before .before .before .pre) in omega (arith, r .header .few)

@@ -8,10 +8,10 @@ use Rattle.writing.proofs.put_records.Statement.{statement}
 use Rattle.writing.proofs.put_records.Tie as tie
 
 abbrev Inv-loop : tie.InvT-loop
-Inv-loop out₀ plan quads count needs conditions group places order groups wires₀ at₀ n₀ i₀ out wires at n i = PuttingGroups plan quads count needs group places order groups out out₀ wires at n i
+Inv-loop out₀ plan quads count needs conditions group places order groups wires₀ at₀ first₀ i₀ out wires at first i = PuttingGroups plan quads count needs group places order groups out out₀ wires at (first .0) i
 
 abbrev μ-loop : tie.MeasureT-loop
-μ-loop out₀ plan quads count needs conditions group places order groups wires₀ at₀ n₀ i₀ out wires at n i = groups - i
+μ-loop out₀ plan quads count needs conditions group places order groups wires₀ at₀ first₀ i₀ out wires at first i = groups - i
 
 loop-holds : tie.Need-loop-holds Inv-loop μ-loop
 loop-holds c = putting-start _ _ _ _ _ _ _ _ _ _ (c .before .before .pre .0) (c .before .before .pre .1 .1)
@@ -29,108 +29,39 @@ element-copy-out-wide16 : tie.Need-element-copy-out-wide16 Inv-loop μ-loop
 element-copy-out-wide16 c = omega (arith, c .before .before .before .before .before .before .pre .1 .0 .inside _ (c .before .before .loop-test .taken), c .wide16 .ensures .0)
 
 sub-put-group : tie.Need-sub-put-group Inv-loop μ-loop
-sub-put-group c =
-    omega (
-      arith,
-      putting-fits _ _ _ _ _ _ _ _ _ _ _ _ _ _ (c .before .before .before .before .before .loop .inv) (c .before .before .before .before .loop-test .taken) _ _
-          (c .before .before .wide16 .ensures .0) (c .wide162 .ensures .0) .0,
-    )
+sub-put-group c = omega (arith, putting-fits _ _ _ _ _ _ _ _ _ _ _ _ _ _ (c .before .before .before .before .before .loop .inv) (c .before .before .before .before .loop-test .taken) _ _ (c .before .before .wide16 .ensures .0) (c .wide162 .ensures .0) .0)
 
 part-put-group-start : tie.Need-part-put-group-start Inv-loop μ-loop
-part-put-group-start c =
-    let c5 = c .before .before .before .before .before in
-    let z : c5 .loop .at ≤ length (c5 .loop .out) = omega (
-      arith,
-      putting-fits _ _ _ _ _ _ _ _ _ _ _ _ _ _ (c5 .loop .inv) (c .before .before .before .before .loop-test .taken) _ _ (c .before .before .wide16 .ensures .0)
-          (c .wide162 .ensures .0) .0,
-    )
-    in search needs
+part-put-group-start c = let z : c .before .before .before .before .before .loop .at ≤ length (c .before .before .before .before .before .loop .out) = omega (arith, putting-fits _ _ _ _ _ _ _ _ _ _ _ _ _ _ (c .before .before .before .before .before .loop .inv) (c .before .before .before .before .loop-test .taken) _ _ (c .before .before .wide16 .ensures .0) (c .wide162 .ensures .0) .0) in search needs
 
 put-group-requires : tie.Need-put-group-requires Inv-loop μ-loop
-put-group-requires c κs =
-    let c4 = c .before .before .before .before in
-    let c6 = c4 .before .before in
-    let c7 = c6 .before in
-    let c10 = c7 .before .before .before in
-    let l = c7 .loop .inv in let h = c6 .loop-test .taken
-    in (
-      putting-room _ _ _ _ _ _ _ _ _ _ _ _ _ _ l h _ _ (c4 .wide16 .ensures .0) (c .before .before .wide162 .ensures .0),
-      turn-puttable _ _ _ _ _ _ _ _ _ (c10 .pre .1 .0) _ _
-          _ h (c4 .wide16 .ensures .0) (c .before .before .wide162 .ensures .0) _ (l .counted),
-    )
+put-group-requires c κs = let l = c .before .before .before .before .before .before .before .loop .inv in let h = c .before .before .before .before .before .before .loop-test .taken in (
+  putting-room _ _ _ _ _ _ _ _ _ _ _ _ _ _ l h _ _ (c .before .before .before .before .wide16 .ensures .0) (c .before .before .wide162 .ensures .0),
+  turn-puttable _ _ _ _ _ _ _ _ _ (c .before .before .before .before .before .before .before .before .before .before .pre .1 .0) _ _ _ h (c .before .before .before .before .wide16 .ensures .0) (c .before .before .wide162 .ensures .0) _ (l .counted),
+)
 
 add-at : tie.Need-add-at Inv-loop μ-loop
-add-at c =
-    let c7 = c .before .before .before .before .before .before .before in
-    let c9 = c7 .before .before in
-    let c10 = c9 .before in
-    let c13 = c10 .before .before .before in
-    let f = putting-fits _ _ _ _ _ _ _ _ _ _ _ _ _ _ (c10 .loop .inv) (c9 .loop-test .taken) _ _ (c7 .wide16 .ensures .0)
-    (c .before .before .before .before .before .wide162 .ensures .0) in
-    let z : c10 .loop .at + c .before .before .put-group .result ≤ length (c13 .args .out .now) = omega (arith, c .before .before .put-group .ensures .0, f .0, f .1) in
+add-at c = let f = putting-fits _ _ _ _ _ _ _ _ _ _ _ _ _ _ (c .before .before .before .before .before .before .before .before .before .before .loop .inv) (c .before .before .before .before .before .before .before .before .before .loop-test .taken) _ _ (c .before .before .before .before .before .before .before .wide16 .ensures .0) (c .before .before .before .before .before .wide162 .ensures .0) in
+    let z : c .before .before .before .before .before .before .before .before .before .before .loop .at + c .before .before .put-group .result ≤ length (c .before .before .before .before .before .before .before .before .before .before .before .before .before .args .out .now) = omega (arith, c .before .before .put-group .ensures .0, f .0, f .1) in
     search needs
 
 wires-of-requires : tie.Need-wires-of-requires Inv-loop μ-loop
-wires-of-requires c κs =
-    let c7 = c .before .before .before .before .before .before .before in
-    let c9 = c7 .before .before in
-    let c13 = c9 .before .before .before .before in
-    turn-listed _ _ _ _ _ _ _ _ _ (c13 .pre .1 .0) _ _ _ (c9 .loop-test .taken) (c7 .wide16 .ensures .0) (c .before .before .before .before .before .wide162 .ensures .0)
+wires-of-requires c κs = turn-listed _ _ _ _ _ _ _ _ _ (c .before .before .before .before .before .before .before .before .before .before .before .before .before .pre .1 .0) _ _ _ (c .before .before .before .before .before .before .before .before .before .loop-test .taken) (c .before .before .before .before .before .before .before .wide16 .ensures .0) (c .before .before .before .before .before .wide162 .ensures .0)
 
-add-n : tie.Need-add-n Inv-loop μ-loop
-add-n c =
-    let c6 = c .before .before .before .before .before .before in
-    let c8 = c6 .before .before in
-    let c10 = c8 .before .before in
-    let c11 = c10 .before in
-    let c14 = c11 .before .before .before in
-    record {
-      fits = omega (
-        arith,
-        c .wires-of .ensures,
-        turn-fits _ _ _ _ _ _ _ _ _ (c14 .pre .1 .0) _ _ _ (c10 .loop-test .taken) (c8 .wide16 .ensures .0) (c6 .wide162 .ensures .0) _
-            (c11 .loop .inv .counted) .1,
-      );
-    }
+add-first : tie.Need-add-t31 Inv-loop μ-loop
+add-first c = record { fits = omega (arith, c .before .wires-of .ensures, turn-fits _ _ _ _ _ _ _ _ _ (c .before .before .before .before .before .before .before .before .before .before .before .before .before .before .before .pre .1 .0) _ _ _ (c .before .before .before .before .before .before .before .before .before .before .before .loop-test .taken) (c .before .before .before .before .before .before .before .before .before .wide16 .ensures .0) (c .before .before .before .before .before .before .before .wide162 .ensures .0) _ (c .before .before .before .before .before .before .before .before .before .before .before .before .loop .inv .counted) .1) }
 
 sub-wires : tie.Need-sub-wires Inv-loop μ-loop
-sub-wires c =
-    let c6 = c .before .before .before .before .before .before in
-    let c8 = c6 .before .before in
-    let c10 = c8 .before .before in
-    let c11 = c10 .before in
-    let c14 = c11 .before .before .before in
-    omega (
-      arith,
-      c .wires-of .ensures,
-      turn-fits _ _ _ _ _ _ _ _ _ (c14 .pre .1 .0) _ _ _ (c10 .loop-test .taken) (c8 .wide16 .ensures .0) (c6 .wide162 .ensures .0) _
-          (c11 .loop .inv .counted) .0,
-    )
+sub-wires c = omega (arith, c .before .before .wires-of .ensures, turn-fits _ _ _ _ _ _ _ _ _ (c .before .before .before .before .before .before .before .before .before .before .before .before .before .before .before .before .pre .1 .0) _ _ _ (c .before .before .before .before .before .before .before .before .before .before .before .before .loop-test .taken) (c .before .before .before .before .before .before .before .before .before .before .wide16 .ensures .0) (c .before .before .before .before .before .before .before .before .wide162 .ensures .0) _ (c .before .before .before .before .before .before .before .before .before .before .before .before .before .loop .inv .counted) .0)
 
 mul-wires : tie.Need-mul-wires Inv-loop μ-loop
-mul-wires c =
-    let c8 = c .before .before .before .before .before .before .before .before in
-    let c10 = c8 .before .before in
-    let c14 = c10 .before .before .before .before in
-    record { fits = omega (arith, c14 .pre .1 .0 .inside _ (c10 .loop-test .taken), c8 .wide16 .ensures .0) }
+mul-wires c = record { fits = omega (arith, c .before .before .before .before .before .before .before .before .before .before .before .before .before .before .before .before .pre .1 .0 .inside _ (c .before .before .before .before .before .before .before .before .before .before .before .before .loop-test .taken), c .before .before .before .before .before .before .before .before .before .before .wide16 .ensures .0) }
 
 element-write-wires : tie.Need-element-write-wires Inv-loop μ-loop
-element-write-wires c =
-    let c8 = c .before .before .before .before .before .before .before .before in
-    let c10 = c8 .before .before in
-    let c14 = c10 .before .before .before .before in
-    omega (arith, c14 .pre .1 .0 .inside _ (c10 .loop-test .taken), c8 .wide16 .ensures .0)
+element-write-wires c = omega (arith, c .before .before .before .before .before .before .before .before .before .before .before .before .before .before .before .before .pre .1 .0 .inside _ (c .before .before .before .before .before .before .before .before .before .before .before .before .loop-test .taken), c .before .before .before .before .before .before .before .before .before .before .wide16 .ensures .0)
 
 loop-again : tie.Need-loop-again Inv-loop μ-loop
-loop-again c =
-    let c3 = c .before .before .before in
-    let c6 = c3 .before .before .before in
-    let c8 = c6 .before .before in
-    let c10 = c8 .before .before in
-    let c11 = c10 .before in
-    let c14 = c11 .before .before .before in
-    putting-step _ _ _ _ _ _ _ _ _ _ _ _ _ _ (c11 .loop .inv) (c10 .loop-test .taken) _ _ (c8 .wide16 .ensures .0) (c6 .wide162 .ensures .0) _ (c14 .pre .1 .0) _ _ _
-    (c3 .put-group .ensures .0) (c3 .put-group .ensures .1) (c .wires-of .ensures)
+loop-again c = putting-step _ _ _ _ _ _ _ _ _ _ _ _ _ _ (c .before .before .before .before .before .before .before .before .before .before .before .before .before .loop .inv) (c .before .before .before .before .before .before .before .before .before .before .before .before .loop-test .taken) _ _ (c .before .before .before .before .before .before .before .before .before .before .wide16 .ensures .0) (c .before .before .before .before .before .before .before .before .wide162 .ensures .0) _ (c .before .before .before .before .before .before .before .before .before .before .before .before .before .before .before .before .pre .1 .0) _ _ _ (c .before .before .before .before .before .put-group .ensures .0) (c .before .before .before .before .before .put-group .ensures .1) (c .before .before .wires-of .ensures)
 
 same-length : tie.Need-same-length Inv-loop μ-loop
 same-length c = putting-same _ _ _ _ _ _ _ _ _ _ _ _ _ _ (c .before .loop .inv) (c .loop-test .left)
@@ -157,7 +88,7 @@ put-records-spec =
     put-group-requires
     add-at
     wires-of-requires
-    add-n
+    add-first
     sub-wires
     mul-wires
     element-write-wires

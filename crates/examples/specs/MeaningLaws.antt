@@ -1,5 +1,5 @@
--- Document 01, "Examples": what the list of Starred says in words that are not computed, for any accepted rule and any lent buffer. Assumes nothing.
-use Prim.Native.Nat.{ℕ, _^_, _≤_, _<_}
+-- Laws from what is computed of an accepted rule to what it means: a gate's precondition, what it rests on, which group waits, what a lent buffer holds. Assumes nothing.
+use Prim.Native.Nat.{ℕ, _≤_, _<_}
 use mathlib.Core.Path.{_≡_, refl, subst}
 use mathlib.Core.List.{List, [], append-nil}
 use mathlib.Core.Bool.{true}
@@ -8,7 +8,7 @@ use lib.ListN.{length, getD, drop}
 use lib.Seq.{drop-length}
 use Rattle.words.specs.Lists.{_∈_, elem, elem→∈}
 use Rattle.words.specs.Buffers.{over}
-use Rattle.settings.specs.Settings.{Setting, settingOf}
+use Rattle.settings.specs.Settings.{settingOf}
 use Rattle.settings.specs.Sets.{has}
 use Rattle.answers.specs.Answers.{refusal}
 use Rattle.answers.specs.Parsing.{parsed}
@@ -28,16 +28,7 @@ use Rattle.plan.specs.RestLaws.{rests-right}
 use Rattle.plan.specs.WaitLaws.{waits-right}
 use Rattle.fused.specs.CircuitFile.{fusedFile}
 use Rattle.fused.specs.Answers.{writeAnswer, writtenOver}
-
--- the precondition of gate g of the rule s, held as 64 bits: bit j is 1 exactly when setting j needs the gate
-abbrev pub Precondition : List ℕ → ℕ → ℕ → Type 0
-Precondition s g bits =
-    (getD (rulePreconditions s) g 0 ≡ bits)
-    × ((j : ℕ) → j < 2 ^ mostConditions → (has bits j ≡ true) ↔ Needed (gatesOf s) (wantedOf s) (settingOf (conditions (gatesOf s)) j) g)
-
--- no setting needs gate g of the rule s
-abbrev pub Unneeded : List ℕ → ℕ → Type 0
-Unneeded s g = (σ : Setting) → Needed (gatesOf s) (wantedOf s) σ g → ⊥
+use Rattle.examples.specs.Starred.{Precondition, Unneeded}
 
 module _ (s : List ℕ) (h : ruleAnswer s .number ≡ 0) where
   read : (b : Block) × (n : ℕ) × (readRule s ≡ parsed b n)
