@@ -11,7 +11,7 @@ ghost use Rattle.words.specs.Buffers.{over};
 ghost use Rattle.settings.specs.Sets.{rests};
 ghost use Rattle.gates.specs.Limits.{mostConditions};
 ghost use Rattle.needed.specs.Held.{codeAt};
-ghost use Rattle.plan.specs.PlanFile.{groupAt, after};
+ghost use Rattle.plan.specs.PlanFile.{groupAt};
 ghost use Rattle.fused.specs.Records.{pick, pairWires};
 ghost use Rattle.fused.specs.CircuitFile.{wiresBytes, recordBytes, recordsBytes};
 ghost use Rattle.emitting.specs.Emitted.{wireIn, aloneIn, emitIn, guardIn, guardsIn, pairsIn, Grouped, Writable, Lies, Guarded, Paired, JoinWritable};

@@ -28,7 +28,7 @@ use Rattle.gates.specs.Examples.{r2, r7, r8, example-2}
 use Rattle.needed.specs.Needed.{wantedOf}
 use Rattle.needed.specs.Pass.{preconditions, preconditionSets, rulePreconditions}
 use Rattle.circuit.specs.Whole.{wholeWithin, ruleAnswer}
-use Rattle.plan.specs.PlanFile.{Plan, mark, groupsIn}
+use Rattle.plan.specs.PlanFile.{groupsIn}
 use Rattle.plan.specs.Layout.{planBytes}
 use Rattle.plan.specs.Groups.{groupOf, groups, RestsOn, restsOf, Waits, waitsFor}
 use Rattle.plan.specs.Order.{order}
