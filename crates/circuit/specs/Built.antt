@@ -3,7 +3,7 @@ use mathlib.Core.Bool.{cond}
 use Prim.Native.Nat.{ℕ, _*_}
 use mathlib.Core.List.{List, []}
 use lib.Dec.{eqb}
-pub use Rattle.words.specs.Buffers.{padded}
+use Rattle.words.specs.Buffers.{padded}
 use Rattle.reading.specs.Limits.{mostVariables}
 use Rattle.gates.specs.Limits.{mostGates, mostConditions}
 use Rattle.gates.specs.Gates.{conditions}

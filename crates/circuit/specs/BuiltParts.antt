@@ -4,7 +4,7 @@ use mathlib.Core.Path.{_≡_, ap, _∙_}
 use mathlib.Core.List.{List}
 use lib.ListN.{length, getD, take, replicate}
 use lib.Seq.{take-at}
-pub use Rattle.words.specs.BufferLaws.{padded-at, padded-length}
+use Rattle.words.specs.BufferLaws.{padded-at, padded-length}
 use Rattle.words.specs.Lists.{getD-in}
 use Rattle.answers.specs.ParsingLaws.{is-read}
 use Rattle.answers.specs.declared.Answer.{Answer}

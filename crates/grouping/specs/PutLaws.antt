@@ -31,7 +31,8 @@ pub record PuttingMembers (n : ℕ) (p : List ℕ) (at first : ℕ) (group₀ pl
   pub groups : putAll (groupAt p at) first group₀ ≡ putAll (membersFrom p at k) first group
   pub placing : putAll (groupAt p at) at places₀ ≡ putAll (membersFrom p at k) at places
 
-pub putting-start : (n : ℕ) (p : List ℕ) (at first : ℕ) (group places : List ℕ) → ReadableGroup n p at → first ≡ getD (groupAt p at) 0 0 → PuttingMembers n p at first group places group places 0
+pub putting-start : (n : ℕ) (p : List ℕ) (at first : ℕ) (group places : List ℕ) → ReadableGroup n p at → first ≡ getD (groupAt p at) 0 0
+    → PuttingMembers n p at first group places group places 0
 putting-start n p at first group places f q =
     record {
       walk = walk-start n p at f;
@@ -57,10 +58,13 @@ module _ (n : ℕ) (p : List ℕ) (at first : ℕ) (group₀ places₀ group pla
         walk = walk-step n p at k (w .walk) h;
         named = w .named;
         none = w .none ∙ ap (every (free places)) here ∙ rw (eq-eqb (getD places g 0) 0 f)
-            (every-same (free places) (free joinedₙ) (membersFrom p at (k + 1)) (λ i m. ap (λ (x : ℕ). eqb x 0) (sym (ap (λ (l : List ℕ). getD l i 0) e ∙ getD-set-other places g i at 0 (λ z. omega (arith, walk-above n p at k (w .walk) h i m))))));
+            (every-same (free places) (free joinedₙ) (membersFrom p at (k + 1)) (λ i m. ap (λ (x : ℕ). eqb x 0) (sym (kept i m))));
         groups = w .groups ∙ ap (λ (l : List ℕ). putAll l first group) here ∙ ap (putAll (membersFrom p at (k + 1)) first) (sym d);
         placing = w .placing ∙ ap (λ (l : List ℕ). putAll l at places) here ∙ ap (putAll (membersFrom p at (k + 1)) at) (sym e);
       }
+    where
+      kept : (i : ℕ) → i ∈ membersFrom p at (k + 1) → getD joinedₙ i 0 ≡ getD places i 0
+      kept i m = ap (λ (l : List ℕ). getD l i 0) e ∙ getD-set-other places g i at 0 (λ z. omega (arith, walk-above n p at k (w .walk) h i m))
 
 module _ (n : ℕ) (p : List ℕ) (at first : ℕ) (group₀ places₀ group places : List ℕ) (k : ℕ)
     (w : PuttingMembers n p at first group₀ places₀ group places k) (h : getD p at 0 ≤ k) where

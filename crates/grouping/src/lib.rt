@@ -7,7 +7,6 @@ ghost use mathlib.Core.Bool.{_&&_, true};
 ghost use Prim.Native.Nat.{_+_, _*_, _<_, _≤_};
 ghost use lib.Dec.{eqb, leb, ltb};
 ghost use lib.ListN.{length, getD, take, replicate};
-ghost use Rattle.words.specs.Numbers.{numberAt};
 ghost use Rattle.codes.specs.Codes.{codeOf};
 ghost use Rattle.gates.specs.Limits.{mostGates};
 ghost use Rattle.needed.specs.Held.{codeAt, gateIn, gatesIn};

@@ -3,7 +3,6 @@ use gates::GateId;
 ghost use mathlib.Core.Path.{_≡_};
 ghost use mathlib.Core.List.{List, _∷_, []};
 ghost use Prim.Native.Nat.{ℕ};
-ghost use lib.ListN.{getD};
 ghost use Rattle.plan.specs.PlanFile.{groupAt};
 ghost use Rattle.emitting.specs.Emitted.{restedBy, Coded, Lies, Joinable, Measured};
 

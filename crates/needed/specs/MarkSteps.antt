@@ -9,7 +9,6 @@ use lib.ListN.{length, getD, set, replicate, length-set}
 use lib.Seq.{getD-set-same, getD-set-other, ext-getD}
 use lib.Dec.{eqb}
 use borrow.Author.Tests.{eq-eqb, ne-eqb}
-pub use Rattle.words.specs.BufferLaws.{getD-zeros}
 use Rattle.words.specs.Lists.{elem, same?, upto, keep-same, elem-more}
 use Rattle.words.specs.ListLaws.{inside-list, getD-zeros}
 use Rattle.settings.specs.Settings.{bitOf}

@@ -80,7 +80,9 @@ groups-found (G ∷ Gs) a (s, u) = go (groups-found Gs (a ++ (length G ∷ flat 
 
     go : (groupsFrom (length Gs) (b ++ groupsBytes Gs) (length b) ≡ Gs) × Ends (length Gs) (b ++ groupsBytes Gs) (length b)
         → (groupAt X (length a) ∷ groupsFrom (length Gs) X (after X (length a)) ≡ G ∷ Gs) × ((after X (length a) ≤ length X) × Ends (length Gs) X (after X (length a)))
-    go (e, f) = (ap₂ (λ (H : List ℕ) (Hs : Plan). H ∷ Hs) here (rest ∙ e), (fits, subst⁻¹ (λ (at : ℕ). Ends (length Gs) X at) past (subst⁻¹ (λ (q : List ℕ). Ends (length Gs) q (length b)) whole f)))
+    go (e, f) =
+        let l : Ends (length Gs) X (length b) = subst⁻¹ (λ (q : List ℕ). Ends (length Gs) q (length b)) whole f in
+        (ap₂ (λ (H : List ℕ) (Hs : Plan). H ∷ Hs) here (rest ∙ e), (fits, subst⁻¹ (λ (at : ℕ). Ends (length Gs) X at) past l))
 
 -- the plan of a gate count and groups that fit their bytes, taken apart
 pub plan-found : (n : ℕ) (Gs : Plan) → n < 256 ^ 2 → length Gs < 256 ^ 2 → EachGroup Small Gs

@@ -45,7 +45,10 @@ rising-same (a ∷ l) (b ∷ m) (u, r) (v, t) f g = cc (e, rising-same l m r t (
 keep-rising : (p : ℕ → Bool) (i n : ℕ) → Rising (keep p (from i n))
 keep-rising p i zero = tt
 keep-rising p i (suc n) =
-    split (p i) (λ t. rw t (above-all i (keep p (from (suc i) n)) (λ k m. omega (arith, from-below (suc i) n k (keep-from p (from (suc i) n) k m .0))), keep-rising p (suc i) n)) (λ t. rw t (keep-rising p (suc i) n))
+    let rest = keep p (from (suc i) n) in
+    split (p i)
+    (λ t. rw t (above-all i rest (λ k m. omega (arith, from-below (suc i) n k (keep-from p (from (suc i) n) k m .0))), keep-rising p (suc i) n))
+    (λ t. rw t (keep-rising p (suc i) n))
 
 -- the group G stands in the plan
 abbrev pub StandsIn : Plan → List ℕ → Type 0

@@ -45,6 +45,10 @@ module _ (s : List ℕ) (C : Gates) (sets tabs : List ℕ) (e : (g : ℕ) → ge
   emit-alike n (m ∷ k ∷ l) =
       ap (λ (g : List Record). joined n (gateOperation (gateAt C m)) g (map (valuesAt s C sets wire (m ∷ k ∷ l)) (upto (length (arguments (gateAt C m)))))) (guards-alike (m ∷ k ∷ l))
 
+-- what stands in the arrays of a checked plan after i turns
+abbrev pub checkedStage : List ℕ → List ℕ → ℕ → Stage
+checkedStage s p = stage p (builtQuads s) (gateCount s) (builtNeeds s) (checkedGroups s p) (checkedPlaces s p) (checkedOrder s p)
+
 module _ (s p : List ℕ) (h : planAnswer s p .number ≡ 0) where
   abbrev C : Gates
   C = gatesOf s
@@ -59,7 +63,7 @@ module _ (s p : List ℕ) (h : planAnswer s p .number ≡ 0) where
   table = checkedGroups s p
 
   abbrev turned : ℕ → Stage
-  turned i = stage p (builtQuads s) (gateCount s) (builtNeeds s) (checkedGroups s p) (checkedPlaces s p) (checkedOrder s p) i
+  turned i = checkedStage s p i
 
   abbrev after : ℕ → Written
   after i = written s C sets group (doneAt s p i)

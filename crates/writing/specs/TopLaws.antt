@@ -38,10 +38,10 @@ use Rattle.fused.specs.SizeBounds.{plan-written}
 use Rattle.emitting.specs.Emitted.{wireIn, Writable, JoinWritable}
 use Rattle.emitting.specs.HeldLaws.{SmallGate, writable-held, joining-held}
 use Rattle.plan.specs.NumberLaws.{length-group}
-use Rattle.writing.specs.Staged.{stage, Turnable}
+use Rattle.writing.specs.Staged.{Turnable}
 use Rattle.writing.specs.ArrayLaws.{rule-taken, plan-taken, gates-shaped, quads-held, members-two}
 use Rattle.writing.specs.DoneLaws.{doneAt, done-once, done-all, next-group}
-use Rattle.writing.specs.StageLaws.{stage-same}
+use Rattle.writing.specs.StageLaws.{checkedStage, stage-same}
 
 small-gate : (kinds : ℕ → Kind) (v : ℕ) (k : Gate) → GateFits kinds k → StartGate v k → v ≤ 32 → SmallGate k
 small-gate kinds v (start x) f h l = omega arith
@@ -68,16 +68,18 @@ module _ (s p : List ℕ) (h : planAnswer s p .number ≡ 0) where
 
     turn-alone : (q : ℕ) → q < gateCount s → Writable (builtQuads s) (checkedGroups s p) q
     turn-alone q l =
-        writable-held s (builtQuads s) (gatesOf s) (gates-shaped s p h) (quads-held s p h) (built-room s (rule-taken s p h)) (built-earlier s (rule-taken s p h)) (checkedGroups s p) table-named q l (small q)
+        let taken = rule-taken s p h in
+        writable-held s (builtQuads s) (gatesOf s) (gates-shaped s p h) (quads-held s p h) (built-room s taken) (built-earlier s taken) (checkedGroups s p) table-named q l (small q)
 
   -- a group of two or more, at its place in the plan
   module _ (q : ℕ) (l : q < gateCount s) (e : group q ≡ q) (z : placeOf p q ≡ 0 → ⊥) where
     turn-joined : JoinWritable (builtQuads s) p (builtConditions s) (checkedGroups s p) (gateCount s) (placeOf p q)
     turn-joined =
         let r = group-listed s p (plan-taken s p h) q e z in
-        joining-held s (builtQuads s) (gatesOf s) (gates-shaped s p h) (quads-held s p h) (built-room s (rule-taken s p h)) (built-earlier s (rule-taken s p h)) (checkedGroups s p) table-named
+        let taken = rule-taken s p h in
+        joining-held s (builtQuads s) (gatesOf s) (gates-shaped s p h) (quads-held s p h) (built-room s taken) (built-earlier s taken) (checkedGroups s p) table-named
         p (placeOf p q) (builtConditions s) (r .lies) (rw (sym (length-group p (placeOf p q))) (r .two)) (r .exist)
-        (λ m i. members-two s p h q (rw (r .listed) (r .two)) m (rw (r .listed) i)) (λ t _. built-condition s (rule-taken s p h) t)
+        (λ m i. members-two s p h q (rw (r .listed) (r .two)) m (rw (r .listed) i)) (λ t _. built-condition s taken t)
 
 module _ (s p : List ℕ) (h : planAnswer s p .number ≡ 0) where
   abbrev last : ℕ
@@ -115,19 +117,19 @@ module _ (s p : List ℕ) (h : planAnswer s p .number ≡ 0) where
       }
 
   -- what stands after the last turn
-  pub last-records : stage p (builtQuads s) (gateCount s) (builtNeeds s) (checkedGroups s p) (checkedPlaces s p) (checkedOrder s p) (length (writingOrder s p)) .records ≡ recordsOf s p
+  pub last-records : checkedStage s p (length (writingOrder s p)) .records ≡ recordsOf s p
   unfolding fused
   last-records =
       stage-same s p h last (omega arith) .records
       ∙ ap (λ (d : List ℕ). written s (gatesOf s) (rulePreconditions s) (groupOf (groupsIn p)) d .records) (done-all s p)
 
   wire-last : (a : ℕ) → a < gateCount s
-      → wireIn (checkedGroups s p) (stage p (builtQuads s) (gateCount s) (builtNeeds s) (checkedGroups s p) (checkedPlaces s p) (checkedOrder s p) last .wires) a ≡ wireOf s p a
+      → wireIn (checkedGroups s p) (checkedStage s p last .wires) a ≡ wireOf s p a
   unfolding fused
   wire-last a l =
       let m = stage-same s p h last (omega arith) in
       let d : groupOf (groupsIn p) a ∈ doneAt s p last = rw (done-all s p) (planned-group s p h a l) in
-      ap (λ (q : ℕ). getD (stage p (builtQuads s) (gateCount s) (builtNeeds s) (checkedGroups s p) (checkedPlaces s p) (checkedOrder s p) last .wires) q 0) (group-is s p h a l)
+      ap (λ (q : ℕ). getD (checkedStage s p last .wires) q 0) (group-is s p h a l)
       ∙ m .wires (groupOf (groupsIn p) a) d
       ∙ ap (λ (d : List ℕ). written s (gatesOf s) (rulePreconditions s) (groupOf (groupsIn p)) d .wire (groupOf (groupsIn p) a)) (done-all s p)
 
@@ -137,9 +139,9 @@ module _ (s p : List ℕ) (h : planAnswer s p .number ≡ 0) where
       ∙ take-at (outputsOf s) _ (variables s) (built-outputs-length s (rule-taken s p h))
 
   pub last-outputs : map (wireIn (checkedGroups s p)
-      (stage p (builtQuads s) (gateCount s) (builtNeeds s) (checkedGroups s p) (checkedPlaces s p) (checkedOrder s p) (length (writingOrder s p)) .wires)) (take (variables s) (builtOutputs s))
+      (checkedStage s p (length (writingOrder s p)) .wires)) (take (variables s) (builtOutputs s))
       ≡ outputWires s p
   last-outputs =
-      ap (map (wireIn (checkedGroups s p) (stage p (builtQuads s) (gateCount s) (builtNeeds s) (checkedGroups s p) (checkedPlaces s p) (checkedOrder s p) last .wires))) outputs-are
-      ∙ map-same (wireIn (checkedGroups s p) (stage p (builtQuads s) (gateCount s) (builtNeeds s) (checkedGroups s p) (checkedPlaces s p) (checkedOrder s p) last .wires)) (wireOf s p) (outputsOf s)
+      ap (map (wireIn (checkedGroups s p) (checkedStage s p last .wires))) outputs-are
+      ∙ map-same (wireIn (checkedGroups s p) (checkedStage s p last .wires)) (wireOf s p) (outputsOf s)
       (λ a m. wire-last a (built-outputs-inside s (rule-taken s p h) a m))
