@@ -18,6 +18,11 @@ module _ {A : Type 0} where
   stepOf (parsed a next) = Past next
   stepOf (refused number place) = Refused number place
 
+  -- it was read
+  abbrev pub IsRead : Parsed A → Type 0
+  IsRead (parsed a next) = Unit {0}
+  IsRead (refused number place) = ⊥
+
   -- refuse by the number at the place unless the test holds
   abbrev pub unless : Bool → ℕ → ℕ → Parsed A → Parsed A
   unless true number place rest = rest

@@ -10,7 +10,7 @@ use lib.Dec.{eqb, ltb}
 use lib.Seq.{drop-cons}
 use borrow.Author.Tests.{eq-eqb, ne-eqb, le-ltb, lt-ltb, eqb-true}
 use mathlib.Core.Bool.{Bool, true, false}
-use Rattle.answers.specs.Parsing.{Parsed, parsed, refused, stepOf, unless, _>>=_, readMark}
+use Rattle.answers.specs.Parsing.{Parsed, parsed, refused, stepOf, IsRead, unless, _>>=_, readMark}
 use Rattle.answers.specs.declared.Step.{Step}
 use Rattle.answers.specs.declared.Step.the-variants.{Past, Refused}
 
@@ -46,11 +46,6 @@ some-left n h = lt-ltb 0 n (omega arith)
 -- What was read: for a second pass over bytes that reading took.
 
 module _ {A : Type 0} where
-  -- it was read
-  abbrev pub IsRead : Parsed A → Type 0
-  IsRead (parsed a n) = Unit {0}
-  IsRead (refused k p) = ⊥
-
   pub is-read : (m : Parsed A) → IsRead m → (a : A) × (n : ℕ) × (m ≡ parsed a n)
   is-read (parsed a n) h = (a, n, refl)
   is-read (refused k p) h = absurd h

@@ -8,7 +8,7 @@ use mathlib.Core.Bool.{not}
 use lib.Dec.{eqb, leb}
 use lib.ListN.{length, getD}
 use borrow.Author.Tests.{eq-eqb, ne-eqb, le-leb}
-use Rattle.words.specs.Lists.{same?}
+use Rattle.words.specs.TestLaws.{same?}
 use Rattle.answers.specs.Answers.{refusal}
 use Rattle.answers.specs.declared.Answer.{Answer}
 use Rattle.gates.specs.Gates.{conditions}

@@ -5,7 +5,7 @@ use mathlib.Core.List.{List}
 use lib.ListN.{length, getD, take, replicate}
 use lib.Seq.{take-at}
 use Rattle.words.specs.BufferLaws.{padded-at, padded-length}
-use Rattle.words.specs.Lists.{getD-in}
+use Rattle.words.specs.MemberLaws.{getD-in}
 use Rattle.answers.specs.ParsingLaws.{is-read}
 use Rattle.answers.specs.declared.Answer.{Answer}
 use Rattle.reading.specs.Limits.{mostVariables}

@@ -7,9 +7,10 @@ use lib.ListN.{length, take, replicate}
 use lib.Seq.{take-at}
 use lib.Dec.{leb}
 use borrow.Author.Tests.{le-leb, lt-leb, leb-true, leb-false}
-use Rattle.words.specs.Lists.{split}
+use Rattle.words.specs.TestLaws.{split}
 use Rattle.answers.specs.Answers.{success, refusal}
-use Rattle.answers.specs.ParsingLaws.{IsRead, is-read}
+use Rattle.answers.specs.ParsingLaws.{is-read}
+use Rattle.answers.specs.Parsing.{IsRead}
 use Rattle.reading.specs.Header.{variables}
 use Rattle.reading.specs.Rule.{readRule}
 use Rattle.gates.specs.Limits.{mostGates, mostConditions}

@@ -7,10 +7,9 @@ use mathlib.Core.Logic.{_⊎_, inl, inr}
 use lib.ListN.{length}
 use lib.Dec.{leb}
 use borrow.Author.Tests.{le-leb, lt-leb, leb-true}
-use Rattle.words.specs.Lists.{split}
+use Rattle.words.specs.TestLaws.{split}
 use Rattle.answers.specs.Answers.{success, refusal, answerOf}
-use Rattle.answers.specs.Parsing.{Parsed, parsed, refused, stepOf}
-use Rattle.answers.specs.ParsingLaws.{IsRead}
+use Rattle.answers.specs.Parsing.{Parsed, parsed, refused, stepOf, IsRead}
 use Rattle.answers.specs.declared.Answer.{Answer}
 use Rattle.reading.specs.Tree.{Block}
 use Rattle.reading.specs.Rule.{readRule}

@@ -6,7 +6,7 @@ use mathlib.Core.Logic.{_⊎_, inl, inr}
 use mathlib.Core.Bool.{Bool, true, false, _&&_, false≢true, cond}
 use lib.Dec.{eqb, leb}
 use borrow.Author.Tests.{ne-eqb, le-leb, lt-leb, eqb-true, leb-true}
-use Rattle.words.specs.Lists.{same?, split}
+use Rattle.words.specs.TestLaws.{same?, split}
 use Rattle.codes.specs.Codes.{kindOf, sameKind, plain, entryOf, operationOf, byteOf, codeOf}
 use Rattle.codes.specs.declared.Kind.{Kind}
 use Rattle.codes.specs.declared.Kind.the-variants as kind

@@ -6,7 +6,7 @@ use mathlib.Core.List.{List, map}
 use mathlib.Core.Logic.{_↔_}
 use lib.ListN.{length, take, drop}
 use Rattle.words.specs.Numbers.{Bytes}
-use Rattle.answers.specs.ParsingLaws.{IsRead}
+use Rattle.answers.specs.Parsing.{IsRead}
 use Rattle.answers.specs.declared.Answer.{Answer}
 use Rattle.reading.specs.Header.{variables}
 use Rattle.reading.specs.Rule.{readRule}

@@ -7,10 +7,11 @@ use lib.Dec.{eqb, leb}
 use lib.ListN.{length, take, drop}
 use lib.Seq.{take-at, drop-at}
 use borrow.Author.Tests.{eq-eqb, eqb-true, eqb-false, leb-true}
-use Rattle.words.specs.Lists.{split}
+use Rattle.words.specs.TestLaws.{split}
 use Rattle.words.specs.Buffers.{over}
 use Rattle.words.specs.Numbers.{Bytes}
-use Rattle.answers.specs.ParsingLaws.{IsRead, is-read}
+use Rattle.answers.specs.ParsingLaws.{is-read}
+use Rattle.answers.specs.Parsing.{IsRead}
 use Rattle.answers.specs.declared.Answer.{Answer}
 use Rattle.reading.specs.Header.{variables}
 use Rattle.reading.specs.Rule.{readRule}

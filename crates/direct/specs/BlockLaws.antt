@@ -9,8 +9,8 @@ use Rattle.codes.specs.declared.Kind.{Kind}
 use Rattle.codes.specs.declared.Kind.the-variants as kind
 use Rattle.codes.specs.declared.Code.{Code}
 use Rattle.codes.specs.declared.Form.{Form}
-use Rattle.answers.specs.Parsing.{Parsed, parsed, _>>=_}
-use Rattle.answers.specs.ParsingLaws.{IsRead, is-read, read-is, same-what, same-next}
+use Rattle.answers.specs.Parsing.{Parsed, parsed, _>>=_, IsRead}
+use Rattle.answers.specs.ParsingLaws.{is-read, read-is, same-what, same-next}
 use Rattle.reading.specs.Limits.{deepest}
 use Rattle.reading.specs.Header.{kindAt}
 use Rattle.reading.specs.Tree.{Expr, Statement, assign, skip, branch, Block}

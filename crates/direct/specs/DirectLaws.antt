@@ -7,7 +7,7 @@ use lib.ListN.{length}
 use borrow.Author.Tests.{eq-eqb, ne-eqb, eqb-true, eqb-false}
 use Rattle.gates.specs.Running.{runRule}
 use Rattle.words.specs.Buffers.{over}
-use Rattle.words.specs.Lists.{split}
+use Rattle.words.specs.TestLaws.{split}
 use Rattle.answers.specs.Answers.{refusal}
 use Rattle.answers.specs.declared.Answer.{Answer}
 use Rattle.direct.specs.Inputs.{inputRow}

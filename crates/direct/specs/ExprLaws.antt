@@ -11,8 +11,7 @@ use Rattle.codes.specs.declared.Kind.{Kind}
 use Rattle.codes.specs.declared.Operation.{Operation}
 use Rattle.codes.specs.declared.Code.{Code}
 use Rattle.codes.specs.declared.Form.the-variants.{Variable, Word, Bit, Apply}
-use Rattle.answers.specs.Parsing.{Parsed, parsed}
-use Rattle.answers.specs.ParsingLaws.{IsRead}
+use Rattle.answers.specs.Parsing.{Parsed, parsed, IsRead}
 use Rattle.reading.specs.Tree.{Expr, variable, word, bit, one, two}
 use Rattle.reading.specs.Expressions.{argumentsWith, readExpr}
 use Rattle.reading.specs.FirstByte.{as-variable, as-word, as-bit, as-operation, first-argument, second-argument, arguments-one, arguments-two}

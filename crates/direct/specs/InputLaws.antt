@@ -9,8 +9,9 @@ use mathlib.Core.Logic.{inl, inr}
 use lib.ListN.{length, getD}
 use lib.Dec.{eqb, ltb, leb}
 use borrow.Author.Tests.{eq-eqb, ne-eqb, le-ltb, lt-ltb, le-leb, lt-leb, eqb-true, leb-true, ltb-false}
-use Rattle.words.specs.Lists.{_∈_, split, from, upto, from-in}
-use Rattle.words.specs.ListLaws.{or-none}
+use Rattle.words.specs.Lists.{_∈_, from, upto}
+use Rattle.words.specs.MemberLaws.{from-in}
+use Rattle.words.specs.TestLaws.{split, or-none}
 use Rattle.codes.specs.Codes.{sameKind}
 use Rattle.codes.specs.declared.Kind.{Kind}
 use Rattle.codes.specs.declared.Kind.the-variants as kind

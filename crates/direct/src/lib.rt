@@ -7,7 +7,7 @@ ghost use mathlib.Core.Path.{_≡_};
 ghost use Prim.Native.Nat.{_≤_, _<_};
 ghost use lib.ListN.{length};
 ghost use Rattle.words.specs.Buffers.{over};
-ghost use Rattle.answers.specs.ParsingLaws.{IsRead};
+ghost use Rattle.answers.specs.Parsing.{IsRead};
 ghost use Rattle.reading.specs.Header.{variables, HasKinds};
 ghost use Rattle.reading.specs.Expressions.{readExpr};
 ghost use Rattle.reading.specs.Blocks.{readAssign, readStatement, readBlock};

@@ -5,7 +5,8 @@ use mathlib.Core.List.{List, [], _∷_, map}
 use mathlib.Core.Logic.{_⊎_, inl, inr}
 use native.Mathlib.Omega.{arith}
 use lib.ListN.{length, take}
-use Rattle.words.specs.Lists.{_∈_, same?}
+use Rattle.words.specs.Lists.{_∈_}
+use Rattle.words.specs.TestLaws.{same?}
 use Rattle.words.specs.Numbers.{bytesOf}
 use Rattle.codes.specs.Codes.{kindOf, entryOf, operationOf, codeOf}
 use Rattle.codes.specs.CodeLaws.{kind-bit, kind-word, code-operation, one-or-two, byte-back}

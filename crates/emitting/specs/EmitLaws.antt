@@ -7,7 +7,8 @@ use mathlib.Core.Logic.{inl, inr}
 use native.Mathlib.Nat.{add-zero}
 use native.Mathlib.Omega.{arith}
 use lib.ListN.{length, getD, take}
-use Rattle.words.specs.Lists.{_∈_, upto, from-below, getD-in}
+use Rattle.words.specs.Lists.{_∈_, upto}
+use Rattle.words.specs.MemberLaws.{from-below, getD-in}
 use Rattle.words.specs.ListLaws.{map-same}
 use Rattle.settings.specs.Guards.{table}
 use Rattle.codes.specs.Codes.{kindOf}

@@ -6,7 +6,7 @@ use mathlib.Core.Logic.{_⊎_, inl, inr}
 use native.Mathlib.Omega.{arith}
 use lib.ListN.{length, take, drop, length-append}
 use borrow.Rule.Slice.PartMut.{putMid}
-use Rattle.words.specs.Lists.{same?}
+use Rattle.words.specs.TestLaws.{same?}
 use Rattle.words.specs.Buffers.{over}
 use Rattle.words.specs.BufferLaws.{over-nil, length-over, over-rest, room-rest}
 

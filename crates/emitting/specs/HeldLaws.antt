@@ -6,7 +6,9 @@ use native.Mathlib.Omega.{arith}
 use lib.Dec.{ltb}
 use lib.ListN.{length, getD, take, List·getD-eq-default}
 use borrow.Author.Tests.{ltb-true, ltb-false}
-use Rattle.words.specs.Lists.{_∈_, split, getD-in}
+use Rattle.words.specs.Lists.{_∈_}
+use Rattle.words.specs.MemberLaws.{getD-in}
+use Rattle.words.specs.TestLaws.{split}
 use Rattle.codes.specs.declared.Kind.{Kind}
 use Rattle.codes.specs.declared.Kind.the-variants as kind
 use Rattle.reading.specs.Header.{kindAt}

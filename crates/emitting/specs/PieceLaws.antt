@@ -6,9 +6,10 @@ use mathlib.Core.List.{List, [], _∷_, _++_, map, append-nil}
 use native.Mathlib.Nat.{add-zero, zero-add}
 use native.Mathlib.Omega.{arith}
 use lib.ListN.{length, getD, length-append}
-use Rattle.words.specs.Lists.{split, keep, from, upto, flat, length-from}
+use Rattle.words.specs.Lists.{keep, from, upto, flat}
+use Rattle.words.specs.ListLaws.{length-from, length-keep}
+use Rattle.words.specs.TestLaws.{split}
 use Rattle.words.specs.Numbers.{bytesOf}
-use Rattle.words.specs.ListLaws.{length-keep}
 use Rattle.settings.specs.Sets.{restsOn, rests}
 use Rattle.gates.specs.Limits.{mostConditions}
 use Rattle.fused.specs.Records.{Record, pairWires}

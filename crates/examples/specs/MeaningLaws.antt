@@ -6,7 +6,8 @@ use mathlib.Core.Bool.{true}
 use mathlib.Core.Logic.{_↔_}
 use lib.ListN.{length, getD, drop}
 use lib.Seq.{drop-length}
-use Rattle.words.specs.Lists.{_∈_, elem, elem→∈}
+use Rattle.words.specs.Lists.{_∈_, elem}
+use Rattle.words.specs.MemberLaws.{elem→∈}
 use Rattle.words.specs.Buffers.{over}
 use Rattle.settings.specs.Settings.{settingOf}
 use Rattle.settings.specs.Sets.{has}

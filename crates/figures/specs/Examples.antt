@@ -8,7 +8,9 @@ use mathlib.Core.List.{List, [], _∷_}
 use mathlib.Core.Logic.{_⊎_, inl, inr}
 use lib.Dec.{ltb, lit<, lit≤}
 use borrow.Author.Tests.{ltb-true}
-use Rattle.words.specs.Lists.{_∈_, split, same?, elem→∈}
+use Rattle.words.specs.Lists.{_∈_}
+use Rattle.words.specs.MemberLaws.{elem→∈}
+use Rattle.words.specs.TestLaws.{split, same?}
 use Rattle.words.specs.Numbers.{number}
 use Rattle.codes.specs.Codes.{operationOf, codeOf}
 use Rattle.gates.specs.EarlierLaws.{Inside}

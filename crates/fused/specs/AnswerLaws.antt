@@ -5,7 +5,7 @@ use mathlib.Core.List.{List}
 use lib.Dec.{eqb}
 use lib.ListN.{length}
 use borrow.Author.Tests.{eq-eqb, ne-eqb, eqb-true, eqb-false, le-leb}
-use Rattle.words.specs.Lists.{split}
+use Rattle.words.specs.TestLaws.{split}
 use Rattle.answers.specs.declared.Answer.{Answer}
 use Rattle.plan.specs.Rows.{planAnswer}
 use Rattle.fused.specs.CircuitFile.{fusedFile}

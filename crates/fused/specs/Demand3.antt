@@ -4,7 +4,8 @@ use Prim.Native.Nat.{ℕ, _<_}
 use mathlib.Core.Path.{_≡_, sym, _∙_}
 use mathlib.Core.List.{List, map, map-map}
 use lib.ListN.{length}
-use Rattle.words.specs.Lists.{_∈_, map-in}
+use Rattle.words.specs.Lists.{_∈_}
+use Rattle.words.specs.MemberLaws.{map-in}
 use Rattle.words.specs.Numbers.{Bytes}
 use Rattle.words.specs.ListLaws.{map-same}
 use Rattle.answers.specs.declared.Answer.{Answer}

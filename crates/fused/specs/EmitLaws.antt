@@ -5,7 +5,8 @@ use mathlib.Core.List.{List, [], _∷_, map, map-map}
 use mathlib.Core.Logic.{inl, inr}
 use native.Mathlib.Omega.{arith}
 use lib.ListN.{length, getD, length-map}
-use Rattle.words.specs.Lists.{_∈_, from, upto, from-below, map-in, getD-in}
+use Rattle.words.specs.Lists.{_∈_, from, upto}
+use Rattle.words.specs.MemberLaws.{from-below, map-in, getD-in}
 use Rattle.codes.specs.declared.Operation.{Operation}
 use Rattle.gates.specs.Gates.{Gate, Gates, gateAt, arguments}
 use Rattle.gates.specs.Gates as gate

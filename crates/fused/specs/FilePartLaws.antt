@@ -4,7 +4,8 @@ use mathlib.Core.Path.{_≡_, refl, ap, subst, _∙_}
 use mathlib.Core.List.{List, [], _∷_, _++_, map}
 use native.Mathlib.Omega.{arith}
 use lib.ListN.{length, getD}
-use Rattle.words.specs.Lists.{_∈_, getD-in}
+use Rattle.words.specs.Lists.{_∈_}
+use Rattle.words.specs.MemberLaws.{getD-in}
 use Rattle.words.specs.Numbers.{numberAt}
 use Rattle.gates.specs.Gates.{run}
 use Rattle.gates.specs.EarlierLaws.{Inside}

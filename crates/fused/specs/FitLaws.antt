@@ -9,8 +9,8 @@ use native.Mathlib.Omega.{arith}
 use lib.Dec.{eqb}
 use lib.Pow.{pow-mono}
 use lib.ListN.{length, getD, length-map}
-use Rattle.words.specs.Lists.{from, upto, length-from}
-use Rattle.words.specs.ListLaws.{length-keep}
+use Rattle.words.specs.Lists.{from, upto}
+use Rattle.words.specs.ListLaws.{length-from, length-keep}
 use Rattle.settings.specs.Sets.{has, restsOn, rests}
 use Rattle.settings.specs.Guards.{spread, tableOver, table}
 use Rattle.settings.specs.BitLaws.{collect-below}

@@ -6,10 +6,11 @@ use native.Mathlib.Omega.{arith}
 use lib.Dec.{eqb, ltb}
 use borrow.Author.Tests.{eqb-true, ltb-true, ltb-false}
 use lib.ListN.{length, take, drop, length-map, List·getD-eq-default}
-use Rattle.words.specs.Lists.{_∈_, split, upto, length-from}
+use Rattle.words.specs.Lists.{_∈_, upto}
+use Rattle.words.specs.ListLaws.{length-from, length-keep}
+use Rattle.words.specs.TestLaws.{split}
 use Rattle.codes.specs.declared.Operation.{Operation}
 use Rattle.words.specs.Numbers.{Bytes}
-use Rattle.words.specs.ListLaws.{length-keep}
 use Rattle.answers.specs.declared.Answer.{Answer}
 use Rattle.answers.specs.ParsingLaws.{is-read}
 use Rattle.reading.specs.Header.{variables, kindAt}

@@ -5,7 +5,9 @@ use mathlib.Core.Path.{_≡_, sym, ap, _∙_}
 use mathlib.Core.Bool.{Bool, cond}
 use mathlib.Core.List.{List, map}
 use lib.ListN.{length, getD}
-use Rattle.words.specs.Lists.{_∈_, split, keep-in}
+use Rattle.words.specs.Lists.{_∈_}
+use Rattle.words.specs.MemberLaws.{keep-in}
+use Rattle.words.specs.TestLaws.{split}
 use Rattle.settings.specs.Settings.{Setting, bitOf, numberOf, preRestsOn}
 use Rattle.settings.specs.Sets.{has}
 use Rattle.settings.specs.Guards.{table}

@@ -5,7 +5,8 @@ use mathlib.Core.Bool.{false}
 use mathlib.Core.List.{List}
 use lib.Dec.{eqb}
 use lib.ListN.{length}
-use Rattle.words.specs.Lists.{_∈_, split, upto}
+use Rattle.words.specs.Lists.{_∈_, upto}
+use Rattle.words.specs.TestLaws.{split}
 use Rattle.settings.specs.Settings.{Setting, Once}
 use Rattle.settings.specs.ListLaws.{from-once, keep-once}
 use Rattle.codes.specs.declared.Operation.{Operation}

@@ -7,7 +7,8 @@ use mathlib.Core.Logic.{_⊎_, inl, inr}
 use native.Mathlib.Nat.{add-zero, zero-add}
 use native.Mathlib.Omega.{arith}
 use lib.ListN.{length, getD, length-append}
-use Rattle.words.specs.Lists.{_∈_, same?, from, upto}
+use Rattle.words.specs.Lists.{_∈_, from, upto}
+use Rattle.words.specs.TestLaws.{same?}
 use Rattle.settings.specs.Settings.{bitOf}
 use Rattle.codes.specs.declared.Operation.{Operation}
 use Rattle.gates.specs.Running.{isOne}

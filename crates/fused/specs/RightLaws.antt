@@ -6,7 +6,9 @@ use mathlib.Core.Logic.{inl, inr}
 use native.Mathlib.Nat.{zero-add}
 use native.Mathlib.Omega.{arith}
 use lib.ListN.{length, getD}
-use Rattle.words.specs.Lists.{_∈_, split, upto, getD-in}
+use Rattle.words.specs.Lists.{_∈_, upto}
+use Rattle.words.specs.MemberLaws.{getD-in}
+use Rattle.words.specs.TestLaws.{split}
 use Rattle.words.specs.ListLaws.{map-same}
 use Rattle.settings.specs.Settings.{Setting, Once}
 use Rattle.codes.specs.declared.Operation.{Operation}

@@ -4,7 +4,8 @@ use mathlib.Core.List.{List, [], _∷_}
 use Prim.Native.Nat.{ℕ, _+_, _*_, _≤_}
 use native.Mathlib.Omega.{arith}
 use lib.ListN.{length, length-append, length-map}
-use Rattle.words.specs.Lists.{upto, length-from}
+use Rattle.words.specs.Lists.{upto}
+use Rattle.words.specs.ListLaws.{length-from}
 use Rattle.settings.specs.Settings.{Once}
 use Rattle.answers.specs.declared.Answer.{Answer}
 use Rattle.answers.specs.ParsingLaws.{is-read}

@@ -5,7 +5,8 @@ use Prim.Native.Nat.{ℕ, suc, _+_, _*_, _≤_}
 use native.Mathlib.Nat.{suc-mul}
 use native.Mathlib.Omega.{arith}
 use lib.ListN.{length, length-append, length-map}
-use Rattle.words.specs.Lists.{from, upto, length-from}
+use Rattle.words.specs.Lists.{from, upto}
+use Rattle.words.specs.ListLaws.{length-from}
 use Rattle.codes.specs.Codes.{entryOf}
 use Rattle.codes.specs.declared.Operation.{Operation}
 use Rattle.gates.specs.Gates.{Gates}

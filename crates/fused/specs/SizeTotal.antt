@@ -7,7 +7,8 @@ use native.Mathlib.Omega.{arith}
 use lib.Dec.{eqb}
 use borrow.Author.Tests.{eqb-true, ne-eqb}
 use lib.ListN.{length}
-use Rattle.words.specs.Lists.{_∈_, split, keep}
+use Rattle.words.specs.Lists.{_∈_, keep}
+use Rattle.words.specs.TestLaws.{split}
 use Rattle.settings.specs.Settings.{Once}
 
 module _ (group : ℕ → ℕ) where

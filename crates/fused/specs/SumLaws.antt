@@ -8,7 +8,8 @@ use mathlib.Core.Logic.{inl, inr}
 use native.Mathlib.Nat.{zero-add, add-zero}
 use native.Mathlib.Omega.{arith}
 use lib.ListN.{length, getD}
-use Rattle.words.specs.Lists.{_∈_, split, upto}
+use Rattle.words.specs.Lists.{_∈_, upto}
+use Rattle.words.specs.TestLaws.{split}
 use Rattle.settings.specs.Settings.{Once}
 use Rattle.codes.specs.declared.Operation.{Operation}
 use Rattle.gates.specs.Running.{isOne}

@@ -8,7 +8,9 @@ use native.Mathlib.Nat.{zero-add}
 use native.Mathlib.Omega.{arith}
 use borrow.Author.Tests.{eq-eqb, ne-eqb}
 use lib.ListN.{length, length-append}
-use Rattle.words.specs.Lists.{_∈_, same?, in-append}
+use Rattle.words.specs.Lists.{_∈_}
+use Rattle.words.specs.MemberLaws.{in-append}
+use Rattle.words.specs.TestLaws.{same?}
 use Rattle.settings.specs.Settings.{Once}
 use Rattle.gates.specs.Gates.{Gates, gateAt, arguments}
 use Rattle.plan.specs.Groups.{groups, members, waitsFor}

@@ -7,7 +7,8 @@ use mathlib.Core.Logic.{_⊎_, inl, inr}
 use native.Mathlib.Omega.{arith}
 use lib.Dec.{ltb}
 use borrow.Author.Tests.{ltb-true, ltb-false}
-use Rattle.words.specs.Lists.{_∈_, split}
+use Rattle.words.specs.Lists.{_∈_}
+use Rattle.words.specs.TestLaws.{split}
 use Rattle.codes.specs.Codes.{commutes, entryOf}
 use Rattle.codes.specs.Results.{resultOf}
 use Rattle.codes.specs.ResultLaws.{result-commutes}

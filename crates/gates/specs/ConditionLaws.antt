@@ -5,7 +5,8 @@ use mathlib.Core.List.{[], _∷_}
 use mathlib.Core.Logic.{inl, inr}
 use native.Mathlib.Omega.{arith}
 use lib.ListN.{length}
-use Rattle.words.specs.Lists.{_∈_, elem, elem→∈, ∈→elem, keep-in, keep-from, upto, from-in, from-below}
+use Rattle.words.specs.Lists.{_∈_, elem, upto}
+use Rattle.words.specs.MemberLaws.{elem→∈, ∈→elem, keep-in, keep-from, from-in, from-below}
 use Rattle.gates.specs.Gates.{Gate, start, word, bit, operation, choice, Gates, gateAt, Earlier, Condition, heads, conditions}
 
 heads-tail : (k : Gate) (C : Gates) (c : ℕ) → c ∈ heads C → c ∈ heads (k ∷ C)

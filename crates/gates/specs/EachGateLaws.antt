@@ -8,7 +8,9 @@ use mathlib.Core.Logic.{_⊎_, inl, inr}
 use lib.Dec.{ltb}
 use lib.ListN.{length, getD, length-map, List·getD-append, List·getD-eq-default}
 use borrow.Author.Tests.{ltb-true, ltb-false}
-use Rattle.words.specs.Lists.{split, upto, length-from}
+use Rattle.words.specs.Lists.{upto}
+use Rattle.words.specs.ListLaws.{length-from}
+use Rattle.words.specs.TestLaws.{split}
 use Rattle.codes.specs.Codes.{entryOf}
 use Rattle.codes.specs.declared.Kind.{Kind}
 use Rattle.codes.specs.declared.Operation.{Operation}

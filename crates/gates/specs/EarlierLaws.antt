@@ -7,7 +7,9 @@ use native.Mathlib.Omega.{arith}
 use lib.ListN.{length, getD, set, List·getD-eq-default}
 use lib.Dec.{ltb}
 use borrow.Author.Tests.{ltb-true, ltb-false}
-use Rattle.words.specs.Lists.{_∈_, split, getD-in}
+use Rattle.words.specs.Lists.{_∈_}
+use Rattle.words.specs.MemberLaws.{getD-in}
+use Rattle.words.specs.TestLaws.{split}
 use Rattle.gates.specs.Gates.{Gate, Gates, gateAt, arguments, Earlier}
 use Rattle.gates.specs.Gates as gate
 

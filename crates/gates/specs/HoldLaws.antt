@@ -7,8 +7,9 @@ use mathlib.Core.Logic.{_⊎_, inl, inr}
 use native.Mathlib.Omega.{arith}
 use lib.ListN.{length, getD, set, length-append, length-set}
 use lib.Seq.{getD-set-same, getD-set-other}
-use Rattle.words.specs.Lists.{_∈_, same?, split, upto, keep-in, from-in}
-use Rattle.words.specs.ListLaws.{or-none}
+use Rattle.words.specs.Lists.{_∈_, upto}
+use Rattle.words.specs.MemberLaws.{keep-in, from-in}
+use Rattle.words.specs.TestLaws.{same?, split, or-none}
 use Rattle.reading.specs.Tree.{Block}
 use Rattle.gates.specs.Gates.{Gate, choice, Gates, runAt}
 use Rattle.gates.specs.FigureLaws.{OnArguments, runAt-append, runAt-last}

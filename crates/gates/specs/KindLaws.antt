@@ -9,7 +9,8 @@ use lib.Dec.{eqb, ltb}
 use borrow.Author.Tests.{ltb-true, ltb-false}
 use lib.ListN.{length, getD, set, List·getD-eq-default}
 use lib.Seq.{getD-set-same, getD-set-other}
-use Rattle.words.specs.Lists.{_∈_, split, same?}
+use Rattle.words.specs.Lists.{_∈_}
+use Rattle.words.specs.TestLaws.{split, same?}
 use Rattle.words.specs.NumberLaws.{word-below}
 use Rattle.codes.specs.Codes.{entryOf}
 use Rattle.codes.specs.Results.{bitOf, resultOf}

@@ -6,9 +6,9 @@ use mathlib.Core.List.{List}
 use mathlib.Core.Bool.{_||_}
 use lib.ListN.{length, getD}
 use lib.Seq.{getD-take}
-use Rattle.words.specs.Lists.{keep-same, upto}
-use Rattle.answers.specs.Parsing.{Parsed, parsed, refused}
-use Rattle.answers.specs.ParsingLaws.{IsRead}
+use Rattle.words.specs.Lists.{upto}
+use Rattle.words.specs.ListLaws.{keep-same}
+use Rattle.answers.specs.Parsing.{Parsed, parsed, refused, IsRead}
 use Rattle.reading.specs.Header.{variables, kindAt}
 use Rattle.reading.specs.Tree.{Expr, Statement, Block}
 use Rattle.reading.specs.Rule.{readRule}

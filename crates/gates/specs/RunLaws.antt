@@ -7,8 +7,7 @@ use mathlib.Core.Bool.{false}
 use borrow.Author.Tests.{eqb-false}
 use lib.ListN.{length, getD, set, length-set, List·getD-append}
 use lib.Seq.{getD-set-other, set-append-left}
-use Rattle.words.specs.Lists.{split}
-use Rattle.words.specs.ListLaws.{or-none}
+use Rattle.words.specs.TestLaws.{split, or-none}
 use Rattle.codes.specs.Results.{resultOf}
 use Rattle.codes.specs.declared.Kind.{Kind}
 use Rattle.reading.specs.Tree.{Expr, variable, word, bit, one, two, Statement, assign, skip, branch, Block, end, then}

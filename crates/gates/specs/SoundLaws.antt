@@ -5,7 +5,8 @@ use mathlib.Core.List.{List, [], _∷_, _++_}
 use mathlib.Core.Logic.{_⊎_, inl, inr}
 use native.Mathlib.Omega.{arith}
 use lib.ListN.{length, getD, length-append, length-set}
-use Rattle.words.specs.Lists.{_∈_, keep-from, upto, from-below}
+use Rattle.words.specs.Lists.{_∈_, upto}
+use Rattle.words.specs.MemberLaws.{keep-from, from-below}
 use Rattle.codes.specs.declared.Kind.{Kind}
 use Rattle.codes.specs.declared.Kind.the-variants as kind
 use Rattle.codes.specs.declared.Operation.{Operation}

@@ -5,8 +5,9 @@ use mathlib.Core.List.{List, map}
 use native.Mathlib.Nat.{zero-add}
 use native.Mathlib.Omega.{arith}
 use lib.ListN.{getD, length-map}
-use Rattle.words.specs.Lists.{_∈_, from, upto, from-below, length-from, getD-from}
-use Rattle.words.specs.ListLaws.{getD-run}
+use Rattle.words.specs.Lists.{_∈_, from, upto}
+use Rattle.words.specs.ListLaws.{length-from, getD-from, getD-run}
+use Rattle.words.specs.MemberLaws.{from-below}
 use Rattle.answers.specs.Parsing.{Parsed, parsed}
 use Rattle.reading.specs.Header.{variables, kindAt}
 use Rattle.reading.specs.Tree.{Block}

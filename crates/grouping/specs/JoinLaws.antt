@@ -8,7 +8,9 @@ use native.Mathlib.Omega.{arith}
 use lib.Dec.{eqb}
 use lib.ListN.{length, getD, replicate, length-replicate}
 use borrow.Author.Tests.{eqb-true, eq-eqb, ne-eqb}
-use Rattle.words.specs.Lists.{_∈_, elem, elem→∈, ∈→elem, split}
+use Rattle.words.specs.Lists.{_∈_, elem}
+use Rattle.words.specs.MemberLaws.{elem→∈, ∈→elem}
+use Rattle.words.specs.TestLaws.{split}
 use Rattle.words.specs.ListLaws.{getD-zeros}
 use Rattle.plan.specs.PlanFile.{leastBytes, groupsCounted, groupAt, after, groupsFrom, groupsIn, Listed, Apart}
 use Rattle.plan.specs.Groups.{smallest, groupOf}

@@ -10,8 +10,9 @@ use lib.ListN.{length, getD, set, replicate, length-map, length-replicate, lengt
 use lib.Seq.{getD-set-same, getD-set-other, ext-getD}
 use lib.Dec.{ltb}
 use borrow.Author.Tests.{eq-eqb, ne-eqb, ltb-true, ltb-false}
-use Rattle.words.specs.Lists.{_∈_, elem, split, same?, upto, length-from}
-use Rattle.words.specs.ListLaws.{getD-run, getD-zeros}
+use Rattle.words.specs.Lists.{_∈_, elem, upto}
+use Rattle.words.specs.ListLaws.{length-from, getD-run, getD-zeros}
+use Rattle.words.specs.TestLaws.{split, same?}
 use Rattle.gates.specs.Limits.{mostGates}
 use Rattle.words.specs.Buffers.{padded}
 use Rattle.words.specs.BufferLaws.{padded-at, padded-length}

@@ -9,7 +9,8 @@ use lib.Dec.{eqb, leb, ltb}
 use lib.Bits.{or-add-and, and-comm, and-zero-l}
 use lib.ListN.{getD}
 use borrow.Author.Tests.{eqb-false, ne-eqb, ltb-true, ltb-false, lt-ltb, leb-true, le-leb}
-use Rattle.words.specs.Lists.{_∈_, split, same-test}
+use Rattle.words.specs.Lists.{_∈_}
+use Rattle.words.specs.TestLaws.{split, same-test}
 use Rattle.settings.specs.Sets.{has, union, Disjoint, excludes}
 use Rattle.settings.specs.SetLaws.{has-union, excludes-right, both, either, or-left, or-right}
 use Rattle.plan.specs.PlanFile.{Rising}

@@ -9,12 +9,12 @@ use lib.Bits.{bitOr}
 use lib.Seq.{ext-getD}
 use Rattle.words.specs.Buffers.{padded}
 use Rattle.words.specs.BufferLaws.{padded-at, padded-length}
-use Rattle.words.specs.Lists.{length-from}
+use Rattle.words.specs.ListLaws.{length-from}
 use Rattle.settings.specs.Sets.{has}
 use Rattle.settings.specs.BitLaws.{bit-or, bit-none}
 use Rattle.settings.specs.SetLaws.{or-false}
-use Rattle.answers.specs.Parsing.{parsed}
-use Rattle.answers.specs.ParsingLaws.{IsRead, read-is, is-read, same-what, same-next}
+use Rattle.answers.specs.Parsing.{parsed, IsRead}
+use Rattle.answers.specs.ParsingLaws.{read-is, is-read, same-what, same-next}
 use Rattle.reading.specs.Limits.{nested}
 use Rattle.reading.specs.Header.{variables}
 use Rattle.reading.specs.Tree.{Statement, Block, end, then}

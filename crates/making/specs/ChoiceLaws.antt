@@ -9,8 +9,9 @@ use lib.ListN.{length, getD, set, replicate, length-set, length-append}
 use lib.Dec.{eqb}
 use borrow.Author.Tests.{eqb-true, eqb-false, eq-eqb, ne-eqb}
 use lib.Seq.{getD-set-same, getD-set-other}
-use Rattle.words.specs.BufferLaws.{getD-zeros}
-use Rattle.words.specs.Lists.{keep, from, upto, split, same?, getD-from, from-more}
+use Rattle.words.specs.ListLaws.{getD-zeros, getD-from, from-more}
+use Rattle.words.specs.Lists.{keep, from, upto}
+use Rattle.words.specs.TestLaws.{split, same?}
 use Rattle.settings.specs.Settings.{bit}
 use Rattle.settings.specs.Sets.{has}
 use Rattle.settings.specs.BitLaws.{bit-zero, bit-suc, bit-none}

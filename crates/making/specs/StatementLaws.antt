@@ -7,7 +7,9 @@ use mathlib.Core.List.{List}
 use lib.ListN.{length, getD, set, length-set}
 use lib.Dec.{eqb}
 use lib.Bits.{bitOr}
-use Rattle.words.specs.Lists.{keep, upto, from-below, keep-same}
+use Rattle.words.specs.Lists.{keep, upto}
+use Rattle.words.specs.ListLaws.{keep-same}
+use Rattle.words.specs.MemberLaws.{from-below}
 use Rattle.settings.specs.Sets.{has}
 use Rattle.settings.specs.BitLaws.{bit-or, bit-none}
 use Rattle.codes.specs.Codes.{codeOf}
@@ -16,8 +18,8 @@ use Rattle.codes.specs.declared.Kind.the-variants as kind
 use Rattle.codes.specs.declared.Code.{Code}
 use Rattle.codes.specs.declared.Form.{Form}
 use Rattle.codes.specs.declared.Form.the-variants.{Skip}
-use Rattle.answers.specs.Parsing.{Parsed, parsed, _>>=_}
-use Rattle.answers.specs.ParsingLaws.{IsRead, read-is, same-what, same-next}
+use Rattle.answers.specs.Parsing.{Parsed, parsed, _>>=_, IsRead}
+use Rattle.answers.specs.ParsingLaws.{read-is, same-what, same-next}
 use Rattle.reading.specs.Limits.{deepest}
 use Rattle.reading.specs.Header.{variables, kindAt}
 use Rattle.reading.specs.Tree.{Expr, Statement, assign, skip, branch, Block}

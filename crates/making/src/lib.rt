@@ -7,7 +7,7 @@ ghost use mathlib.Core.Path.{_≡_};
 ghost use mathlib.Core.List.{[], _∷_};
 ghost use Prim.Native.Nat.{_+_, _*_, _^_, _≤_, _<_};
 ghost use lib.ListN.{length, replicate};
-ghost use Rattle.answers.specs.ParsingLaws.{IsRead};
+ghost use Rattle.answers.specs.Parsing.{IsRead};
 ghost use Rattle.reading.specs.Header.{variables};
 ghost use Rattle.reading.specs.RuleLaws.{Headed};
 ghost use Rattle.reading.specs.Expressions.{readExpr};

@@ -8,7 +8,10 @@ use native.Mathlib.Omega.{arith}
 use lib.ListN.{length, getD, set, replicate, length-append, length-replicate}
 use lib.Dec.{eqb}
 use borrow.Author.Tests.{ne-eqb, eqb-true, eqb-false}
-use Rattle.words.specs.Lists.{_∈_, elem, split, keep-in, keep-from, upto, from-below, keep-same}
+use Rattle.words.specs.Lists.{_∈_, elem, upto}
+use Rattle.words.specs.ListLaws.{keep-same}
+use Rattle.words.specs.MemberLaws.{keep-in, keep-from, from-below}
+use Rattle.words.specs.TestLaws.{split}
 use Rattle.words.specs.Buffers.{over}
 use Rattle.words.specs.BufferLaws.{over-nil, over-snoc}
 use Rattle.gates.specs.Gates.{Gates, heads, conditions}

@@ -7,7 +7,8 @@ use mathlib.Core.Logic.{_⊎_, inl, inr}
 use native.Mathlib.Omega.{arith}
 use lib.ListN.{length, getD, length-set}
 use lib.Seq.{getD-set-same, getD-set-other, set-out}
-use Rattle.words.specs.Lists.{_∈_, same?}
+use Rattle.words.specs.Lists.{_∈_}
+use Rattle.words.specs.TestLaws.{same?}
 use Rattle.words.specs.ListLaws.{inside-list}
 use Rattle.gates.specs.Gates.{Gate, start, word, bit, operation, choice, arguments}
 use Rattle.settings.specs.Settings.{Setting}

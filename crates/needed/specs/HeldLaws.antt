@@ -9,7 +9,8 @@ use lib.ListN.{length, getD, length-append, List·getD-append}
 use lib.Seq.{getD-at}
 use lib.Dec.{eqb, leb}
 use borrow.Author.Tests.{eq-eqb, ne-eqb}
-use Rattle.words.specs.Lists.{_∈_, same?}
+use Rattle.words.specs.Lists.{_∈_}
+use Rattle.words.specs.TestLaws.{same?}
 use Rattle.codes.specs.Codes.{plain, entryOf, operationOf, codeOf}
 use Rattle.codes.specs.CodeLaws.{code-unknown}
 use Rattle.codes.specs.declared.Code.{Code}

@@ -7,7 +7,8 @@ use mathlib.Core.Logic.{_⊎_, inl, inr}
 use lib.ListN.{length, getD, length-set}
 use lib.Seq.{getD-set-same, getD-set-other, set-out}
 use borrow.Author.Tests.{not-true}
-use Rattle.words.specs.Lists.{_∈_, split, same?}
+use Rattle.words.specs.Lists.{_∈_}
+use Rattle.words.specs.TestLaws.{split, same?}
 use Rattle.words.specs.ListLaws.{inside-list}
 use Rattle.gates.specs.Gates.{Gate, start, word, bit, operation, choice}
 use Rattle.settings.specs.Settings.{Setting}

@@ -9,8 +9,10 @@ use lib.ListN.{length, getD, set, replicate, length-set}
 use lib.Seq.{getD-set-same, getD-set-other, ext-getD}
 use lib.Dec.{eqb}
 use borrow.Author.Tests.{eq-eqb, ne-eqb}
-use Rattle.words.specs.Lists.{elem, same?, upto, keep-same, elem-more}
-use Rattle.words.specs.ListLaws.{inside-list, getD-zeros}
+use Rattle.words.specs.Lists.{elem, upto}
+use Rattle.words.specs.ListLaws.{keep-same, inside-list, getD-zeros}
+use Rattle.words.specs.MemberLaws.{elem-more}
+use Rattle.words.specs.TestLaws.{same?}
 use Rattle.settings.specs.Settings.{bitOf}
 use Rattle.codes.specs.Codes.{codeOf}
 use Rattle.codes.specs.declared.Form.{Form}

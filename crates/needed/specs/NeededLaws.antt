@@ -5,7 +5,8 @@ use mathlib.Core.List.{List}
 use mathlib.Core.Logic.{inl, inr}
 use native.Mathlib.Omega.{arith}
 use lib.ListN.{length}
-use Rattle.words.specs.Lists.{_∈_, split}
+use Rattle.words.specs.Lists.{_∈_}
+use Rattle.words.specs.TestLaws.{split}
 use Rattle.gates.specs.Gates.{Gate, start, word, bit, operation, choice, Gates, gateAt, arguments, Earlier, Condition}
 use Rattle.settings.specs.Settings.{Setting}
 use Rattle.needed.specs.Needed.{asks, Needed, from-start, asked}

@@ -6,7 +6,8 @@ use mathlib.Core.Bool.{Bool, true, false, false≢true}
 use mathlib.Core.Logic.{_⊎_, inl, inr}
 use native.Mathlib.Omega.{arith}
 use lib.ListN.{length, getD, replicate, length-replicate}
-use Rattle.words.specs.Lists.{_∈_, same?, same-test}
+use Rattle.words.specs.Lists.{_∈_}
+use Rattle.words.specs.TestLaws.{same?, same-test}
 use Rattle.gates.specs.Gates.{Gates, gateAt, Earlier}
 use Rattle.settings.specs.Settings.{Setting}
 use Rattle.settings.specs.Interface.{SetsOf}

@@ -7,7 +7,7 @@ use native.Mathlib.Nat.{sub-zero}
 use native.Mathlib.Omega.{arith}
 use lib.ListN.{length, getD, take, replicate, length-replicate}
 use lib.Seq.{take-suc, take-length}
-use Rattle.words.specs.Lists.{getD-in}
+use Rattle.words.specs.MemberLaws.{getD-in}
 use Rattle.settings.specs.Sets.{whole, given, without}
 use Rattle.settings.specs.Numbers.{numbers}
 use Rattle.gates.specs.Gates.{Gates, conditions}

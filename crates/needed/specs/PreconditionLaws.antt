@@ -7,7 +7,8 @@ use mathlib.Core.Logic.{_↔_}
 use native.Mathlib.Omega.{arith}
 use lib.ListN.{length}
 use lib.Pow.{pow-mono, pow-pos}
-use Rattle.words.specs.Lists.{_∈_, elem, upto, same-test}
+use Rattle.words.specs.Lists.{_∈_, elem, upto}
+use Rattle.words.specs.TestLaws.{same-test}
 use Rattle.gates.specs.Gates.{Gates, Earlier, Condition, heads, conditions}
 use Rattle.gates.specs.ConditionLaws.{condition-in}
 use Rattle.settings.specs.Settings.{Setting, settingOf, numberOf, Over, Once}

@@ -7,7 +7,7 @@ use native.Mathlib.Omega.{arith}
 use lib.Dec.{leb}
 use lib.ListN.{take}
 use borrow.Author.Tests.{leb-true, leb-false}
-use Rattle.words.specs.Lists.{split, same?}
+use Rattle.words.specs.TestLaws.{split, same?}
 use Rattle.codes.specs.Codes.{entryOf, operationOf, codeOf}
 use Rattle.codes.specs.CodeLaws.{code-operation, code-unknown}
 use Rattle.codes.specs.declared.Operation.{Operation}

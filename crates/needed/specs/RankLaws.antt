@@ -10,8 +10,10 @@ use lib.ListN.{length, getD, set, length-append, length-map, length-set}
 use lib.Seq.{getD-set-same, getD-set-other}
 use lib.Dec.{eqb}
 use borrow.Author.Tests.{eq-eqb, ne-eqb, eqb-true, eqb-false}
-use Rattle.words.specs.Lists.{_∈_, split, same?, keep, keep-from, from, upto, from-below, length-from, from-more, keep-more}
-use Rattle.words.specs.ListLaws.{length-keep, getD-run}
+use Rattle.words.specs.Lists.{_∈_, keep, from, upto}
+use Rattle.words.specs.ListLaws.{length-from, from-more, keep-more, length-keep, getD-run}
+use Rattle.words.specs.MemberLaws.{keep-from, from-below}
+use Rattle.words.specs.TestLaws.{split, same?}
 use Rattle.gates.specs.Gates.{Gates, conditions}
 use Rattle.needed.specs.Ranks.{rankIn, ranksOf, markedIn, NumberedBelow}
 

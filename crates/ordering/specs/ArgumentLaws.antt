@@ -5,7 +5,8 @@ use mathlib.Core.Bool.{true, false}
 use mathlib.Core.List.{List, [], _∷_, _++_, map, map-append}
 use native.Mathlib.Omega.{arith}
 use lib.ListN.{length, getD, take, length-set}
-use Rattle.words.specs.Lists.{keep, keep-in, upto, from-in, in-map}
+use Rattle.words.specs.Lists.{keep, upto}
+use Rattle.words.specs.MemberLaws.{keep-in, from-in, in-map}
 use Rattle.settings.specs.Sets.{restsOn, rests}
 use Rattle.needed.specs.Held.{codeAt}
 use Rattle.ordering.specs.Tables.{putBit, putEach}

@@ -8,7 +8,9 @@ use native.Mathlib.Omega.{arith}
 use lib.Dec.{eqb}
 use lib.ListN.{length, getD, replicate}
 use borrow.Author.Tests.{eq-eqb, ne-eqb}
-use Rattle.words.specs.Lists.{_∈_, elem, same?, keep, upto, flat, map-in, elem-more}
+use Rattle.words.specs.Lists.{_∈_, elem, keep, upto, flat}
+use Rattle.words.specs.MemberLaws.{map-in, elem-more}
+use Rattle.words.specs.TestLaws.{same?}
 use Rattle.words.specs.ListLaws.{map-same}
 use Rattle.settings.specs.Sets.{rests}
 use Rattle.gates.specs.Gates.{Gates, gateAt, arguments}

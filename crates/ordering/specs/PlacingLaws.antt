@@ -9,7 +9,9 @@ use native.Mathlib.Omega.{arith}
 use lib.Dec.{eqb}
 use lib.ListN.{length, set, length-reverse}
 use borrow.Author.Tests.{eq-eqb, ne-eqb}
-use Rattle.words.specs.Lists.{_∈_, elem, elem→∈, ∈→elem, split, same?}
+use Rattle.words.specs.Lists.{_∈_, elem}
+use Rattle.words.specs.MemberLaws.{elem→∈, ∈→elem}
+use Rattle.words.specs.TestLaws.{split, same?}
 use Rattle.words.specs.Buffers.{over}
 use Rattle.words.specs.BufferLaws.{over-nil, over-snoc}
 use Rattle.settings.specs.Settings.{Once}

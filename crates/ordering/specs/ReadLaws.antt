@@ -10,7 +10,10 @@ use lib.ListN.{length, getD, take}
 use lib.Seq.{take-suc, take-all, getD-take, length-take-le}
 use lib.Dec.{eqb}
 use borrow.Author.Tests.{eq-eqb, ne-eqb}
-use Rattle.words.specs.Lists.{_∈_, elem, split, same?, keep, upto, flat, getD-in, from-more, keep-more}
+use Rattle.words.specs.Lists.{_∈_, elem, keep, upto, flat}
+use Rattle.words.specs.ListLaws.{from-more, keep-more}
+use Rattle.words.specs.MemberLaws.{getD-in}
+use Rattle.words.specs.TestLaws.{split, same?}
 use Rattle.codes.specs.Codes.{codeOf}
 use Rattle.codes.specs.declared.Code.{Code}
 use Rattle.gates.specs.Gates.{arguments}

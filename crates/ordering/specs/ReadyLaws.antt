@@ -8,7 +8,9 @@ use native.Mathlib.Omega.{arith}
 use lib.Dec.{eqb}
 use lib.ListN.{getD}
 use borrow.Author.Tests.{eqb-true, eqb-false}
-use Rattle.words.specs.Lists.{_∈_, elem, elem→∈, ∈→elem, split, same-test, keep, keep-in, keep-from, from, upto, from-in}
+use Rattle.words.specs.Lists.{_∈_, elem, keep, from, upto}
+use Rattle.words.specs.MemberLaws.{elem→∈, ∈→elem, keep-in, keep-from, from-in}
+use Rattle.words.specs.TestLaws.{split, same-test}
 use Rattle.settings.specs.Settings.{bit}
 use Rattle.settings.specs.Sets.{excludes}
 use Rattle.settings.specs.SetLaws.{excludes-right}

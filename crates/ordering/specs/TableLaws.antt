@@ -11,7 +11,8 @@ use lib.Pow.{pow-lt}
 use lib.ListN.{length, getD, set, replicate, length-set, length-replicate}
 use lib.Seq.{getD-set-same, getD-set-other, set-out}
 use borrow.Author.Tests.{eq-eqb, ne-eqb}
-use Rattle.words.specs.Lists.{_∈_, elem, split, same?}
+use Rattle.words.specs.Lists.{_∈_, elem}
+use Rattle.words.specs.TestLaws.{split, same?}
 use Rattle.words.specs.ListLaws.{getD-zeros, inside-list}
 use Rattle.settings.specs.Settings.{bit, unlike}
 use Rattle.settings.specs.Sets.{union, flipBit}

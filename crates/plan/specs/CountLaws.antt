@@ -9,9 +9,11 @@ use lib.Dec.{eqb}
 use lib.ListN.{length}
 use borrow.Author.Tests.{eq-eqb, eqb-true}
 use mathlib.Core.Option.{Option, none, some}
-use Rattle.words.specs.Lists.{_∈_, split, upto, length-from}
+use Rattle.words.specs.Lists.{_∈_, upto}
+use Rattle.words.specs.ListLaws.{length-from, length-keep}
+use Rattle.words.specs.TestLaws.{split}
 use Rattle.settings.specs.Settings.{Once}
-use Rattle.settings.specs.ListLaws.{keep-once, from-once, length-keep}
+use Rattle.settings.specs.ListLaws.{keep-once, from-once}
 use Rattle.gates.specs.Gates.{Gates}
 use Rattle.plan.specs.Groups.{groups, waitsFor}
 use Rattle.plan.specs.Order.{firstReady, schedule, order}

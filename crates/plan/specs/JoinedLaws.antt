@@ -8,7 +8,9 @@ use Prim.Native.Nat.{ℕ, _≤_}
 use native.Mathlib.Omega.{arith}
 use lib.Dec.{eqb}
 use lib.ListN.{length}
-use Rattle.words.specs.Lists.{_∈_, elem, elem→∈, ∈→elem, split, same?, upto}
+use Rattle.words.specs.Lists.{_∈_, elem, upto}
+use Rattle.words.specs.MemberLaws.{elem→∈, ∈→elem}
+use Rattle.words.specs.TestLaws.{split, same?}
 use Rattle.settings.specs.Settings.{Once}
 use Rattle.settings.specs.ListLaws.{from-once, keep-once}
 use Rattle.gates.specs.PlainCircuit.{gatesOf, gateCount}

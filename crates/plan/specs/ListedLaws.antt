@@ -7,7 +7,9 @@ use Prim.Native.Nat.{ℕ, zero, suc, _≤_, _<_}
 use native.Mathlib.Omega.{arith}
 use lib.Dec.{eqb}
 use lib.ListN.{length}
-use Rattle.words.specs.Lists.{_∈_, elem, elem→∈, ∈→elem, split, keep, keep-from, from, from-below}
+use Rattle.words.specs.Lists.{_∈_, elem, keep, from}
+use Rattle.words.specs.MemberLaws.{elem→∈, ∈→elem, keep-from, from-below}
+use Rattle.words.specs.TestLaws.{split}
 use Rattle.plan.specs.PlanFile.{Plan, EachGroup, Above, Rising, Listed, Apart}
 use Rattle.plan.specs.Groups.{smallest, groupOf, members}
 use Rattle.plan.specs.Accepted.{Exist}

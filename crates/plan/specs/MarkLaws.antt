@@ -9,10 +9,9 @@ use native.Mathlib.Numerals.{add-one}
 use lib.Dec.{eqb}
 use lib.ListN.{length, getD, take, drop}
 use lib.Seq.{drop-cons}
-use Rattle.words.specs.Lists.{split}
+use Rattle.words.specs.TestLaws.{split}
 use Rattle.settings.specs.SetLaws.{both}
-use Rattle.answers.specs.Parsing.{readMark}
-use Rattle.answers.specs.ParsingLaws.{IsRead}
+use Rattle.answers.specs.Parsing.{readMark, IsRead}
 use Rattle.plan.specs.PlanFile.{mark, leastBytes}
 use Rattle.plan.specs.Rows.{same}
 use Rattle.plan.specs.RowLaws.{and}

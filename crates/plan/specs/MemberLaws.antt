@@ -8,7 +8,8 @@ use native.Mathlib.Omega.{arith}
 use lib.Dec.{eqb}
 use borrow.Author.Tests.{eqb-true, eqb-false, eq-eqb, ne-eqb}
 use lib.ListN.{length, getD}
-use Rattle.words.specs.Lists.{_∈_, split}
+use Rattle.words.specs.Lists.{_∈_}
+use Rattle.words.specs.TestLaws.{split}
 use Rattle.settings.specs.Sets.{excludes}
 use Rattle.settings.specs.SetLaws.{both}
 use Rattle.codes.specs.Codes.{costly, byteOf, operationOf}

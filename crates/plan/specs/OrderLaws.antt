@@ -10,7 +10,9 @@ use native.Mathlib.Omega.{arith}
 use lib.Dec.{eqb}
 use borrow.Author.Tests.{eq-eqb, not-true}
 use lib.ListN.{length}
-use Rattle.words.specs.Lists.{_∈_, elem, elem→∈, ∈→elem, split, keep, keep-in, keep-from}
+use Rattle.words.specs.Lists.{_∈_, elem, keep}
+use Rattle.words.specs.MemberLaws.{elem→∈, ∈→elem, keep-in, keep-from}
+use Rattle.words.specs.TestLaws.{split}
 use Rattle.settings.specs.Settings.{Once}
 use Rattle.plan.specs.Groups.{Chain, one, more}
 use Rattle.plan.specs.Order.{ready, firstReady, schedule, Ordered}

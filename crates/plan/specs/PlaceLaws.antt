@@ -6,7 +6,9 @@ use mathlib.Core.Bool.{false, true≢false}
 use mathlib.Core.List.{List, _∷_, []}
 use mathlib.Core.Logic.{_⊎_, inl, inr}
 use lib.ListN.{length}
-use Rattle.words.specs.Lists.{_∈_, elem, elem→∈, ∈→elem, split}
+use Rattle.words.specs.Lists.{_∈_, elem}
+use Rattle.words.specs.MemberLaws.{elem→∈, ∈→elem}
+use Rattle.words.specs.TestLaws.{split}
 use Rattle.gates.specs.PlainCircuit.{gateCount}
 use Rattle.plan.specs.PlanFile.{leastBytes, groupsCounted, groupAt, after, groupsFrom, groupsIn, Ends, Rising, EachGroup, Listed, Apart}
 use Rattle.plan.specs.Groups.{smallest, groupOf, members}

@@ -4,7 +4,7 @@ use native.Mathlib.Omega.{arith}
 use mathlib.Core.Path.{_≡_, refl}
 use mathlib.Core.List.{List, [], _∷_}
 use mathlib.Core.Logic.{_⊎_, inl, inr}
-use Rattle.words.specs.Lists.{split}
+use Rattle.words.specs.TestLaws.{split}
 use Rattle.plan.specs.Rows.{Row, rows, firstFailing, planRow}
 
 -- every row of the list is 20 to 30

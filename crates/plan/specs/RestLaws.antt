@@ -6,16 +6,18 @@ use mathlib.Core.Logic.{_⊎_, inl, inr, _↔_}
 use Prim.Native.Nat.{ℕ, _^_, _≤_, _<_}
 use native.Mathlib.Omega.{arith}
 use lib.ListN.{length, getD, length-map, List·getD-eq-default}
-use Rattle.words.specs.Lists.{_∈_, split, same?, keep-in, keep-from, upto, from-below, length-from, map-in, getD-in}
+use Rattle.words.specs.Lists.{_∈_, upto}
+use Rattle.words.specs.ListLaws.{length-from, map-same, inside-list, length-keep}
+use Rattle.words.specs.MemberLaws.{keep-in, keep-from, from-below, map-in, getD-in}
+use Rattle.words.specs.TestLaws.{split, same?}
 use Rattle.settings.specs.Settings.{Setting, settingOf, flip, unlike, moves, preRestsOn, preRests}
 use Rattle.settings.specs.Sets.{restsOn, rests}
-use Rattle.settings.specs.ListLaws.{anyBelow-some, length-keep}
+use Rattle.settings.specs.ListLaws.{anyBelow-some}
 use Rattle.settings.specs.SettingLaws.{put-same, put-other}
 use Rattle.settings.specs.RestLaws.{unmoved}
 use Rattle.settings.specs.HoldLaws.{rests-places}
 use Rattle.gates.specs.Gates.{Gates, Earlier, conditions}
 use Rattle.gates.specs.ConditionLaws.{condition-below}
-use Rattle.words.specs.ListLaws.{map-same, inside-list}
 use Rattle.gates.specs.Limits.{mostConditions}
 use Rattle.needed.specs.Needed.{Needed}
 use Rattle.needed.specs.Pass.{needed, preconditionSets, preconditionOf}

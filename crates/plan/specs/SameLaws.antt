@@ -8,8 +8,9 @@ use mathlib.Core.Option.{Option, none, some}
 use native.Mathlib.Omega.{arith}
 use lib.Dec.{eqb, leb}
 use lib.ListN.{length, getD}
-use Rattle.words.specs.Lists.{_∈_, upto, from-below, flat, flat-in, keep-same}
-use Rattle.words.specs.ListLaws.{map-same}
+use Rattle.words.specs.Lists.{_∈_, upto, flat}
+use Rattle.words.specs.ListLaws.{keep-same, map-same}
+use Rattle.words.specs.MemberLaws.{from-below, flat-in}
 use Rattle.settings.specs.Sets.{rests, excludes}
 use Rattle.gates.specs.Gates.{Gates, gateAt, arguments, Earlier, conditions}
 use Rattle.gates.specs.Limits.{mostConditions}

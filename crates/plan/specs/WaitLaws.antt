@@ -9,7 +9,9 @@ use native.Mathlib.Omega.{arith}
 use lib.Dec.{leb}
 use borrow.Author.Tests.{le-leb, leb-true}
 use lib.ListN.{length}
-use Rattle.words.specs.Lists.{_∈_, split, flat, in-flat, flat-in, in-map, map-in, in-append, append-in}
+use Rattle.words.specs.Lists.{_∈_, flat}
+use Rattle.words.specs.MemberLaws.{in-flat, flat-in, in-map, map-in, in-append, append-in}
+use Rattle.words.specs.TestLaws.{split}
 use Rattle.settings.specs.Settings.{Once}
 use Rattle.gates.specs.Gates.{Gates, gateAt, arguments, Earlier, conditions}
 use Rattle.gates.specs.ConditionLaws.{condition-below}

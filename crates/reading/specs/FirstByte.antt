@@ -15,8 +15,8 @@ use Rattle.codes.specs.declared.Operation.{Operation}
 use Rattle.codes.specs.declared.Code.{Code}
 use Rattle.codes.specs.declared.Form.{Form}
 use Rattle.codes.specs.declared.Form.the-variants.{Variable, Word, Bit, Apply}
-use Rattle.answers.specs.Parsing.{Parsed, parsed, unless}
-use Rattle.answers.specs.ParsingLaws.{IsRead, unless-read, first-read, rest-read}
+use Rattle.answers.specs.Parsing.{Parsed, parsed, unless, IsRead}
+use Rattle.answers.specs.ParsingLaws.{unless-read, first-read, rest-read}
 use Rattle.reading.specs.Header.{variables, kindAt}
 use Rattle.reading.specs.Tree.{Expr, variable, word, bit, one, two}
 use Rattle.reading.specs.Expressions.{readVariable, readWord, readBit, secondWith, argumentsWith, operationWith, exprForm, exprWith, readExpr}

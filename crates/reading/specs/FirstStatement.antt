@@ -7,8 +7,8 @@ use lib.ListN.{length, getD}
 use lib.Dec.{ltb, leb, eqb}
 use borrow.Author.Tests.{lt-ltb, eq-eqb, ne-eqb, ltb-true, leb-true}
 use Rattle.codes.specs.declared.Kind.the-variants as kind
-use Rattle.answers.specs.Parsing.{Parsed, parsed, refused, stepOf, unless, _>>=_}
-use Rattle.answers.specs.ParsingLaws.{IsRead, is-read, unless-read, first-read, rest-read, parts-read}
+use Rattle.answers.specs.Parsing.{Parsed, parsed, refused, stepOf, unless, _>>=_, IsRead}
+use Rattle.answers.specs.ParsingLaws.{is-read, unless-read, first-read, rest-read, parts-read}
 use Rattle.reading.specs.Limits.{leastBytes, mostBytes, deepest, nested}
 use Rattle.reading.specs.Header.{variables, kindAt, readHeader}
 use Rattle.reading.specs.Tree.{Expr, Statement, assign, branch, Block, end, then}

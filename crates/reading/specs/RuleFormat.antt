@@ -5,8 +5,8 @@ use mathlib.Core.List.{List}
 use mathlib.Core.Logic.{_↔_}
 use lib.ListN.{length}
 use Rattle.words.specs.Numbers.{Bytes}
-use Rattle.answers.specs.Parsing.{parsed}
-use Rattle.answers.specs.ParsingLaws.{IsRead, is-read}
+use Rattle.answers.specs.Parsing.{parsed, IsRead}
+use Rattle.answers.specs.ParsingLaws.{is-read}
 use Rattle.reading.specs.Tree.{Block}
 use Rattle.reading.specs.Rule.{readRule}
 use Rattle.reading.specs.Format.{ruleBytes, kindBytes, WellFormed}

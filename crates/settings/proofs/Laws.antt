@@ -9,7 +9,8 @@ use native.Mathlib.Omega.{arith}
 use lib.Bits.{bitOr, or-shifted-r}
 use lib.ListN.{length}
 use borrow.Author.Tests.{eq-eqb, ne-eqb}
-use Rattle.words.specs.Lists.{_∈_, keep, keep-from, from, from-below}
+use Rattle.words.specs.Lists.{_∈_, keep, from}
+use Rattle.words.specs.MemberLaws.{keep-from, from-below}
 use Rattle.settings.specs.Settings.{odd, bitOf, bit, settingOf, numberOf}
 use Rattle.settings.specs.Sets.{collect}
 use Rattle.settings.specs.Guards.{spread, chosen}

@@ -9,7 +9,7 @@ use lib.Dec.{eqb}
 use lib.Bits.{bitAnd, bitOr, bitXor, differ, and-step, or-step, xor-step, and-shr, or-shr, xor-shr}
 use lib.Pow.{shr-shr, pow-pos, pow-mono, field, mod-mod-pow}
 use borrow.Author.Tests.{eqb-true, eqb-false, eq-eqb, ne-eqb}
-use Rattle.words.specs.Lists.{split}
+use Rattle.words.specs.TestLaws.{split}
 use Rattle.settings.specs.Settings.{odd, bitOf, bit, unlike}
 use Rattle.settings.specs.Sets.{collect}
 

@@ -10,7 +10,9 @@ use lib.Bits.{bitXor, differ, xor-step, xor-zero-r, xor-lt}
 use lib.Pow.{pow-lt}
 use borrow.Author.Tests.{eq-eqb, ne-eqb}
 use lib.ListN.{length, getD}
-use Rattle.words.specs.Lists.{_∈_, split, same?, getD-in}
+use Rattle.words.specs.Lists.{_∈_}
+use Rattle.words.specs.MemberLaws.{getD-in}
+use Rattle.words.specs.TestLaws.{split, same?}
 use Rattle.settings.specs.Settings.{odd, bitOf, bit, settingOf, Agree, Once, flip, unlike}
 use Rattle.settings.specs.Sets.{flipBit}
 use Rattle.settings.specs.BitLaws.{half, odd-bit, low-bit, rebuilt, bit-zero, bit-suc, bit-xor, bit-pow}

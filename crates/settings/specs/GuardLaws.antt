@@ -6,8 +6,9 @@ use Prim.Native.Nat.{ℕ, _^_, _≤_, _<_}
 use native.Mathlib.Omega.{arith}
 use lib.ListN.{length, getD, length-map}
 use lib.Pow.{pow-mono}
-use Rattle.words.specs.Lists.{keep-in, upto, from-below, length-from, keep-same}
-use Rattle.words.specs.ListLaws.{length-keep}
+use Rattle.words.specs.Lists.{upto}
+use Rattle.words.specs.ListLaws.{length-from, keep-same, length-keep}
+use Rattle.words.specs.MemberLaws.{keep-in, from-below}
 use Rattle.settings.specs.Settings.{Setting, Over, bit, settingOf, numberOf, Agree, preRestsOn, preRests}
 use Rattle.settings.specs.Sets.{has, collect, restsOn, rests}
 use Rattle.settings.specs.Guards.{preTable, preGuard, spread, tableOver, table, chosen}

@@ -8,7 +8,10 @@ use native.Mathlib.Nat.{lt-of-lt-of-le, add-zero, zero-add}
 use native.Mathlib.Omega.{arith}
 use lib.ListN.{length, getD}
 use lib.Pow.{pow-mono}
-use Rattle.words.specs.Lists.{upto, split, same-test, keep, from, from-below, length-from}
+use Rattle.words.specs.Lists.{upto, keep, from}
+use Rattle.words.specs.ListLaws.{length-from}
+use Rattle.words.specs.MemberLaws.{from-below}
+use Rattle.words.specs.TestLaws.{split, same-test}
 use Rattle.settings.specs.Settings.{Setting, odd, settingOf, numberOf, Agree, Over, flip, unlike, moves, anyBelow, preRestsOn, preRests}
 use Rattle.settings.specs.Sets.{has, excludes, flipBit, restsOn, rests}
 use Rattle.settings.specs.Holding.{Holds}

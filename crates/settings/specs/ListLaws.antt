@@ -7,7 +7,10 @@ use Prim.Native.Nat.{ℕ, zero, suc, _+_, _≤_, _<_}
 use native.Mathlib.Nat.{zero-add}
 use native.Mathlib.Omega.{arith}
 use lib.ListN.{getD}
-use Rattle.words.specs.Lists.{_∈_, split, same?, keep, keep-from, from, upto, from-below, getD-from}
+use Rattle.words.specs.Lists.{_∈_, keep, from, upto}
+use Rattle.words.specs.ListLaws.{getD-from}
+use Rattle.words.specs.MemberLaws.{keep-from, from-below}
+use Rattle.words.specs.TestLaws.{split, same?}
 use Rattle.settings.specs.Settings.{Once, anyBelow}
 
 -- a search below n finds nothing, something, the same

@@ -10,7 +10,10 @@ use lib.Dec.{ltb}
 use lib.ListN.{length}
 use lib.Pow.{pow-mono, pow-pos}
 use borrow.Author.Tests.{ltb-true, ltb-false}
-use Rattle.words.specs.Lists.{_∈_, split, keep-in, keep-from, upto, from-in, from-below, length-from, keep-same}
+use Rattle.words.specs.Lists.{_∈_, upto}
+use Rattle.words.specs.ListLaws.{length-from, keep-same}
+use Rattle.words.specs.MemberLaws.{keep-in, keep-from, from-in, from-below}
+use Rattle.words.specs.TestLaws.{split}
 use Rattle.settings.specs.Settings.{Setting, bit, Once, preRestsOn, preRests}
 use Rattle.settings.specs.Sets.{has, restsOn, rests}
 use Rattle.settings.specs.Holding.{Holds, test}

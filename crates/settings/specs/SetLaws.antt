@@ -8,7 +8,7 @@ use native.Mathlib.Nat.{add-comm, lt-of-le-of-lt}
 use lib.Dec.{eqb}
 use lib.Bits.{bitAnd, bitXor, and-le-l, and-le-r, or-lt}
 use borrow.Author.Tests.{eqb-true, eqb-false, ne-eqb, not-true}
-use Rattle.words.specs.Lists.{split, same-test}
+use Rattle.words.specs.TestLaws.{split, same-test}
 use Rattle.settings.specs.Settings.{bit, unlike}
 use Rattle.settings.specs.Sets.{has, empty, collect, whole, union, given, without, Disjoint, excludes, flipBit, MovedBy, restsOn, movers}
 use Rattle.settings.specs.BitLaws.{bit-and, bit-or, bit-xor, bit-none, bit-shift, some-bit, collect-below, collect-has}

@@ -7,7 +7,10 @@ use Prim.Native.Nat.{ℕ, zero, suc, _+_, _*_, _/_, _^_, _<_}
 use native.Mathlib.Omega.{arith}
 use borrow.Author.Tests.{eq-eqb, ne-eqb}
 use lib.ListN.{length, getD}
-use Rattle.words.specs.Lists.{_∈_, same?, getD-in, upto, length-from}
+use Rattle.words.specs.Lists.{_∈_, upto}
+use Rattle.words.specs.ListLaws.{length-from}
+use Rattle.words.specs.MemberLaws.{getD-in}
+use Rattle.words.specs.TestLaws.{same?}
 use Rattle.settings.specs.Settings.{Setting, bitOf, bit, settingOf, numberOf, Agree, Once, put}
 use Rattle.settings.specs.BitLaws.{half, odd-bit, bit-zero, bit-suc, same-bits}
 use Rattle.settings.specs.ListLaws.{getD-upto}

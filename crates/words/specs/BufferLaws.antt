@@ -9,6 +9,7 @@ use lib.ListN.{length, take, drop, getD, set, replicate, length-append, length-t
 use lib.Seq.{sets, sets-eq, take-suc, length-take-le, set-at, take-at, drop-at, drop-drop, take-append-seam, drop-append-seam, drop-append-add, drop-cons, take-length, drop-length, take-all}
 use borrow.Rule.Slice.PartMut.{putMid}
 use Rattle.words.specs.Buffers.{over, padded}
+use Rattle.words.specs.ListLaws.{getD-zeros}
 
 -- nothing written
 pub over-nil : (d : List ℕ) → over [] d ≡ d
@@ -81,12 +82,6 @@ copy-more from d i h l =
 -- all of it
 pub copy-all : (from d : List ℕ) (i : ℕ) → length from ≤ i → over (take i from) d ≡ over from d
 copy-all from d i h = ap (λ (t : List ℕ). over t d) (take-all i from h)
-
--- zeros after a list change no element that is read
-pub getD-zeros : (n i : ℕ) → _≡_ {A = ℕ} (getD (replicate n 0) i 0) 0
-getD-zeros zero i = refl
-getD-zeros (suc n) zero = refl
-getD-zeros (suc n) (suc i) = getD-zeros n i
 
 zeros-after : (l : List ℕ) (n i : ℕ) → getD (l ++ replicate n 0) i 0 ≡ getD l i 0
 zeros-after [] n i = getD-zeros n i

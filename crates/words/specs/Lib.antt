@@ -3,5 +3,7 @@ pub mod NumberLaws
 pub mod Buffers
 pub mod BufferLaws
 pub mod Lists
+pub mod TestLaws
+pub mod MemberLaws
 pub mod ListLaws
 pub mod Examples

@@ -1,13 +1,38 @@
--- Laws of lists and of tests that crates above cite: mapped lists, the members that pass a test, places inside a list. Nothing here is of document 01.
+-- Laws of lists that crates above cite: mapped lists, the members that pass a test, runs of numbers, places inside a list.
 use mathlib.Core.Path.{_≡_, refl, sym, ap, _∙_}
-use mathlib.Core.Bool.{Bool, true, false, _||_, false≢true}
-use mathlib.Core.List.{List, [], _∷_, map}
+use mathlib.Core.Bool.{Bool, cond}
+use mathlib.Core.List.{List, [], _∷_, _++_, map}
 use mathlib.Core.Logic.{_⊎_, inl, inr}
 use Prim.Native.Nat.{ℕ, zero, suc, _+_, _-_, _≤_, _<_}
 use native.Mathlib.Nat.{add-zero}
 use native.Mathlib.Omega.{arith}
 use lib.ListN.{length, getD, take, drop, replicate}
-use Rattle.words.specs.Lists.{_∈_, split, keep, from}
+use Rattle.words.specs.Lists.{_∈_, keep, from}
+use Rattle.words.specs.TestLaws.{split}
+
+-- one more
+pub keep-more : (p : ℕ → Bool) (l : List ℕ) (a : ℕ) → keep p (l ++ (a ∷ [])) ≡ keep p l ++ cond (p a) (a ∷ []) []
+keep-more p [] a = refl
+keep-more p (b ∷ l) a = split (p b) (λ t. rw t (ap (λ (r : List ℕ). b ∷ r) (keep-more p l a))) (λ t. rw t (keep-more p l a))
+
+-- two tests that are the same on a list keep the same members
+pub keep-same : (p q : ℕ → Bool) (l : List ℕ) → ((a : ℕ) → a ∈ l → p a ≡ q a) → keep p l ≡ keep q l
+keep-same p q [] h = refl
+keep-same p q (a ∷ l) h = rw (h a (inl refl), keep-same p q l (λ b m. h b (inr m)))
+
+-- it has n members, the one at place k is i + k, and one more is i + n
+pub length-from : (i n : ℕ) → length (from i n) ≡ n
+length-from i zero = refl
+length-from i (suc n) = ap suc (length-from (suc i) n)
+
+pub getD-from : (i n k : ℕ) → k < n → getD (from i n) k 0 ≡ i + k
+getD-from i zero k h = absurd (omega arith)
+getD-from i (suc n) zero h = sym (add-zero i)
+getD-from i (suc n) (suc k) h = getD-from (suc i) n k (omega arith) ∙ omega arith
+
+pub from-more : (i n : ℕ) → from i (suc n) ≡ from i n ++ ((i + n) ∷ [])
+from-more i zero = ap (λ (k : ℕ). k ∷ []) (sym (add-zero i))
+from-more i (suc n) = ap (λ (l : List ℕ). i ∷ l) (from-more (suc i) n ∙ ap (λ (k : ℕ). from (suc i) n ++ (k ∷ [])) (omega arith))
 
 -- two functions that are the same on a list map it to the same list
 pub map-same : {A : Type 0} (v w : ℕ → A) (l : List ℕ) → ((a : ℕ) → a ∈ l → v a ≡ w a) → map v l ≡ map w l
@@ -43,8 +68,3 @@ inside-list (s ∷ M) (suc a) = go (inside-list M a)
 -- the part of a list up to v, as code that lends it writes it
 pub front : (v : ℕ) (l : List ℕ) → take (v - 0) (drop 0 l) ≡ take v l
 front v l = let n : v - 0 ≡ v = omega arith in ap (λ (k : ℕ). take k l) n
-
--- neither of two tests that fail together holds
-pub or-none : (a b : Bool) → (a || b) ≡ false → (a ≡ false) × (b ≡ false)
-or-none true b h = absurd (false≢true (sym h))
-or-none false b h = (refl, h)

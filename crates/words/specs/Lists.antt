@@ -1,15 +1,10 @@
--- Lists of numbers: membership as a type and as a test, the members that pass a test, runs of numbers, joined lists.
--- Each definition (`_∈_`, `elem`, `keep`, `from`, `upto`, `flat`) stands with its laws. Nothing here is of document 01 alone.
-use mathlib.Core.Path.{_≡_, refl, sym, ap, _∙_}
-use mathlib.Core.Bool.{Bool, true, false, cond, false≢true}
-use mathlib.Core.List.{List, [], _∷_, _++_, map}
-use mathlib.Core.Logic.{_⊎_, inl, inr}
-use Prim.Native.Nat.{ℕ, zero, suc, _+_, _≤_, _<_}
-use native.Mathlib.Nat.{add-zero}
-use native.Mathlib.Omega.{arith}
+-- Document 01, throughout: lists of numbers, membership as a type and as a test, the members that pass a test, runs of numbers, joined lists.
+use mathlib.Core.Path.{_≡_}
+use mathlib.Core.Bool.{Bool, true, false, cond}
+use mathlib.Core.List.{List, [], _∷_, _++_}
+use mathlib.Core.Logic.{_⊎_}
+use Prim.Native.Nat.{ℕ, zero, suc, _+_}
 use lib.Dec.{eqb}
-use borrow.Author.Tests.{eqb-true, eqb-false, eq-eqb}
-use lib.ListN.{length, getD}
 
 infix 40 _∈_
 -- a stands in the list
@@ -22,61 +17,10 @@ abbrev pub elem : ℕ → List ℕ → Bool
 elem a [] = false
 elem a (x ∷ l) = cond (eqb a x) true (elem a l)
 
--- go by a test, with the equation
-pub split : {A : Type 0} (b : Bool) → (b ≡ true → A) → (b ≡ false → A) → A
-split true t f = t refl
-split false t f = f refl
-
--- two numbers are the same or not
-pub same? : (a b : ℕ) → (a ≡ b) ⊎ (a ≡ b → ⊥)
-same? a b = split (eqb a b) (λ e. inl (eqb-true a b e)) (λ e. inr (eqb-false a b e))
-
--- the test says what the type says
-pub elem→∈ : (a : ℕ) (l : List ℕ) → elem a l ≡ true → a ∈ l
-elem→∈ a [] h = false≢true h
-elem→∈ a (x ∷ l) h = split (eqb a x) (λ e. inl (eqb-true a x e)) (λ e. inr (elem→∈ a l (rw e at h)))
-
-pub ∈→elem : (a : ℕ) (l : List ℕ) → a ∈ l → elem a l ≡ true
-∈→elem a [] h = absurd h
-∈→elem a (x ∷ l) (inl e) = rw (eq-eqb a x e)
-∈→elem a (x ∷ l) (inr h) = split (eqb a x) (λ e. rw e) (λ e. rw e (∈→elem a l h))
-
--- one more
-pub elem-more : (a : ℕ) (l : List ℕ) (x : ℕ) → elem a (l ++ (x ∷ [])) ≡ cond (eqb a x) true (elem a l)
-elem-more a [] x = refl
-elem-more a (y ∷ l) x = split (eqb a y) (λ t. rw t (split (eqb a x) (λ u. rw u) (λ u. rw u))) (λ t. rw t (elem-more a l x))
-
 -- the members of a list that pass a test, in order
 abbrev pub keep : (ℕ → Bool) → List ℕ → List ℕ
 keep p [] = []
 keep p (a ∷ l) = cond (p a) (a ∷ keep p l) (keep p l)
-
--- a number is kept exactly when it is in the list and passes
-pub keep-in : (p : ℕ → Bool) (l : List ℕ) (a : ℕ) → a ∈ l → p a ≡ true → a ∈ keep p l
-keep-in p [] a m h = m
-keep-in p (b ∷ l) a (inl e) h = rw (ap p (sym e) ∙ h) (inl e)
-keep-in p (b ∷ l) a (inr m) h = split (p b) (λ t. rw t (inr (keep-in p l a m h))) (λ t. rw t (keep-in p l a m h))
-
-pub keep-from : (p : ℕ → Bool) (l : List ℕ) (a : ℕ) → a ∈ keep p l → (a ∈ l) × (p a ≡ true)
-keep-from p [] a m = absurd m
-keep-from p (b ∷ l) a m = split (p b) (λ t. yes-b t (λ k. keep-from p l a k) (rw t at m)) (λ t. later (keep-from p l a (rw t at m)))
-  where
-    later : (a ∈ l) × (p a ≡ true) → (a ∈ (b ∷ l)) × (p a ≡ true)
-    later r = (inr (r .0), r .1)
-
-    yes-b : p b ≡ true → (a ∈ keep p l → (a ∈ l) × (p a ≡ true)) → a ∈ (b ∷ keep p l) → (a ∈ (b ∷ l)) × (p a ≡ true)
-    yes-b t ih (inl e) = (inl e, ap p e ∙ t)
-    yes-b t ih (inr k) = later (ih k)
-
--- one more
-pub keep-more : (p : ℕ → Bool) (l : List ℕ) (a : ℕ) → keep p (l ++ (a ∷ [])) ≡ keep p l ++ cond (p a) (a ∷ []) []
-keep-more p [] a = refl
-keep-more p (b ∷ l) a = split (p b) (λ t. rw t (ap (λ (r : List ℕ). b ∷ r) (keep-more p l a))) (λ t. rw t (keep-more p l a))
-
--- two tests that are the same on a list keep the same members
-pub keep-same : (p q : ℕ → Bool) (l : List ℕ) → ((a : ℕ) → a ∈ l → p a ≡ q a) → keep p l ≡ keep q l
-keep-same p q [] h = refl
-keep-same p q (a ∷ l) h = rw (h a (inl refl), keep-same p q l (λ b m. h b (inr m)))
 
 -- i, i + 1, .., n of them
 abbrev pub from : ℕ → ℕ → List ℕ
@@ -87,89 +31,7 @@ from i (suc n) = i ∷ from (suc i) n
 abbrev pub upto : ℕ → List ℕ
 upto n = from 0 n
 
--- a run holds exactly the numbers between its ends
-pub from-in : (i n a : ℕ) → i ≤ a → a < i + n → a ∈ from i n
-from-in i zero a h l = absurd (omega arith)
-from-in i (suc n) a h l = go (same? a i) (λ k. from-in (suc i) n a k (omega arith))
-  where
-    go : (a ≡ i) ⊎ (a ≡ i → ⊥) → (suc i ≤ a → a ∈ from (suc i) n) → a ∈ from i (suc n)
-    go (inl e) ih = inl e
-    go (inr m) ih = inr (ih (omega arith))
-
-pub from-below : (i n a : ℕ) → a ∈ from i n → (i ≤ a) × (a < i + n)
-from-below i zero a m = absurd m
-from-below i (suc n) a (inl e) = omega arith
-from-below i (suc n) a (inr m) = let r : (suc i ≤ a) × (a < suc i + n) = from-below (suc i) n a m in omega arith
-
--- it has n members, the one at place k is i + k, and one more is i + n
-pub length-from : (i n : ℕ) → length (from i n) ≡ n
-length-from i zero = refl
-length-from i (suc n) = ap suc (length-from (suc i) n)
-
-pub getD-from : (i n k : ℕ) → k < n → getD (from i n) k 0 ≡ i + k
-getD-from i zero k h = absurd (omega arith)
-getD-from i (suc n) zero h = sym (add-zero i)
-getD-from i (suc n) (suc k) h = getD-from (suc i) n k (omega arith) ∙ omega arith
-
-pub from-more : (i n : ℕ) → from i (suc n) ≡ from i n ++ ((i + n) ∷ [])
-from-more i zero = ap (λ (k : ℕ). k ∷ []) (sym (add-zero i))
-from-more i (suc n) = ap (λ (l : List ℕ). i ∷ l) (from-more (suc i) n ∙ ap (λ (k : ℕ). from (suc i) n ++ (k ∷ [])) (omega arith))
-
--- a member of two joined lists is one of either
-pub in-append : (a : ℕ) (l m : List ℕ) → (a ∈ l) ⊎ (a ∈ m) → a ∈ (l ++ m)
-in-append a [] m (inl h) = absurd h
-in-append a [] m (inr h) = h
-in-append a (x ∷ l) m (inl (inl e)) = inl e
-in-append a (x ∷ l) m (inl (inr h)) = inr (in-append a l m (inl h))
-in-append a (x ∷ l) m (inr h) = inr (in-append a l m (inr h))
-
-pub append-in : (a : ℕ) (l m : List ℕ) → a ∈ (l ++ m) → (a ∈ l) ⊎ (a ∈ m)
-append-in a [] m h = inr h
-append-in a (x ∷ l) m (inl e) = inl (inl e)
-append-in a (x ∷ l) m (inr h) = go (append-in a l m h)
-  where
-    go : (a ∈ l) ⊎ (a ∈ m) → (a ∈ (x ∷ l)) ⊎ (a ∈ m)
-    go (inl k) = inl (inr k)
-    go (inr k) = inr k
-
--- a member of a mapped list is the image of a member
-pub in-map : (f : ℕ → ℕ) (a : ℕ) (l : List ℕ) → a ∈ l → f a ∈ map f l
-in-map f a [] h = h
-in-map f a (x ∷ l) (inl e) = inl (ap f e)
-in-map f a (x ∷ l) (inr h) = inr (in-map f a l h)
-
-pub map-in : (f : ℕ → ℕ) (b : ℕ) (l : List ℕ) → b ∈ map f l → (a : ℕ) × (a ∈ l) × (b ≡ f a)
-map-in f b [] h = absurd h
-map-in f b (x ∷ l) (inl e) = (x, inl refl, e)
-map-in f b (x ∷ l) (inr h) = let r = map-in f b l h in (r .0, inr (r .1), r .2)
-
 -- the lists f a for a in l, joined
 abbrev pub flat : (ℕ → List ℕ) → List ℕ → List ℕ
 flat f [] = []
 flat f (a ∷ l) = f a ++ flat f l
-
--- a member of the joined lists is one of some list
-pub in-flat : (f : ℕ → List ℕ) (b a : ℕ) (l : List ℕ) → a ∈ l → b ∈ f a → b ∈ flat f l
-in-flat f b a [] m h = absurd m
-in-flat f b a (x ∷ l) (inl e) h = in-append b (f x) (flat f l) (inl (rw e at h))
-in-flat f b a (x ∷ l) (inr m) h = in-append b (f x) (flat f l) (inr (in-flat f b a l m h))
-
-pub flat-in : (f : ℕ → List ℕ) (b : ℕ) (l : List ℕ) → b ∈ flat f l → (a : ℕ) × (a ∈ l) × (b ∈ f a)
-flat-in f b [] h = absurd h
-flat-in f b (x ∷ l) h = go (append-in b (f x) (flat f l) h) (λ k. flat-in f b l k)
-  where
-    go : (b ∈ f x) ⊎ (b ∈ flat f l) → (b ∈ flat f l → (a : ℕ) × (a ∈ l) × (b ∈ f a)) → (a : ℕ) × (a ∈ (x ∷ l)) × (b ∈ f a)
-    go (inl k) ih = (x, inl refl, k)
-    go (inr k) ih = let r = ih k in (r .0, inr (r .1), r .2)
-
--- two tests that follow from each other are the same
-pub same-test : (a b : Bool) → (a ≡ true → b ≡ true) → (b ≡ true → a ≡ true) → a ≡ b
-same-test true b f g = sym (f refl)
-same-test false true f g = g refl
-same-test false false f g = refl
-
--- an element that is read at a place is a member
-pub getD-in : (l : List ℕ) (k : ℕ) → k < length l → getD l k 0 ∈ l
-getD-in [] k h = absurd (omega arith)
-getD-in (a ∷ l) zero h = inl refl
-getD-in (a ∷ l) (suc k) h = inr (getD-in l k (omega arith))

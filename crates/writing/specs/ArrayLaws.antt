@@ -6,7 +6,8 @@ use mathlib.Core.Logic.{_⊎_, inl, inr}
 use lib.ListN.{length, getD, take}
 use lib.Seq.{take-at}
 use borrow.Author.Tests.{eq-eqb, ne-eqb}
-use Rattle.words.specs.Lists.{_∈_, same?}
+use Rattle.words.specs.Lists.{_∈_}
+use Rattle.words.specs.TestLaws.{same?}
 use Rattle.gates.specs.Gates.{Gate, gateAt, arguments}
 use Rattle.gates.specs.Limits.{mostGates}
 use Rattle.gates.specs.PlainCircuit.{gatesOf, gateCount}

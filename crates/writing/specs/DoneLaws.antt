@@ -5,7 +5,8 @@ use mathlib.Core.List.{List, [], _∷_, _++_, reverse, reverse-append, reverse-r
 use mathlib.Core.Logic.{inl, inr}
 use lib.ListN.{length, getD, take, drop, take-append-drop}
 use lib.Seq.{take-suc, take-length}
-use Rattle.words.specs.Lists.{_∈_, in-append}
+use Rattle.words.specs.Lists.{_∈_}
+use Rattle.words.specs.MemberLaws.{in-append}
 use Rattle.settings.specs.Settings.{Once}
 use Rattle.gates.specs.PlainCircuit.{gatesOf, gateCount}
 use Rattle.needed.specs.Pass.{rulePreconditions}

@@ -7,7 +7,7 @@ use native.Mathlib.Numerals.{add-one}
 use native.Mathlib.Omega.{arith}
 use lib.ListN.{length, getD, length-append}
 use borrow.Author.Tests.{ne-eqb}
-use Rattle.words.specs.Lists.{same?}
+use Rattle.words.specs.TestLaws.{same?}
 use Rattle.words.specs.Buffers.{over}
 use Rattle.gates.specs.EarlierLaws.{Inside}
 use Rattle.plan.specs.PlanFile.{groupAt}

@@ -5,7 +5,8 @@ use lib.ListN.{length}
 use Rattle.codes.specs.declared.Kind.the-variants.{Bit}
 use Rattle.codes.specs.declared.Form.{Form}
 use Rattle.codes.specs.declared.Form.the-variants as form
-use Rattle.answers.specs.ParsingLaws.{IsRead, forward-read}
+use Rattle.answers.specs.ParsingLaws.{forward-read}
+use Rattle.answers.specs.Parsing.{IsRead}
 use Rattle.reading.specs.ExpressionLaws.{expr-forward}
 use Rattle.reading.specs.Blocks.{branchWith, statementForm, readBlock}
 use Rattle.reading.specs.FuelLaws.{block-forward, statement-forward}

@@ -6,7 +6,7 @@ use lib.ListN.{length}
 use denote.Ref.{now}
 use Rattle.words.specs.Buffers.{over}
 use Rattle.words.specs.ListLaws.{front}
-use Rattle.answers.specs.ParsingLaws.{IsRead}
+use Rattle.answers.specs.Parsing.{IsRead}
 use Rattle.reading.specs.Header.{variables}
 use Rattle.reading.specs.FirstStatement.{rule-read}
 use Rattle.direct.specs.ResultLaws.{rule-ran, rule-long}

@@ -4,7 +4,7 @@ use Prim.Native.Nat.{ℕ, _+_}
 use lib.ListN.{getD}
 use denote.Ref.{now}
 use Rattle.codes.specs.declared.Kind.{Kind}
-use Rattle.answers.specs.ParsingLaws.{IsRead}
+use Rattle.answers.specs.Parsing.{IsRead}
 use Rattle.settings.specs.Sets.{has}
 use Rattle.reading.specs.Limits.{deepest}
 use Rattle.reading.specs.Expressions.{readExpr}

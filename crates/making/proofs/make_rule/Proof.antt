@@ -1,7 +1,7 @@
 use mathlib.Core.Path.{refl, subst}
 use native.Mathlib.Omega.{arith}
 use denote.Ref.{now}
-use Rattle.answers.specs.ParsingLaws.{IsRead}
+use Rattle.answers.specs.Parsing.{IsRead}
 use Rattle.reading.specs.FirstStatement.{rule-read}
 use Rattle.making.specs.BlockLaws.{rule-made}
 use Rattle.making.proofs.make_rule.Statement.{statement}
