@@ -18,10 +18,10 @@ use Rattle.reading.specs.Tree.{Expr, variable, word, bit, one, two, Statement, 
 use Rattle.reading.specs.Blocks.{readBlock}
 use Rattle.reading.specs.Rule.{readRule}
 use Rattle.reading.specs.FirstStatement.{rule-read}
-use Rattle.gates.specs.Running.{isOne, figureOf, runStatement, runBlock, runRead, runRule}
-use Rattle.gates.specs.RunLaws.{statement-count, block-count}
 use Rattle.reading.specs.Kinds.{Typed, TypedStatement, TypedBlock}
 use Rattle.reading.specs.FoundRuleLaws.{read-typed}
+use Rattle.gates.specs.Running.{isOne, figureOf, runStatement, runBlock, runRead, runRule}
+use Rattle.gates.specs.RunLaws.{statement-count, block-count}
 use Rattle.direct.specs.Walking.{Ran}
 
 -- the part of a list up to v

@@ -13,13 +13,13 @@ use Rattle.answers.specs.Parsing.{parsed}
 use Rattle.reading.specs.Header.{variables, kindAt}
 use Rattle.reading.specs.Tree.{Expr, variable, word, bit, one, two, Statement, assign, skip, branch, Block, end, then}
 use Rattle.reading.specs.Rule.{readRule}
+use Rattle.reading.specs.Kinds.{Typed, TypedStatement, TypedBlock}
+use Rattle.reading.specs.FoundRuleLaws.{read-typed}
 use Rattle.gates.specs.Gates.{Gate, start, operation, choice, Gates, gateAt}
 use Rattle.gates.specs.Gates as gate
-use Rattle.reading.specs.Kinds.{Typed, TypedStatement, TypedBlock}
 use Rattle.gates.specs.PlainCircuit.{Making, applyGate, makeExpr, choose, choices, assignedIn, asBefore, makeStatement, makeBlock, conditionMade, firstMade, secondMade, starts, gatesOf}
 use Rattle.gates.specs.ApplyLaws.{apply-cases}
 use Rattle.gates.specs.EarlierLaws.{gate-add}
-use Rattle.reading.specs.FoundRuleLaws.{read-typed}
 use Rattle.gates.specs.StartLaws.{read-plain}
 use Rattle.needed.specs.Held.{ShapedGate, Shaped}
 
