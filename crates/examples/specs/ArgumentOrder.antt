@@ -17,10 +17,10 @@ use Rattle.reading.specs.Expressions.{readVariable, readWord, readBit, operatio
 use Rattle.reading.specs.Blocks.{readAssign, branchWith, statementWith, blockWith, blockFuel, readBlock}
 use Rattle.reading.specs.Rule.{readRule}
 use Rattle.reading.specs.Examples.{r1}
+use Rattle.reading.specs.OnlyOrder.{OnlyOrder, same, turned, assign, branch, end, then}
 use Rattle.gates.specs.Gates.{gateAt, conditions, costs}
 use Rattle.gates.specs.Gates as gate
 use Rattle.gates.specs.PlainCircuit.{applyGate, makeExpr, assignsIn, assigns, choices, makeStatement, makeBlock, plainCircuit, gatesOf}
-use Rattle.reading.specs.OnlyOrder.{OnlyOrder, same, turned, assign, branch, end, then}
 use Rattle.needed.specs.Pass.{preconditions, preconditionSets}
 use Rattle.circuit.specs.Whole.{wholeWithin, ruleAnswer}
 use Rattle.plan.specs.PlanFile.{groupsIn}

@@ -7,9 +7,9 @@ use Rattle.answers.specs.Answers.{success}
 use Rattle.answers.specs.ParsingLaws.{is-read}
 use Rattle.reading.specs.Header.{variables, kindAt}
 use Rattle.reading.specs.Rule.{readRule}
+use Rattle.reading.specs.OnlyOrder.{OnlyOrder}
 use Rattle.gates.specs.Gates.{Gate, start, word, bit, operation, choice, Gates, gateAt, costs, conditions}
 use Rattle.gates.specs.PlainCircuit.{Making, gatesOf}
-use Rattle.reading.specs.OnlyOrder.{OnlyOrder}
 use Rattle.gates.specs.OnlyOrderLaws.{same-variables, same-kind, second-read, same-plain}
 use Rattle.gates.specs.Limits.{mostGates, mostConditions}
 use Rattle.gates.specs.EachGateLaws.{StartGate, Starting, rule-starting}

@@ -11,10 +11,10 @@ use Rattle.words.specs.TestLaws.{split, same?}
 use Rattle.codes.specs.Results.{resultOf}
 use Rattle.codes.specs.declared.Kind.{Kind}
 use Rattle.reading.specs.Tree.{Expr, variable, word, bit, one, two, Statement, assign, skip, branch, Block, end, then}
+use Rattle.reading.specs.Kinds.{Typed, TypedStatement, TypedBlock}
 use Rattle.gates.specs.Running.{isOne, figureOf, runStatement, runBlock}
 use Rattle.gates.specs.Gates.{Gates, figure, runAt}
 use Rattle.gates.specs.Gates as gate
-use Rattle.reading.specs.Kinds.{Typed, TypedStatement, TypedBlock}
 use Rattle.gates.specs.PlainCircuit.{Making, Made, makeExpr, choices, assignedIn, asBefore, makeStatement, makeBlock, conditionMade, firstMade, secondMade}
 use Rattle.gates.specs.ApplyLaws.{apply-figure}
 use Rattle.gates.specs.FigureLaws.{figure-same, runAt-last}

@@ -11,9 +11,9 @@ use Rattle.codes.specs.declared.Kind.{Kind}
 use Rattle.codes.specs.declared.Kind.the-variants as kind
 use Rattle.codes.specs.declared.Operation.{Operation}
 use Rattle.reading.specs.Tree.{Expr, variable, word, bit, one, two}
+use Rattle.reading.specs.Kinds.{Typed, WordsFit}
 use Rattle.gates.specs.Gates.{Gate, start, operation, choice, Gates, gateAt, arguments, Earlier, runAt}
 use Rattle.gates.specs.Gates as gate
-use Rattle.reading.specs.Kinds.{Typed, WordsFit}
 use Rattle.gates.specs.GateKinds.{gateKind, GateFits}
 use Rattle.gates.specs.PlainCircuit.{Making, Made, add, applyGate, makeExpr, choose, choices, asBefore}
 use Rattle.gates.specs.FigureLaws.{runAt-append, runAt-last}

@@ -15,9 +15,10 @@ use Rattle.answers.specs.Parsing.{parsed}
 use Rattle.reading.specs.Header.{variables, kindAt}
 use Rattle.reading.specs.Tree.{Statement, assign, skip, branch, Block, end, then}
 use Rattle.reading.specs.Rule.{readRule}
+use Rattle.reading.specs.Kinds.{Fits, TypedStatement, TypedBlock, WordsStatement, WordsBlock}
+use Rattle.reading.specs.FoundRuleLaws.{read-typed, read-words}
 use Rattle.gates.specs.Running.{runBlock}
 use Rattle.gates.specs.Gates.{start, Gates, gateAt, figureAt}
-use Rattle.reading.specs.Kinds.{Fits, TypedStatement, TypedBlock, WordsStatement, WordsBlock}
 use Rattle.gates.specs.GateKinds.{gateKind, kindOfGate, GateFits, GatesFit}
 use Rattle.gates.specs.PlainCircuit.{Making, Made, makeExpr, choices, assignedIn, asBefore, makeStatement, makeBlock, conditionMade, firstMade, secondMade, starts, plainCircuit, gatesOf}
 use Rattle.gates.specs.PlainLaws.{extends-trans, expr-extends}
@@ -25,7 +26,6 @@ use Rattle.gates.specs.SoundLaws.{Sound, sound-again, assigned-below, Pa
 use Rattle.gates.specs.HoldLaws.{PresentGives, holds-extends, condition-stays, first-stays, before-stays, parts-hold}
 use Rattle.gates.specs.KindLaws.{kind-same, FiguresFit, block-fits, gate-fits, inputs-fit}
 use Rattle.gates.specs.ExprKindLaws.{at, Fit, expr-kinded, choices-fit}
-use Rattle.reading.specs.FoundRuleLaws.{read-typed, read-words}
 use Rattle.gates.specs.StartLaws.{starts-sound, starts-hold, read-plain, plain-sound}
 
 module _ (v : ℕ) (kinds : ℕ → Kind) where

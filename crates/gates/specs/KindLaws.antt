@@ -19,10 +19,10 @@ use Rattle.codes.specs.declared.Kind.the-variants as kind
 use Rattle.codes.specs.declared.Operation.{Operation}
 use Rattle.codes.specs.declared.Operation.the-variants.{Sum, Difference, Product, LessThan, Equal, And, Or, Not}
 use Rattle.reading.specs.Tree.{Expr, variable, word, bit, one, two, Statement, assign, skip, branch, Block, end, then}
+use Rattle.reading.specs.Kinds.{Fits, Typed, TypedStatement, TypedBlock, WordsFit, WordsStatement, WordsBlock}
 use Rattle.gates.specs.Running.{isOne, figureOf, runStatement, runBlock}
 use Rattle.gates.specs.Gates.{Gate, start, operation, choice, Gates, gateAt, arguments, Earlier, figure, figureAt}
 use Rattle.gates.specs.Gates as gate
-use Rattle.reading.specs.Kinds.{Fits, Typed, TypedStatement, TypedBlock, WordsFit, WordsStatement, WordsBlock}
 use Rattle.gates.specs.GateKinds.{gateKind, kindOfGate, GateFits, GatesFit}
 use Rattle.gates.specs.FigureLaws.{OnArguments, gates-right, figures-right}
 use Rattle.gates.specs.RunLaws.{statement-count}

@@ -12,11 +12,12 @@ use Rattle.answers.specs.Parsing.{Parsed, parsed, refused, IsRead}
 use Rattle.reading.specs.Header.{variables, kindAt}
 use Rattle.reading.specs.Tree.{Expr, Statement, Block}
 use Rattle.reading.specs.Rule.{readRule}
+use Rattle.reading.specs.OrderLaws.{both-read}
+use Rattle.reading.specs.OnlyOrder.{ExprUpToOrder, same, turned, inOne, inTwo, StatementUpToOrder, assign, skip, branch, BlockUpToOrder, end, then, ReadUpToOrder, OnlyOrder}
 use Rattle.codes.specs.Codes.{kindOf}
 use Rattle.gates.specs.Gates.{Gates}
 use Rattle.gates.specs.PlainCircuit.{Making, add, makeExpr, assignsIn, assigns, assignedIn, asBefore, makeStatement, makeBlock, conditionMade, firstMade, starts, plainOf, plainRead, plainCircuit}
 use Rattle.gates.specs.ApplyLaws.{apply-commutes}
-use Rattle.reading.specs.OnlyOrder.{ExprUpToOrder, same, turned, inOne, inTwo, StatementUpToOrder, assign, skip, branch, BlockUpToOrder, end, then, ReadUpToOrder, OnlyOrder}
 
 expr-same : {d e : Expr} → ExprUpToOrder d e → (present : List ℕ) (C : Gates) → makeExpr d present C ≡ makeExpr e present C
 unfolding makeExpr
@@ -70,15 +71,15 @@ module _ (s t : List ℕ) (o : OnlyOrder s t) where
   pub same-kind : (x : ℕ) → x < variables s → kindAt s x ≡ kindAt t x
   same-kind x h = ap kindOf (header-byte (6 + x) (omega arith))
 
-  read-same : (r q : Parsed Block) → ReadUpToOrder r q → IsRead q × (plainRead (variables s) r ≡ plainRead (variables t) q)
-  read-same (parsed b n) (parsed d m) h = (tt, ap (λ (v : ℕ). plainOf v b) same-variables ∙ block-same h (starts (variables t)))
+  read-same : (r q : Parsed Block) → ReadUpToOrder r q → plainRead (variables s) r ≡ plainRead (variables t) q
+  read-same (parsed b n) (parsed d m) h = ap (λ (v : ℕ). plainOf v b) same-variables ∙ block-same h (starts (variables t))
   read-same (parsed b n) (refused number place) h = absurd h
   read-same (refused number place) q h = absurd h
 
   pub second-read : IsRead (readRule t)
-  second-read = read-same (readRule s) (readRule t) (o .blocks) .0
+  second-read = both-read s t o .1
 
   -- one plain circuit: gates and outputs
   pub same-plain : plainCircuit s ≡ plainCircuit t
   unfolding plainCircuit
-  same-plain = read-same (readRule s) (readRule t) (o .blocks) .1
+  same-plain = read-same (readRule s) (readRule t) (o .blocks)

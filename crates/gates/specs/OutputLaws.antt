@@ -9,16 +9,16 @@ use Rattle.answers.specs.Parsing.{parsed}
 use Rattle.reading.specs.Header.{variables, kindAt}
 use Rattle.reading.specs.Tree.{Block}
 use Rattle.reading.specs.Rule.{readRule}
+use Rattle.reading.specs.Kinds.{TypedBlock}
+use Rattle.reading.specs.FoundRuleLaws.{read-typed}
 use Rattle.codes.specs.declared.Kind.{Kind}
 use Rattle.gates.specs.Running.{runBlock}
 use Rattle.gates.specs.Gates.{figure, figureAt}
 use Rattle.gates.specs.PlainCircuit.{starts, plainOf, plainCircuit, gatesOf, outputsOf}
-use Rattle.reading.specs.Kinds.{TypedBlock}
 use Rattle.gates.specs.FigureLaws.{figure-same, map-at}
 use Rattle.gates.specs.RunLaws.{block-count}
 use Rattle.gates.specs.StartLaws.{starts-sound, starts-hold, read-plain, plain-sound}
 use Rattle.gates.specs.DemandLaws.{Agrees, block-agrees}
-use Rattle.reading.specs.FoundRuleLaws.{read-typed}
 
 -- of a typed tree: whatever the inputs, each variable's output has the figure that the direct run ends with
 pub tree-figure : (v : ℕ) (kinds : ℕ → Kind) (b : Block) → TypedBlock v kinds b → (inputs : List ℕ) → length inputs ≡ v

@@ -11,9 +11,9 @@ use Rattle.codes.specs.declared.Kind.{Kind}
 use Rattle.codes.specs.declared.Kind.the-variants as kind
 use Rattle.codes.specs.declared.Operation.{Operation}
 use Rattle.reading.specs.Tree.{Expr, variable, word, bit, one, two, Statement, assign, skip, branch, Block, end, then}
+use Rattle.reading.specs.Kinds.{Typed, TypedStatement, TypedBlock}
 use Rattle.gates.specs.Gates.{Gate, operation, choice, Gates, arguments, Earlier}
 use Rattle.gates.specs.Gates as gate
-use Rattle.reading.specs.Kinds.{Typed, TypedStatement, TypedBlock}
 use Rattle.gates.specs.PlainCircuit.{Making, Made, add, applyGate, makeExpr, choose, choices, assignedIn, asBefore, makeStatement, makeBlock, conditionMade, firstMade, secondMade}
 use Rattle.gates.specs.PlainLaws.{Extends, extends-trans, extends-length, expr-extends, block-extends}
 use Rattle.gates.specs.ApplyLaws.{apply-arguments}

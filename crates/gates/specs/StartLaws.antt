@@ -12,13 +12,13 @@ use Rattle.answers.specs.Parsing.{Parsed, parsed}
 use Rattle.reading.specs.Header.{variables, kindAt}
 use Rattle.reading.specs.Tree.{Block}
 use Rattle.reading.specs.Rule.{readRule}
+use Rattle.reading.specs.FoundRuleLaws.{read-typed}
 use Rattle.gates.specs.Running.{runBlock, runRead, runRule}
 use Rattle.gates.specs.Gates.{Gate, start, word, gateAt, arguments}
 use Rattle.gates.specs.PlainCircuit.{starts, plainOf, plainRead, plainCircuit}
 use Rattle.gates.specs.FigureLaws.{OnArguments, gates-right}
 use Rattle.gates.specs.SoundLaws.{Sound, block-sound}
 use Rattle.gates.specs.HoldLaws.{PresentGives}
-use Rattle.reading.specs.FoundRuleLaws.{read-typed}
 
 -- Gates 0 to V−1 are the variables' starting values.
 starts-earlier : (i n j a : ℕ) → a ∈ arguments (gateAt (map start (from i n)) j) → a < j

@@ -6,6 +6,8 @@ pub mod Blocks
 pub mod Kinds
 pub mod Format
 pub mod Rule
+pub mod OnlyOrder
+pub mod Standing
 pub mod ExpressionLaws
 pub mod EachLaws
 pub mod FoundExprLaws
@@ -20,8 +22,6 @@ pub mod BackExprLaws
 pub mod BackLaws
 pub mod BackRuleLaws
 pub mod RuleFormat
-pub mod OnlyOrder
-pub mod Standing
 pub mod StandingLaws
 pub mod OrderLaws
 pub mod OrderBytes

@@ -18,8 +18,9 @@ pub standing-file : (kinds : List ℕ) (b : Block) (op : Operation) (x y : ℕ) 
 unfolding exprBytes
 standing-file kinds b op x y pre post i = ap (λ (l : List ℕ). headerBytes kinds ++ l) (sym (block-split i))
 
--- it and the one with the two variables the other way round differ only in that order; so the second is read as well
-pub order-bytes : (kinds : List ℕ) (b : Block) → WellFormed kinds b → (op : Operation) (x y : ℕ) → commutes op ≡ true → (pre post : List ℕ) → InBlock (two op (variable x) (variable y)) b pre post
+-- it and the one with the two variables the other way round differ only in that order; so both are read (`both-read`)
+pub order-bytes : (kinds : List ℕ) (b : Block) → WellFormed kinds b → (op : Operation) (x y : ℕ) → commutes op ≡ true
+    → (pre post : List ℕ) → InBlock (two op (variable x) (variable y)) b pre post
     → OnlyOrder (headerBytes kinds ++ (pre ++ (byteOf op ∷ 0x10 ∷ x ∷ 0x10 ∷ y ∷ post))) (headerBytes kinds ++ (pre ++ (byteOf op ∷ 0x10 ∷ y ∷ 0x10 ∷ x ∷ post)))
 order-bytes kinds b w op x y c pre post i =
     let r = block-turned (turned c) i in

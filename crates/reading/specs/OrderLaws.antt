@@ -8,11 +8,23 @@ use lib.Seq.{take-at}
 use Rattle.codes.specs.Codes.{entryOf}
 use Rattle.codes.specs.declared.Kind.{Kind}
 use Rattle.codes.specs.declared.Kind.the-variants as kind
+use Rattle.answers.specs.Parsing.{Parsed, parsed, refused}
+use Rattle.answers.specs.ParsingLaws.{IsRead}
 use Rattle.reading.specs.Tree.{Expr, Statement, Block}
+use Rattle.reading.specs.Rule.{readRule}
 use Rattle.reading.specs.Kinds.{Typed, WordsFit, EachExprIn, EachExpr}
 use Rattle.reading.specs.Format.{exprBytes, statementBytes, blockBytes, headerBytes, ruleBytes, kindIn, depth, Shallow, nestingIn, nesting, WellFormed}
 use Rattle.reading.specs.RuleFormat.{rule-back}
-use Rattle.reading.specs.OnlyOrder.{ExprUpToOrder, same, turned, inOne, inTwo, StatementUpToOrder, assign, skip, branch, BlockUpToOrder, end, then, OnlyOrder}
+use Rattle.reading.specs.OnlyOrder.{ExprUpToOrder, same, turned, inOne, inTwo, StatementUpToOrder, assign, skip, branch, BlockUpToOrder, end, then, ReadUpToOrder, OnlyOrder}
+
+-- two files that differ only so are both read
+trees-read : (r q : Parsed Block) → ReadUpToOrder r q → IsRead r × IsRead q
+trees-read (parsed b n) (parsed d m) h = (tt, tt)
+trees-read (parsed b n) (refused number place) h = absurd h
+trees-read (refused number place) q h = absurd h
+
+pub both-read : (s t : List ℕ) → OnlyOrder s t → IsRead (readRule s) × IsRead (readRule t)
+both-read s t o = trees-read (readRule s) (readRule t) (o .blocks)
 
 -- expressions: kinds, word constants, depth and size stay
 
