@@ -1,5 +1,5 @@
 -- Laws of how many groups there are, and how many the order of writing places. Assumes nothing.
-use Prim.Native.Nat.{ℕ, zero, suc, _+_, _≤_}
+use Prim.Native.Nat.{ℕ, suc, _≤_}
 use mathlib.Core.Path.{_≡_, refl, sym, ap, _∙_}
 use mathlib.Core.Bool.{true, cond}
 use mathlib.Core.List.{List, [], _∷_}
@@ -8,15 +8,14 @@ use native.Mathlib.Omega.{arith}
 use lib.Dec.{eqb}
 use lib.ListN.{length}
 use borrow.Author.Tests.{eq-eqb, eqb-true}
-use mathlib.Core.Option.{Option, none, some}
 use Rattle.words.specs.Lists.{_∈_, upto}
 use Rattle.words.specs.ListLaws.{length-from, length-keep}
 use Rattle.words.specs.TestLaws.{split}
 use Rattle.settings.specs.Settings.{Once}
 use Rattle.settings.specs.ListLaws.{keep-once, from-once}
 use Rattle.gates.specs.Gates.{Gates}
-use Rattle.plan.specs.Groups.{groups, waitsFor}
-use Rattle.plan.specs.Order.{firstReady, schedule, order}
+use Rattle.plan.specs.Groups.{groups}
+use Rattle.plan.specs.Order.{order}
 use Rattle.plan.specs.Rows.{placed}
 use Rattle.plan.specs.CircleLaws.{allIn-each}
 use Rattle.plan.specs.WaitLaws.{order-from, order-once}
@@ -56,26 +55,18 @@ groups-most n group = omega (arith, length-keep (λ p. eqb (group p) p) (upto n)
 
 -- The order.
 
-schedule-length : (W : ℕ → List ℕ) (gs : List ℕ) (k : ℕ) (done : List ℕ) → length (schedule W gs k done) ≤ k + length done
-schedule-length W gs zero done = omega arith
-schedule-length W gs (suc k) done = go (firstReady W done gs) (λ p. schedule-length W gs k (p ∷ done))
-  where
-    go : (f : Option ℕ) → ((p : ℕ) → length (schedule W gs k (p ∷ done)) ≤ k + suc (length done))
-        → length {A = ℕ} (elim f [ none ↦ done | some p ↦ schedule W gs k (p ∷ done) ]) ≤ suc k + length done
-    go none ih = omega arith
-    go (some p) ih = omega (arith, ih p)
-
-pub order-length : (C : Gates) (sets : List ℕ) (group : ℕ → ℕ) → length (order C sets group) ≤ length C
-unfolding order
-order-length C sets group =
-    omega (arith, schedule-length (waitsFor C sets group) (groups (length C) group) (length (groups (length C) group)) [], groups-most (length C) group)
-
 module _ (C : Gates) (sets : List ℕ) (group : ℕ → ℕ) where
+  order-most : length (order C sets group) ≤ length (groups (length C) group)
+  order-most = once-length (order C sets group) (groups (length C) group) (order-once C sets group) (order-from C sets group)
+
+  pub order-length : length (order C sets group) ≤ length C
+  order-length = omega (arith, order-most, groups-most (length C) group)
+
   -- an order that places every group has as many
   pub placed-count : placed C sets group ≡ true → length (order C sets group) ≡ length (groups (length C) group)
   placed-count t =
       omega (
         arith,
-        once-length (order C sets group) (groups (length C) group) (order-once C sets group) (order-from C sets group),
+        order-most,
         once-length (groups (length C) group) (order C sets group) (groups-once (length C) group) (allIn-each (groups (length C) group) (order C sets group) t),
       )

@@ -42,7 +42,7 @@ module _ (W Z : ℕ → List ℕ) (same : (p : ℕ) → W p ≡ Z p) where
 
 -- Two maps that agree on the gates of the circuit.
 
-pub groups-same : (n : ℕ) (f h : ℕ → ℕ) → ((x : ℕ) → x < n → f x ≡ h x) → groups n f ≡ groups n h
+groups-same : (n : ℕ) (f h : ℕ → ℕ) → ((x : ℕ) → x < n → f x ≡ h x) → groups n f ≡ groups n h
 unfolding groups
 groups-same n f h e =
     keep-same (λ p. eqb (f p) p) (λ p. eqb (h p) p) (upto n) (λ p m. ap (λ (x : ℕ). eqb x p) (e p (omega (arith, from-below 0 n p m))))
@@ -52,7 +52,7 @@ members-same n f h e p =
     keep-same (λ g. eqb (f g) p) (λ g. eqb (h g) p) (upto n) (λ g m. ap (λ (x : ℕ). eqb x p) (e g (omega (arith, from-below 0 n g m))))
 
 module _ (C : Gates) (earlier : Earlier C) (sets : List ℕ) (f h : ℕ → ℕ) (e : (x : ℕ) → x < length C → f x ≡ h x) where
-  pub waits-same : (p : ℕ) → waitsFor C sets f p ≡ waitsFor C sets h p
+  waits-same : (p : ℕ) → waitsFor C sets f p ≡ waitsFor C sets h p
   unfolding waitsFor
   waits-same p =
       map-same f h (flat (readsOf C sets (members (length C) f p)) (members (length C) f p))
@@ -82,7 +82,7 @@ module _ (C : Gates) (sets tabs : List ℕ) (e : (m : ℕ) → getD sets m 0 ≡
   rests-same m = ap (λ (s : ℕ). map (λ t. getD (conditions C) t 0) (rests mostConditions s)) (e m)
 
 module _ (C : Gates) (sets tabs : List ℕ) (e : (m : ℕ) → getD sets m 0 ≡ getD tabs m 0) (group : ℕ → ℕ) where
-  pub waits-sets-same : (p : ℕ) → waitsFor C sets group p ≡ waitsFor C tabs group p
+  waits-sets-same : (p : ℕ) → waitsFor C sets group p ≡ waitsFor C tabs group p
   unfolding waitsFor
   waits-sets-same p =
       let ms = members (length C) group p in

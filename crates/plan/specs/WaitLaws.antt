@@ -5,16 +5,14 @@ use mathlib.Core.Bool.{true, cond}
 use mathlib.Core.List.{List, [], map}
 use mathlib.Core.Logic.{_⊎_, inl, inr, _↔_}
 use Prim.Native.Nat.{ℕ, _≤_, _<_}
-use native.Mathlib.Omega.{arith}
 use lib.Dec.{leb}
-use borrow.Author.Tests.{le-leb, leb-true}
+use borrow.Author.Tests.{leb-true}
 use lib.ListN.{length}
 use Rattle.words.specs.Lists.{_∈_, flat}
-use Rattle.words.specs.MemberLaws.{in-flat, flat-in, in-map, map-in, in-append, append-in}
+use Rattle.words.specs.MemberLaws.{flat-in, map-in, append-in}
 use Rattle.words.specs.TestLaws.{split}
 use Rattle.settings.specs.Settings.{Once}
 use Rattle.gates.specs.Gates.{Gates, gateAt, arguments, Earlier, conditions}
-use Rattle.gates.specs.ConditionLaws.{condition-below}
 use Rattle.gates.specs.Limits.{mostConditions}
 use Rattle.needed.specs.Pass.{preconditionSets}
 use Rattle.plan.specs.Groups.{Named, groups, members, RestsOn, Waits, Chain, one, more, restsOf, readsOf, waitsFor}
@@ -25,6 +23,7 @@ use Rattle.plan.specs.CircleLaws.{allIn-each, allIn-back}
 use Rattle.plan.specs.OrderLaws.{schedule-all, schedule-ordered, schedule-from, schedule-once}
 use Rattle.plan.specs.GroupLaws.{group-in, of-member}
 use Rattle.plan.specs.RestLaws.{rests-right}
+use Rattle.plan.specs.ReadsLaws.{waits-argument, waits-rests, waits-closed}
 
 -- a chain of one relation is one of a wider relation
 pub chain-map : {R S : ℕ → ℕ → Type 0} → ((p q : ℕ) → R p q → S p q) → {p q : ℕ} → Chain R p q → Chain S p q
@@ -55,26 +54,11 @@ module _ (C : Gates) (wanted : List ℕ) (earlier : Earlier C) (inside : (g : �
           let s = flat-in (readsOf C sets ms) (r .0) ms (r .1) in
           (s .0, s .1, r .0, r .2, of (s .0) (r .0) (append-in (r .0) (arguments (gateAt C (s .0))) (cond (leb 2 (length ms)) (restsOf C sets (s .0)) []) (s .2)))
 
-      reads : (m a : ℕ) → (a ∈ arguments (gateAt C m)) ⊎ ((2 ≤ length ms) × RestsOn C wanted m a)
-          → (a ∈ arguments (gateAt C m)) ⊎ (a ∈ cond (leb 2 (length ms)) (restsOf C sets m) [])
-      reads m a (inl k) = inl k
-      reads m a (inr (l, k)) = inr (rw (le-leb 2 (length ms) l) (rests-right C wanted earlier inside few m a .1 k))
-
       back : Waits C wanted group p q → q ∈ map group (flat (readsOf C sets ms) ms)
-      back (m, h, a, e, k) =
-          rw e (in-map group a (flat (readsOf C sets ms) ms)
-          (in-flat (readsOf C sets ms) a m ms h (in-append a (arguments (gateAt C m)) (cond (leb 2 (length ms)) (restsOf C sets m) []) (reads m a k))))
+      back (m, h, a, e, inl k) = rw e (waits-argument C sets group p m a h k)
+      back (m, h, a, e, inr (l, k)) = rw e (waits-rests C sets group p m a h l (rests-right C wanted earlier inside few m a .1 k))
 
-  -- what a group reads is in the circuit; so what it waits for is a group
-  waits-inside : (p m a : ℕ) → m < length C → (a ∈ arguments (gateAt C m)) ⊎ ((2 ≤ length (members (length C) group p)) × RestsOn C wanted m a) → a < length C
-  waits-inside p m a l (inl k) = omega (arith, earlier m a k)
-  waits-inside p m a l (inr (_, (c, _, _, _))) = condition-below C a c
-
-  pub waits-group : Named group → (p q : ℕ) → Waits C wanted group p q → q ∈ groups (length C) group
-  waits-group named p q (m, h, a, e, k) =
-      rw e (group-in (length C) group named a (waits-inside p m a (of-member (length C) group m p h .0) k))
-
-  -- and what waits is one
+  -- what waits is a group
   pub waiting-group : Named group → (p q : ℕ) → Waits C wanted group p q → p ∈ groups (length C) group
   waiting-group named p q (m, h, _, _, _) =
       let s = of-member (length C) group m p h in
@@ -88,7 +72,7 @@ module _ (C : Gates) (wanted : List ℕ) (earlier : Earlier C) (inside : (g : �
     where
       all : ((p : ℕ) → p ∈ groups (length C) group → Chain (λ x y. y ∈ waitsFor C sets group x) p p → ⊥)
           ↔ ((p : ℕ) → p ∈ groups (length C) group → p ∈ order C sets group)
-      all = schedule-all (waitsFor C sets group) (groups (length C) group) (λ p q _ h. waits-group named p q (waits-right p q .0 h))
+      all = schedule-all (waitsFor C sets group) (groups (length C) group) (λ p q _ h. waits-closed C earlier sets group (λ x _. named x) p q h)
 
       begins : (p q : ℕ) → Chain (Waits C wanted group) p q → p ∈ groups (length C) group
       begins p q (one w) = waiting-group named p q w
