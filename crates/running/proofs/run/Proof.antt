@@ -19,7 +19,7 @@ abbrev zeros : List ℕ
 zeros = replicate 16384 0
 
 zeros-length : length zeros ≡ 16384
-zeros-length = length-replicate 16384 0
+zeros-length = length-replicate {A = ℕ} 16384 0
 
 -- src/lib.rt:21:9
 returns : tie.Need-returns
