@@ -8,8 +8,7 @@ use lib.Seq.{take-at}
 use Rattle.codes.specs.Codes.{entryOf}
 use Rattle.codes.specs.declared.Kind.{Kind}
 use Rattle.codes.specs.declared.Kind.the-variants as kind
-use Rattle.answers.specs.Parsing.{Parsed, parsed, refused}
-use Rattle.answers.specs.ParsingLaws.{IsRead}
+use Rattle.answers.specs.Parsing.{Parsed, parsed, refused, IsRead}
 use Rattle.reading.specs.Tree.{Expr, Statement, Block}
 use Rattle.reading.specs.Rule.{readRule}
 use Rattle.reading.specs.Kinds.{Typed, WordsFit, EachExprIn, EachExpr}
