@@ -29,7 +29,7 @@ module _ (quads : List ℕ) (g : ℕ) where
       go (is-word e) = absurd (w e)
       go (is-bit e) = absurd (b e)
       go (applies h) = h
-      go (starts e) = let z : FitsGate (codeAt quads g) (start (firstAt quads g)) = subst (FitsGate (codeAt quads g)) e (f .fits) in absurd (omega (arith, l, z .0))
+      go (starts _ e) = let z : FitsGate (codeAt quads g) (start (firstAt quads g)) = subst (FitsGate (codeAt quads g)) e (f .fits) in absurd (omega (arith, l, z .0))
 
   -- every code that fits is a byte
   pub coded-byte : Coded quads g → codeAt quads g < 256
@@ -40,7 +40,7 @@ module _ (quads : List ℕ) (g : ℕ) where
       go (is-word e) = omega (arith, e)
       go (is-bit e) = omega (arith, e)
       go (applies h) = omega (arith, h)
-      go (starts e) = let z : FitsGate (codeAt quads g) (start (firstAt quads g)) = subst (FitsGate (codeAt quads g)) e (f .fits) in omega (arith, z .0)
+      go (starts _ e) = let z : FitsGate (codeAt quads g) (start (firstAt quads g)) = subst (FitsGate (codeAt quads g)) e (f .fits) in omega (arith, z .0)
 
   -- the byte of a bit constant or of a variable
   pub first-bit : Coded quads g → codeAt quads g ≡ 0x12 → firstAt quads g < 256

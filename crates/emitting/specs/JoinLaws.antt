@@ -55,7 +55,7 @@ module _ (quads : List ℕ) (m : ℕ) (two : length (arguments (gateIn quads m))
       go (is-word e) = absurd (wrong (word (firstAt quads m)) (word-in quads m e) (λ z. omega (arith, z)))
       go (is-bit e) = absurd (wrong (bit (firstAt quads m)) (bit-in quads m e) (λ z. omega (arith, z)))
       go (applies h) = h
-      go (starts e) = absurd (wrong (start (firstAt quads m)) e (λ z. omega (arith, z)))
+      go (starts _ e) = absurd (wrong (start (firstAt quads m)) e (λ z. omega (arith, z)))
 
   pub two-gate : gateIn quads m ≡ operation (operationOf (codeAt quads m)) (firstAt quads m ∷ secondAt quads m ∷ [])
   two-gate = go (one-or-two (operationOf (codeAt quads m)))

@@ -56,7 +56,7 @@ module _ (quads : List ℕ) (g : ℕ) where
         go (is-word e) = absurd (w e)
         go (is-bit e) = inl e
         go (applies h) = inr (inr h)
-        go (starts e) = let z : FitsGate (codeAt quads g) (start (firstAt quads g)) = subst (FitsGate (codeAt quads g)) e (coded .fits) in inr (inl (z .0))
+        go (starts _ e) = let z : FitsGate (codeAt quads g) (start (firstAt quads g)) = subst (FitsGate (codeAt quads g)) e (coded .fits) in inr (inl (z .0))
 
     bit-arity : codeAt quads g ≡ 0x12 → code .arity ≡ 0
     unfolding codeOf

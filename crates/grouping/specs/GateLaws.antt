@@ -7,70 +7,55 @@ use lib.Dec.{eqb, leb, ltb}
 use borrow.Author.Tests.{eqb-true, eqb-false, eq-eqb, ne-eqb, leb-true, le-leb, lt-leb}
 use Rattle.words.specs.TestLaws.{split}
 use Rattle.settings.specs.SetLaws.{both}
-use Rattle.codes.specs.Codes.{entryOf, byteOf, operationOf, codeOf}
-use Rattle.codes.specs.CodeLaws.{code-operation, byte-back}
+use Rattle.codes.specs.Codes.{codeOf}
+use Rattle.codes.specs.CodeLaws.{byte-back}
 use Rattle.codes.specs.declared.Code.{Code}
-use Rattle.codes.specs.declared.Operation.{Operation}
-use Rattle.gates.specs.Gates.{Gates, gateAt}
-use Rattle.needed.specs.Held.{choiceCode, ofForm, argumentsOf, codeAt, firstAt, secondAt, gateIn}
-use Rattle.needed.specs.HeldLaws.{EachCode, each-code, each-entry, cond-each}
-use Rattle.needed.specs.QuadLaws.{choice-in, other-in}
+use Rattle.gates.specs.Gates.{Gate, Gates, gateAt, costOf}
+use Rattle.needed.specs.Held.{choiceCode, codeAt, gateIn}
+use Rattle.needed.specs.QuadLaws.{KindIn, chooses, is-word, is-bit, applies, starts, kind-in, choice-in, word-in, bit-in, applied-in, cost-in}
 use Rattle.plan.specs.Groups.{smallest}
 use Rattle.plan.specs.Rows.{every, isCostly, operationByte}
 use Rattle.grouping.specs.Tests.{memberTest, membersTest, operationCode}
 
 -- 27: a costly gate is one whose code has a cost above 0 in the table of codes; a choice's code is not in it
-other-costly : (code a b : ℕ) → isCostly (ofForm (codeOf code .form) a (argumentsOf (codeOf code) a b)) ≡ ltb 0 (codeOf code .cost)
-other-costly code a b = each-code (λ r. isCostly (ofForm (r .form) a (argumentsOf r a b)) ≡ ltb 0 (r .cost)) each code
-  where
-    of-entry : (op : Operation) → isCostly (ofForm (entryOf op .form) a (argumentsOf (entryOf op) a b)) ≡ ltb 0 (entryOf op .cost)
-    of-entry op = each-entry (λ r o. isCostly (ofForm (r .form) a (argumentsOf r a b)) ≡ ltb 0 (r .cost)) refl refl refl refl refl refl refl refl op
-
-    each : EachCode (λ r. isCostly (ofForm (r .form) a (argumentsOf r a b)) ≡ ltb 0 (r .cost))
-    each = record { of-entry = of-entry; of-end = refl; of-assign = refl; of-skip = refl; of-branch = refl; of-variable = refl; of-word = refl; of-bit = refl; of-unknown = refl }
-
 choice-costs : ltb 0 (codeOf choiceCode .cost) ≡ false
 unfolding codeOf
 choice-costs = refl
 
+-- of a gate that is no choice it is one that costs
+by-cost : (quads : List ℕ) (i : ℕ) (k : Gate) → gateIn quads i ≡ k → (codeAt quads i ≡ choiceCode → ⊥) → isCostly k ≡ ltb 0 (costOf k)
+    → isCostly (gateIn quads i) ≡ ltb 0 (codeOf (codeAt quads i) .cost)
+by-cost quads i k e n c = ap isCostly e ∙ c ∙ ap (λ (g : Gate). ltb 0 (costOf g)) (sym e) ∙ ap (ltb 0) (cost-in quads i n)
+
 pub costly-code : (quads : List ℕ) (i : ℕ) → isCostly (gateIn quads i) ≡ ltb 0 (codeOf (codeAt quads i) .cost)
-costly-code quads i =
-    split (eqb (codeAt quads i) choiceCode)
-    (λ e. let q = eqb-true (codeAt quads i) choiceCode e in
-    ap isCostly (choice-in quads i q)
-    ∙ sym (ap (λ (x : ℕ). ltb 0 (codeOf x .cost)) q ∙ choice-costs))
-    (λ e. ap isCostly (other-in quads i (eqb-false (codeAt quads i) choiceCode e))
-    ∙ other-costly (codeAt quads i) (firstAt quads i) (secondAt quads i))
+costly-code quads i = split (eqb (codeAt quads i) choiceCode) (λ t. chosen (eqb-true _ _ t)) (λ t. other (eqb-false _ _ t) (kind-in quads i))
+  where
+    chosen : codeAt quads i ≡ choiceCode → isCostly (gateIn quads i) ≡ ltb 0 (codeOf (codeAt quads i) .cost)
+    chosen e = ap isCostly (choice-in quads i e) ∙ sym (ap (λ (x : ℕ). ltb 0 (codeOf x .cost)) e ∙ choice-costs)
+
+    other : (codeAt quads i ≡ choiceCode → ⊥) → KindIn quads i → isCostly (gateIn quads i) ≡ ltb 0 (codeOf (codeAt quads i) .cost)
+    other n (chooses e) = absurd (n e)
+    other n (is-word e) = by-cost quads i _ (word-in quads i e) n refl
+    other n (is-bit e) = by-cost quads i _ (bit-in quads i e) n refl
+    other n (applies h) = by-cost quads i _ (applied-in quads i h) n refl
+    other n (starts _ e) = by-cost quads i _ e n refl
 
 -- 28: an operation's byte is its code
-entry-byte : (a : ℕ) (l : List ℕ) (op : Operation) → operationByte (ofForm (entryOf op .form) a l) ≡ byteOf op
-entry-byte a l op = each-entry (λ r o. operationByte (ofForm (r .form) a l) ≡ byteOf o) refl refl refl refl refl refl refl refl op
-
-other-byte : (b a : ℕ) (l : List ℕ) → (leb 0x20 b && leb b 0x27) ≡ false → operationByte (ofForm (codeOf b .form) a l) ≡ 0
-unfolding codeOf
-other-byte b a l h =
-    rw h (cond-each Q (eqb b 0x00) _ _ refl
-    (cond-each Q (eqb b 0x01) _ _ refl
-    (cond-each Q (eqb b 0x02) _ _ refl
-    (cond-each Q (eqb b 0x03) _ _ refl
-    (cond-each Q (eqb b 0x10) _ _ refl
-    (cond-each Q (eqb b 0x11) _ _ refl
-    (cond-each Q (eqb b 0x12) _ _ refl refl)))))))
-  where
-    Q : Code → Type 0
-    Q r = operationByte (ofForm (r .form) a l) ≡ 0
-
 pub operation-code : (quads : List ℕ) (i : ℕ) → operationByte (gateIn quads i) ≡ operationCode (codeAt quads i)
 unfolding operationCode
-operation-code quads i =
-    split (eqb (codeAt quads i) choiceCode)
-    (λ e. let q = eqb-true (codeAt quads i) choiceCode e in
-    ap operationByte (choice-in quads i q) ∙ sym (rw q))
-    (λ e. ap operationByte (other-in quads i (eqb-false (codeAt quads i) choiceCode e))
-    ∙ split (leb 0x20 (codeAt quads i) && leb (codeAt quads i) 0x27)
-    (λ t. let r = both (leb 0x20 (codeAt quads i)) _ t in let lo = leb-true _ _ (r .0) in let hi = leb-true _ _ (r .1) in
-    rw (t, code-operation (codeAt quads i) lo hi) (entry-byte _ _ (operationOf (codeAt quads i)) ∙ byte-back (codeAt quads i) lo hi))
-    (λ t. rw t (other-byte (codeAt quads i) _ _ t)))
+operation-code quads i = go (kind-in quads i)
+  where
+    go : KindIn quads i → operationByte (gateIn quads i) ≡ operationCode (codeAt quads i)
+    go (chooses e) = ap operationByte (choice-in quads i e) ∙ sym (rw e)
+    go (is-word e) = ap operationByte (word-in quads i e) ∙ sym (rw e)
+    go (is-bit e) = ap operationByte (bit-in quads i e) ∙ sym (rw e)
+    go (applies h) =
+        ap operationByte (applied-in quads i h) ∙ byte-back (codeAt quads i) (h .0) (h .1) ∙ sym (rw (le-leb 0x20 _ (h .0), le-leb (codeAt quads i) 0x27 (h .1)))
+    go (starts n e) =
+        ap operationByte e
+        ∙ split (leb 0x20 (codeAt quads i) && leb (codeAt quads i) 0x27)
+        (λ t. let r = both (leb 0x20 (codeAt quads i)) _ t in absurd (n (leb-true _ _ (r .0), leb-true _ _ (r .1))))
+        (λ t. rw t)
 
 pub operation-low : (code : ℕ) → code < 0x20 → 0 ≡ operationCode code
 unfolding operationCode

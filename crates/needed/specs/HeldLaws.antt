@@ -23,7 +23,7 @@ use Rattle.gates.specs.CostLaws.{costs-add, costs-most}
 use Rattle.needed.specs.Held.{choiceCode, ofForm, argumentsOf, gateOf, gateIn, gatesIn, codeCost}
 
 -- what holds of every entry of the table and of every plain code holds of the code of any number
-pub cond-each : (Q : Code → Type 0) (t : Bool) (a b : Code) → Q a → Q b → Q (cond t a b)
+cond-each : (Q : Code → Type 0) (t : Bool) (a b : Code) → Q a → Q b → Q (cond t a b)
 cond-each Q true a b p q = p
 cond-each Q false a b p q = q
 

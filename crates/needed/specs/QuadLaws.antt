@@ -12,9 +12,9 @@ use Rattle.codes.specs.Codes.{entryOf, operationOf, codeOf}
 use Rattle.codes.specs.CodeLaws.{code-operation, code-unknown}
 use Rattle.codes.specs.declared.Operation.{Operation}
 use Rattle.codes.specs.declared.Operation.the-variants.{Sum, Difference, Product, LessThan, Equal, And, Or, Not}
-use Rattle.gates.specs.Gates.{start, word, bit, operation, choice, arguments}
+use Rattle.gates.specs.Gates.{start, word, bit, operation, choice, arguments, costOf}
 use Rattle.needed.specs.Held.{choiceCode, ofForm, argumentsOf, gateOf, codeAt, firstAt, secondAt, thirdAt, gateIn}
-use Rattle.needed.specs.HeldLaws.{gate-choice, gate-other, arguments-other}
+use Rattle.needed.specs.HeldLaws.{gate-choice, gate-other, arguments-other, cost-code, cost-other}
 
 -- a code of the operation range
 abbrev pub Applies : ℕ → Type 0
@@ -65,13 +65,13 @@ module _ (code a b c : ℕ) where
 
 -- Of gate g of the quads.
 
--- what it can be, by its code: any code but these is a starting value's
+-- what it can be, by its code: any other is a starting value's
 pub data KindIn (quads : List ℕ) (g : ℕ) : Type 0 where
   chooses : codeAt quads g ≡ choiceCode → KindIn quads g
   is-word : codeAt quads g ≡ 0x11 → KindIn quads g
   is-bit : codeAt quads g ≡ 0x12 → KindIn quads g
   applies : Applies (codeAt quads g) → KindIn quads g
-  starts : gateIn quads g ≡ start (firstAt quads g) → KindIn quads g
+  starts : (Applies (codeAt quads g) → ⊥) → gateIn quads g ≡ start (firstAt quads g) → KindIn quads g
 
 module _ (quads : List ℕ) (g : ℕ) where
   pub choice-in : codeAt quads g ≡ choiceCode → gateIn quads g ≡ choice (firstAt quads g) (secondAt quads g) (thirdAt quads g)
@@ -108,18 +108,20 @@ module _ (quads : List ℕ) (g : ℕ) where
           split (leb 0x20 code)
           (λ l. split (leb code 0x27)
           (λ u. applies (leb-true _ _ l, leb-true _ _ u))
-          (λ u. starts (unknown-gate code (firstAt quads g) (secondAt quads g) (thirdAt quads g) n h v w z (inr (leb-false _ _ u)))))
-          (λ l. starts (unknown-gate code (firstAt quads g) (secondAt quads g) (thirdAt quads g) n h v w z (inl (leb-false _ _ l))))
+          (λ u. starts (λ r. omega (arith, r, leb-false code 0x27 u)) (unknown-gate code (firstAt quads g) (secondAt quads g) (thirdAt quads g) n h v w z (inr (leb-false _ _ u)))))
+          (λ l. starts (λ r. omega (arith, r, leb-false 0x20 code l)) (unknown-gate code (firstAt quads g) (secondAt quads g) (thirdAt quads g) n h v w z (inl (leb-false _ _ l))))
 
       go : (code ≡ choiceCode) ⊎ (code ≡ choiceCode → ⊥) → (code ≡ 0x11) ⊎ (code ≡ 0x11 → ⊥) → (code ≡ 0x12) ⊎ (code ≡ 0x12 → ⊥)
           → (code ≡ 0x10) ⊎ (code ≡ 0x10 → ⊥) → KindIn quads g
       go (inl e) y z v = chooses e
       go (inr x) (inl e) z v = is-word e
       go (inr x) (inr y) (inl e) v = is-bit e
-      go (inr x) (inr y) (inr z) (inl e) = starts (variable-gate code (firstAt quads g) (secondAt quads g) (thirdAt quads g) e)
-      go (inr x) (inr y) (inr z) (inr v) = split (leb 4 code) (λ l. range x y z v (leb-true _ _ l)) (λ l. starts (start-in (omega (arith, leb-false 4 code l))))
+      go (inr x) (inr y) (inr z) (inl e) = starts (λ r. omega (arith, r, e)) (variable-gate code (firstAt quads g) (secondAt quads g) (thirdAt quads g) e)
+      go (inr x) (inr y) (inr z) (inr v) =
+          split (leb 4 code) (λ l. range x y z v (leb-true _ _ l))
+          (λ l. let h = leb-false 4 code l in starts (λ r. omega (arith, r, h)) (start-in (omega (arith, h))))
 
-  -- one that is no choice, by the form of its code in the table, and its arguments
+  -- one that is no choice: by the form of its code in the table, its arguments, its cost
   pub other-in : (codeAt quads g ≡ choiceCode → ⊥)
       → gateIn quads g ≡ ofForm (codeOf (codeAt quads g) .form) (firstAt quads g) (argumentsOf (codeOf (codeAt quads g)) (firstAt quads g) (secondAt quads g))
   unfolding gateIn
@@ -127,3 +129,7 @@ module _ (quads : List ℕ) (g : ℕ) where
 
   pub arguments-in : (codeAt quads g ≡ choiceCode → ⊥) → arguments (gateIn quads g) ≡ argumentsOf (codeOf (codeAt quads g)) (firstAt quads g) (secondAt quads g)
   arguments-in n = ap arguments (other-in n) ∙ arguments-other (codeAt quads g) (firstAt quads g) (secondAt quads g)
+
+  pub cost-in : (codeAt quads g ≡ choiceCode → ⊥) → costOf (gateIn quads g) ≡ codeOf (codeAt quads g) .cost
+  unfolding gateIn
+  cost-in n = cost-code (codeAt quads g) (firstAt quads g) (secondAt quads g) (thirdAt quads g) ∙ cost-other (codeAt quads g) n
