@@ -6,7 +6,7 @@ use mathlib.Core.List.{List}
 use mathlib.Core.Logic.{_⊎_, inl, inr}
 use lib.Dec.{eqb, leb}
 use lib.ListN.{length}
-use borrow.Author.Tests.{ne-eqb, eqb-true, eqb-false}
+use borrow.Author.Tests.{ne-eqb, eqb-true, eqb-false, leb-true, leb-false}
 use Rattle.words.specs.TestLaws.{split, same?}
 use Rattle.answers.specs.Answers.{refusal}
 use Rattle.answers.specs.declared.Answer.{Answer}
@@ -21,7 +21,8 @@ use Rattle.plan.specs.Rows.{planRow, planAnswer}
 use Rattle.plan.specs.AcceptedLaws.{answer-rule, answer-row, answer-accepted}
 use Rattle.plan.specs.RangeLaws.{row-range}
 use Rattle.fused.specs.CircuitFile.{fusedFile}
-use Rattle.fused.specs.Answers.{fusedCounts, fusedAnswer, writeAnswer, writtenOver}
+use Rattle.fused.specs.Answers.{fusedAnswer, writeAnswer, writtenOver}
+use Rattle.fused.specs.AnswerLaws.{fused-refused, fused-taken, write-refused, write-short, write-taken}
 use Rattle.running.specs.FusedRun.{fusedResults}
 use Rattle.demands.specs.Table.{TableRow, bySize, onByte, pastEnd, overGates, overConditions, ofPlan, ofInputs, ofBuffer, Answered}
 
@@ -77,16 +78,20 @@ plan-answered s p =
 
 -- an accepted plan's answer with all five counts
 pub fused-answered : (s p : List ℕ) → Answered (length s) (fusedAnswer s p)
-unfolding fusedAnswer fusedCounts
-fused-answered s p = split (eqb (planAnswer s p .number) 0) (λ t. rw t (inl (refl, refl))) (λ t. rw t (plan-answered s p))
+fused-answered s p =
+    split (eqb (planAnswer s p .number) 0)
+    (λ t. inl (fused-taken s p (eqb-true _ _ t)))
+    (λ t. same-answered (length s) (fused-refused s p (eqb-false _ _ t)) (plan-answered s p))
 
 -- row 50, after the plan's
 pub write-answered : (s p : List ℕ) (room : ℕ) → Answered (length s) (writeAnswer s p room)
-unfolding writeAnswer fusedCounts
 write-answered s p room =
     split (eqb (planAnswer s p .number) 0)
-    (λ t. split (leb (length (fusedFile s p)) room) (λ u. rw (t, u) (inl (refl, refl))) (λ u. rw (t, u) (refused-by ofBuffer)))
-    (λ t. rw t (plan-answered s p))
+    (λ t. let h = eqb-true _ _ t in
+    split (leb (length (fusedFile s p)) room)
+    (λ u. same-answered (length s) (write-taken s p room h (leb-true _ _ u)) (fused-answered s p))
+    (λ u. same-answered (length s) (write-short s p room h (leb-false _ _ u)) (refused-by ofBuffer)))
+    (λ t. same-answered (length s) (write-refused s p room (eqb-false _ _ t)) (plan-answered s p))
 
 -- a refusal writes to no buffer
 pub run-untouched : (before : Answer) (s inputs results : List ℕ) → (runAnswer before s inputs (length results) .number ≡ 0 → ⊥) → runResults before s inputs results ≡ results

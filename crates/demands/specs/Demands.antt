@@ -23,7 +23,7 @@ use Rattle.fused.specs.Records.{ReadsEarlier}
 use Rattle.fused.specs.CircuitFile.{fusedFile}
 use Rattle.fused.specs.FileFigures.{fileRecords, fileFigures}
 use Rattle.fused.specs.Answers.{fusedAnswer, writeAnswer, writtenOver}
-use Rattle.fused.specs.Demand3 as figures
+use Rattle.fused.specs.FusedFigures as figures
 use Rattle.fused.specs.OnlyOrderLaws as order
 use Rattle.running.specs.FusedRun.{fusedResults}
 use Rattle.demands.specs.Table.{Answered}

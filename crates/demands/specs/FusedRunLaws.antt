@@ -6,7 +6,7 @@ use mathlib.Core.List.{List, map}
 use lib.Dec.{eqb, leb}
 use lib.ListN.{length, take, drop}
 use lib.Seq.{take-at, drop-at}
-use borrow.Author.Tests.{eq-eqb, eqb-true, eqb-false, leb-true}
+use borrow.Author.Tests.{eq-eqb, eqb-true, eqb-false, leb-true, leb-false}
 use Rattle.words.specs.TestLaws.{split}
 use Rattle.words.specs.Buffers.{over}
 use Rattle.words.specs.Numbers.{Bytes}
@@ -30,11 +30,11 @@ use Rattle.fused.specs.CircuitFile.{fusedFile}
 use Rattle.fused.specs.Records.{ReadsEarlier}
 use Rattle.fused.specs.FileFigures.{fileRecords}
 use Rattle.fused.specs.FitPlan.{fused-found}
-use Rattle.fused.specs.Demand3.{reads-earlier, output-earlier}
-use Rattle.fused.specs.Answers.{fusedCounts, fusedAnswer, writeAnswer, writtenOver}
+use Rattle.fused.specs.FusedFigures.{reads-earlier, output-earlier}
+use Rattle.fused.specs.Answers.{fusedAnswer, writeAnswer, writtenOver}
+use Rattle.fused.specs.AnswerLaws.{fused-refused, fused-taken, answer-bytes, write-refused, write-short, write-taken}
 use Rattle.running.specs.FusedRun.{fusedResults}
-use Rattle.running.specs.RunLaws.{fused-refused, fused-accepted}
-use Rattle.running.specs.Demand3Run.{fused-results}
+use Rattle.running.specs.ResultLaws.{fused-results}
 
 -- the plain circuit beside the direct run
 pub plain-figures : (s inputs : List ℕ) → IsRead (readRule s) → length inputs ≡ variables s → map (figureAt inputs (gatesOf s)) (outputsOf s) ≡ runRule s inputs
@@ -63,8 +63,7 @@ module _ (s p : List ℕ) where
     rule-zero = plan-accepted s p .0 h .0
 
     fused-zero : fusedAnswer s p .number ≡ 0
-    unfolding fusedCounts
-    fused-zero = ap (λ (c : Answer). c .number) (fused-accepted s p h)
+    fused-zero = fused-taken s p h .0
 
     pub same-number : (inputs : List ℕ) (room : ℕ) → runAnswer (fusedAnswer s p) s inputs room .number ≡ runAnswer (ruleAnswer s) s inputs room .number
     same-number inputs room = numbers-same (fusedAnswer s p) (ruleAnswer s) fused-zero rule-zero s inputs room
@@ -89,10 +88,19 @@ module _ (s p : List ℕ) where
   pub file-written : (buffer : List ℕ) → writeAnswer s p (length buffer) .number ≡ 0
       → (take (writeAnswer s p (length buffer) .bytes) (writtenOver s p buffer) ≡ fusedFile s p)
       × (drop (writeAnswer s p (length buffer) .bytes) (writtenOver s p buffer) ≡ drop (length (fusedFile s p)) buffer)
-  unfolding writtenOver writeAnswer fusedCounts over
+  unfolding writtenOver over
   file-written buffer h =
-      split (eqb (planAnswer s p .number) 0)
-      (λ t. split (leb (length (fusedFile s p)) (length buffer))
-      (λ u. rw (t, u) (take-at (fusedFile s p) _ (length (fusedFile s p)) refl, drop-at (fusedFile s p) _ (length (fusedFile s p)) refl))
-      (λ u. let z : 50 ≡ 0 = rw (t, u) at h in absurd (omega arith)))
-      (λ t. absurd (eqb-false _ _ t (rw t at h)))
+      rw (eq-eqb _ _ h, bytes)
+      (take-at (fusedFile s p) _ (length (fusedFile s p)) refl, drop-at (fusedFile s p) _ (length (fusedFile s p)) refl)
+    where
+      number : {a : Answer} → writeAnswer s p (length buffer) ≡ a → a .number ≡ 0
+      number e = ap (λ (c : Answer). c .number) (sym e) ∙ h
+
+      bytes : writeAnswer s p (length buffer) .bytes ≡ length (fusedFile s p)
+      bytes =
+          split (eqb (planAnswer s p .number) 0)
+          (λ t. let z = eqb-true _ _ t in
+          split (leb (length (fusedFile s p)) (length buffer))
+          (λ u. ap (λ (c : Answer). c .bytes) (write-taken s p (length buffer) z (leb-true _ _ u)) ∙ answer-bytes s p z)
+          (λ u. absurd (omega (arith, number (write-short s p (length buffer) z (leb-false _ _ u))))))
+          (λ t. let n = eqb-false _ _ t in absurd (n (number (write-refused s p (length buffer) n))))

@@ -34,7 +34,7 @@ use Rattle.fused.specs.FusedCircuit.{written, fused, recordsOf}
 use Rattle.fused.specs.CircuitFile.{fusedFile}
 use Rattle.fused.specs.Answers.{fusedCounts, writeAnswer}
 use Rattle.fused.specs.Examples.{file3, example-3}
-use Rattle.fused.specs.ArgumentOrder.{one-file}
+use Rattle.fused.specs.OnlyOrderLaws.{same-file}
 
 -- R1 with the product of its first block the other way round: v2 × v1
 abbrev pub r1-turned : List ℕ
@@ -50,7 +50,7 @@ r1-accepted = refl
 
 -- so with P1 it gives example 3's file
 pub r1-turned-file : fusedFile r1-turned p1 ≡ file3
-r1-turned-file = sym (one-file r1 r1-turned r1-order r1-accepted p1) ∙ example-3
+r1-turned-file = sym (same-file r1 r1-turned r1-order r1-accepted p1) ∙ example-3
 
 -- v2 from v0 and v1 by the operation of a code, in either order; k: the kind of v2. The plan for its four gates joins none
 abbrev pub from-two : ℕ → ℕ → ℕ → ℕ → List ℕ

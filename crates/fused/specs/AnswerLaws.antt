@@ -1,11 +1,12 @@
--- Laws of the answer of an accepted plan and of a refused one, of the bytes that it counts, and of a buffer that always suffices. Assumes nothing.
-use Prim.Native.Nat.{ℕ}
-use mathlib.Core.Path.{_≡_, sym, ap, _∙_}
+-- Laws of the answer of an accepted plan and of a refused one, of the bytes that it counts, and of writing it into a buffer. Assumes nothing.
+use Prim.Native.Nat.{ℕ, _≤_, _<_}
+use mathlib.Core.Path.{_≡_, refl, sym, ap, _∙_}
 use mathlib.Core.List.{List}
 use lib.Dec.{eqb}
 use lib.ListN.{length}
-use borrow.Author.Tests.{eq-eqb, ne-eqb, eqb-true, eqb-false, le-leb}
+use borrow.Author.Tests.{eq-eqb, ne-eqb, eqb-true, eqb-false, le-leb, lt-leb}
 use Rattle.words.specs.TestLaws.{split}
+use Rattle.answers.specs.Answers.{refusal}
 use Rattle.answers.specs.declared.Answer.{Answer}
 use Rattle.plan.specs.Rows.{planAnswer}
 use Rattle.fused.specs.CircuitFile.{fusedFile}
@@ -14,9 +15,14 @@ use Rattle.fused.specs.SizeBounds.{bytes-bound}
 
 module _ (s p : List ℕ) where
   -- a refused plan has the plan's answer
-  fused-refused : (planAnswer s p .number ≡ 0 → ⊥) → fusedAnswer s p ≡ planAnswer s p
+  pub fused-refused : (planAnswer s p .number ≡ 0 → ⊥) → fusedAnswer s p ≡ planAnswer s p
   unfolding fusedAnswer
   fused-refused h = rw (ne-eqb _ _ h)
+
+  -- an accepted one is taken
+  pub fused-taken : planAnswer s p .number ≡ 0 → (fusedAnswer s p .number ≡ 0) × (fusedAnswer s p .place ≡ 0)
+  unfolding fusedAnswer fusedCounts
+  fused-taken h = rw (eq-eqb _ _ h) (refl, refl)
 
   -- so a fused circuit that is answered with number 0 has an accepted plan
   pub fused-plan : fusedAnswer s p .number ≡ 0 → planAnswer s p .number ≡ 0
@@ -29,8 +35,23 @@ module _ (s p : List ℕ) where
   unfolding fusedAnswer fusedCounts
   answer-bytes h = rw (eq-eqb _ _ h)
 
+  -- writing it: the plan's refusal first, then 50, else the same answer
+  module _ (room : ℕ) where
+    pub write-refused : (planAnswer s p .number ≡ 0 → ⊥) → writeAnswer s p room ≡ planAnswer s p
+    unfolding writeAnswer
+    write-refused h = rw (ne-eqb _ _ h)
+
+    pub write-short : planAnswer s p .number ≡ 0 → room < length (fusedFile s p) → writeAnswer s p room ≡ refusal 50 0
+    unfolding writeAnswer
+    write-short h l = rw (eq-eqb _ _ h, lt-leb _ _ l)
+
+    pub write-taken : planAnswer s p .number ≡ 0 → length (fusedFile s p) ≤ room → writeAnswer s p room ≡ fusedAnswer s p
+    unfolding writeAnswer fusedAnswer
+    write-taken h l = rw (eq-eqb _ _ h, le-leb _ _ l)
+
   -- 16,384 bytes always suffice
   pub room-enough : writeAnswer s p 16384 ≡ fusedAnswer s p
-  unfolding writeAnswer fusedAnswer
   room-enough =
-      split (eqb (planAnswer s p .number) 0) (λ t. rw (t, le-leb _ _ (bytes-bound s p (eqb-true _ _ t)))) (λ t. rw t)
+      split (eqb (planAnswer s p .number) 0)
+      (λ t. let h = eqb-true _ _ t in write-taken 16384 h (bytes-bound s p h))
+      (λ t. let n = eqb-false _ _ t in write-refused 16384 n ∙ sym (fused-refused n))

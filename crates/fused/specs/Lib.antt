@@ -33,5 +33,4 @@ pub mod FitLaws
 pub mod FitPlan
 pub mod FileBytes
 pub mod OnlyOrderLaws
-pub mod ArgumentOrder
-pub mod Demand3
+pub mod FusedFigures

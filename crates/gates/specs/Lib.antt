@@ -23,5 +23,4 @@ pub mod EachGateLaws
 pub mod GateKindLaws
 pub mod OutputLaws
 pub mod OnlyOrderLaws
-pub mod Demand2
 pub mod Examples

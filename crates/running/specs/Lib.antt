@@ -1,5 +1,5 @@
 pub mod FusedRun
 pub mod RecordBounds
 pub mod RunnableLaws
-pub mod Demand3Run
+pub mod ResultLaws
 pub mod StepLaws

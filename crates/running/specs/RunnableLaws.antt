@@ -16,7 +16,7 @@ use Rattle.fused.specs.FileFigures.{sizeAt}
 use Rattle.fused.specs.FitPlan.{fused-place, fused-record, fused-part, fused-inside, fused-found}
 use Rattle.fused.specs.BoundLaws.{Bounded, fused-bounded}
 use Rattle.fused.specs.SizeBounds.{wires-bound, fused-size}
-use Rattle.fused.specs.Demand3.{reads-earlier, output-earlier}
+use Rattle.fused.specs.FusedFigures.{reads-earlier, output-earlier}
 use Rattle.figures.specs.Runnable.{recordPlace, Runnable}
 use Rattle.running.specs.RecordBounds.{known-byte, counted-byte, input-byte, two-bytes, some-byte}
 

@@ -21,7 +21,7 @@ use Rattle.fused.specs.Answers.{fusedAnswer, writeAnswer, writtenOver}
 use Rattle.fused.specs.SizeBounds.{bytes-bound}
 use Rattle.fused.specs.AnswerLaws.{fused-plan, answer-bytes, room-enough}
 use Rattle.fused.specs.FitPlan.{fused-found}
-use Rattle.fused.specs.Demand3.{reads-earlier, output-earlier}
+use Rattle.fused.specs.FusedFigures.{reads-earlier, output-earlier}
 use Rattle.direct.specs.Inputs.{inputRow}
 use Rattle.direct.specs.InputLaws.{inputs-count, inputs-room}
 use Rattle.direct.specs.Direct.{runAnswer}

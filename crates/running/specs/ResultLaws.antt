@@ -1,5 +1,4 @@
--- Demand 3, its last sentence: every run of the fused circuit gives every variable the figure of a direct run, and is refused just where a direct run of the rule,
--- or the plan, is. So do the bytes of the file (fused/specs/Demand3.antt, `file-run`).
+-- Laws of the results of a fused run: they are those of a direct run that is answered so. Assumes nothing.
 use Prim.Native.Nat.{ℕ}
 use mathlib.Core.Path.{_≡_, sym, ap, _∙_}
 use mathlib.Core.List.{List}
@@ -14,7 +13,7 @@ use Rattle.reading.specs.Header.{variables}
 use Rattle.plan.specs.Rows.{planAnswer}
 use Rattle.fused.specs.Answers.{fusedAnswer}
 use Rattle.fused.specs.AnswerLaws.{fused-plan}
-use Rattle.fused.specs.Demand3.{file-run}
+use Rattle.fused.specs.FusedFigures.{file-run}
 use Rattle.direct.specs.InputLaws.{inputs-count}
 use Rattle.direct.specs.Direct.{runAnswer, runResults}
 use Rattle.direct.specs.DirectLaws.{answered-rule, answered-inputs, answered-results, refused-results}

@@ -1,5 +1,4 @@
--- Demand 3, after its first sentence (plan/specs/AcceptedLaws.antt, `plan-accepted`): for every rule and plan that are accepted, every record of the fused
--- circuit reads only earlier wires, and whatever the V inputs, the figures of the file's own bytes are those that the direct run ends with.
+-- Laws of the fused circuit of an accepted plan: its records read only earlier wires, and its figures, from its records and from its file's bytes, are the direct run's.
 use Prim.Native.Nat.{ℕ, _<_}
 use mathlib.Core.Path.{_≡_, sym, _∙_}
 use mathlib.Core.List.{List, map, map-map}
@@ -14,7 +13,7 @@ use Rattle.gates.specs.Running.{runRule}
 use Rattle.gates.specs.Gates.{figureAt}
 use Rattle.gates.specs.PlainCircuit.{gatesOf, outputsOf}
 use Rattle.gates.specs.StartLaws.{read-run}
-use Rattle.gates.specs.Demand2.{demand-2}
+use Rattle.gates.specs.OutputLaws.{output-figures}
 use Rattle.needed.specs.Needed.{from-start}
 use Rattle.plan.specs.Rows.{planAnswer}
 use Rattle.fused.specs.Records.{ReadsEarlier, wireFigure}
@@ -47,7 +46,7 @@ pub fused-run : (s p : List ℕ) → planAnswer s p .number ≡ 0 → (inputs : 
     → map (wireFigure inputs (recordsOf s p)) (outputWires s p) ≡ runRule s inputs
 fused-run s p h inputs l =
     let r = planned-read s p h in
-    fused-figures s p h inputs ∙ demand-2 s (r .0) (r .1) (r .2) inputs l ∙ sym (read-run s (r .0) (r .1) (r .2) inputs)
+    fused-figures s p h inputs ∙ output-figures s (r .0) (r .1) (r .2) inputs l ∙ sym (read-run s (r .0) (r .1) (r .2) inputs)
 
 -- so the file's own bytes, worked out record by record, give every variable the figure of a direct run
 pub file-run : (s p : List ℕ) → Bytes s → planAnswer s p .number ≡ 0 → (inputs : List ℕ) → length inputs ≡ variables s
