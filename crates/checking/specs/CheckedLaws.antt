@@ -30,7 +30,7 @@ module _ (s p : List ℕ) (h : planAnswer s p .number ≡ 0) where
   part-at l i = padded-at mostGates (ifChecked s p l) i ∙ ap (λ (k : List ℕ). getD k i 0) (accepted-lists s p h l)
 
   gate-at : (f : ℕ → ℕ) (g : ℕ) → g < gateCount s → getD (padded mostGates (ifChecked s p (map f (upto (gateCount s))))) g 0 ≡ f g
-  gate-at f g l = part-at (map f (upto (gateCount s))) g ∙ getD-run f 0 (gateCount s) g l ∙ ap f (zero-add g)
+  gate-at f g l = part-at (map f (upto (gateCount s))) g ∙ getD-run f 0 0 (gateCount s) g l ∙ ap f (zero-add g)
 
   -- each gate's group, and its place in the plan
   pub group-is : (g : ℕ) → g < gateCount s → getD (checkedGroups s p) g 0 ≡ groupOf (groupsIn p) g
