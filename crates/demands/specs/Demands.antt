@@ -1,19 +1,28 @@
 -- The demands, sentence by sentence, and the change requests that have landed; each sentence is quoted above its theorems.
 -- s is a rule's bytes, p a plan's. That every operation ends, with the answers and bytes named here, is what it promises: crates/linnet/src/lib.rt.
-use Prim.Native.Nat.{ℕ}
+use Prim.Native.Nat.{ℕ, _≤_}
 use mathlib.Core.Path.{_≡_}
-use mathlib.Core.List.{List, map}
+use mathlib.Core.Bool.{true}
+use mathlib.Core.List.{List, [], _∷_, _++_, map}
 use mathlib.Core.Logic.{_↔_}
 use lib.ListN.{length, take, drop}
+use Rattle.words.specs.Lists.{elem}
 use Rattle.words.specs.Numbers.{Bytes}
-use Rattle.answers.specs.Parsing.{IsRead}
+use Rattle.codes.specs.Codes.{byteOf, commutes}
+use Rattle.codes.specs.declared.Operation.{Operation}
+use Rattle.answers.specs.Parsing.{parsed, IsRead}
 use Rattle.answers.specs.declared.Answer.{Answer}
 use Rattle.reading.specs.Header.{variables}
+use Rattle.reading.specs.Tree.{variable, two, Block}
 use Rattle.reading.specs.Rule.{readRule}
+use Rattle.reading.specs.Format.{headerBytes, ruleBytes, WellFormed}
+use Rattle.reading.specs.RuleFormat as format
+use Rattle.reading.specs.OnlyOrder.{OnlyOrder}
+use Rattle.reading.specs.Standing.{InBlock}
+use Rattle.reading.specs.OrderBytes as bytes
 use Rattle.gates.specs.Running.{runRule}
-use Rattle.gates.specs.Gates.{figureAt}
+use Rattle.gates.specs.Gates.{operation, gateAt, figureAt}
 use Rattle.gates.specs.PlainCircuit.{gatesOf, outputsOf}
-use Rattle.gates.specs.OnlyOrder.{OnlyOrder}
 use Rattle.circuit.specs.Whole.{ruleAnswer}
 use Rattle.direct.specs.Direct.{runAnswer, runResults}
 use Rattle.plan.specs.Rows.{planAnswer}
@@ -24,15 +33,23 @@ use Rattle.fused.specs.CircuitFile.{fusedFile}
 use Rattle.fused.specs.FileFigures.{fileRecords, fileFigures}
 use Rattle.fused.specs.Answers.{fusedAnswer, writeAnswer, writtenOver}
 use Rattle.fused.specs.FusedFigures as figures
-use Rattle.fused.specs.OnlyOrderLaws as order
+use Rattle.fused.specs.OnlyOrderLaws as files
 use Rattle.running.specs.FusedRun.{fusedResults}
 use Rattle.demands.specs.Table.{Answered}
 use Rattle.demands.specs.AnsweredLaws as answers
 use Rattle.demands.specs.FusedRunLaws as runs
+use Rattle.demands.specs.OrderLaws as order
 
 -- Demand 1. "Whatever arrives as rule, plan or inputs: the tool ends; it takes it, or refuses with the number and place of document 01's table":
 pub rule-answered : (s : List ℕ) → Answered (length s) (ruleAnswer s)
 rule-answered = answers.rule-answered
+
+-- (which rules rows 1 to 9 take, and as what, without a reader: a file that is the bytes of a well-formed tree, and that tree)
+pub rule-format : (s : List ℕ) → Bytes s → IsRead (readRule s) ↔ ((kinds : List ℕ) × (b : Block) × WellFormed kinds b × (s ≡ ruleBytes kinds b))
+rule-format = format.rule-format
+
+pub rule-back : (kinds : List ℕ) (b : Block) → WellFormed kinds b → readRule (ruleBytes kinds b) ≡ parsed b (length (ruleBytes kinds b))
+rule-back = format.rule-back
 
 pub run-answered : (s inputs results : List ℕ) → Answered (length s) (runAnswer (ruleAnswer s) s inputs (length results))
 run-answered s inputs results = answers.run-answered (length s) (ruleAnswer s) s inputs (length results) (rule-answered s)
@@ -98,20 +115,35 @@ pub plan-number : (s p : List ℕ) → (planAnswer s p .number ≡ 0 → ⊥) �
     → runAnswer (fusedAnswer s p) s inputs room ≡ planAnswer s p
 plan-number = runs.plan-number
 
--- Document 02, C-12. "Two accepted rules that differ only in the order of two variables that are themselves the two arguments of such an operation
--- must give the same bytes with the same plan." If the first is accepted, the second is;
+-- Document 02, C-12. "For 20, 22, 24, 25 and 26 the gate takes its lower-numbered argument first, from the plain circuit onwards."
+pub commuting : (op : Operation) → commutes op ≡ elem (byteOf op) (0x20 ∷ 0x22 ∷ 0x24 ∷ 0x25 ∷ 0x26 ∷ [])
+commuting = order.commuting
+
+pub lower-first : (s : List ℕ) → IsRead (readRule s) → (g a b : ℕ) (op : Operation) → gateAt (gatesOf s) g ≡ operation op (a ∷ b ∷ [])
+    → commutes op ≡ true → a ≤ b
+lower-first = order.lower-first
+
+-- "Two accepted rules that differ only in the order of two variables that are themselves the two arguments of such an operation must give
+-- the same bytes with the same plan." If the first is accepted, the second is;
 pub one-rule : (s t : List ℕ) → OnlyOrder s t → ruleAnswer s .number ≡ 0 → ruleAnswer s ≡ ruleAnswer t
-one-rule = order.same-rule
+one-rule = files.same-rule
 
 -- every plan is answered the same, its file is the same, and so is all of a lent buffer, on a refusal too.
 pub one-check : (s t : List ℕ) → OnlyOrder s t → ruleAnswer s .number ≡ 0 → (p : List ℕ) → planAnswer s p ≡ planAnswer t p
-one-check = order.same-plan
+one-check = files.same-plan
 
 pub one-file : (s t : List ℕ) → OnlyOrder s t → ruleAnswer s .number ≡ 0 → (p : List ℕ) → fusedFile s p ≡ fusedFile t p
-one-file = order.same-file
+one-file = files.same-file
 
 pub one-answer : (s t : List ℕ) → OnlyOrder s t → ruleAnswer s .number ≡ 0 → (p : List ℕ) (room : ℕ) → writeAnswer s p room ≡ writeAnswer t p room
-one-answer = order.same-answer
+one-answer = files.same-answer
 
 pub one-buffer : (s t : List ℕ) → OnlyOrder s t → ruleAnswer s .number ≡ 0 → (p buffer : List ℕ) → writtenOver s p buffer ≡ writtenOver t p buffer
-one-buffer = order.same-over
+one-buffer = files.same-over
+
+-- (so it is for two files whose bytes differ by 10 x 10 y against 10 y 10 x, where that is such an operation's arguments)
+pub bytes-order : (kinds : List ℕ) (b : Block) → WellFormed kinds b → (op : Operation) (x y : ℕ) → commutes op ≡ true
+    → (pre post : List ℕ) → InBlock (two op (variable x) (variable y)) b pre post
+    → OnlyOrder (headerBytes kinds ++ (pre ++ (byteOf op ∷ 0x10 ∷ x ∷ 0x10 ∷ y ∷ post)))
+    (headerBytes kinds ++ (pre ++ (byteOf op ∷ 0x10 ∷ y ∷ 0x10 ∷ x ∷ post)))
+bytes-order = bytes.order-bytes

@@ -29,13 +29,22 @@ use Rattle.reading.specs.FoundRuleLaws.{read-typed}
 use Rattle.gates.specs.StartLaws.{start-at, read-plain}
 
 module _ (P : Gate → Type 0) where
-  -- P holds of whatever gate is made for v variables: a starting value of one of them, a constant, an operation of as many arguments as the table says, a choice
+  -- P holds of whatever gate is made for v variables: a starting value of one of them, a constant, an operation of as many arguments as the table says, two of them in the order that `applyGate` gives, a choice
   pub record OfMade (v : ℕ) : Type 0 where
     pub of-start : (x : ℕ) → x < v → P (start x)
     pub of-word : (n : ℕ) → P (gate.word n)
     pub of-bit : (b : ℕ) → P (gate.bit b)
-    pub of-operation : (op : Operation) (l : List ℕ) → length l ≡ entryOf op .arity → P (operation op l)
+    pub of-one : (op : Operation) (a : ℕ) → entryOf op .arity ≡ 1 → P (operation op (a ∷ []))
+    pub of-two : (op : Operation) (a b : ℕ) → entryOf op .arity ≡ 2 → P (applyGate op a b)
     pub of-choice : (c a b : ℕ) → P (choice c a b)
+
+  -- of any arguments, as many as the table says: so in either order
+  module _ (h : (op : Operation) (l : List ℕ) → length l ≡ entryOf op .arity → P (operation op l)) where
+    pub any-one : (op : Operation) (a : ℕ) → entryOf op .arity ≡ 1 → P (operation op (a ∷ []))
+    any-one op a e = h op (a ∷ []) (sym e)
+
+    pub any-two : (op : Operation) (a b : ℕ) → entryOf op .arity ≡ 2 → P (applyGate op a b)
+    any-two op a b e = apply-cases P op a b (h op (a ∷ b ∷ []) (sym e)) (λ c. h op (b ∷ a ∷ []) (sym e))
 
   -- P holds of every gate
   abbrev pub EachGate : Gates → Type 0
@@ -49,9 +58,6 @@ module _ (P : Gate → Type 0) where
       go (inr (e, f)) = rw f g
 
   module _ (v : ℕ) (kinds : ℕ → Kind) (o : OfMade v) where
-    apply-each : (op : Operation) (a b : ℕ) → entryOf op .arity ≡ 2 → P (applyGate op a b)
-    apply-each op a b h = apply-cases P op a b (o .of-operation op (a ∷ b ∷ []) (sym h)) (λ c. o .of-operation op (b ∷ a ∷ []) (sym h))
-
     choices-each : (c : ℕ) (p q l : List ℕ) (m : Making) → EachGate (m .gates) → EachGate (choices c p q l m .gates)
     unfolding choices
     choices-each c p q [] m h = h
@@ -65,11 +71,11 @@ module _ (P : Gate → Type 0) where
     expr-each (bit b) k t p C h = each-add C (gate.bit b) h (o .of-bit b)
     expr-each (one op e) k (a, g, t) p C h =
         let m = makeExpr e p C in
-        each-add (m .gates) (operation op (m .place ∷ [])) (expr-each e _ t p C h) (o .of-operation op (m .place ∷ []) (sym a))
+        each-add (m .gates) (operation op (m .place ∷ [])) (expr-each e _ t p C h) (o .of-one op (m .place) a)
     expr-each (two op d e) k (a, g, t, u) p C h =
         let m = makeExpr d p C in
         let n = makeExpr e p (m .gates) in
-        each-add (n .gates) (applyGate op (m .place) (n .place)) (expr-each e _ u p (m .gates) (expr-each d _ t p C h)) (apply-each op (m .place) (n .place) a)
+        each-add (n .gates) (applyGate op (m .place) (n .place)) (expr-each e _ u p (m .gates) (expr-each d _ t p C h)) (o .of-two op (m .place) (n .place) a)
 
     mutual
       unfolding makeStatement
@@ -114,7 +120,14 @@ module _ (s : List ℕ) (b : Block) (n : ℕ) (read : readRule s ≡ parsed b n)
   pub rule-starting : Starting (variables s) (gatesOf s)
   rule-starting =
       rule-gates (StartGate (variables s)) s b n read
-      (record { of-start = λ x h. h; of-word = λ n. tt; of-bit = λ b. tt; of-operation = λ op l h. tt; of-choice = λ c a b. tt })
+      (record {
+        of-start = λ x h. h;
+        of-word = λ n. tt;
+        of-bit = λ b. tt;
+        of-one = λ op a e. tt;
+        of-two = any-two (StartGate (variables s)) (λ op l e. tt);
+        of-choice = λ c a b. tt;
+      })
 
   -- gates 0 to V−1 are the variables' starting values
   pub rule-start : (x : ℕ) → x < variables s → gateAt (gatesOf s) x ≡ start x

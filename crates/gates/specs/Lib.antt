@@ -20,6 +20,7 @@ pub mod KindLaws
 pub mod ExprKindLaws
 pub mod StartLaws
 pub mod EachGateLaws
+pub mod LowerLaws
 pub mod GateKindLaws
 pub mod OutputLaws
 pub mod OnlyOrderLaws
