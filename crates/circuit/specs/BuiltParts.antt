@@ -4,7 +4,7 @@ use mathlib.Core.Path.{_≡_, ap, _∙_}
 use mathlib.Core.List.{List}
 use lib.ListN.{length, getD, take, replicate}
 use lib.Seq.{take-at}
-use Rattle.words.specs.BufferLaws.{padded-at, padded-length}
+use Rattle.words.specs.BufferLaws.{padded-at}
 use Rattle.words.specs.MemberLaws.{getD-in}
 use Rattle.answers.specs.ParsingLaws.{is-read}
 use Rattle.answers.specs.declared.Answer.{Answer}

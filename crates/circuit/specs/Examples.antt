@@ -1,4 +1,4 @@
--- Document 01, "Examples": what reading a rule answers, computed from the definitions.
+-- Examples of document 01, "Examples": what reading a rule answers, computed from the definitions.
 use mathlib.Core.Path.{_≡_, refl}
 use mathlib.Core.List.{[], _∷_, map}
 use Rattle.words.specs.Numbers.{number}

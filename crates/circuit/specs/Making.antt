@@ -1,4 +1,4 @@
--- Document 01, "Refusals by place": a rule, read whole, as the code has it: its gates lie in quads, at most 256 of them.
+-- Inner, for document 01, "Refusals by place": a rule, read whole, as the code has it: its gates lie in quads, at most 256 of them.
 use mathlib.Core.Bool.{cond}
 use Prim.Native.Nat.{ℕ, _≤_}
 use mathlib.Core.Path.{_≡_}

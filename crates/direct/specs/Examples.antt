@@ -1,4 +1,4 @@
--- Document 01, "Examples": those of direct runs, computed from the definitions.
+-- Examples of document 01, "Examples": those of direct runs, computed from the definitions.
 use Prim.Native.Nat.{ℕ}
 use mathlib.Core.Path.{_≡_, refl}
 use mathlib.Core.List.{List, [], _∷_, map}

@@ -11,7 +11,7 @@ use Rattle.words.specs.Numbers.{bytesOf}
 use Rattle.codes.specs.Codes.{kindOf, entryOf, operationOf, codeOf}
 use Rattle.codes.specs.CodeLaws.{kind-bit, kind-word, code-operation, one-or-two, byte-back}
 use Rattle.codes.specs.declared.Code.{Code}
-use Rattle.gates.specs.Gates.{start, word, bit, operation, choice, arguments}
+use Rattle.gates.specs.Gates.{start, bit, arguments}
 use Rattle.gates.specs.Quads.{startCode}
 use Rattle.needed.specs.Held.{choiceCode, gateIn, codeAt, firstAt, secondAt, thirdAt}
 use Rattle.needed.specs.QuadLaws.{Applies, KindIn, chooses, is-word, is-bit, applies, starts, kind-in, choice-in, word-in, bit-in, start-in, applied-in}

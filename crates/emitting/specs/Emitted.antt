@@ -1,4 +1,4 @@
--- Document 01, "The fused circuit file": the records of one group, from a rule's gates as they lie in lent arrays.
+-- Inner, for document 01, "The fused circuit file": the records of one group, from a rule's gates as they lie in lent arrays.
 use Prim.Native.Nat.{ℕ, _+_, _*_, _≤_, _<_}
 use mathlib.Core.Path.{_≡_}
 use mathlib.Core.List.{List, [], _∷_, map}

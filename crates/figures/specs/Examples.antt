@@ -1,4 +1,4 @@
--- Document 01, "Examples": the file of example 3 can be run on three inputs; each field computed from its bytes.
+-- Examples of document 01, "Examples": the file of example 3 can be run on three inputs; each field computed from its bytes.
 use Prim.Native.Nat.{ℕ, zero, suc, _+_, _<_}
 use native.Mathlib.Nat.{zero-add, add-zero}
 use native.Mathlib.Omega.{arith}

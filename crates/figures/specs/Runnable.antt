@@ -1,4 +1,4 @@
--- Document 01, "The fused circuit file": what a run of a circuit file relies on. Places are those of the reading definitions: record i begins at `placeAfter i f firstRecord`.
+-- Inner, for document 01, "The fused circuit file": what a run of a circuit file relies on. Places are those of the reading definitions: record i begins at `placeAfter i f firstRecord`.
 use Prim.Native.Nat.{ℕ, _+_, _*_, _≤_, _<_}
 use mathlib.Core.Path.{_≡_}
 use mathlib.Core.List.{List, [], _∷_}

@@ -1,4 +1,4 @@
--- Document 01, "The fused circuit file": working out figures record by record. The figures of the wires lie in an array, wire w's at w.
+-- Inner, for document 01, "The fused circuit file": working out figures record by record. The figures of the wires lie in an array, wire w's at w.
 use Prim.Native.Nat.{ℕ, _+_, _≤_, _<_}
 use mathlib.Core.Path.{_≡_}
 use mathlib.Core.List.{List, []}

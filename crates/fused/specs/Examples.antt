@@ -1,7 +1,7 @@
 -- Document 01, "Examples": 3, R1 with P1, whole, computed from the definitions.
 use Prim.Native.Nat.{ℕ}
 use mathlib.Core.Path.{_≡_, refl}
-use mathlib.Core.List.{List, [], _∷_, _++_, map}
+use mathlib.Core.List.{List, [], _∷_, map}
 use Rattle.words.specs.Numbers.{number, bytesOf}
 use Rattle.codes.specs.Results.{resultOf}
 use Rattle.codes.specs.Codes.{kindOf, operationOf, codeOf}

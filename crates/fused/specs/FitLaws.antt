@@ -1,7 +1,7 @@
--- Document 01, "The fused circuit file": the records of a group of gates that fit do fit their bytes. Assumes nothing.
+-- Laws for document 01, "The fused circuit file": the records of a group of gates that fit do fit their bytes. Assumes nothing.
 use mathlib.Core.Path.{_≡_, refl, _∙_}
 use mathlib.Core.Bool.{false}
-use mathlib.Core.List.{List, [], _∷_, _++_, map}
+use mathlib.Core.List.{List, [], _∷_, map}
 use mathlib.Core.Logic.{inl}
 use Prim.Native.Nat.{ℕ, suc, _^_, _≤_, _<_}
 use native.Mathlib.Nat.{lt-of-lt-of-le}

@@ -1,6 +1,6 @@
--- Document 01, "The fused circuit file": the records and output wires of an accepted plan fit their bytes; so its file, taken apart, gives them back.
+-- Laws for document 01, "The fused circuit file": the records and output wires of an accepted plan fit their bytes; so its file, taken apart, gives them back.
 use mathlib.Core.Path.{_≡_, sym, ap₂, _∙_}
-use mathlib.Core.List.{List, [], _∷_, map}
+use mathlib.Core.List.{List, map}
 use Prim.Native.Nat.{ℕ, _+_, _≤_, _<_}
 use native.Mathlib.Omega.{arith}
 use lib.Dec.{eqb, ltb}
@@ -30,8 +30,7 @@ use Rattle.plan.specs.Rows.{planAnswer}
 use Rattle.plan.specs.AcceptedLaws.{plan-accepted}
 use Rattle.plan.specs.JoinedLaws.{members-costly}
 use Rattle.fused.specs.Records.{Record, word, reads, recordIn, ReadsEarlier, wireFigure}
-use Rattle.fused.specs.Emission.{emit}
-use Rattle.fused.specs.FusedCircuit.{fused, recordsOf, wireOf, outputWires}
+use Rattle.fused.specs.FusedCircuit.{recordsOf, wireOf, outputWires}
 use Rattle.fused.specs.CircuitFile.{recordBytes, recordsBytes, fusedFile}
 use Rattle.fused.specs.FileFigures.{recordAt, sizeAt, placeAfter, firstRecord, fileVariables, wireCount, fileRecords, fileOutputs, fileFigures}
 use Rattle.fused.specs.FitRecords.{Wires, AllReadBack}

@@ -1,4 +1,4 @@
--- Document 01, "The fused circuit file": what a record needs to be read back from its bytes: every number fits its bytes, an operation has its arguments.
+-- Inner, for document 01, "The fused circuit file": what a record needs to be read back from its bytes: every number fits its bytes, an operation has its arguments.
 use Prim.Native.Nat.{ℕ, _^_, _<_}
 use mathlib.Core.Path.{_≡_}
 use mathlib.Core.List.{List, [], _∷_}

@@ -1,4 +1,4 @@
--- Document 01, "The fused circuit file": "A pick (31) gives the value whose guard is 1, else 0." In the circuit of an accepted plan at most one guard of a pick is 1,
+-- Laws for document 01, "The fused circuit file": "A pick (31) gives the value whose guard is 1, else 0." In the circuit of an accepted plan at most one guard of a pick is 1,
 -- so the pick is also the sum of the values whose guards are 1.
 use Prim.Native.Nat.{ℕ, _≤_}
 use mathlib.Core.Path.{_≡_, sym, _∙_}

@@ -1,4 +1,4 @@
--- Document 01, "The fused circuit file": an accepted plan's file has at most 640 wires and 16,384 bytes.
+-- Laws for document 01, "The fused circuit file": an accepted plan's file has at most 640 wires and 16,384 bytes.
 use mathlib.Core.Path.{_≡_, ap, _∙_}
 use mathlib.Core.List.{List, [], _∷_}
 use Prim.Native.Nat.{ℕ, _+_, _*_, _≤_}

@@ -1,4 +1,4 @@
--- Document 01, "The fused circuit file": what a group of k members comes to: k + 3 records where two or more are joined, and how many, how many bytes
+-- Laws for document 01, "The fused circuit file": what a group of k members comes to: k + 3 records where two or more are joined, and how many, how many bytes
 -- and what cost any group has at most. Assumes nothing.
 use mathlib.Core.Path.{_≡_, refl, ap, _∙_}
 use mathlib.Core.Bool.{true, false≢true}

@@ -1,4 +1,4 @@
--- Document 01, "The fused circuit file": the guards of a pick that are 1, and the sum of their values: "A pick (31) gives the value whose guard is 1, else 0."
+-- Inner, for document 01, "The fused circuit file": the guards of a pick that are 1, and the sum of their values: "A pick (31) gives the value whose guard is 1, else 0."
 use Prim.Native.Nat.{ℕ, _+_}
 use mathlib.Core.List.{List, [], _∷_}
 use mathlib.Core.Bool.{cond}

@@ -6,7 +6,7 @@ use mathlib.Core.Logic.{inl, inr}
 use native.Mathlib.Omega.{arith}
 use lib.ListN.{length}
 use Rattle.words.specs.Lists.{_∈_, elem, upto}
-use Rattle.words.specs.MemberLaws.{elem→∈, ∈→elem, keep-in, keep-from, from-in, from-below}
+use Rattle.words.specs.MemberLaws.{∈→elem, keep-in, keep-from, from-in, from-below}
 use Rattle.gates.specs.Gates.{Gate, start, word, bit, operation, choice, Gates, gateAt, Earlier, Condition, heads, conditions}
 
 heads-tail : (k : Gate) (C : Gates) (c : ℕ) → c ∈ heads C → c ∈ heads (k ∷ C)
@@ -42,11 +42,6 @@ condition-in C e c (i, a, b, h) =
     keep-in (λ d. elem d (heads C)) (upto (length C)) c
     (from-in 0 (length C) c (omega arith) (omega (arith, choice-inside C i c a b h, e i c (rw h (inl refl)))))
     (∈→elem c (heads C) (heads-in C c i a b h))
-
--- what is in the list is a condition, and a gate of the circuit
-pub in-condition : (C : Gates) (c : ℕ) → c ∈ conditions C → Condition C c
-unfolding conditions
-in-condition C c m = heads-from C c (elem→∈ c (heads C) (keep-from (λ d. elem d (heads C)) (upto (length C)) c m .1))
 
 pub condition-below : (C : Gates) (c : ℕ) → c ∈ conditions C → c < length C
 unfolding conditions

@@ -1,4 +1,4 @@
--- Document 01, "The plain circuit": the kind of each gate, worked out gate by gate as figures are.
+-- Inner, for document 01, "The plain circuit": the kind of each gate, worked out gate by gate as figures are.
 use Prim.Native.Nat.{ℕ}
 use mathlib.Core.Path.{_≡_}
 use lib.ListN.{length}

@@ -1,4 +1,4 @@
--- Document 01, "Examples": the quads of the plain circuits of R1 and of example 7, computed from the definitions.
+-- Examples of document 01, "Examples": the quads of the plain circuits of R1 and of example 7, computed from the definitions.
 use mathlib.Core.Path.{_≡_, refl}
 use mathlib.Core.List.{[], _∷_}
 use Rattle.words.specs.Numbers.{number}

@@ -1,4 +1,4 @@
--- Document 01, "The plain circuit (000 Def. 1 and App. C)": a rule's plain circuit as it lies in lent arrays, the promise of making it.
+-- Inner, for document 01, "The plain circuit (000 Def. 1 and App. C)": a rule's plain circuit as it lies in lent arrays, the promise of making it.
 use Prim.Native.Nat.{ℕ, _+_, _*_, _<_, _≤_}
 use mathlib.Core.Path.{_≡_}
 use mathlib.Core.List.{List}

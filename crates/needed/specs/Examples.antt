@@ -1,4 +1,4 @@
--- Document 01, "Examples": the preconditions of examples 1, 6, 7 and 8, computed from the rules' bytes, and which gates exclude each other.
+-- Examples of document 01, "Examples": the preconditions of examples 1, 6, 7 and 8, computed from the rules' bytes, and which gates exclude each other.
 use Prim.Native.Nat.{ℕ}
 use mathlib.Core.Path.{_≡_, refl}
 use mathlib.Core.List.{List, [], _∷_, map}

@@ -1,4 +1,4 @@
--- Document 01, "The plain circuit (000 Def. 1 and App. C)": the gates that lie in a lent array, four numbers a gate, read back; and the costs of their codes.
+-- Inner, for document 01, "The plain circuit (000 Def. 1 and App. C)": the gates that lie in a lent array, four numbers a gate, read back; and the costs of their codes.
 use Prim.Native.Nat.{ℕ, zero, suc, _+_, _*_}
 use mathlib.Core.Path.{_≡_}
 use mathlib.Core.List.{List, [], _∷_, _++_}

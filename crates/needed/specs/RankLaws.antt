@@ -1,7 +1,7 @@
 -- Laws of the conditions' numbers: where a gate stands in a list, which gates are marked, and the turns of the two loops that mark and number them.
-use Prim.Native.Nat.{ℕ, zero, suc, _+_, _≤_, _<_}
+use Prim.Native.Nat.{ℕ, suc, _+_, _≤_, _<_}
 use mathlib.Core.Path.{_≡_, refl, sym, ap, _∙_}
-use mathlib.Core.List.{List, [], _∷_, _++_, map, append-nil}
+use mathlib.Core.List.{List, [], _∷_, _++_, append-nil}
 use mathlib.Core.Bool.{false, not, cond}
 use mathlib.Core.Logic.{_⊎_, inl, inr}
 use native.Mathlib.Nat.{zero-add}
@@ -10,7 +10,7 @@ use lib.ListN.{length, getD, set, length-append, length-map, length-set}
 use lib.Seq.{getD-set-same, getD-set-other}
 use lib.Dec.{eqb}
 use borrow.Author.Tests.{eq-eqb, ne-eqb, eqb-true, eqb-false}
-use Rattle.words.specs.Lists.{_∈_, keep, from, upto}
+use Rattle.words.specs.Lists.{_∈_, keep, upto}
 use Rattle.words.specs.ListLaws.{length-from, from-more, keep-more, length-keep, getD-run}
 use Rattle.words.specs.MemberLaws.{keep-from, from-below}
 use Rattle.words.specs.TestLaws.{split, same?}

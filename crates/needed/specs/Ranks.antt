@@ -1,4 +1,4 @@
--- Document 01, "Conditions are the distinct gates standing first in a choice gate, numbered from 0 in rising gate number": the number of each gate that is one, in a lent array.
+-- Inner, for document 01, "Conditions are the distinct gates standing first in a choice gate, numbered from 0 in rising gate number": the number of each gate that is one, in a lent array.
 use Prim.Native.Nat.{ℕ, zero, suc, _≤_, _<_}
 use mathlib.Core.List.{List, [], _∷_, map}
 use mathlib.Core.Path.{_≡_}

@@ -11,7 +11,6 @@ use borrow.Author.Tests.{eq-eqb, ne-eqb}
 use Rattle.words.specs.Lists.{_∈_, elem, keep, upto, flat}
 use Rattle.words.specs.MemberLaws.{map-in, elem-more}
 use Rattle.words.specs.TestLaws.{same?}
-use Rattle.words.specs.ListLaws.{map-same}
 use Rattle.settings.specs.Sets.{rests}
 use Rattle.gates.specs.Gates.{Gates, gateAt, arguments}
 use Rattle.needed.specs.Held.{gatesIn}

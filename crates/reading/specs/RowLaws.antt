@@ -1,7 +1,7 @@
 -- Laws of refusals byte by byte: each is a row of document 01's table, its number 1 to 9 and its place where that row lies. Assumes nothing.
 use Prim.Native.Nat.{ℕ, zero, suc, _+_, _-_, _≤_, _<_}
 use native.Mathlib.Omega.{arith}
-use mathlib.Core.Path.{_≡_, refl, sym, ap, subst}
+use mathlib.Core.Path.{_≡_, refl, sym, ap}
 use mathlib.Core.List.{List, [], _∷_}
 use mathlib.Core.Bool.{Bool, true, false, _&&_, and-eq-true-iff}
 use lib.ListN.{length, getD}
@@ -195,7 +195,3 @@ module _ (s : List ℕ) where
       (λ e. after (readHeader s) _ (header-rows (leb-true leastBytes (length s) six))
       (λ u at p. after (blockFuel (suc (length s)) s nested at) _ (fuel-rows (suc (length s)) nested at)
       (λ b n q. test (leb (length s) n) 9 n _ (λ f. on-byte 9 n refl (λ z. omega arith) (leb-false (length s) n f)) (λ f. tt)))))
-
--- so a refused rule is refused by a row of the table
-pub row-of : (s : List ℕ) {number place : ℕ} → readRule s ≡ refused number place → ByteRow s number place
-row-of s e = subst (ByteRows s) e (rule-rows s)

@@ -1,6 +1,5 @@
 -- Laws of a record's first bytes, as a run relies on them: which they are, an input's variable, a guard's count of condition wires. Assumes nothing.
 use mathlib.Core.Path.{_≡_, refl}
-use mathlib.Core.List.{[]}
 use mathlib.Core.Logic.{inl, inr}
 use Prim.Native.Nat.{ℕ, _≤_, _<_}
 use native.Mathlib.Omega.{arith}

@@ -1,4 +1,4 @@
--- Document 01, "Examples (a star: proved)": the sets of examples 1 and 3, worked out from the definitions.
+-- Examples of document 01, "Examples (a star: proved)": the sets of examples 1 and 3, worked out from the definitions.
 use mathlib.Core.Path.{_≡_, refl}
 use mathlib.Core.Bool.{true, false}
 use mathlib.Core.List.{[], _∷_}

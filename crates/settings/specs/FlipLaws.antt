@@ -1,4 +1,4 @@
--- Document 01, "Needed gates (000 Def. 4)": changing bit t alone of a setting's number changes condition t alone.
+-- Laws for document 01, "Needed gates (000 Def. 4)": changing bit t alone of a setting's number changes condition t alone.
 use mathlib.Core.Path.{_≡_, refl, sym, ap, ap₂, _∙_}
 use mathlib.Core.Bool.{Bool, true, false, not, Bool·not-not}
 use mathlib.Core.List.{List, [], _∷_}

@@ -1,20 +1,19 @@
--- Document 01, "The fused circuit file": the guard's table gives the right answer at every setting; for any number of conditions.
+-- Laws for document 01, "The fused circuit file": the guard's table gives the right answer at every setting; for any number of conditions.
 use mathlib.Core.Path.{_≡_, sym, ap, _∙_}
 use mathlib.Core.Bool.{Bool, false}
 use mathlib.Core.List.{List}
 use Prim.Native.Nat.{ℕ, _^_, _≤_, _<_}
 use native.Mathlib.Omega.{arith}
-use lib.ListN.{length, getD, length-map}
+use lib.ListN.{length, getD}
 use lib.Pow.{pow-mono}
 use Rattle.words.specs.Lists.{upto}
 use Rattle.words.specs.ListLaws.{length-from, keep-same, length-keep}
 use Rattle.words.specs.MemberLaws.{keep-in, from-below}
 use Rattle.settings.specs.Settings.{Setting, Over, bit, settingOf, numberOf, Agree, preRestsOn, preRests}
 use Rattle.settings.specs.Sets.{has, collect, restsOn, rests}
-use Rattle.settings.specs.Guards.{preTable, preGuard, spread, tableOver, table, chosen}
+use Rattle.settings.specs.Guards.{preGuard, spread, tableOver, table, chosen}
 use Rattle.settings.specs.Holding.{Holds, test}
 use Rattle.settings.specs.BitLaws.{collect-has, collect-above}
-use Rattle.settings.specs.ListLaws.{keep-once}
 use Rattle.settings.specs.SettingLaws.{numberOf-map, numberOf-below, numberOf-agree, numberOf-settingOf, numberOf-bit, settingOf-numberOf}
 use Rattle.settings.specs.RestLaws.{pre-rests-right}
 use Rattle.settings.specs.HoldLaws.{rests-places, holds-number}
@@ -25,11 +24,6 @@ pub pre-guard-right : (P : Setting → Bool) (cs : List ℕ) → Over cs P → (
 pre-guard-right P cs over σ =
     pre-rests-right P cs over σ (settingOf (preRests P cs) (numberOf (preRests P cs) σ))
     (λ c m r. settingOf-numberOf (preRests P cs) σ c (keep-in (preRestsOn P cs) cs c m r))
-
--- any setting that gives the conditions rested on the bits of j tells the table's bit j
-pub pre-table-right : (P : Setting → Bool) (cs : List ℕ) → Over cs P → (σ : Setting) (j : ℕ)
-    → Agree (preRests P cs) σ (settingOf (preRests P cs) j) → preTable P cs j ≡ P σ
-pre-table-right P cs over σ j h = sym (pre-rests-right P cs over (settingOf (preRests P cs) j) σ (λ c m r. h c (keep-in (preRestsOn P cs) cs c m r)))
 
 module _ (n s : ℕ) where
   -- the table's bit at what any wires hold is the set's, at the setting that they make
@@ -79,10 +73,3 @@ module _ (n s : ℕ) (cs : List ℕ) (P : Setting → Bool) (H : Holds n s cs P)
       ∙ ap (has (table n s)) (numberOf-map (λ t. getD cs t 0) (rests n s) σ)
       ∙ guard-wires n s (λ t. σ (getD cs t 0))
       ∙ holds-number n s cs P H σ
-
-  -- its bits are those of P's table
-  pub table-holds : (k : ℕ) → k < 2 ^ length (rests n s) → has (table n s) k ≡ preTable P cs k
-  table-holds k h =
-      let l : length (preRests P cs) ≡ length (rests n s) = ap length (rests-places n s cs P H) ∙ length-map (rests n s) (λ t. getD cs t 0) in
-      ap (has (table n s)) (sym (numberOf-settingOf (preRests P cs) (keep-once (preRestsOn P cs) cs (H .once)) k (rw l h)))
-      ∙ guard-holds (settingOf (preRests P cs) k)

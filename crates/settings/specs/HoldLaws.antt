@@ -1,10 +1,9 @@
--- Document 01, "Needed gates (000 Def. 4)": what the bits of a set rest on is what its test rests on; settings beyond the conditions there are repeat the pattern.
+-- Laws for document 01, "Needed gates (000 Def. 4)": what the bits of a set rest on is what its test rests on; settings beyond the conditions there are repeat the pattern.
 use mathlib.Core.Path.{_≡_, refl, sym, ap, _∙_}
 use mathlib.Core.Bool.{Bool, true, false, not}
 use mathlib.Core.List.{List, [], _∷_, map}
-use mathlib.Core.Logic.{_↔_}
 use Prim.Native.Nat.{ℕ, zero, suc, _+_, _/_, _^_, _≤_, _<_}
-use native.Mathlib.Nat.{lt-of-lt-of-le, add-zero, zero-add}
+use native.Mathlib.Nat.{add-zero, zero-add}
 use native.Mathlib.Omega.{arith}
 use lib.ListN.{length, getD}
 use lib.Pow.{pow-mono}
@@ -13,13 +12,13 @@ use Rattle.words.specs.ListLaws.{length-from}
 use Rattle.words.specs.MemberLaws.{from-below}
 use Rattle.words.specs.TestLaws.{split, same-test}
 use Rattle.settings.specs.Settings.{Setting, odd, settingOf, numberOf, Agree, Over, flip, unlike, moves, anyBelow, preRestsOn, preRests}
-use Rattle.settings.specs.Sets.{has, excludes, flipBit, restsOn, rests}
+use Rattle.settings.specs.Sets.{has, flipBit, restsOn, rests}
 use Rattle.settings.specs.Holding.{Holds}
 use Rattle.settings.specs.BitLaws.{half, odd-bit}
 use Rattle.settings.specs.ListLaws.{getD-upto, anyBelow-same, anyBelow-some, anyBelow-has, keep-none}
 use Rattle.settings.specs.SettingLaws.{place, settingOf-at, bit-numberOf, put-agree, numberOf-below, settingOf-numberOf}
 use Rattle.settings.specs.FlipLaws.{flip-suc, flip-below, settingOf-flip}
-use Rattle.settings.specs.SetLaws.{restsOn-right, excludes-right}
+use Rattle.settings.specs.SetLaws.{restsOn-right}
 
 -- whether P rests on c is the same over more settings than cs has: bits of j beyond the conditions say nothing
 pub rests-more : (P : Setting → Bool) (cs : List ℕ) → Over cs P → (c N : ℕ) → 2 ^ length cs ≤ N → preRestsOn P cs c ≡ anyBelow (moves P cs c) N
@@ -115,20 +114,3 @@ module _ (n s : ℕ) (cs : List ℕ) (P : Setting → Bool) (H : Holds n s cs P)
           ∙ bit-numberOf (upto n) τ t (rw (length-from 0 n) u)
           ∙ ap τ (getD-upto n t u)
           ∙ ap σ (sym e)
-
-  -- two held sets exclude each other exactly when no setting passes both tests
-  pub exclude-holds : (r : ℕ) (Q : Setting → Bool) → Holds n r cs Q → s < 2 ^ (2 ^ n)
-      → (excludes s r ≡ true) ↔ ((σ : Setting) → P σ ≡ true → Q σ ≡ true → ⊥)
-  exclude-holds r Q K l = (
-    λ e σ p q. excludes-right (2 ^ n) s r l .0 e (numberOf cs σ) (below σ) (of-P σ ∙ p) (of-Q σ ∙ q),
-    λ f. excludes-right (2 ^ n) s r l .1 (λ j h p q. f (settingOf cs j) (sym (H .holds j h) ∙ p) (sym (K .holds j h) ∙ q)),
-  )
-    where
-      below : (σ : Setting) → numberOf cs σ < 2 ^ n
-      below σ = lt-of-lt-of-le (numberOf-below cs σ) (pow-mono (H .room))
-
-      of-P : (σ : Setting) → has s (numberOf cs σ) ≡ P σ
-      of-P σ = H .holds (numberOf cs σ) (below σ) ∙ H .over (settingOf cs (numberOf cs σ)) σ (settingOf-numberOf cs σ)
-
-      of-Q : (σ : Setting) → has r (numberOf cs σ) ≡ Q σ
-      of-Q σ = K .holds (numberOf cs σ) (below σ) ∙ K .over (settingOf cs (numberOf cs σ)) σ (settingOf-numberOf cs σ)

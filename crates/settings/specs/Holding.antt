@@ -1,4 +1,4 @@
--- Document 01, "Needed gates (000 Def. 4)": a set of settings held as bits, and the test of settings over the condition gates that it stands for.
+-- Inner, for document 01, "Needed gates (000 Def. 4)": a set of settings held as bits, and the test of settings over the condition gates that it stands for.
 use mathlib.Core.Path.{_≡_}
 use mathlib.Core.Bool.{Bool}
 use mathlib.Core.List.{List}

@@ -1,4 +1,4 @@
--- Document 01, "Needed gates (000 Def. 4)": laws of searches below a number, of rising lists of conditions, and of lists that hold nothing twice.
+-- Laws for document 01, "Needed gates (000 Def. 4)": searches below a number, of rising lists of conditions, and of lists that hold nothing twice.
 use mathlib.Core.Path.{_≡_, refl, sym, _∙_}
 use mathlib.Core.Bool.{Bool, true, false, true≢false, false≢true}
 use mathlib.Core.List.{List, [], _∷_}

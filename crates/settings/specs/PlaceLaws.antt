@@ -1,8 +1,7 @@
--- Document 01, "Needed gates (000 Def. 4)": a set of settings depends only on the bits that it rests on; the settings beyond the conditions there are repeat the pattern.
+-- Laws for document 01, "Needed gates (000 Def. 4)": a set of settings depends only on the bits that it rests on; the settings beyond the conditions there are repeat the pattern.
 use mathlib.Core.Path.{_≡_, sym, ap, _∙_}
 use mathlib.Core.Bool.{Bool, true, false, true≢false}
 use mathlib.Core.List.{List}
-use mathlib.Core.Logic.{_↔_}
 use Prim.Native.Nat.{ℕ, _%_, _^_, _≤_, _<_}
 use native.Mathlib.Nat.{le-of-eq, mod-lt, lt-of-lt-of-le}
 use native.Mathlib.Omega.{arith}
@@ -12,7 +11,7 @@ use lib.Pow.{pow-mono, pow-pos}
 use borrow.Author.Tests.{ltb-true, ltb-false}
 use Rattle.words.specs.Lists.{_∈_, upto}
 use Rattle.words.specs.ListLaws.{length-from, keep-same}
-use Rattle.words.specs.MemberLaws.{keep-in, keep-from, from-in, from-below}
+use Rattle.words.specs.MemberLaws.{from-below}
 use Rattle.words.specs.TestLaws.{split}
 use Rattle.settings.specs.Settings.{Setting, bit, Once, preRestsOn, preRests}
 use Rattle.settings.specs.Sets.{has, restsOn, rests}
@@ -50,14 +49,6 @@ module _ (n s : ℕ) where
       ap (has s) (sym (numberOf-bit n i hi))
       ∙ pre-rests-right (test n s) (upto n) (test-holds n s .over) (bit j) (bit i) (λ t m r. h t (omega (arith, from-below 0 n t m)) (on-place t m ∙ r))
       ∙ ap (has s) (numberOf-bit n j hj)
-
-  -- a set's conditions are those that it rests on, each once
-  pub rests-member : (t : ℕ) → (t ∈ rests n s) ↔ ((t < n) × (restsOn n s t ≡ true))
-  unfolding rests
-  rests-member t = (
-    λ m. let r = keep-from (restsOn n s) (upto n) t m in (omega (arith, from-below 0 n t (r .0)), r .1),
-    λ r. keep-in (restsOn n s) (upto n) t (from-in 0 n t (omega arith) (omega (arith, r .0))) (r .1),
-  )
 
   pub rests-once : Once (rests n s)
   unfolding rests

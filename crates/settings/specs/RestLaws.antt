@@ -1,4 +1,4 @@
--- Document 01, "Needed gates (000 Def. 4)": whether a setting passes a test depends only on the bits of the conditions that the test rests on.
+-- Laws for document 01, "Needed gates (000 Def. 4)": whether a setting passes a test depends only on the bits of the conditions that the test rests on.
 use mathlib.Core.Path.{_≡_, refl, sym, ap, _∙_}
 use mathlib.Core.Bool.{Bool, true, false, not}
 use mathlib.Core.List.{List, [], _∷_}

@@ -1,4 +1,4 @@
--- Document 01, "Needed gates (000 Def. 4)": laws of sets of settings held as numbers, for any number of settings or conditions.
+-- Laws for document 01, "Needed gates (000 Def. 4)": sets of settings held as numbers, for any number of settings or conditions.
 use mathlib.Core.Path.{_≡_, refl, sym, ap, ap₂, _∙_}
 use mathlib.Core.Bool.{Bool, true, false, not, _&&_, _||_, true≢false, false≢true, and-eq-true-iff}
 use mathlib.Core.Logic.{_⊎_, inl, inr, _↔_}
@@ -44,9 +44,6 @@ union-below N s t h l = or-lt N s t h l
 
 pub those-below : (N : ℕ) (p : ℕ → Bool) (s : ℕ) → bitAnd s (collect N p) < 2 ^ N
 those-below N p s = lt-of-le-of-lt (and-le-r s (collect N p)) (collect-below N p)
-
-pub given-below : (N t s : ℕ) → given N t s < 2 ^ N
-given-below N t s = those-below N (λ j. bit j t) s
 
 pub without-below : (N t s : ℕ) → without N t s < 2 ^ N
 without-below N t s = those-below N (λ j. not (bit j t)) s

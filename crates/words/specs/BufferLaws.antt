@@ -6,7 +6,7 @@ use native.Mathlib.Nat.{zero-add}
 use native.Mathlib.Numerals.{add-one}
 use native.Mathlib.Omega.{arith}
 use lib.ListN.{length, take, drop, getD, set, replicate, length-append, length-take, length-drop, length-replicate}
-use lib.Seq.{sets, sets-eq, take-suc, length-take-le, set-at, take-at, drop-at, drop-drop, take-append-seam, drop-append-seam, drop-append-add, drop-cons, take-length, drop-length, take-all}
+use lib.Seq.{sets, sets-eq, take-suc, length-take-le, set-at, take-at, drop-at, drop-drop, take-append-seam, drop-cons, take-length, drop-length, take-all}
 use borrow.Rule.Slice.PartMut.{putMid}
 use Rattle.words.specs.Buffers.{over, padded}
 use Rattle.words.specs.ListLaws.{getD-zeros}
@@ -26,10 +26,6 @@ pub take-over : (a d : List ℕ) → take (length a) (over a d) ≡ a
 unfolding over
 take-over a d = take-append-seam a (drop (length a) d)
 
-pub drop-over : (a d : List ℕ) → drop (length a) (over a d) ≡ drop (length a) d
-unfolding over
-drop-over a d = drop-append-seam a (drop (length a) d)
-
 -- a run of stores from the start
 pub sets-over : (vs d : List ℕ) → length vs ≤ length d → sets d 0 vs ≡ over vs d
 unfolding over
@@ -40,22 +36,6 @@ pub over-snoc : (bs d : List ℕ) (i v : ℕ) → length bs ≡ i → i < length
 unfolding over
 over-snoc bs d i v e h =
     rw (e, drop-cons d i 0, set-at bs _ _ v i e, append-assoc, length-append, e, add-one)
-
--- two runs, the second over the rest
-pub over-append : (a b d : List ℕ) → over (a ++ b) d ≡ a ++ over b (drop (length a) d)
-unfolding over
-over-append a b d = rw (append-assoc, drop-drop, length-append)
-
--- a run hides a shorter one that was there
-pub over-over : (a b d : List ℕ) → length b ≤ length a → over a (over b d) ≡ over a d
-unfolding over
-over-over a b d h =
-    let n : length a ≡ length b + (length a - length b) = omega arith in
-    ap (λ (l : List ℕ). a ++ l) (rw n (drop-append-add b (drop (length b) d) (length a - length b) ∙ drop-drop (length a - length b) (length b) d))
-
--- the part from n to the end, as a caller lends it
-pub rest-is : (e : List ℕ) (n : ℕ) → take (length e - n) (drop n e) ≡ drop n e
-rest-is e n = take-all (length e - n) (drop n e) (simp length-drop (omega arith))
 
 -- how much room there is in it
 pub room-rest : (e : List ℕ) (n : ℕ) → length (take (length e - n) (drop n e)) ≡ length e - n

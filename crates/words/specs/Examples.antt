@@ -1,4 +1,4 @@
--- Document 01, example 9, and the numbers of a few bytes, from the definitions.
+-- Examples of document 01, example 9, and the numbers of a few bytes, from the definitions.
 use mathlib.Core.Path.{_≡_, refl}
 use mathlib.Core.List.{[], _∷_}
 use Rattle.words.specs.Numbers.{number, bytesOf, numberAt, sumOf, differenceOf, productOf}

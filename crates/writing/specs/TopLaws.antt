@@ -24,7 +24,7 @@ use Rattle.words.specs.Buffers.{padded}
 use Rattle.circuit.specs.BuiltLaws.{accepted-builds}
 use Rattle.circuit.specs.BuiltParts.{built-room, built-earlier, built-condition, built-outputs-length, built-outputs-inside, built-variables}
 use Rattle.plan.specs.PlanFile.{groupsIn}
-use Rattle.plan.specs.Groups.{groupOf, members}
+use Rattle.plan.specs.Groups.{groupOf}
 use Rattle.plan.specs.Order.{order}
 use Rattle.plan.specs.Rows.{planAnswer}
 use Rattle.plan.specs.Places.{placeOf}

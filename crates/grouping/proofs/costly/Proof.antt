@@ -1,5 +1,5 @@
 use borrow.Author.Needs.{needs}
-use mathlib.Core.Path.{ap, _∙_}
+use mathlib.Core.Path.{ap}
 use lib.Dec.{ltb}
 use Rattle.codes.specs.declared.Code.{Code}
 use Rattle.grouping.specs.RowLaws.{cost-above}
