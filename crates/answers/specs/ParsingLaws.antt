@@ -85,7 +85,8 @@ pub rest-read : {A B : Type 0} (m : Parsed A) (f : A → ℕ → Parsed B) (a : 
 rest-read m f a n e h = subst (λ (g : Parsed _). IsRead (g >>= f)) e h
 
 -- both parts of a whole that was read
-pub parts-read : {A B : Type 0} (m : Parsed A) (f : A → ℕ → Parsed B) {b : B} {k : ℕ} → (m >>= f) ≡ parsed b k → (a : A) × (n : ℕ) × (m ≡ parsed a n) × (f a n ≡ parsed b k)
+pub parts-read : {A B : Type 0} (m : Parsed A) (f : A → ℕ → Parsed B) {b : B} {k : ℕ} → (m >>= f) ≡ parsed b k → (a : A) × (n : ℕ) × (m ≡ parsed a n) ×
+    (f a n ≡ parsed b k)
 parts-read (parsed a n) f h = (a, n, refl, h)
 parts-read (refused j p) f h = let z : _≡_ {A = ℕ} 0 1 = cc in absurd (omega arith)
 

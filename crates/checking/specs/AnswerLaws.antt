@@ -84,7 +84,8 @@ module _ (s p : List ℕ) (c : Built) (sh : IsBuilt s c) where
           only : planRow s p ≡ firstFailing last
           only = later ∙ failing-second joins last refl (sym join-is ∙ gone)
 
-          pub circle-refused : (row : ℕ) → row ≡ cond (placed (gatesOf s) (rulePreconditions s) (groupOf (groupsIn p))) 0 30 → (row ≡ 0 → ⊥) → refusal row 0 ≡ planAnswer s p
+          pub circle-refused : (row : ℕ) → row ≡ cond (placed (gatesOf s) (rulePreconditions s) (groupOf (groupsIn p))) 0 30 → (row ≡ 0 → ⊥)
+              → refusal row 0 ≡ planAnswer s p
           circle-refused row d h = row-refused row (d ∙ sym only) h
 
           pub plan-taken : placed (gatesOf s) (rulePreconditions s) (groupOf (groupsIn p)) ≡ true → c .answer ≡ planAnswer s p

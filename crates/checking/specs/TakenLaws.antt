@@ -58,7 +58,8 @@ module _ (s p : List ℕ) (c : Built) (sh : IsBuilt s c) (zero : c .answer .numb
         room = room;
         earlier = subst⁻¹ Earlier gates rule;
         listed = λ t l.
-            ap (λ (d : List ℕ). getD d t 0) (sh .1 .1 .1 .1) ∙ built-condition s (accepted-rule s p c sh zero) t ∙ ap (λ (C : Gates). getD (conditions C) t 0) (sym gates);
+            ap (λ (d : List ℕ). getD d t 0) (sh .1 .1 .1 .1) ∙ built-condition s (accepted-rule s p c sh zero) t ∙ ap (λ (C : Gates). getD (conditions C) t 0)
+            (sym gates);
         named = λ x l. rw g (table-named n p room laid-out x l);
         many = λ m l. rw (g, j) (table-many n p room laid-out m l);
       }

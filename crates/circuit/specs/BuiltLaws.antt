@@ -118,7 +118,8 @@ module _ (s quads present ranks : List ℕ) (count : ℕ) (ready : MadeWhole s q
       e ∙ ap (λ (l : List ℕ). over l (replicate mostConditions 0)) same-conditions
       ∙ over-zeros (conditions (gatesOf s)) mostConditions ∙ ap (padded mostConditions) (sym (accepted-is (conditions (gatesOf s))))
 
-  pub ready-needs : (needs : List ℕ) → needs ≡ preconditionSets mostConditions (gatesIn quads count) (take (variables s) present) ++ replicate (mostGates - count) 0 → needs ≡ builtNeeds s
+  pub ready-needs : (needs : List ℕ) → needs ≡ preconditionSets mostConditions (gatesIn quads count) (take (variables s) present) ++ replicate (mostGates - count) 0
+      → needs ≡ builtNeeds s
   ready-needs needs e =
       let r = is-read (readRule s) (acc .read) in
       let sets : preconditionSets mostConditions (gatesIn quads count) (take (variables s) present) ≡ rulePreconditions s

@@ -17,10 +17,14 @@ use Rattle.circuit.specs.Whole.{wholeWithin, ruleAnswer}
 
 -- R1 has 6 gates and costs 33; R2 11 gates, two products, two comparisons and three choices; example 8's rule 11 gates
 pub examples-accepted : map ruleAnswer (r1 ∷ r2 ∷ r8 ∷ []) ≡ success 6 0 0 33 0 ∷ success 11 0 0 119 0 ∷ success 11 0 0 116 0 ∷ []
-unfolding number kindOf operationOf codeOf readMark readCount readKinds readHeader readVariable readWord readBit operationWith exprWith readExpr readAssign branchWith statementWith blockWith blockFuel readBlock readRule applyGate makeExpr assignsIn assigns choices makeStatement makeBlock plainCircuit costs conditions wholeWithin ruleAnswer
+unfolding number kindOf operationOf codeOf readMark readCount readKinds readHeader readVariable readWord readBit operationWith exprWith readExpr readAssign branchWith
+    statementWith blockWith blockFuel readBlock readRule applyGate makeExpr assignsIn assigns choices makeStatement makeBlock plainCircuit costs conditions wholeWithin
+    ruleAnswer
 examples-accepted = refl
 
 -- example 10: six conditions accepted, seven 11 at the file's length
 pub example-10 : map (λ n. ruleAnswer (r10 n)) (6 ∷ 7 ∷ []) ≡ success 13 0 0 18 0 ∷ refusal 11 78 ∷ []
-unfolding number kindOf operationOf codeOf readMark readCount readKinds readHeader readVariable readWord readBit operationWith exprWith readExpr readAssign branchWith statementWith blockWith blockFuel readBlock readRule applyGate makeExpr assignsIn assigns choices makeStatement makeBlock plainCircuit costs conditions wholeWithin ruleAnswer
+unfolding number kindOf operationOf codeOf readMark readCount readKinds readHeader readVariable readWord readBit operationWith exprWith readExpr readAssign branchWith
+    statementWith blockWith blockFuel readBlock readRule applyGate makeExpr assignsIn assigns choices makeStatement makeBlock plainCircuit costs conditions wholeWithin
+    ruleAnswer
 example-10 = refl

@@ -37,7 +37,8 @@ unfolding wholeIn
 whole-in quads count size h = rw (le-leb _ _ h)
 
 -- rows 11 and success, by the conditions' count and the cost
-pub whole-eleven : (quads : List ℕ) (count size conds : ℕ) → count ≤ mostGates → conds ≡ length (conditions (gatesIn quads count)) → mostConditions < conds → wholeIn quads count size ≡ refusal 11 size
+pub whole-eleven : (quads : List ℕ) (count size conds : ℕ) → count ≤ mostGates → conds ≡ length (conditions (gatesIn quads count)) → mostConditions < conds
+    → wholeIn quads count size ≡ refusal 11 size
 whole-eleven quads count size conds h e l =
     whole-in quads count size h
     ∙ whole-conditions mostGates mostConditions (gatesIn quads count) size (rw (gates-length quads count) h) (rw e at l)
@@ -85,5 +86,6 @@ module _ (s quads present : List ℕ) (count : ℕ) (read : IsRead (readRule s))
       (λ t. whole-in quads count size (leb-true _ _ t) ∙ ap (λ (C : Gates). wholeWithin mostGates mostConditions C size) (made-gates (leb-true _ _ t)))
       (λ t.
       let over : mostGates < count = leb-false _ _ t in
-      let many : mostGates < length (gatesOf s) = split (leb (length (gatesOf s)) mostGates) (λ u. let l : length (gatesOf s) ≤ mostGates = leb-true _ _ u in absurd (omega (arith, made .counted l))) (λ u. leb-false _ _ u) in
+      let many : mostGates < length (gatesOf s) = split (leb (length (gatesOf s)) mostGates)
+      (λ u. let l : length (gatesOf s) ≤ mostGates = leb-true _ _ u in absurd (omega (arith, made .counted l))) (λ u. leb-false _ _ u) in
       whole-over quads count size over ∙ sym (whole-gates mostGates mostConditions (gatesOf s) size many))

@@ -48,12 +48,24 @@ code-operation b l h =
     )
 
 -- any other byte is unknown
-pub code-unknown : (b : ℕ) → (b ≡ 0x00 → ⊥) → (b ≡ 0x01 → ⊥) → (b ≡ 0x02 → ⊥) → (b ≡ 0x03 → ⊥) → (b ≡ 0x10 → ⊥) → (b ≡ 0x11 → ⊥) → (b ≡ 0x12 → ⊥) → (b < 0x20) ⊎ (0x27 < b) → codeOf b ≡ plain Unknown kind.Word
+pub code-unknown : (b : ℕ) → (b ≡ 0x00 → ⊥) → (b ≡ 0x01 → ⊥) → (b ≡ 0x02 → ⊥) → (b ≡ 0x03 → ⊥) → (b ≡ 0x10 → ⊥) → (b ≡ 0x11 → ⊥) → (b ≡ 0x12 → ⊥) → (b < 0x20) ⊎
+    (0x27 < b) → codeOf b ≡ plain Unknown kind.Word
 unfolding codeOf
 code-unknown b h0 h1 h2 h3 h4 h5 h6 (inl h) =
     simp (ne-eqb b 0x00 h0, ne-eqb b 0x01 h1, ne-eqb b 0x02 h2, ne-eqb b 0x03 h3, ne-eqb b 0x10 h4, ne-eqb b 0x11 h5, ne-eqb b 0x12 h6, lt-leb _ _ h)
 code-unknown b h0 h1 h2 h3 h4 h5 h6 (inr h) =
-    simp (ne-eqb b 0x00 h0, ne-eqb b 0x01 h1, ne-eqb b 0x02 h2, ne-eqb b 0x03 h3, ne-eqb b 0x10 h4, ne-eqb b 0x11 h5, ne-eqb b 0x12 h6, le-leb 0x20 b (omega arith), lt-leb _ _ h)
+    simp (
+      ne-eqb b 0x00 h0,
+      ne-eqb b 0x01 h1,
+      ne-eqb b 0x02 h2,
+      ne-eqb b 0x03 h3,
+      ne-eqb b 0x10 h4,
+      ne-eqb b 0x11 h5,
+      ne-eqb b 0x12 h6,
+      le-leb 0x20 b
+          (omega arith),
+      lt-leb _ _ h,
+    )
 
 -- the byte of the operation that a code names is that code
 from-on : {A : Type 0} (code k : ℕ) → k ≤ code → (code ≡ k → A) → (suc k ≤ code → A) → A
@@ -67,7 +79,8 @@ pub byte-back : (code : ℕ) → 0x20 ≤ code → code ≤ 0x27 → byteOf (ope
 unfolding operationOf
 byte-back code l h =
     from-on code 0x20 l (λ e. rw e) (λ a. from-on code 0x21 a (λ e. rw e) (λ b. from-on code 0x22 b (λ e. rw e) (λ c. from-on code 0x23 c (λ e. rw e)
-    (λ d. from-on code 0x24 d (λ e. rw e) (λ i. from-on code 0x25 i (λ e. rw e) (λ j. from-on code 0x26 j (λ e. rw e) (λ k. let e : code ≡ 0x27 = omega (arith, h, k) in rw e)))))))
+    (λ d. from-on code 0x24 d (λ e. rw e)
+    (λ i. from-on code 0x25 i (λ e. rw e) (λ j. from-on code 0x26 j (λ e. rw e) (λ k. let e : code ≡ 0x27 = omega (arith, h, k) in rw e)))))))
 
 -- an operation has one argument or two, and its entry opens it
 pub one-or-two : (op : Operation) → (entryOf op .arity ≡ 1) ⊎ (entryOf op .arity ≡ 2)

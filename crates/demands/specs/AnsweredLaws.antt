@@ -60,7 +60,8 @@ run-answered size before s inputs room h =
     (λ t. let zero = eqb-true _ _ t in inputs-row zero (input-range s inputs room))
     (λ t. same-answered size (rule-answer before s inputs (eqb-false _ _ t) room) h)
   where
-    inputs-row : before .number ≡ 0 → (inputRow s inputs room ≡ 0) ⊎ ((40 ≤ inputRow s inputs room) × (inputRow s inputs room ≤ 42)) → Answered size (runAnswer before s inputs room)
+    inputs-row : before .number ≡ 0 → (inputRow s inputs room ≡ 0) ⊎ ((40 ≤ inputRow s inputs room) × (inputRow s inputs room ≤ 42)) → Answered size
+        (runAnswer before s inputs room)
     inputs-row zero (inl e) = same-answered size (run-answer before s inputs zero room e) h
     inputs-row zero (inr (lo, hi)) =
         same-answered size (inputs-answer before s inputs zero room (λ z. omega arith)) (refused-by (ofInputs lo hi))
@@ -94,7 +95,8 @@ write-answered s p room =
     (λ t. same-answered (length s) (write-refused s p room (eqb-false _ _ t)) (plan-answered s p))
 
 -- a refusal writes to no buffer
-pub run-untouched : (before : Answer) (s inputs results : List ℕ) → (runAnswer before s inputs (length results) .number ≡ 0 → ⊥) → runResults before s inputs results ≡ results
+pub run-untouched : (before : Answer) (s inputs results : List ℕ) → (runAnswer before s inputs (length results) .number ≡ 0 → ⊥)
+    → runResults before s inputs results ≡ results
 unfolding runResults
 run-untouched before s inputs results h = rw (ne-eqb _ _ h)
 

@@ -21,7 +21,8 @@ use Rattle.emitting.specs.Emitted.{aloneIn, Grouped, FitsGate, Coded, Wr
 
 module _ (quads : List ℕ) (g : ℕ) where
   -- a gate that fits and is none of the others is an operation
-  pub applies-in : Coded quads g → (codeAt quads g ≡ choiceCode → ⊥) → (codeAt quads g ≡ 0x11 → ⊥) → (codeAt quads g ≡ 0x12 → ⊥) → 2 ≤ codeAt quads g → Applies (codeAt quads g)
+  pub applies-in : Coded quads g → (codeAt quads g ≡ choiceCode → ⊥) → (codeAt quads g ≡ 0x11 → ⊥) → (codeAt quads g ≡ 0x12 → ⊥) → 2 ≤ codeAt quads g → Applies
+      (codeAt quads g)
   applies-in f n w b l = go (kind-in quads g)
     where
       go : KindIn quads g → Applies (codeAt quads g)
@@ -47,7 +48,8 @@ module _ (quads : List ℕ) (g : ℕ) where
   first-bit f e = let z : FitsGate (codeAt quads g) (bit (firstAt quads g)) = subst (FitsGate (codeAt quads g)) (bit-in quads g e) (f .fits) in z
 
   pub first-start : Coded quads g → codeAt quads g ≤ 1 → firstAt quads g < 256
-  first-start f h = let z : FitsGate (codeAt quads g) (start (firstAt quads g)) = subst (FitsGate (codeAt quads g)) (start-in quads g (omega (arith, h))) (f .fits) in z .1
+  first-start f h = let z : FitsGate (codeAt quads g) (start (firstAt quads g)) = subst (FitsGate (codeAt quads g)) (start-in quads g (omega (arith, h))) (f .fits) in
+      z .1
 
   module _ (group : List ℕ) (w : Writable quads group g) where
     placed-in : (l : List ℕ) → arguments (gateIn quads g) ≡ l → (a : ℕ) → a ∈ l → Grouped group a
@@ -58,7 +60,8 @@ module _ (quads : List ℕ) (g : ℕ) where
         let p : arguments (gateIn quads g) ≡ firstAt quads g ∷ secondAt quads g ∷ thirdAt quads g ∷ [] = ap arguments (choice-in quads g e) in
         (placed-in _ p _ (inl refl), (placed-in _ p _ (inr (inl refl)), placed-in _ p _ (inr (inr (inl refl)))))
 
-    arguments-applied : Applies (codeAt quads g) → arguments (gateIn quads g) ≡ take (entryOf (operationOf (codeAt quads g)) .arity) (firstAt quads g ∷ secondAt quads g ∷ [])
+    arguments-applied : Applies (codeAt quads g) → arguments (gateIn quads g) ≡ take (entryOf (operationOf (codeAt quads g)) .arity)
+        (firstAt quads g ∷ secondAt quads g ∷ [])
     arguments-applied h = ap arguments (applied-in quads g h)
 
     pub first-placed : Applies (codeAt quads g) → Grouped group (firstAt quads g)
@@ -80,7 +83,8 @@ module _ (quads : List ℕ) (g : ℕ) where
 
   module _ (wire : ℕ → ℕ) where
     -- the bytes, by the code
-    pub choice-bytes : codeAt quads g ≡ choiceCode → recordBytes (aloneIn quads wire g) ≡ 0x30 ∷ wiresBytes (wire (firstAt quads g) ∷ wire (secondAt quads g) ∷ wire (thirdAt quads g) ∷ [])
+    pub choice-bytes : codeAt quads g ≡ choiceCode → recordBytes (aloneIn quads wire g) ≡ 0x30 ∷ wiresBytes
+        (wire (firstAt quads g) ∷ wire (secondAt quads g) ∷ wire (thirdAt quads g) ∷ [])
     choice-bytes e = rw (choice-in quads g e)
 
     pub word-bytes : codeAt quads g ≡ 0x11 → recordBytes (aloneIn quads wire g) ≡ 0x11 ∷ bytesOf 4 (firstAt quads g)
@@ -102,16 +106,19 @@ module _ (quads : List ℕ) (g : ℕ) where
         let a : entryOf (operationOf (codeAt quads g)) .arity ≡ k = ap (λ (c : Code). c .arity) (sym (code-operation (codeAt quads g) (h .0) (h .1))) ∙ e in
         rw (applied-in quads g h, a, byte-back (codeAt quads g) (h .0) (h .1))
 
-    pub unary-bytes : Applies (codeAt quads g) → codeOf (codeAt quads g) .arity ≡ 1 → recordBytes (aloneIn quads wire g) ≡ codeAt quads g ∷ wiresBytes (wire (firstAt quads g) ∷ [])
+    pub unary-bytes : Applies (codeAt quads g) → codeOf (codeAt quads g) .arity ≡ 1 → recordBytes (aloneIn quads wire g) ≡ codeAt quads g ∷ wiresBytes
+        (wire (firstAt quads g) ∷ [])
     unary-bytes h e = applied-bytes h 1 e
 
-    pub binary-bytes : Applies (codeAt quads g) → (codeOf (codeAt quads g) .arity ≡ 1 → ⊥) → recordBytes (aloneIn quads wire g) ≡ codeAt quads g ∷ wiresBytes (wire (firstAt quads g) ∷ wire (secondAt quads g) ∷ [])
+    pub binary-bytes : Applies (codeAt quads g) → (codeOf (codeAt quads g) .arity ≡ 1 → ⊥) → recordBytes (aloneIn quads wire g) ≡ codeAt quads g ∷ wiresBytes
+        (wire (firstAt quads g) ∷ wire (secondAt quads g) ∷ [])
     binary-bytes h n = go (one-or-two (operationOf (codeAt quads g)))
       where
         same : codeOf (codeAt quads g) ≡ entryOf (operationOf (codeAt quads g))
         same = code-operation (codeAt quads g) (h .0) (h .1)
 
-        go : (entryOf (operationOf (codeAt quads g)) .arity ≡ 1) ⊎ (entryOf (operationOf (codeAt quads g)) .arity ≡ 2) → recordBytes (aloneIn quads wire g) ≡ codeAt quads g ∷ wiresBytes (wire (firstAt quads g) ∷ wire (secondAt quads g) ∷ [])
+        go : (entryOf (operationOf (codeAt quads g)) .arity ≡ 1) ⊎ (entryOf (operationOf (codeAt quads g)) .arity ≡ 2) → recordBytes
+            (aloneIn quads wire g) ≡ codeAt quads g ∷ wiresBytes (wire (firstAt quads g) ∷ wire (secondAt quads g) ∷ [])
         go (inl e) = absurd (n (ap (λ (c : Code). c .arity) same ∙ e))
         go (inr e) = applied-bytes h 2 (ap (λ (c : Code). c .arity) same ∙ e)
 

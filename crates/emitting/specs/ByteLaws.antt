@@ -30,7 +30,8 @@ wire-behind h l w n d e ys q room p r =
     let a : length (h ++ wiresBytes l) ≡ n = length-append h (wiresBytes l) ∙ rw (wires-size l) (sym q) in
     let j : h ++ wiresBytes (l ++ (w ∷ [])) ≡ (h ++ wiresBytes l) ++ bytesOf 2 w =
     ap (λ (k : List ℕ). h ++ k) (wires-more l w) ∙ sym (append-assoc h (wiresBytes l) (bytesOf 2 w)) in
-    let z : length (h ++ wiresBytes (l ++ (w ∷ []))) ≡ n + 2 = ap (λ (k : List ℕ). length k) j ∙ length-append (h ++ wiresBytes l) (bytesOf 2 w) ∙ rw (a, length-bytes 2 w) in
+    let z : length (h ++ wiresBytes (l ++ (w ∷ []))) ≡ n + 2 = ap (λ (k : List ℕ). length k) j ∙ length-append (h ++ wiresBytes l) (bytesOf 2 w) ∙ rw
+    (a, length-bytes 2 w) in
     behind (h ++ wiresBytes l) (bytesOf 2 w) (h ++ wiresBytes (l ++ (w ∷ []))) d e ys n (sym a) j (rw z room) p r
 
 -- a pair of wires

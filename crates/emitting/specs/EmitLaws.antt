@@ -78,5 +78,6 @@ module _ (s : List ℕ) (C : Gates) (sets : List ℕ) (f h : ℕ → ℕ) where
       let places : map (valuesAt s C sets f ms) (upto (length (arguments (gateAt C m)))) ≡ map (valuesAt s C sets h ms) (upto (length (arguments (gateAt C m)))) =
       map-same (valuesAt s C sets f ms) (valuesAt s C sets h ms) (upto (length (arguments (gateAt C m))))
       (λ p j. map-same (λ g. f (getD (arguments (gateAt C g)) p 0)) (λ g. h (getD (arguments (gateAt C g)) p 0)) ms
-      (λ g i. args g (getD (arguments (gateAt C g)) p 0) i (getD-in (arguments (gateAt C g)) p (omega (arith, from-below 0 (length (arguments (gateAt C m))) p j .1, two many m (inl refl), two many g i))))) in
+      (λ g i. args g (getD (arguments (gateAt C g)) p 0) i
+      (getD-in (arguments (gateAt C g)) p (omega (arith, from-below 0 (length (arguments (gateAt C m))) p j .1, two many m (inl refl), two many g i))))) in
       ap₂ (λ (gs : List Record) (pl : List (List ℕ)). joined n (gateOperation (gateAt C m)) gs pl) guards places

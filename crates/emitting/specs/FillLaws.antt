@@ -37,7 +37,8 @@ unfolding pieces
 pieces-room f zero i h = absurd (omega arith)
 pieces-room f (suc n) i h = rw (length-append (pieces f n) (f n)) (go (same? i n) (λ l. pieces-room f n i l))
   where
-    go : (i ≡ n) ⊎ (i ≡ n → ⊥) → (i < n → length (pieces f i) + length (f i) ≤ length (pieces f n)) → length (pieces f i) + length (f i) ≤ length (pieces f n) + length (f n)
+    go : (i ≡ n) ⊎ (i ≡ n → ⊥) → (i < n → length (pieces f i) + length (f i) ≤ length (pieces f n)) → length (pieces f i) + length (f i) ≤ length (pieces f n) + length
+        (f n)
     go (inl e) ih = rw e (omega arith)
     go (inr m) ih = omega (arith, ih (omega arith))
 

@@ -20,7 +20,8 @@ use Rattle.emitting.specs.ByteLaws.{behind}
 
 module _ (conds : List ℕ) (wire : ℕ → ℕ) (s : ℕ) where
   pub rest-wires : length (wiresBytes (map (λ t. wire (getD conds t 0)) (rests mostConditions s))) ≡ 2 * length (rests mostConditions s)
-  rest-wires = wires-size (map (λ t. wire (getD conds t 0)) (rests mostConditions s)) ∙ ap (λ (k : ℕ). 2 * k) (length-map (rests mostConditions s) (λ t. wire (getD conds t 0)))
+  rest-wires = wires-size (map (λ t. wire (getD conds t 0)) (rests mostConditions s)) ∙ ap (λ (k : ℕ). 2 * k)
+      (length-map (rests mostConditions s) (λ t. wire (getD conds t 0)))
 
   pub guard-size : length (recordBytes (guardIn conds wire s)) ≡ 10 + 2 * length (rests mostConditions s)
   guard-size =
@@ -35,7 +36,8 @@ module _ (conds : List ℕ) (wire : ℕ → ℕ) (s : ℕ) where
       → length (recordBytes (guardIn conds wire s)) ≤ length d → e ≡ over (0x32 ∷ k ∷ []) d
       → ys ≡ over (wiresBytes (map (λ t. wire (getD conds t 0)) (rests mostConditions s))) (take (length e - 2) (drop 2 e))
       → zs ≡ over (bytesOf 8 t) (take (length (putMid 2 (length e - 2) e ys) - n) (drop n (putMid 2 (length e - 2) e ys)))
-      → (n + 8 ≡ length (recordBytes (guardIn conds wire s))) × (putMid n (length (putMid 2 (length e - 2) e ys) - n) (putMid 2 (length e - 2) e ys) zs ≡ over (recordBytes (guardIn conds wire s)) d)
+      → (n + 8 ≡ length (recordBytes (guardIn conds wire s))) ×
+      (putMid n (length (putMid 2 (length e - 2) e ys) - n) (putMid 2 (length e - 2) e ys) zs ≡ over (recordBytes (guardIn conds wire s)) d)
   guard-put k n t d e ys zs kk nn tt room p q r =
       let W : List ℕ = wiresBytes (map (λ t. wire (getD conds t 0)) (rests mostConditions s)) in
       let ww : length W ≡ 2 * k = rest-wires ∙ ap (λ (j : ℕ). 2 * j) (sym kk) in

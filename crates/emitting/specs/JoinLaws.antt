@@ -94,7 +94,8 @@ module _ (quads : List ℕ) (count : ℕ) (sets conds : List ℕ) (wire : ℕ �
   abbrev pub joinedIn : List ℕ → List Record
   joinedIn ms =
       guardsIn conds wire sets ms
-      ++ (pick (pairsIn quads wire n 0 ms) ∷ pick (pairsIn quads wire n 1 ms) ∷ records.operation (operationOf (codeAt quads (getD ms 0 0))) ((n + length ms) ∷ suc (n + length ms) ∷ []) ∷ [])
+      ++ (pick (pairsIn quads wire n 0 ms) ∷ pick (pairsIn quads wire n 1 ms) ∷ records.operation (operationOf (codeAt quads (getD ms 0 0)))
+      ((n + length ms) ∷ suc (n + length ms) ∷ []) ∷ [])
 
   pub emit-joined : (ms : List ℕ) → 2 ≤ length ms → Inside count ms → ((m : ℕ) → m ∈ ms → length (arguments (gateIn quads m)) ≡ 2)
       → ((t : ℕ) → t < mostConditions → getD conds t 0 ≡ getD (conditions (gatesIn quads count)) t 0) → emitIn quads count sets wire n ms ≡ joinedIn ms
@@ -102,24 +103,34 @@ module _ (quads : List ℕ) (count : ℕ) (sets conds : List ℕ) (wire : ℕ �
   emit-joined (m ∷ []) h below two held = absurd (omega arith)
   emit-joined (m ∷ k ∷ l) h below two held =
       let ms : List ℕ = m ∷ k ∷ l in
-      let g : gateAt (gatesIn quads count) m ≡ operation (operationOf (codeAt quads m)) (firstAt quads m ∷ secondAt quads m ∷ []) = gates-at quads count m (below m (inl refl)) ∙ two-gate quads m (two m (inl refl)) in
+      let g : gateAt (gatesIn quads count) m ≡ operation (operationOf (codeAt quads m)) (firstAt quads m ∷ secondAt quads m ∷ []) = gates-at quads count m
+      (below m (inl refl)) ∙ two-gate quads m (two m (inl refl)) in
       let op : emission.gateOperation (gateAt (gatesIn quads count) m) ≡ operationOf (codeAt quads m) = ap emission.gateOperation g in
       let size : length (arguments (gateAt (gatesIn quads count) m)) ≡ 2 = ap (λ (i : Gate). length (arguments i)) g in
-      let guards : map (emission.guardOf [] (gatesIn quads count) sets wire) ms ≡ guardsIn conds wire sets ms = map-same _ (λ m. guardIn conds wire (getD sets m 0)) ms (λ m i. guard-same held m) in
-      let places : map (emission.valuesAt [] (gatesIn quads count) sets wire ms) (upto (length (arguments (gateAt (gatesIn quads count) m)))) ≡ map (λ m. wire (argumentAt quads m 0)) ms ∷ map (λ m. wire (argumentAt quads m 1)) ms ∷ [] =
-      ap (λ (i : ℕ). map (emission.valuesAt [] (gatesIn quads count) sets wire ms) (upto i)) size ∙ ap₂ (λ (a b : List ℕ). a ∷ b ∷ []) (values-zero ms below two) (values-one ms below two) in
-      ap (λ (o : Operation). emission.joined n o (map (emission.guardOf [] (gatesIn quads count) sets wire) ms) (map (emission.valuesAt [] (gatesIn quads count) sets wire ms) (upto (length (arguments (gateAt (gatesIn quads count) m)))))) op
+      let guards : map (emission.guardOf [] (gatesIn quads count) sets wire) ms ≡ guardsIn conds wire sets ms = map-same _ (λ m. guardIn conds wire (getD sets m 0)) ms
+      (λ m i. guard-same held m) in
+      let places : map (emission.valuesAt [] (gatesIn quads count) sets wire ms) (upto (length (arguments (gateAt (gatesIn quads count) m)))) ≡ map
+      (λ m. wire (argumentAt quads m 0)) ms ∷ map (λ m. wire (argumentAt quads m 1)) ms ∷ [] =
+      ap (λ (i : ℕ). map (emission.valuesAt [] (gatesIn quads count) sets wire ms) (upto i)) size ∙ ap₂ (λ (a b : List ℕ). a ∷ b ∷ []) (values-zero ms below two)
+      (values-one ms below two) in
+      ap (λ (o : Operation). emission.joined n o (map (emission.guardOf [] (gatesIn quads count) sets wire) ms)
+      (map (emission.valuesAt [] (gatesIn quads count) sets wire ms) (upto (length (arguments (gateAt (gatesIn quads count) m)))))) op
       ∙ ap₂ (λ (gs : List Record) (pl : List (List ℕ)). emission.joined n (operationOf (codeAt quads m)) gs pl) guards places
-      ∙ ap (λ (i : ℕ). guardsIn conds wire sets ms ++ (pick (pairsIn quads wire n 0 ms) ∷ pick (pairsIn quads wire n 1 ms) ∷ records.operation (operationOf (codeAt quads m)) (from (n + i) 2) ∷ [])) (length-map ms (λ m. guardIn conds wire (getD sets m 0)))
+      ∙ ap (λ (i : ℕ). guardsIn conds wire sets ms ++
+      (pick (pairsIn quads wire n 0 ms) ∷ pick (pairsIn quads wire n 1 ms) ∷ records.operation (operationOf (codeAt quads m)) (from (n + i) 2) ∷ []))
+      (length-map ms (λ m. guardIn conds wire (getD sets m 0)))
 
   -- its bytes: those of the guards, and what is behind them
-  pub joined-bytes : (ms : List ℕ) → Applies (codeAt quads (getD ms 0 0)) → recordsBytes (joinedIn ms) ≡ recordsBytes (guardsIn conds wire sets ms) ++ fusedBytes quads wire n (length ms) ms
+  pub joined-bytes : (ms : List ℕ) → Applies (codeAt quads (getD ms 0 0)) → recordsBytes (joinedIn ms) ≡ recordsBytes
+      (guardsIn conds wire sets ms) ++ fusedBytes quads wire n (length ms) ms
   joined-bytes ms h =
       let p : List ℕ = recordBytes (pick (pairsIn quads wire n 0 ms)) in
       let q : List ℕ = recordBytes (pick (pairsIn quads wire n 1 ms)) in
       let more : suc (n + length ms) ≡ n + length ms + 1 = omega arith in
-      let o : recordBytes (records.operation (operationOf (codeAt quads (getD ms 0 0))) ((n + length ms) ∷ suc (n + length ms) ∷ [])) ≡ codeAt quads (getD ms 0 0) ∷ wiresBytes ((n + length ms) ∷ (n + length ms + 1) ∷ []) =
+      let o : recordBytes (records.operation (operationOf (codeAt quads (getD ms 0 0))) ((n + length ms) ∷ suc (n + length ms) ∷ [])) ≡ codeAt quads
+      (getD ms 0 0) ∷ wiresBytes ((n + length ms) ∷ (n + length ms + 1) ∷ []) =
       ap₂ (λ (b i : ℕ). b ∷ wiresBytes ((n + length ms) ∷ i ∷ [])) (byte-back (codeAt quads (getD ms 0 0)) (h .0) (h .1)) more in
       bytes-append (guardsIn conds wire sets ms) _
       ∙ ap (λ (r : List ℕ). recordsBytes (guardsIn conds wire sets ms) ++ r)
-      (ap (λ (r : List ℕ). p ++ (q ++ r)) (append-nil _ ∙ o) ∙ sym (append-assoc p q (codeAt quads (getD ms 0 0) ∷ wiresBytes ((n + length ms) ∷ (n + length ms + 1) ∷ []))))
+      (ap (λ (r : List ℕ). p ++ (q ++ r)) (append-nil _ ∙ o) ∙ sym
+      (append-assoc p q (codeAt quads (getD ms 0 0) ∷ wiresBytes ((n + length ms) ∷ (n + length ms + 1) ∷ []))))

@@ -38,13 +38,15 @@ module _ (quads : List ℕ) (wire : ℕ → ℕ) (n : ℕ) (p : List ℕ) (at : 
   pick-long k = pick-size (pairsIn quads wire n k (groupAt p at)) ∙ ap (λ (i : ℕ). 2 + 4 * i) (pairs-count quads wire n k p at)
 
   picks-long : length (picksBytes quads wire n (groupAt p at)) ≡ 4 + 8 * getD p at 0
-  picks-long = length-append (recordBytes (pick (pairsIn quads wire n 0 (groupAt p at)))) (recordBytes (pick (pairsIn quads wire n 1 (groupAt p at)))) ∙ omega (arith, pick-long 0, pick-long 1)
+  picks-long = length-append (recordBytes (pick (pairsIn quads wire n 0 (groupAt p at)))) (recordBytes (pick (pairsIn quads wire n 1 (groupAt p at)))) ∙ omega
+      (arith, pick-long 0, pick-long 1)
 
   fused-long : (k : ℕ) → length (fusedBytes quads wire n k (groupAt p at)) ≡ 9 + 8 * getD p at 0
   fused-long k =
       let o : length (wiresBytes ((n + k) ∷ (n + k + 1) ∷ [])) ≡ 4 = wires-size ((n + k) ∷ (n + k + 1) ∷ []) in
       let z : suc (length (wiresBytes ((n + k) ∷ (n + k + 1) ∷ []))) ≡ 5 = omega (arith, o) in
-      length-append (picksBytes quads wire n (groupAt p at)) (codeAt quads (getD (groupAt p at) 0 0) ∷ wiresBytes ((n + k) ∷ (n + k + 1) ∷ [])) ∙ omega (arith, picks-long, z)
+      length-append (picksBytes quads wire n (groupAt p at)) (codeAt quads (getD (groupAt p at) 0 0) ∷ wiresBytes ((n + k) ∷ (n + k + 1) ∷ [])) ∙ omega
+      (arith, picks-long, z)
 
   pub picks-put : (k r : ℕ) (d e ys : List ℕ) → 4 + 8 * getD p at 0 ≤ length d → k ≡ 2 + 4 * getD p at 0 → r ≡ 2 + 4 * getD p at 0
       → e ≡ over (recordBytes (pick (pairsIn quads wire n 0 (groupAt p at)))) d
@@ -52,7 +54,8 @@ module _ (quads : List ℕ) (wire : ℕ → ℕ) (n : ℕ) (p : List ℕ) (at : 
       → (k + r ≡ 4 + 8 * getD p at 0) × (putMid k (length e - k) e ys ≡ over (picksBytes quads wire n (groupAt p at)) d)
   picks-put k r d e ys room q z w v = (
     omega (arith, q, z),
-    behind (recordBytes (pick (pairsIn quads wire n 0 (groupAt p at)))) (recordBytes (pick (pairsIn quads wire n 1 (groupAt p at)))) (picksBytes quads wire n (groupAt p at)) d e ys k
+    behind (recordBytes (pick (pairsIn quads wire n 0 (groupAt p at)))) (recordBytes (pick (pairsIn quads wire n 1 (groupAt p at))))
+        (picksBytes quads wire n (groupAt p at)) d e ys k
         (q ∙ sym (pick-long 0)) refl (omega (arith, picks-long, room)) w v,
   )
 
@@ -76,8 +79,18 @@ first-member quads p group at g f e = rw e (f .zero-paired .lies .inside (getD (
 pub fusing : (quads p conds group : List ℕ) (count at : ℕ) → JoinWritable quads p conds group count at → Fusing quads p group at
 fusing quads p conds group count at j =
     record {
-      zero-paired = record { lies = j .joinable .lies; few = omega arith; placed = λ m i. j .placed m (argumentAt quads m 0) i (rw (two-arguments quads m (j .joinable .two m i)) (inl refl)) };
-      one-paired = record { lies = j .joinable .lies; few = omega arith; placed = λ m i. j .placed m (argumentAt quads m 1) i (rw (two-arguments quads m (j .joinable .two m i)) (inr (inl refl))) };
+      zero-paired = record {
+        lies = j .joinable .lies;
+        few = omega arith;
+        placed = λ m i. j .placed m (argumentAt quads m 0) i
+            (rw (two-arguments quads m (j .joinable .two m i)) (inl refl));
+      };
+      one-paired = record {
+        lies = j .joinable .lies;
+        few = omega arith;
+        placed = λ m i. j .placed m (argumentAt quads m 1) i
+            (rw (two-arguments quads m (j .joinable .two m i)) (inr (inl refl)));
+      };
       some = omega (arith, j .joinable .many);
       coded = two-applies quads (getD (groupAt p at) 0 0) (j .joinable .two (getD (groupAt p at) 0 0) (member-in p at 0 (omega (arith, j .joinable .many))));
     }
@@ -86,16 +99,19 @@ fusing quads p conds group count at j =
 
 module _ (quads : List ℕ) (count : ℕ) (sets : List ℕ) (conds group : List ℕ) (wire : ℕ → ℕ) (n : ℕ) (p : List ℕ) (at : ℕ) where
   pub emit-bytes : JoinWritable quads p conds group count at
-      → recordsBytes (emitIn quads count sets wire n (groupAt p at)) ≡ recordsBytes (guardsIn conds wire sets (groupAt p at)) ++ fusedBytes quads wire n (getD p at 0) (groupAt p at)
+      → recordsBytes (emitIn quads count sets wire n (groupAt p at)) ≡ recordsBytes (guardsIn conds wire sets (groupAt p at)) ++ fusedBytes quads wire n (getD p at 0)
+      (groupAt p at)
   emit-bytes j =
-      ap (λ (R : List Record). recordsBytes R) (emit-joined quads count sets conds wire n (groupAt p at) (rw (length-group p at) (j .joinable .many)) (j .below) (j .joinable .two) (j .conditioned))
+      ap (λ (R : List Record). recordsBytes R)
+      (emit-joined quads count sets conds wire n (groupAt p at) (rw (length-group p at) (j .joinable .many)) (j .below) (j .joinable .two) (j .conditioned))
       ∙ joined-bytes quads count sets conds wire n (groupAt p at) (fusing quads p conds group count at j .coded)
       ∙ ap (λ (k : ℕ). recordsBytes (guardsIn conds wire sets (groupAt p at)) ++ fusedBytes quads wire n k (groupAt p at)) (length-group p at)
 
   emit-long : JoinWritable quads p conds group count at
       → length (recordsBytes (emitIn quads count sets wire n (groupAt p at))) ≡ length (recordsBytes (guardsIn conds wire sets (groupAt p at))) + (9 + 8 * getD p at 0)
   emit-long j =
-      ap (λ (b : List ℕ). length b) (emit-bytes j) ∙ length-append (recordsBytes (guardsIn conds wire sets (groupAt p at))) (fusedBytes quads wire n (getD p at 0) (groupAt p at))
+      ap (λ (b : List ℕ). length b) (emit-bytes j) ∙ length-append (recordsBytes (guardsIn conds wire sets (groupAt p at)))
+      (fusedBytes quads wire n (getD p at 0) (groupAt p at))
       ∙ ap (λ (k : ℕ). length (recordsBytes (guardsIn conds wire sets (groupAt p at))) + k) (fused-long quads wire n p at (getD p at 0))
 
   -- the guards find room, and the rest behind them
@@ -111,13 +127,17 @@ module _ (quads : List ℕ) (count : ℕ) (sets : List ℕ) (conds group : List 
       let l : length e ≡ length d = ap (λ (x : List ℕ). length x) w ∙ length-over (recordsBytes (guardsIn conds wire sets (groupAt p at))) d (omega (arith, r)) in
       (omega (arith, r, l, q), rw (room-rest e k) (omega (arith, r, l, q)))
 
-  pub joined-put : (k r : ℕ) (d e ys : List ℕ) → JoinWritable quads p conds group count at → length (recordsBytes (emitIn quads count sets wire n (groupAt p at))) ≤ length d
-      → k ≡ length (recordsBytes (guardsIn conds wire sets (groupAt p at))) → r ≡ 9 + 8 * getD p at 0 → e ≡ over (recordsBytes (guardsIn conds wire sets (groupAt p at))) d
+  pub joined-put : (k r : ℕ) (d e ys : List ℕ) → JoinWritable quads p conds group count at → length
+      (recordsBytes (emitIn quads count sets wire n (groupAt p at))) ≤ length d
+      → k ≡ length (recordsBytes (guardsIn conds wire sets (groupAt p at))) → r ≡ 9 + 8 * getD p at 0 → e ≡ over
+      (recordsBytes (guardsIn conds wire sets (groupAt p at))) d
       → ys ≡ over (fusedBytes quads wire n (getD p at 0) (groupAt p at)) (take (length e - k) (drop k e))
-      → (k + r ≡ length (recordsBytes (emitIn quads count sets wire n (groupAt p at)))) × (putMid k (length e - k) e ys ≡ over (recordsBytes (emitIn quads count sets wire n (groupAt p at))) d)
+      → (k + r ≡ length (recordsBytes (emitIn quads count sets wire n (groupAt p at)))) ×
+      (putMid k (length e - k) e ys ≡ over (recordsBytes (emitIn quads count sets wire n (groupAt p at))) d)
   joined-put k r d e ys j h q z w v = (
     omega (arith, emit-long j, q, z),
-    behind (recordsBytes (guardsIn conds wire sets (groupAt p at))) (fusedBytes quads wire n (getD p at 0) (groupAt p at)) (recordsBytes (emitIn quads count sets wire n (groupAt p at))) d e ys k q (emit-bytes j) h w v,
+    behind (recordsBytes (guardsIn conds wire sets (groupAt p at))) (fusedBytes quads wire n (getD p at 0) (groupAt p at))
+        (recordsBytes (emitIn quads count sets wire n (groupAt p at))) d e ys k q (emit-bytes j) h w v,
   )
 
 -- Its size.
@@ -128,13 +148,16 @@ guards-long conds wire sets (m ∷ ms) =
     length-append (recordBytes (guardIn conds wire (getD sets m 0))) (recordsBytes (guardsIn conds wire sets ms))
     ∙ (let a : length (recordBytes (guardIn conds wire (getD sets m 0))) ≡ 10 + 2 * length (rests mostConditions (getD sets m 0)) = guard-size conds wire (getD sets m 0) in
     let b : length (recordsBytes (guardsIn conds wire sets ms)) ≡ 10 * length ms + 2 * restedBy sets ms = guards-long conds wire sets ms in
-    let z : length (recordBytes (guardIn conds wire (getD sets m 0))) + length (recordsBytes (guardsIn conds wire sets ms)) ≡ 10 * suc (length ms) + 2 * (length (rests mostConditions (getD sets m 0)) + restedBy sets ms) = omega (arith, a, b) in
+    let z : length (recordBytes (guardIn conds wire (getD sets m 0))) + length (recordsBytes (guardsIn conds wire sets ms)) ≡ 10 * suc (length ms) + 2 *
+    (length (rests mostConditions (getD sets m 0)) + restedBy sets ms) = omega (arith, a, b) in
     z)
 
 guards-cost : (conds : List ℕ) (wire : ℕ → ℕ) (sets ms : List ℕ) → recordsCost (guardsIn conds wire sets ms) ≡ length ms
 unfolding recordsCost
 guards-cost conds wire sets [] = refl
-guards-cost conds wire sets (m ∷ ms) = let e : recordsCost (guardsIn conds wire sets ms) ≡ length ms = guards-cost conds wire sets ms in let z : 1 + recordsCost (guardsIn conds wire sets ms) ≡ suc (length ms) = omega (arith, e) in z
+guards-cost conds wire sets
+    (m ∷ ms) = let e : recordsCost (guardsIn conds wire sets ms) ≡ length ms = guards-cost conds wire sets ms in
+    let z : 1 + recordsCost (guardsIn conds wire sets ms) ≡ suc (length ms) = omega (arith, e) in z
 
 module _ (quads : List ℕ) (count : ℕ) (sets conds : List ℕ) (wire : ℕ → ℕ) (n : ℕ) (ms : List ℕ) where
   pair-many : (k : ℕ) → length (pairsIn quads wire n k ms) ≡ length ms
@@ -144,7 +167,8 @@ module _ (quads : List ℕ) (count : ℕ) (sets conds : List ℕ) (wire : ℕ �
   unfolding recordsCost
   joined-cost =
       cost-append (guardsIn conds wire sets ms) _ ∙ (let g : recordsCost (guardsIn conds wire sets ms) ≡ length ms = guards-cost conds wire sets ms in
-      let z : recordsCost (guardsIn conds wire sets ms) + (2 * length (pairsIn quads wire n 0 ms) + (2 * length (pairsIn quads wire n 1 ms) + (entryOf (operationOf (codeAt quads (getD ms 0 0))) .cost + 0)))
+      let z : recordsCost (guardsIn conds wire sets ms) +
+      (2 * length (pairsIn quads wire n 0 ms) + (2 * length (pairsIn quads wire n 1 ms) + (entryOf (operationOf (codeAt quads (getD ms 0 0))) .cost + 0)))
       ≡ 5 * length ms + entryOf (operationOf (codeAt quads (getD ms 0 0))) .cost = omega (arith, g, pair-many 0, pair-many 1) in
       z)
 
@@ -152,13 +176,18 @@ module _ (quads : List ℕ) (count : ℕ) (sets conds : List ℕ) (wire : ℕ �
   joined-wires = length-append (guardsIn conds wire sets ms) _ ∙ ap (λ (k : ℕ). k + 3) (length-map ms (λ m. guardIn conds wire (getD sets m 0)))
 
 -- the size of a joined group
-pub joined-sized : (quads sets p : List ℕ) (at g k : ℕ) (means : Code) → Joinable quads p at → k ≡ restedBy sets (groupAt p at) → g ≡ getD (groupAt p at) 0 0 → means ≡ codeOf (codeAt quads g)
+pub joined-sized : (quads sets p : List ℕ) (at g k : ℕ) (means : Code) → Joinable quads p at → k ≡ restedBy sets (groupAt p at) → g ≡ getD (groupAt p at) 0 0
+    → means ≡ codeOf (codeAt quads g)
     → Measured quads sets (groupAt p at) (getD p at 0 + 3) (18 * getD p at 0 + 2 * k + 9) (5 * getD p at 0 + means .cost)
 joined-sized quads sets p at g k means j kk gg rr =
     record {
-      wired = λ count wire n below. sym (ap (λ (R : List Record). length R) (same count wire n below) ∙ joined-wires quads count sets (conditions (gatesIn quads count)) wire n (groupAt p at) ∙ ap (λ (i : ℕ). i + 3) (length-group p at));
+      wired = λ count wire n below. sym
+          (ap (λ (R : List Record). length R) (same count wire n below) ∙ joined-wires quads count sets (conditions (gatesIn quads count)) wire n (groupAt p at) ∙ ap
+          (λ (i : ℕ). i + 3) (length-group p at));
       long = λ count wire n below. sym (ap (λ (R : List Record). length (recordsBytes R)) (same count wire n below) ∙ bytes count wire n);
-      costs = λ count wire n below. sym (ap (λ (R : List Record). recordsCost R) (same count wire n below) ∙ joined-cost quads count sets (conditions (gatesIn quads count)) wire n (groupAt p at) ∙ cost);
+      costs = λ count wire n below. sym
+          (ap (λ (R : List Record). recordsCost R) (same count wire n below) ∙ joined-cost quads count sets (conditions (gatesIn quads count)) wire n (groupAt p at)
+          ∙ cost);
     }
   where
     many : 2 ≤ length (groupAt p at)
@@ -167,19 +196,29 @@ joined-sized quads sets p at g k means j kk gg rr =
     code : Applies (codeAt quads (getD (groupAt p at) 0 0))
     code = two-applies quads (getD (groupAt p at) 0 0) (j .two (getD (groupAt p at) 0 0) (member-in p at 0 (omega (arith, j .many))))
 
-    same : (count : ℕ) (wire : ℕ → ℕ) (n : ℕ) → Inside count (groupAt p at) → emitIn quads count sets wire n (groupAt p at) ≡ joinedIn quads count sets (conditions (gatesIn quads count)) wire n (groupAt p at)
+    same : (count : ℕ) (wire : ℕ → ℕ) (n : ℕ) → Inside count (groupAt p at) → emitIn quads count sets wire n (groupAt p at) ≡ joinedIn quads count sets
+        (conditions (gatesIn quads count)) wire n (groupAt p at)
     same count wire n below = emit-joined quads count sets (conditions (gatesIn quads count)) wire n (groupAt p at) many below (j .two) (λ t l. refl)
 
-    bytes : (count : ℕ) (wire : ℕ → ℕ) (n : ℕ) → length (recordsBytes (joinedIn quads count sets (conditions (gatesIn quads count)) wire n (groupAt p at))) ≡ 18 * getD p at 0 + 2 * k + 9
+    bytes : (count : ℕ) (wire : ℕ → ℕ) (n : ℕ) → length
+        (recordsBytes (joinedIn quads count sets (conditions (gatesIn quads count)) wire n (groupAt p at))) ≡ 18 * getD p at 0 + 2 * k + 9
     bytes count wire n =
         let G : List ℕ = recordsBytes (guardsIn (conditions (gatesIn quads count)) wire sets (groupAt p at)) in
         ap (λ (b : List ℕ). length b) (joined-bytes quads count sets (conditions (gatesIn quads count)) wire n (groupAt p at) code)
         ∙ length-append G (fusedBytes quads wire n (length (groupAt p at)) (groupAt p at))
-        ∙ omega (arith, guards-long (conditions (gatesIn quads count)) wire sets (groupAt p at), fused-long quads wire n p at (length (groupAt p at)), length-group p at, kk)
+        ∙ omega (
+          arith,
+          guards-long (conditions (gatesIn quads count)) wire sets (groupAt p at),
+          fused-long quads wire n p at
+              (length (groupAt p at)),
+          length-group p at,
+          kk,
+        )
 
     cost : 5 * length (groupAt p at) + entryOf (operationOf (codeAt quads (getD (groupAt p at) 0 0))) .cost ≡ 5 * getD p at 0 + means .cost
     cost =
-        let e : means ≡ entryOf (operationOf (codeAt quads (getD (groupAt p at) 0 0))) = rr ∙ ap (λ (i : ℕ). codeOf (codeAt quads i)) gg ∙ code-operation (codeAt quads (getD (groupAt p at) 0 0)) (code .0) (code .1) in
+        let e : means ≡ entryOf (operationOf (codeAt quads (getD (groupAt p at) 0 0))) = rr ∙ ap (λ (i : ℕ). codeOf (codeAt quads i)) gg ∙ code-operation
+        (codeAt quads (getD (groupAt p at) 0 0)) (code .0) (code .1) in
         let c : means .cost ≡ entryOf (operationOf (codeAt quads (getD (groupAt p at) 0 0))) .cost = ap (λ (i : Code). i .cost) e in
         omega (arith, c, length-group p at)
 

@@ -38,7 +38,11 @@ module _ (conds : List ℕ) (wire : ℕ → ℕ) (s : ℕ) where
     size = ap (λ (b : List ℕ). length b) (rest-in conds wire s t e) ∙ length-bytes 2 (wire (getD conds t 0))
 
     pub rests-fits : (at + 2 ≤ length out) × (length out ≡ length out₀)
-    rests-fits = (omega (arith, filling-fits (restPiece conds wire s) out out₀ mostConditions at t l h, size), filling-length (restPiece conds wire s) out out₀ mostConditions at t l h)
+    rests-fits = (
+      omega (arith, filling-fits (restPiece conds wire s) out out₀ mostConditions at t l h, size),
+      filling-length
+          (restPiece conds wire s) out out₀ mostConditions at t l h,
+    )
 
     pub rests-room : 2 ≤ length (take (length out - at) (drop at out))
     rests-room = omega (arith, filling-room (restPiece conds wire s) out out₀ mostConditions at t l h, size)
@@ -65,7 +69,8 @@ pub member-inside : (p : List ℕ) (at i g : ℕ) → Lies p at → g ≡ getD (
 member-inside p at i g h e l = rw e (h .inside (getD (groupAt p at) i 0) (member-in p at i l))
 
 -- and its arguments have wires
-pub member-placed : (quads p group : List ℕ) (k at i g : ℕ) → Paired quads p group k at → g ≡ getD (groupAt p at) i 0 → i < getD p at 0 → Grouped group (argumentAt quads g k)
+pub member-placed : (quads p group : List ℕ) (k at i g : ℕ) → Paired quads p group k at → g ≡ getD (groupAt p at) i 0 → i < getD p at 0 → Grouped group
+    (argumentAt quads g k)
 member-placed quads p group k at i g h e l = rw e (h .placed (getD (groupAt p at) i 0) (member-in p at i l))
 
 -- The guards of a group: piece i is that of member i.
@@ -79,21 +84,28 @@ pub record GuardFilling (conds : List ℕ) (wire : ℕ → ℕ) (sets p : List �
 
 module _ (conds : List ℕ) (wire : ℕ → ℕ) (sets p : List ℕ) (place : ℕ) where
   whole : pieces (guardPiece conds wire sets (groupAt p place)) (getD p place 0) ≡ recordsBytes (guardsIn conds wire sets (groupAt p place))
-  whole = ap (pieces (guardPiece conds wire sets (groupAt p place))) (sym (length-group p place)) ∙ record-pieces (λ m. guardIn conds wire (getD sets m 0)) (groupAt p place)
+  whole = ap (pieces (guardPiece conds wire sets (groupAt p place))) (sym (length-group p place)) ∙ record-pieces (λ m. guardIn conds wire (getD sets m 0))
+      (groupAt p place)
 
   pub guards-start : (out : List ℕ) → length (recordsBytes (guardsIn conds wire sets (groupAt p place))) ≤ length out → GuardFilling conds wire sets p place out out 0 0
   guards-start out h = record { filling = filling-start (guardPiece conds wire sets (groupAt p place)) out (getD p place 0) (rw whole h) }
 
   module _ (out out₀ : List ℕ) (at i g : ℕ) (l : GuardFilling conds wire sets p place out out₀ at i) (h : i < getD p place 0) (e : g ≡ getD (groupAt p place) i 0) where
     pub guards-fits : (at + length (recordBytes (guardIn conds wire (getD sets g 0))) ≤ length out) × (length out ≡ length out₀)
-    guards-fits = (rw e (filling-fits (guardPiece conds wire sets (groupAt p place)) out out₀ (getD p place 0) at i (l .filling) h), filling-length (guardPiece conds wire sets (groupAt p place)) out out₀ (getD p place 0) at i (l .filling) h)
+    guards-fits = (
+      rw e (filling-fits (guardPiece conds wire sets (groupAt p place)) out out₀ (getD p place 0) at i (l .filling) h),
+      filling-length
+          (guardPiece conds wire sets (groupAt p place)) out out₀ (getD p place 0) at i (l .filling) h,
+    )
 
     pub guards-room : length (recordBytes (guardIn conds wire (getD sets g 0))) ≤ length (take (length out - at) (drop at out))
     guards-room = rw e (filling-room (guardPiece conds wire sets (groupAt p place)) out out₀ (getD p place 0) at i (l .filling) h)
 
-    pub guards-step : (k : ℕ) (ys : List ℕ) → k ≡ length (recordBytes (guardIn conds wire (getD sets g 0))) → ys ≡ over (recordBytes (guardIn conds wire (getD sets g 0))) (take (length out - at) (drop at out))
+    pub guards-step : (k : ℕ) (ys : List ℕ) → k ≡ length (recordBytes (guardIn conds wire (getD sets g 0))) → ys ≡ over
+        (recordBytes (guardIn conds wire (getD sets g 0))) (take (length out - at) (drop at out))
         → GuardFilling conds wire sets p place (putMid at (length out - at) out ys) out₀ (at + k) (i + 1)
-    guards-step k ys q r = record { filling = filling-step (guardPiece conds wire sets (groupAt p place)) out out₀ (getD p place 0) at i (l .filling) h k ys (rw e at q) (rw e at r) }
+    guards-step k ys q r = record
+        { filling = filling-step (guardPiece conds wire sets (groupAt p place)) out out₀ (getD p place 0) at i (l .filling) h k ys (rw e at q) (rw e at r) }
 
   pub guards-end : (out out₀ : List ℕ) (at i : ℕ) → GuardFilling conds wire sets p place out out₀ at i → getD p place 0 ≤ i
       → (at ≡ length (recordsBytes (guardsIn conds wire sets (groupAt p place)))) × (out ≡ over (recordsBytes (guardsIn conds wire sets (groupAt p place))) out₀)
@@ -114,7 +126,8 @@ module _ (quads : List ℕ) (wire : ℕ → ℕ) (n k : ℕ) (p : List ℕ) (pla
 
   -- a pair for each member
   pub pairs-count : length (pairsIn quads wire n k (groupAt p place)) ≡ getD p place 0
-  pairs-count = length-pairs n (map (λ m. wire (argumentAt quads m k)) (groupAt p place)) ∙ length-map (groupAt p place) (λ m. wire (argumentAt quads m k)) ∙ length-group p place
+  pairs-count = length-pairs n (map (λ m. wire (argumentAt quads m k)) (groupAt p place)) ∙ length-map (groupAt p place) (λ m. wire (argumentAt quads m k))
+      ∙ length-group p place
 
   pair-bytes : length (wiresBytes (pairWires (pairsIn quads wire n k (groupAt p place)))) ≡ 4 * getD p place 0
   pair-bytes = wires-size (pairWires (pairsIn quads wire n k (groupAt p place))) ∙ omega (arith, pairs-size (pairsIn quads wire n k (groupAt p place)), pairs-count)
@@ -127,16 +140,23 @@ module _ (quads : List ℕ) (wire : ℕ → ℕ) (n k : ℕ) (p : List ℕ) (pla
     four = wires-size ((n + i) ∷ wire (argumentAt quads (getD (groupAt p place) i 0) k) ∷ [])
 
     pub pairs-fits : (at + 4 ≤ length out) × (length out ≡ length out₀)
-    pairs-fits = (omega (arith, filling-fits (pairPiece quads wire n k (groupAt p place)) out out₀ (getD p place 0) at i (l .filling) h, four), filling-length (pairPiece quads wire n k (groupAt p place)) out out₀ (getD p place 0) at i (l .filling) h)
+    pairs-fits = (
+      omega (arith, filling-fits (pairPiece quads wire n k (groupAt p place)) out out₀ (getD p place 0) at i (l .filling) h, four),
+      filling-length
+          (pairPiece quads wire n k (groupAt p place)) out out₀ (getD p place 0) at i (l .filling) h,
+    )
 
     pub pairs-room : 4 ≤ length (take (length out - at) (drop at out))
     pairs-room = omega (arith, filling-room (pairPiece quads wire n k (groupAt p place)) out out₀ (getD p place 0) at i (l .filling) h, four)
 
     pub pairs-step : (g w : ℕ) (ys : List ℕ) → g ≡ getD (groupAt p place) i 0 → w ≡ wire (argumentAt quads g k)
-        → ys ≡ over (wiresBytes ((n + i) ∷ w ∷ [])) (take (length out - at) (drop at out)) → PairFilling quads wire n k p place (putMid at (length out - at) out ys) out₀ (at + 4) (i + 1)
+        → ys ≡ over (wiresBytes ((n + i) ∷ w ∷ [])) (take (length out - at) (drop at out)) → PairFilling quads wire n k p place (putMid at (length out - at) out ys) out₀
+        (at + 4) (i + 1)
     pairs-step g w ys e q r =
         let v : w ≡ wire (argumentAt quads (getD (groupAt p place) i 0) k) = rw e at q in
         record { filling = filling-step (pairPiece quads wire n k (groupAt p place)) out out₀ (getD p place 0) at i (l .filling) h 4 ys (sym four) (rw v at r) }
 
-  pub pairs-end : (out out₀ : List ℕ) (at i : ℕ) → PairFilling quads wire n k p place out out₀ at i → getD p place 0 ≤ i → out ≡ over (wiresBytes (pairWires (pairsIn quads wire n k (groupAt p place)))) out₀
-  pairs-end out out₀ at i l h = filling-end (pairPiece quads wire n k (groupAt p place)) out out₀ (getD p place 0) at i (l .filling) h .1 ∙ ap (λ (b : List ℕ). over b out₀) pairs-whole
+  pub pairs-end : (out out₀ : List ℕ) (at i : ℕ) → PairFilling quads wire n k p place out out₀ at i → getD p place 0 ≤ i → out ≡ over
+      (wiresBytes (pairWires (pairsIn quads wire n k (groupAt p place)))) out₀
+  pairs-end out out₀ at i l h = filling-end (pairPiece quads wire n k (groupAt p place)) out out₀ (getD p place 0) at i (l .filling) h .1 ∙ ap
+      (λ (b : List ℕ). over b out₀) pairs-whole

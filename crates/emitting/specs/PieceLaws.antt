@@ -30,7 +30,8 @@ chosen-from p h i zero = refl
 chosen-from p h i (suc n) =
     pieces-first (λ k. chosen p h (i + k)) n
     ∙ ap₂ (λ (a b : List ℕ). a ++ b) (ap (chosen p h) (add-zero i))
-    (pieces-same (λ k. chosen p h (i + suc k)) (λ k. chosen p h (suc i + k)) n (λ k l. let e : i + suc k ≡ suc i + k = omega arith in ap (chosen p h) e) ∙ chosen-from p h (suc i) n)
+    (pieces-same (λ k. chosen p h (i + suc k)) (λ k. chosen p h (suc i + k)) n (λ k l. let e : i + suc k ≡ suc i + k = omega arith in ap (chosen p h) e)
+    ∙ chosen-from p h (suc i) n)
     ∙ split (p i) (λ t. rw t) (λ t. rw t)
 
 chosen-upto : (p : ℕ → Bool) (h : ℕ → List ℕ) (n : ℕ) → pieces (chosen p h) n ≡ flat h (keep p (upto n))
@@ -80,7 +81,8 @@ unfolding restOne rests
 counting-end s n t l h =
     let e : t ≡ mostConditions = omega (arith, l .below) in
     l .counted ∙ ap (λ (k : ℕ). length (pieces (restOne s) k)) e
-    ∙ ap (λ (k : List ℕ). length k) (chosen-upto (restsOn mostConditions s) (λ t. t ∷ []) mostConditions ∙ flat-one (keep (restsOn mostConditions s) (upto mostConditions)))
+    ∙ ap (λ (k : List ℕ). length k)
+    (chosen-upto (restsOn mostConditions s) (λ t. t ∷ []) mostConditions ∙ flat-one (keep (restsOn mostConditions s) (upto mostConditions)))
 
 -- and their wires
 
@@ -95,10 +97,12 @@ pub rest-out : (conds : List ℕ) (wire : ℕ → ℕ) (s t : ℕ) → restsOn m
 unfolding restPiece
 rest-out conds wire s t e = rw e
 
-pub rest-pieces : (conds : List ℕ) (wire : ℕ → ℕ) (s : ℕ) → pieces (restPiece conds wire s) mostConditions ≡ wiresBytes (map (λ t. wire (getD conds t 0)) (rests mostConditions s))
+pub rest-pieces : (conds : List ℕ) (wire : ℕ → ℕ) (s : ℕ) → pieces (restPiece conds wire s) mostConditions ≡ wiresBytes
+    (map (λ t. wire (getD conds t 0)) (rests mostConditions s))
 unfolding restPiece rests
 rest-pieces conds wire s =
-    chosen-upto (restsOn mostConditions s) (λ t. bytesOf 2 (wire (getD conds t 0))) mostConditions ∙ flat-wires (λ t. wire (getD conds t 0)) (keep (restsOn mostConditions s) (upto mostConditions))
+    chosen-upto (restsOn mostConditions s) (λ t. bytesOf 2 (wire (getD conds t 0))) mostConditions ∙ flat-wires (λ t. wire (getD conds t 0))
+    (keep (restsOn mostConditions s) (upto mostConditions))
 
 -- The members of a group.
 
@@ -107,7 +111,8 @@ unfolding pieces
 record-pieces G [] = refl
 record-pieces G (m ∷ ms) = pieces-first (λ i. recordBytes (G (getD (m ∷ ms) i 0))) (length ms) ∙ ap (λ (r : List ℕ). recordBytes (G m) ++ r) (record-pieces G ms)
 
-pub pair-pieces : (value : ℕ → ℕ) (n : ℕ) (ms : List ℕ) → pieces (λ i. wiresBytes ((n + i) ∷ value (getD ms i 0) ∷ [])) (length ms) ≡ wiresBytes (pairWires (pairs n (map value ms)))
+pub pair-pieces : (value : ℕ → ℕ) (n : ℕ) (ms : List ℕ) → pieces (λ i. wiresBytes ((n + i) ∷ value (getD ms i 0) ∷ [])) (length ms) ≡ wiresBytes
+    (pairWires (pairs n (map value ms)))
 unfolding pieces
 pair-pieces value n [] = refl
 pair-pieces value n (m ∷ ms) =
@@ -136,12 +141,14 @@ pub summing-start : (sets ms : List ℕ) → Summing sets ms 0 0
 unfolding pieces
 summing-start sets ms = record { below = omega arith; few = omega arith; summed = refl }
 
-pub summing-step : (sets ms : List ℕ) (n i k g : ℕ) → Summing sets ms n i → i < length ms → g ≡ getD ms i 0 → k ≡ length (rests mostConditions (getD sets g 0)) → Summing sets ms (n + k) (i + 1)
+pub summing-step : (sets ms : List ℕ) (n i k g : ℕ) → Summing sets ms n i → i < length ms → g ≡ getD ms i 0 → k ≡ length (rests mostConditions (getD sets g 0))
+    → Summing sets ms (n + k) (i + 1)
 summing-step sets ms n i k g l h q e =
     let r : k ≡ length (rests mostConditions (getD sets (getD ms i 0) 0)) = rw (← q) e in
     let m : length (pieces (λ k. rests mostConditions (getD sets (getD ms k 0) 0)) (i + 1))
     ≡ length (pieces (λ k. rests mostConditions (getD sets (getD ms k 0) 0)) i) + length (rests mostConditions (getD sets (getD ms i 0) 0)) =
-    rw (pieces-more (λ k. rests mostConditions (getD sets (getD ms k 0) 0)) i) (length-append (pieces (λ k. rests mostConditions (getD sets (getD ms k 0) 0)) i) (rests mostConditions (getD sets (getD ms i 0) 0))) in
+    rw (pieces-more (λ k. rests mostConditions (getD sets (getD ms k 0) 0)) i)
+    (length-append (pieces (λ k. rests mostConditions (getD sets (getD ms k 0) 0)) i) (rests mostConditions (getD sets (getD ms i 0) 0))) in
     record { below = omega arith; few = omega (arith, l .few, r, few-rests (getD sets (getD ms i 0) 0)); summed = omega (arith, m, l .summed, r) }
 
 pub summing-end : (sets ms : List ℕ) (n i : ℕ) → Summing sets ms n i → length ms ≤ i → n ≡ restedBy sets ms

@@ -97,7 +97,9 @@ module _ (quads : List ℕ) (g : ℕ) where
     unfolding Rest
     applied-sized z = go rest
       where
-        go : (codeAt quads g ≡ 0x12) ⊎ ((codeAt quads g ≤ 1) ⊎ Applies (codeAt quads g)) → (sets : List ℕ) → Measured quads sets (g ∷ []) 1 (1 + 2 * code .arity) (code .cost)
+        go : (codeAt quads g ≡ 0x12) ⊎ ((codeAt quads g ≤ 1) ⊎ Applies (codeAt quads g)) → (sets : List ℕ) → Measured quads sets (g ∷ []) 1 (1 + 2 * code .arity)
+            (code .cost)
         go (inl e) = absurd (z (bit-arity e))
         go (inr (inl h)) = absurd (z (start-arity h))
-        go (inr (inr h)) = alone-sized (1 + 2 * code .arity) (code .cost) (applied-long h (code-some h)) (ap costOf (applied-in quads g h) ∙ ap (λ (c : Code). c .cost) (sym (code-is h)))
+        go (inr (inr h)) = alone-sized (1 + 2 * code .arity) (code .cost) (applied-long h (code-some h))
+            (ap costOf (applied-in quads g h) ∙ ap (λ (c : Code). c .cost) (sym (code-is h)))

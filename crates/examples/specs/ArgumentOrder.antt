@@ -41,11 +41,14 @@ abbrev pub r1-turned : List ℕ
 r1-turned = set (set r1 16 0x02) 18 0x01
 
 pub r1-order : OnlyOrder r1 r1-turned
-unfolding number kindOf operationOf codeOf readMark readCount readKinds readHeader readVariable readWord readBit operationWith exprWith readExpr readAssign branchWith statementWith blockWith blockFuel readBlock readRule
+unfolding number kindOf operationOf codeOf readMark readCount readKinds readHeader readVariable readWord readBit operationWith exprWith readExpr readAssign branchWith
+    statementWith blockWith blockFuel readBlock readRule
 r1-order = record { headers = refl; blocks = then (branch same (then (assign (turned refl)) end) (then (assign same) end)) end }
 
 pub r1-accepted : ruleAnswer r1 .number ≡ 0
-unfolding number kindOf operationOf codeOf readMark readCount readKinds readHeader readVariable readWord readBit operationWith exprWith readExpr readAssign branchWith statementWith blockWith blockFuel readBlock readRule applyGate makeExpr assignsIn assigns choices makeStatement makeBlock plainCircuit costs conditions wholeWithin ruleAnswer
+unfolding number kindOf operationOf codeOf readMark readCount readKinds readHeader readVariable readWord readBit operationWith exprWith readExpr readAssign branchWith
+    statementWith blockWith blockFuel readBlock readRule applyGate makeExpr assignsIn assigns choices makeStatement makeBlock plainCircuit costs conditions wholeWithin
+    ruleAnswer
 r1-accepted = refl
 
 -- so with P1 it gives example 3's file
@@ -64,15 +67,22 @@ no-groups = 0x50 ∷ 0x4C ∷ 0x4E ∷ 0x00 ∷ 0x01 ∷ 0x00 ∷ 0x04 ∷ 0x00 
 -- a difference and a less-than still depend on their order: in either the rule is accepted and its file has 25 bytes, of which 15 and 16 are the record's first wire
 pub ordered-accepted : map (λ s. writeAnswer s no-groups 25) (from-two 0x21 0x00 0 1 ∷ from-two 0x21 0x00 1 0 ∷ from-two 0x23 0x01 0 1 ∷ from-two 0x23 0x01 1 0 ∷ [])
     ≡ success 4 4 25 0 0 ∷ success 4 4 25 0 0 ∷ success 4 4 25 40 40 ∷ success 4 4 25 40 40 ∷ []
-unfolding number kindOf operationOf codeOf readMark readCount readKinds readHeader readVariable readWord readBit operationWith exprWith readExpr readAssign branchWith statementWith blockWith blockFuel readBlock readRule applyGate makeExpr assignsIn assigns choices makeStatement makeBlock plainCircuit conditions collect numbers preconditions preconditionSets costs wholeWithin ruleAnswer restsOn rests groupsIn groups restsOf waitsFor order planRow planAnswer bytesOf spread tableOver table written fused fusedFile recordsCost fusedCounts writeAnswer
+unfolding number kindOf operationOf codeOf readMark readCount readKinds readHeader readVariable readWord readBit operationWith exprWith readExpr readAssign branchWith
+    statementWith blockWith blockFuel readBlock readRule applyGate makeExpr assignsIn assigns choices makeStatement makeBlock plainCircuit conditions collect numbers
+    preconditions preconditionSets costs wholeWithin ruleAnswer restsOn rests groupsIn groups restsOf waitsFor order planRow planAnswer bytesOf spread tableOver table
+    written fused fusedFile recordsCost fusedCounts writeAnswer
 ordered-accepted = refl
 
 pub difference-ordered : fusedFile (from-two 0x21 0x00 0 1) no-groups ≡ fusedFile (from-two 0x21 0x00 1 0) no-groups → ⊥
-unfolding number kindOf operationOf codeOf readMark readCount readKinds readHeader readVariable readWord readBit operationWith exprWith readExpr readAssign branchWith statementWith blockWith blockFuel readBlock readRule applyGate makeExpr assignsIn assigns choices makeStatement makeBlock plainCircuit conditions collect numbers preconditions preconditionSets restsOn rests groupsIn groups restsOf waitsFor order bytesOf spread tableOver table written fused fusedFile
+unfolding number kindOf operationOf codeOf readMark readCount readKinds readHeader readVariable readWord readBit operationWith exprWith readExpr readAssign branchWith
+    statementWith blockWith blockFuel readBlock readRule applyGate makeExpr assignsIn assigns choices makeStatement makeBlock plainCircuit conditions collect numbers
+    preconditions preconditionSets restsOn rests groupsIn groups restsOf waitsFor order bytesOf spread tableOver table written fused fusedFile
 difference-ordered e = omega (arith, ap (λ (f : List ℕ). getD f 16 0) e)
 
 pub less-than-ordered : fusedFile (from-two 0x23 0x01 0 1) no-groups ≡ fusedFile (from-two 0x23 0x01 1 0) no-groups → ⊥
-unfolding number kindOf operationOf codeOf readMark readCount readKinds readHeader readVariable readWord readBit operationWith exprWith readExpr readAssign branchWith statementWith blockWith blockFuel readBlock readRule applyGate makeExpr assignsIn assigns choices makeStatement makeBlock plainCircuit conditions collect numbers preconditions preconditionSets restsOn rests groupsIn groups restsOf waitsFor order bytesOf spread tableOver table written fused fusedFile
+unfolding number kindOf operationOf codeOf readMark readCount readKinds readHeader readVariable readWord readBit operationWith exprWith readExpr readAssign branchWith
+    statementWith blockWith blockFuel readBlock readRule applyGate makeExpr assignsIn assigns choices makeStatement makeBlock plainCircuit conditions collect numbers
+    preconditions preconditionSets restsOn rests groupsIn groups restsOf waitsFor order bytesOf spread tableOver table written fused fusedFile
 less-than-ordered e = omega (arith, ap (λ (f : List ℕ). getD f 16 0) e)
 
 -- By gate, not by wire. A bit and two words: if v0 then (v1 := v1 × v2; v2 := v2 + v2; v1 := v2 + v1) else (if v1 < v2 then v1 := v2 × v2).
@@ -93,14 +103,21 @@ abbrev pub late-plan : List ℕ
 late-plan = 0x50 ∷ 0x4C ∷ 0x4E ∷ 0x00 ∷ 0x01 ∷ 0x00 ∷ 0x0B ∷ 0x00 ∷ 0x01 ∷ 0x02 ∷ 0x00 ∷ 0x03 ∷ 0x00 ∷ 0x07 ∷ []
 
 pub late-accepted : writeAnswer late late-plan 107 ≡ success 11 14 107 79 74
-unfolding number kindOf operationOf codeOf readMark readCount readKinds readHeader readVariable readWord readBit operationWith exprWith readExpr readAssign branchWith statementWith blockWith blockFuel readBlock readRule applyGate makeExpr assignsIn assigns choices makeStatement makeBlock plainCircuit conditions collect numbers preconditions preconditionSets costs wholeWithin ruleAnswer restsOn rests groupsIn groups restsOf waitsFor order planRow planAnswer bytesOf spread tableOver table written fused fusedFile recordsCost fusedCounts writeAnswer
+unfolding number kindOf operationOf codeOf readMark readCount readKinds readHeader readVariable readWord readBit operationWith exprWith readExpr readAssign branchWith
+    statementWith blockWith blockFuel readBlock readRule applyGate makeExpr assignsIn assigns choices makeStatement makeBlock plainCircuit conditions collect numbers
+    preconditions preconditionSets costs wholeWithin ruleAnswer restsOn rests groupsIn groups restsOf waitsFor order planRow planAnswer bytesOf spread tableOver table
+    written fused fusedFile recordsCost fusedCounts writeAnswer
 late-accepted = refl
 
 -- gate 5 takes gate 3 first, and its record gate 3's wire, which is 9, before gate 4's, which is 3
 pub late-gate : gateAt (gatesOf late) 5 ≡ gate.operation Sum (3 ∷ 4 ∷ [])
-unfolding number kindOf operationOf codeOf readMark readCount readKinds readHeader readVariable readWord readBit operationWith exprWith readExpr readAssign branchWith statementWith blockWith blockFuel readBlock readRule applyGate makeExpr assignsIn assigns choices makeStatement makeBlock plainCircuit costs conditions wholeWithin ruleAnswer
+unfolding number kindOf operationOf codeOf readMark readCount readKinds readHeader readVariable readWord readBit operationWith exprWith readExpr readAssign branchWith
+    statementWith blockWith blockFuel readBlock readRule applyGate makeExpr assignsIn assigns choices makeStatement makeBlock plainCircuit costs conditions wholeWithin
+    ruleAnswer
 late-gate = refl
 
 pub late-record : getD (recordsOf late late-plan) 10 (records.word 0) ≡ records.operation Sum (9 ∷ 3 ∷ [])
-unfolding number kindOf operationOf codeOf readMark readCount readKinds readHeader readVariable readWord readBit operationWith exprWith readExpr readAssign branchWith statementWith blockWith blockFuel readBlock readRule applyGate makeExpr assignsIn assigns choices makeStatement makeBlock plainCircuit conditions collect numbers preconditions preconditionSets restsOn rests groupsIn groups restsOf waitsFor order bytesOf spread tableOver table written fused fusedFile
+unfolding number kindOf operationOf codeOf readMark readCount readKinds readHeader readVariable readWord readBit operationWith exprWith readExpr readAssign branchWith
+    statementWith blockWith blockFuel readBlock readRule applyGate makeExpr assignsIn assigns choices makeStatement makeBlock plainCircuit conditions collect numbers
+    preconditions preconditionSets restsOn rests groupsIn groups restsOf waitsFor order bytesOf spread tableOver table written fused fusedFile
 late-record = refl

@@ -31,7 +31,10 @@ use Rattle.examples.specs.Starred.{Starred, bothGroup}
 use Rattle.examples.specs.MeaningLaws.{precondition, unneeded, rests-on, waits-for, written-whole, written-short}
 
 pub starred : Starred
-unfolding number bytesOf kindOf operationOf codeOf resultOf readMark readCount readKinds readHeader readVariable readWord readBit operationWith exprWith readExpr readAssign branchWith statementWith blockWith blockFuel readBlock readRule figureOf runStatement runBlock runRule applyGate makeExpr assignsIn assigns choices makeStatement makeBlock plainCircuit costs conditions collect numbers preconditions preconditionSets wholeWithin ruleAnswer restsOn rests groupsIn groups restsOf waitsFor order planRow planAnswer over someAbove inputRow runAnswer runResults
+unfolding number bytesOf kindOf operationOf codeOf resultOf readMark readCount readKinds readHeader readVariable readWord readBit operationWith exprWith readExpr
+    readAssign branchWith statementWith blockWith blockFuel readBlock readRule figureOf runStatement runBlock runRule applyGate makeExpr assignsIn assigns choices
+    makeStatement makeBlock plainCircuit costs conditions collect numbers preconditions preconditionSets wholeWithin ruleAnswer restsOn rests groupsIn groups restsOf
+    waitsFor order planRow planAnswer over someAbove inputRow runAnswer runResults
 starred =
     record {
       example-1 = (refl, refl, precondition r1 refl 3 0xAAAAAAAAAAAAAAAA refl, precondition r1 refl 4 0x5555555555555555 refl);

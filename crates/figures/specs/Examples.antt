@@ -59,7 +59,23 @@ example-3-runnable = record {
   headed = lit≤ tt;
   wires = lit≤ tt;
   inside = each _ 9 (((((((((tt, lit≤ tt), lit≤ tt), lit≤ tt), lit≤ tt), lit≤ tt), lit≤ tt), lit≤ tt), lit≤ tt), lit≤ tt);
-  known = each _ 9 (((((((((tt, elem→∈ _ recordCodes refl), elem→∈ _ recordCodes refl), elem→∈ _ recordCodes refl), elem→∈ _ recordCodes refl), elem→∈ _ recordCodes refl), elem→∈ _ recordCodes refl), elem→∈ _ recordCodes refl), elem→∈ _ recordCodes refl), elem→∈ _ recordCodes refl);
+  known = each _ 9 (
+    (
+      (
+        (
+          (
+            ((((tt, elem→∈ _ recordCodes refl), elem→∈ _ recordCodes refl), elem→∈ _ recordCodes refl), elem→∈ _ recordCodes refl),
+            elem→∈ _ recordCodes
+                refl,
+          ),
+          elem→∈ _ recordCodes refl,
+        ),
+        elem→∈ _ recordCodes refl,
+      ),
+      elem→∈ _ recordCodes refl,
+    ),
+    elem→∈ _ recordCodes refl,
+  );
   counted = each _ 9 (((((((((tt, λ e. lit≤ tt), λ e. lit≤ tt), λ e. lit≤ tt), λ e. lit≤ tt), λ e. lit≤ tt), λ e. lit≤ tt), λ e. lit≤ tt), λ e. lit≤ tt), λ e. lit≤ tt);
   inputs = each _ 9 (((((((((tt, λ e. lit< tt), λ e. lit< tt), λ e. lit< tt), λ e. lit< tt), λ e. lit< tt), λ e. lit< tt), λ e. lit< tt), λ e. lit< tt), λ e. lit< tt);
   earlier = λ i w m. rw zero-add at (earlier-by 0 (fileRecords file3) refl i w m);

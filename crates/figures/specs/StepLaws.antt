@@ -34,7 +34,8 @@ pub record Picking (f figures : List ℕ) (at count here left : ℕ) : Type 0 wh
   pub wires : Inside mostWires (pairWires (pairsAt left f here))
   pub same : pickFigure (held figures) (pairsAt count f at) ≡ pickFigure (held figures) (pairsAt left f here)
 
-pub picking-start : (f figures : List ℕ) (at count : ℕ) → at + 4 * count ≤ length f → Inside mostWires (pairWires (pairsAt count f at)) → Picking f figures at count at count
+pub picking-start : (f figures : List ℕ) (at count : ℕ) → at + 4 * count ≤ length f → Inside mostWires (pairWires (pairsAt count f at))
+    → Picking f figures at count at count
 picking-start f figures at count h w = record { inside = h; wires = w; same = refl }
 
 -- one pair more is looked at

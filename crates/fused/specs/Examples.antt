@@ -48,16 +48,24 @@ file3 =
 
 -- example 3, whole
 pub example-3 : fusedFile r1 p1 ≡ file3
-unfolding number kindOf operationOf codeOf readMark readCount readKinds readHeader readVariable readWord readBit operationWith exprWith readExpr readAssign branchWith statementWith blockWith blockFuel readBlock readRule applyGate makeExpr assignsIn assigns choices makeStatement makeBlock plainCircuit conditions collect numbers preconditions preconditionSets restsOn rests groupsIn groups restsOf waitsFor order bytesOf spread tableOver table written fused fusedFile
+unfolding number kindOf operationOf codeOf readMark readCount readKinds readHeader readVariable readWord readBit operationWith exprWith readExpr readAssign branchWith
+    statementWith blockWith blockFuel readBlock readRule applyGate makeExpr assignsIn assigns choices makeStatement makeBlock plainCircuit conditions collect numbers
+    preconditions preconditionSets restsOn rests groupsIn groups restsOf waitsFor order bytesOf spread tableOver table written fused fusedFile
 example-3 = refl
 
 -- its counts: 6 gates, 9 wires, 76 bytes, cost 33 before and 28 after; a buffer of 75: 50
 pub example-3-answer : writeAnswer r1 p1 76 ≡ success 6 9 76 33 28
-unfolding number kindOf operationOf codeOf readMark readCount readKinds readHeader readVariable readWord readBit operationWith exprWith readExpr readAssign branchWith statementWith blockWith blockFuel readBlock readRule applyGate makeExpr assignsIn assigns choices makeStatement makeBlock plainCircuit conditions collect numbers preconditions preconditionSets costs wholeWithin ruleAnswer restsOn rests groupsIn groups restsOf waitsFor order planRow planAnswer bytesOf spread tableOver table written fused fusedFile recordsCost fusedCounts writeAnswer
+unfolding number kindOf operationOf codeOf readMark readCount readKinds readHeader readVariable readWord readBit operationWith exprWith readExpr readAssign branchWith
+    statementWith blockWith blockFuel readBlock readRule applyGate makeExpr assignsIn assigns choices makeStatement makeBlock plainCircuit conditions collect numbers
+    preconditions preconditionSets costs wholeWithin ruleAnswer restsOn rests groupsIn groups restsOf waitsFor order planRow planAnswer bytesOf spread tableOver table
+    written fused fusedFile recordsCost fusedCounts writeAnswer
 example-3-answer = refl
 
 pub example-3-short : writeAnswer r1 p1 75 ≡ refusal 50 0
-unfolding number kindOf operationOf codeOf readMark readCount readKinds readHeader readVariable readWord readBit operationWith exprWith readExpr readAssign branchWith statementWith blockWith blockFuel readBlock readRule applyGate makeExpr assignsIn assigns choices makeStatement makeBlock plainCircuit conditions collect numbers preconditions preconditionSets costs wholeWithin ruleAnswer restsOn rests groupsIn groups restsOf waitsFor order planRow planAnswer bytesOf spread tableOver table written fused fusedFile recordsCost fusedCounts writeAnswer
+unfolding number kindOf operationOf codeOf readMark readCount readKinds readHeader readVariable readWord readBit operationWith exprWith readExpr readAssign branchWith
+    statementWith blockWith blockFuel readBlock readRule applyGate makeExpr assignsIn assigns choices makeStatement makeBlock plainCircuit conditions collect numbers
+    preconditions preconditionSets costs wholeWithin ruleAnswer restsOn rests groupsIn groups restsOf waitsFor order planRow planAnswer bytesOf spread tableOver table
+    written fused fusedFile recordsCost fusedCounts writeAnswer
 example-3-short = refl
 
 -- and its figures, from its bytes

@@ -102,7 +102,8 @@ module _ (v : ℕ) (R : List Record) (outputs : List ℕ) where
 
     -- and the part of the file that holds it, which lies inside the file
     pub file-part : (i : ℕ) → i < length R
-        → take (sizeAt (fileBytes v R outputs) (placeAfter i (fileBytes v R outputs) firstRecord)) (drop (placeAfter i (fileBytes v R outputs) firstRecord) (fileBytes v R outputs))
+        → take (sizeAt (fileBytes v R outputs) (placeAfter i (fileBytes v R outputs) firstRecord))
+        (drop (placeAfter i (fileBytes v R outputs) firstRecord) (fileBytes v R outputs))
         ≡ recordBytes (recordIn R i)
     file-part i h = part-found (fileBytes v R outputs) i R firstRecord head (wiresBytes outputs) lie h
 

@@ -43,7 +43,8 @@ pairs-found (q ∷ l) x at a b h p e =
     let g : x ≡ (a ++ u) ++ (v ++ (wiresBytes (pairWires l) ++ b)) = f ∙ sym (append-assoc a u (v ++ (wiresBytes (pairWires l) ++ b))) in
     let i : x ≡ ((a ++ u) ++ v) ++ (wiresBytes (pairWires l) ++ b) = g ∙ sym (append-assoc (a ++ u) v (wiresBytes (pairWires l) ++ b)) in
     let j : at + 2 ≡ length (a ++ u) = rw (length-append, length-bytes, p) in
-    let k : at + 4 ≡ length ((a ++ u) ++ v) = rw (length-append (a ++ u) v, length-append a u, length-bytes 2 (q .guarding), length-bytes 2 (q .value), p) (omega arith) in
+    let k : at + 4 ≡ length ((a ++ u) ++ v) = rw (length-append (a ++ u) v, length-append a u, length-bytes 2 (q .guarding), length-bytes 2 (q .value), p)
+    (omega arith) in
     ap₂ (λ (y : Pair) (m : List Pair). y ∷ m)
     (ap₂ (λ (y z : ℕ). record { guarding = y; value = z })
     (number-at x at a p 2 (q .guarding) (v ++ (wiresBytes (pairWires l) ++ b)) (h (q .guarding) (inl refl)) f)

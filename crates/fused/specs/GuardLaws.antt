@@ -35,7 +35,8 @@ module _ (C : Gates) (wanted : List ℕ) (earlier : Earlier C) (inside : (g : �
 
   -- a guard's figure: is its member needed under the setting that the wires make?
   pub guard-figure : (W wire : ℕ → ℕ) (m : ℕ)
-      → guardFigure W (map wire (restsOf C (preconditionSets mostConditions C wanted) m)) (table mostConditions (preconditionOf mostConditions C wanted m)) ≡ bitOf (needed C wanted m (λ c. isOne (W (wire c))))
+      → guardFigure W (map wire (restsOf C (preconditionSets mostConditions C wanted) m)) (table mostConditions (preconditionOf mostConditions C wanted m)) ≡ bitOf
+      (needed C wanted m (λ c. isOne (W (wire c))))
   guard-figure W wire m =
       ap (λ (j : ℕ). bitOf (has (table mostConditions (getD sets m 0)) j))
       (numberOf-map wire (restsOf C sets m) (λ c. isOne (W c)) ∙ ap (λ (l : List ℕ). numberOf l (λ c. isOne (W (wire c)))) (rests-list C wanted earlier inside few m))
@@ -62,5 +63,6 @@ module _ (C : Gates) (wanted : List ℕ) (earlier : Earlier C) (inside : (g : �
       agree : (c : ℕ) → Condition C c → Needed C wanted σ c → σ c ≡ mixed c
       agree c k n =
           split (preRestsOn P (conditions C) c)
-          (λ r. rw r (sym (h c (rw (rests-list C wanted earlier inside few m) (keep-in (preRestsOn P (conditions C)) (conditions C) c (condition-in C earlier c k) r)) n)))
+          (λ r. rw r (sym (h c
+          (rw (rests-list C wanted earlier inside few m) (keep-in (preRestsOn P (conditions C)) (conditions C) c (condition-in C earlier c k) r)) n)))
           (λ r. rw r)

@@ -93,7 +93,8 @@ module _ (s p : List ℕ) (h : planAnswer s p .number ≡ 0) where
               f k j .0,
               f k j .1,
               ap gateOperation (f m i .1),
-              ap (λ (g : Gate). length (arguments g)) (f m i .1) ∙ same-arity op (gateAt (gatesOf s) m) (gateAt (gatesOf s) k) (f m i .0) (f k j .0) (shaped m) (shaped k) (f m i .1) (f k j .1),
+              ap (λ (g : Gate). length (arguments g)) (f m i .1) ∙ same-arity op (gateAt (gatesOf s) m) (gateAt (gatesOf s) k) (f m i .0) (f k j .0) (shaped m)
+                  (shaped k) (f m i .1) (f k j .1),
             );
         exclude = λ q t. members-exclude s p plan q t;
       }

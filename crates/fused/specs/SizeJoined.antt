@@ -27,7 +27,8 @@ length-pairs n (w ∷ values) = ap suc (length-pairs (suc n) values)
 abbrev pub picks : ℕ → List (List ℕ) → List Record
 picks n places = map (λ values. pick (pairs n values)) places
 
-pub picks-size : (n k : ℕ) (places : List (List ℕ)) → EachGroup (λ values. length values ≡ k) places → length (recordsBytes (picks n places)) ≡ length places * (2 + 4 * k)
+pub picks-size : (n k : ℕ) (places : List (List ℕ)) → EachGroup (λ values. length values ≡ k) places → length (recordsBytes (picks n places)) ≡ length places *
+    (2 + 4 * k)
 picks-size n k [] e = omega arith
 picks-size n k (values ∷ places) (e, f) =
     length-append (recordBytes (pick (pairs n values))) (recordsBytes (picks n places))

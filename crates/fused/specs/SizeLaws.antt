@@ -77,5 +77,11 @@ cost-one r = omega arith
 -- a file: 8 bytes, its records, two bytes an output
 pub file-size : (v : ℕ) (R : List Record) (outputs : List ℕ) → length (fileBytes v R outputs) ≡ 8 + length (recordsBytes R) + 2 * length outputs
 file-size v R outputs =
-    rw (length-append (bytesOf 2 (length R)) (recordsBytes R ++ wiresBytes outputs), length-append (recordsBytes R) (wiresBytes outputs), length-bytes, wires-size outputs)
+    rw (
+      length-append (bytesOf 2 (length R)) (recordsBytes R ++ wiresBytes outputs),
+      length-append (recordsBytes R)
+          (wiresBytes outputs),
+      length-bytes,
+      wires-size outputs,
+    )
     (omega arith)

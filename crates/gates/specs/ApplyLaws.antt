@@ -24,7 +24,8 @@ unfolding applyGate
 apply-is op a b = refl
 
 -- What holds of the arguments as written, and of the arguments turned where the operation commutes, holds of the gate.
-pub apply-cases : (P : Gate → Type 0) (op : Operation) (a b : ℕ) → P (operation op (a ∷ b ∷ [])) → (commutes op ≡ true → P (operation op (b ∷ a ∷ []))) → P (applyGate op a b)
+pub apply-cases : (P : Gate → Type 0) (op : Operation) (a b : ℕ) → P (operation op (a ∷ b ∷ [])) → (commutes op ≡ true → P (operation op (b ∷ a ∷ []))) → P
+    (applyGate op a b)
 apply-cases P op a b h k = rw (apply-is op a b) (go (turned op a b) (λ e. and-eq-true-iff (commutes op) (ltb b a) .0 e .0))
   where
     go : (t : Bool) → (t ≡ true → commutes op ≡ true) → P (operation op (cond t (b ∷ a ∷ []) (a ∷ b ∷ [])))

@@ -29,7 +29,8 @@ use Rattle.reading.specs.FoundRuleLaws.{read-typed}
 use Rattle.gates.specs.StartLaws.{start-at, read-plain}
 
 module _ (P : Gate → Type 0) where
-  -- P holds of whatever gate is made for v variables: a starting value of one of them, a constant, an operation of as many arguments as the table says, two of them in the order that `applyGate` gives, a choice
+  -- P holds of whatever gate is made for v variables: a starting value of one of them, a constant, an operation of as many arguments
+  -- as the table says, two of them in the order that `applyGate` gives, a choice
   pub record OfMade (v : ℕ) : Type 0 where
     pub of-start : (x : ℕ) → x < v → P (start x)
     pub of-word : (n : ℕ) → P (gate.word n)

@@ -55,21 +55,25 @@ pub example-1 : plainCircuit r1 ≡
       gates = start 0 ∷ start 1 ∷ start 2 ∷ operation Product (1 ∷ 2 ∷ []) ∷ operation Product (2 ∷ 2 ∷ []) ∷ choice 0 3 4 ∷ [];
       present = 0 ∷ 5 ∷ 2 ∷ [];
     }
-unfolding number kindOf operationOf codeOf readMark readCount readKinds readHeader readVariable readWord readBit operationWith exprWith readExpr readAssign branchWith statementWith blockWith blockFuel readBlock readRule applyGate makeExpr assignsIn assigns choices makeStatement makeBlock plainCircuit
+unfolding number kindOf operationOf codeOf readMark readCount readKinds readHeader readVariable readWord readBit operationWith exprWith readExpr readAssign branchWith
+    statementWith blockWith blockFuel readBlock readRule applyGate makeExpr assignsIn assigns choices makeStatement makeBlock plainCircuit
 example-1 = refl
 
 -- cost before fusing: two products and a choice
 pub r1-cost : costBefore r1 ≡ 33
-unfolding number kindOf operationOf codeOf readMark readCount readKinds readHeader readVariable readWord readBit operationWith exprWith readExpr readAssign branchWith statementWith blockWith blockFuel readBlock readRule applyGate makeExpr assignsIn assigns choices makeStatement makeBlock plainCircuit costs
+unfolding number kindOf operationOf codeOf readMark readCount readKinds readHeader readVariable readWord readBit operationWith exprWith readExpr readAssign branchWith
+    statementWith blockWith blockFuel readBlock readRule applyGate makeExpr assignsIn assigns choices makeStatement makeBlock plainCircuit costs
 r1-cost = refl
 
 -- example 2: inputs 1, 6, 7 and 0, 6, 7, run directly and by the circuit
 pub example-2 : map (runRule r1) ((1 ∷ 6 ∷ 7 ∷ []) ∷ (0 ∷ 6 ∷ 7 ∷ []) ∷ []) ≡ (1 ∷ 42 ∷ 7 ∷ []) ∷ (0 ∷ 49 ∷ 7 ∷ []) ∷ []
-unfolding number kindOf operationOf codeOf readMark readCount readKinds readHeader readVariable readWord readBit operationWith exprWith readExpr readAssign branchWith statementWith blockWith blockFuel readBlock readRule resultOf figureOf runStatement runBlock runRule
+unfolding number kindOf operationOf codeOf readMark readCount readKinds readHeader readVariable readWord readBit operationWith exprWith readExpr readAssign branchWith
+    statementWith blockWith blockFuel readBlock readRule resultOf figureOf runStatement runBlock runRule
 example-2 = refl
 
 pub example-2-circuit : map (circuit-runs r1) ((1 ∷ 6 ∷ 7 ∷ []) ∷ (0 ∷ 6 ∷ 7 ∷ []) ∷ []) ≡ (1 ∷ 42 ∷ 7 ∷ []) ∷ (0 ∷ 49 ∷ 7 ∷ []) ∷ []
-unfolding number kindOf operationOf codeOf readMark readCount readKinds readHeader readVariable readWord readBit operationWith exprWith readExpr readAssign branchWith statementWith blockWith blockFuel readBlock readRule applyGate makeExpr assignsIn assigns choices makeStatement makeBlock plainCircuit resultOf figureAt
+unfolding number kindOf operationOf codeOf readMark readCount readKinds readHeader readVariable readWord readBit operationWith exprWith readExpr readAssign branchWith
+    statementWith blockWith blockFuel readBlock readRule applyGate makeExpr assignsIn assigns choices makeStatement makeBlock plainCircuit resultOf figureAt
 example-2-circuit = refl
 
 -- example 6: 11 gates; products 4 and 7, comparisons 5 and 6
@@ -80,13 +84,15 @@ pub example-6 : plainCircuit r2 ≡
           ∷ operation Product (1 ∷ 2 ∷ []) ∷ choice 6 7 1 ∷ choice 0 1 8 ∷ choice 0 5 3 ∷ [];
       present = 0 ∷ 9 ∷ 2 ∷ 10 ∷ [];
     }
-unfolding number kindOf operationOf codeOf readMark readCount readKinds readHeader readVariable readWord readBit operationWith exprWith readExpr readAssign branchWith statementWith blockWith blockFuel readBlock readRule applyGate makeExpr assignsIn assigns choices makeStatement makeBlock plainCircuit
+unfolding number kindOf operationOf codeOf readMark readCount readKinds readHeader readVariable readWord readBit operationWith exprWith readExpr readAssign branchWith
+    statementWith blockWith blockFuel readBlock readRule applyGate makeExpr assignsIn assigns choices makeStatement makeBlock plainCircuit
 example-6 = refl
 
 -- example 7: gates 1 and 2 products, which nothing needs; gate 2 takes gate 0 first (C-12)
 pub example-7 : plainCircuit r7 ≡
     record { gates = start 0 ∷ operation Product (0 ∷ 0 ∷ []) ∷ operation Product (0 ∷ 1 ∷ []) ∷ word 7 ∷ []; present = 3 ∷ [] }
-unfolding number kindOf operationOf codeOf readMark readCount readKinds readHeader readVariable readWord readBit operationWith exprWith readExpr readAssign branchWith statementWith blockWith blockFuel readBlock readRule applyGate makeExpr assignsIn assigns choices makeStatement makeBlock plainCircuit
+unfolding number kindOf operationOf codeOf readMark readCount readKinds readHeader readVariable readWord readBit operationWith exprWith readExpr readAssign branchWith
+    statementWith blockWith blockFuel readBlock readRule applyGate makeExpr assignsIn assigns choices makeStatement makeBlock plainCircuit
 example-7 = refl
 
 -- example 8: gates 5 and 9 products
@@ -97,7 +103,8 @@ pub example-8 : plainCircuit r8 ≡
           ∷ word 5 ∷ operation LessThan (7 ∷ 0 ∷ []) ∷ operation Product (0 ∷ 0 ∷ []) ∷ choice 8 9 2 ∷ [];
       present = 0 ∷ 6 ∷ 10 ∷ [];
     }
-unfolding number kindOf operationOf codeOf readMark readCount readKinds readHeader readVariable readWord readBit operationWith exprWith readExpr readAssign branchWith statementWith blockWith blockFuel readBlock readRule applyGate makeExpr assignsIn assigns choices makeStatement makeBlock plainCircuit
+unfolding number kindOf operationOf codeOf readMark readCount readKinds readHeader readVariable readWord readBit operationWith exprWith readExpr readAssign branchWith
+    statementWith blockWith blockFuel readBlock readRule applyGate makeExpr assignsIn assigns choices makeStatement makeBlock plainCircuit
 example-8 = refl
 
 -- example 9: 4294967295 + 1 = 0; 0 − 1 = 4294967295; 65536 × 65536 = 0
@@ -107,5 +114,6 @@ example-9 = refl
 
 -- example 10, what the plain circuit counts of it: six conditions and seven
 pub example-10 : map (λ n. length (conditions (gatesOf (r10 n)))) (6 ∷ 7 ∷ []) ≡ 6 ∷ 7 ∷ []
-unfolding number kindOf operationOf codeOf readMark readCount readKinds readHeader readVariable readWord readBit operationWith exprWith readExpr readAssign branchWith statementWith blockWith blockFuel readBlock readRule applyGate makeExpr assignsIn assigns choices makeStatement makeBlock plainCircuit conditions
+unfolding number kindOf operationOf codeOf readMark readCount readKinds readHeader readVariable readWord readBit operationWith exprWith readExpr readAssign branchWith
+    statementWith blockWith blockFuel readBlock readRule applyGate makeExpr assignsIn assigns choices makeStatement makeBlock plainCircuit conditions
 example-10 = refl

@@ -71,7 +71,8 @@ module _ (v : ℕ) (kinds : ℕ → Kind) where
     pub stands : at (m .gates) (m .place) ≡ k
     pub fit : Fit (m .gates)
 
-  add-kinded : (C : Gates) (g : Gate) (k : Kind) → Earlier C → Fit C → Inside (length C) (arguments g) → GateFits (at C) g → gateKind kinds (at C) g ≡ k → Kinded k (add C g)
+  add-kinded : (C : Gates) (g : Gate) (k : Kind) → Earlier C → Fit C → Inside (length C) (arguments g) → GateFits (at C) g → gateKind kinds (at C) g ≡ k → Kinded k
+      (add C g)
   add-kinded C g k e f i h n = record { stands = runAt-last kind.Word (gateKind kinds) C g ∙ n; fit = fit-add C g e f i h }
 
   pub expr-kinded : (e : Expr) (k : Kind) → Typed v kinds e k → WordsFit e k → (m : Making) → Sound v m → Fit (m .gates)

@@ -32,7 +32,8 @@ module _ (s : List ℕ) (b : Block) (n : ℕ) (read : readRule s ≡ parsed b n)
   pub output-figure : (x : ℕ) → x < variables s → figureAt inputs (gatesOf s) (getD (outputsOf s) x 0) ≡ getD (runBlock b inputs) x 0
   unfolding figureAt
   output-figure x l =
-      let agrees : Agrees inputs (plainCircuit s) (runBlock b inputs) = rw (read-plain s b n read) (tree-figure (variables s) (kindAt s) b (read-typed s b n read) inputs fed) in
+      let agrees : Agrees inputs (plainCircuit s) (runBlock b inputs) = rw (read-plain s b n read)
+      (tree-figure (variables s) (kindAt s) b (read-typed s b n read) inputs fed) in
       agrees x (omega (arith, plain-sound s b n read .count))
 
   -- all of them, in order

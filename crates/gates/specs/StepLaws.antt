@@ -65,6 +65,7 @@ unfolding makeStatement
 make-assign x e m = refl
 
 pub make-branch : (c : Expr) (b d : Block) (m : Making) → makeStatement (branch c b d) m
-    ≡ choices (conditionMade c m .place) (firstMade c b m .present) (secondMade c b d m .present) (assignedIn b d (length (m .present))) (asBefore m (secondMade c b d m .gates))
+    ≡ choices (conditionMade c m .place) (firstMade c b m .present) (secondMade c b d m .present) (assignedIn b d (length (m .present)))
+    (asBefore m (secondMade c b d m .gates))
 unfolding makeStatement
 make-branch c b d m = refl

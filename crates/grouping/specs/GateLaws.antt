@@ -70,11 +70,13 @@ unfolding operationCode
 operation-is code l h = rw (le-leb 0x20 code l, le-leb code 0x27 h)
 
 -- the tests of a member by its row
-pub member-costly : (row : ℕ) (quads : List ℕ) (first g code : ℕ) (r : Bool) → row ≡ 27 → code ≡ codeAt quads g → r ≡ ltb 0 (codeOf code .cost) → r ≡ memberTest row (gateIn quads first) (gateIn quads g)
+pub member-costly : (row : ℕ) (quads : List ℕ) (first g code : ℕ) (r : Bool) → row ≡ 27 → code ≡ codeAt quads g → r ≡ ltb 0 (codeOf code .cost) → r ≡ memberTest row
+    (gateIn quads first) (gateIn quads g)
 unfolding memberTest
 member-costly row quads first g code r e c q = q ∙ ap (λ (x : ℕ). ltb 0 (codeOf x .cost)) c ∙ sym (costly-code quads g) ∙ rw (eq-eqb row 27 e)
 
-pub member-alike : (row : ℕ) (quads : List ℕ) (first g a b c d : ℕ) → (row ≡ 27 → ⊥) → a ≡ codeAt quads first → b ≡ codeAt quads g → c ≡ operationCode a → d ≡ operationCode b
+pub member-alike : (row : ℕ) (quads : List ℕ) (first g a b c d : ℕ) → (row ≡ 27 → ⊥) → a ≡ codeAt quads first → b ≡ codeAt quads g → c ≡ operationCode a
+    → d ≡ operationCode b
     → eqb c d ≡ memberTest row (gateIn quads first) (gateIn quads g)
 unfolding memberTest
 member-alike row quads first g a b c d e p q u v =

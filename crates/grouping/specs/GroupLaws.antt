@@ -75,7 +75,8 @@ every-fails : (t : List ℕ → Bool) (p : List ℕ) (left at : ℕ) → 0 < lef
 every-fails t p zero at h e = absurd (omega arith)
 every-fails t p (suc n) at h e = rw e
 
-pub testing-step : (t : List ℕ → Bool) (p : List ℕ) (left at next : ℕ) (r : Bool) → TestingGroups t p left at → 0 < left → r ≡ t (groupAt p at) → r ≡ true → next ≡ after p at
+pub testing-step : (t : List ℕ → Bool) (p : List ℕ) (left at next : ℕ) (r : Bool) → TestingGroups t p left at → 0 < left → r ≡ t (groupAt p at) → r ≡ true
+    → next ≡ after p at
     → TestingGroups t p (left - 1) next
 testing-step t p left at next r w h e f q =
     rw q (record { lie = lie-step p left at (w .lie) h; same = w .same ∙ every-step t p left at h (sym e ∙ f) })

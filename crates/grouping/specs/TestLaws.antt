@@ -26,7 +26,8 @@ atLeast least (g ∷ l) = leb least g
 
 above-is : (m : ℕ) (l : List ℕ) → atLeast (m + 1) l ≡ above m l
 above-is m [] = refl
-above-is m (k ∷ l) = same-test (leb (m + 1) k) (ltb m k) (λ e. let h = leb-true (m + 1) k e in lt-ltb m k (omega arith)) (λ e. let h = ltb-true m k e in le-leb (m + 1) k (omega arith))
+above-is m (k ∷ l) = same-test (leb (m + 1) k) (ltb m k) (λ e. let h = leb-true (m + 1) k e in lt-ltb m k (omega arith))
+    (λ e. let h = ltb-true m k e in le-leb (m + 1) k (omega arith))
 
 three : (a b c : Bool) → (a && (b && c)) ≡ ((a && b) && c)
 three true b c = refl

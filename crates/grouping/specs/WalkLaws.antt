@@ -42,7 +42,8 @@ module _ (n : ℕ) (p : List ℕ) (at least k g : ℕ) (w : Climbing n p at leas
   pub climbing-step : least ≤ g → g < n → Climbing n p at (g + 1) (k + 1)
   climbing-step l m = record { lies = w .lies; low = omega arith; same = next-number ∙ rw (le-leb least g l, lt-ltb g n m) }
 
-pub climbing-end : (n : ℕ) (p : List ℕ) (at least k : ℕ) → Climbing n p at least k → getD p at 0 ≤ k → true ≡ (rises (groupAt p at) && every (λ g. ltb g n) (groupAt p at))
+pub climbing-end : (n : ℕ) (p : List ℕ) (at least k : ℕ) → Climbing n p at least k → getD p at 0 ≤ k → true ≡
+    (rises (groupAt p at) && every (λ g. ltb g n) (groupAt p at))
 climbing-end n p at least k w h = sym (w .same ∙ ap (risingFrom n least) (members-end p at k h))
 
 -- the first member is the smallest
@@ -56,7 +57,8 @@ first-member n p at g f q = walk-member n p at 0 g (walk-start n p at f) (omega 
 pub record Holding (quads : List ℕ) (row n : ℕ) (p : List ℕ) (at first k : ℕ) : Type 0 where
   pub walk : Walk n p at k
   pub inside : first < n
-  pub same : membersTest (gatesIn quads n) row (groupAt p at) ≡ every (λ g. memberTest row (gateAt (gatesIn quads n) first) (gateAt (gatesIn quads n) g)) (membersFrom p at k)
+  pub same : membersTest (gatesIn quads n) row (groupAt p at) ≡ every (λ g. memberTest row (gateAt (gatesIn quads n) first) (gateAt (gatesIn quads n) g))
+      (membersFrom p at k)
 
 pub holding-start : (quads : List ℕ) (row n : ℕ) (p : List ℕ) (at first : ℕ) → ReadableGroup n p at → first ≡ getD (groupAt p at) 0 0 → Holding quads row n p at first 0
 holding-start quads row n p at first f q =
@@ -73,7 +75,8 @@ module _ (quads : List ℕ) (row n : ℕ) (p : List ℕ) (at first k g : ℕ) (r
   tested : r ≡ memberTest row (gateAt (gatesIn quads n) first) (gateAt (gatesIn quads n) g)
   tested = e ∙ sym (rw (gates-at quads n first (w .inside), gates-at quads n g (walk-member n p at k g (w .walk) h q)))
 
-  next-member : membersTest (gatesIn quads n) row (groupAt p at) ≡ (r && every (λ i. memberTest row (gateAt (gatesIn quads n) first) (gateAt (gatesIn quads n) i)) (membersFrom p at (k + 1)))
+  next-member : membersTest (gatesIn quads n) row (groupAt p at) ≡
+      (r && every (λ i. memberTest row (gateAt (gatesIn quads n) first) (gateAt (gatesIn quads n) i)) (membersFrom p at (k + 1)))
   next-member =
       w .same ∙ ap (every (λ i. memberTest row (gateAt (gatesIn quads n) first) (gateAt (gatesIn quads n) i))) (members-step p at k h)
       ∙ rw (tested, q)
@@ -84,8 +87,10 @@ module _ (quads : List ℕ) (row n : ℕ) (p : List ℕ) (at first k g : ℕ) (r
   pub holding-step : r ≡ true → Holding quads row n p at first (k + 1)
   holding-step f = record { walk = walk-step n p at k (w .walk) h; inside = w .inside; same = next-member ∙ rw f }
 
-pub holding-end : (quads : List ℕ) (row n : ℕ) (p : List ℕ) (at first k : ℕ) → Holding quads row n p at first k → getD p at 0 ≤ k → true ≡ membersTest (gatesIn quads n) row (groupAt p at)
-holding-end quads row n p at first k w h = sym (w .same ∙ ap (every (λ g. memberTest row (gateAt (gatesIn quads n) first) (gateAt (gatesIn quads n) g))) (members-end p at k h))
+pub holding-end : (quads : List ℕ) (row n : ℕ) (p : List ℕ) (at first k : ℕ) → Holding quads row n p at first k → getD p at 0 ≤ k → true ≡ membersTest
+    (gatesIn quads n) row (groupAt p at)
+holding-end quads row n p at first k w h = sym
+    (w .same ∙ ap (every (λ g. memberTest row (gateAt (gatesIn quads n) first) (gateAt (gatesIn quads n) g))) (members-end p at k h))
 
 -- 29: the settings seen so far
 pub record Parting (sets : List ℕ) (n : ℕ) (p : List ℕ) (at seen k : ℕ) : Type 0 where
@@ -96,7 +101,8 @@ pub parting-start : (sets : List ℕ) (n : ℕ) (p : List ℕ) (at seen : ℕ) �
 parting-start sets n p at seen f e =
     record {
       walk = walk-start n p at f;
-      same = sym (parted-is sets (groupAt p at) (f .rising)) ∙ ap (partedFrom sets 0) (sym (members-all p at)) ∙ ap (λ (s : ℕ). partedFrom sets s (membersFrom p at 0)) (sym e);
+      same = sym (parted-is sets (groupAt p at) (f .rising)) ∙ ap (partedFrom sets 0) (sym (members-all p at)) ∙ ap (λ (s : ℕ). partedFrom sets s (membersFrom p at 0))
+          (sym e);
     }
 
 module _ (sets : List ℕ) (n : ℕ) (p : List ℕ) (at seen k g : ℕ) (r : Bool) (w : Parting sets n p at seen k) (h : k < getD p at 0)

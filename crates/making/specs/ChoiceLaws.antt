@@ -52,7 +52,8 @@ pushed-chose k code a b c x quads present count after more small four q =
             stored = q .pushed s (m .gates) wanted (λ h. ap (quadOf s) (right h) ∙ four s) (held .stored);
             wide = length-set present x count ∙ held .wide;
             stand = λ few.
-                stands-set (m .present) present x count (length (m .gates)) (omega (arith, held .stored .counted)) (omega (arith, held .wide)) inside (held .stand (omega arith));
+                stands-set (m .present) present x count (length (m .gates)) (omega (arith, held .stored .counted)) (omega (arith, held .wide)) inside
+                (held .stand (omega arith));
           };
     }
 
@@ -73,7 +74,8 @@ module _ (condition : ℕ) (first second : List ℕ) (mask v : ℕ) (quads prese
             record { now = m; count = l; grown = omega arith; held = held; same = ap (λ (k : ℕ). choices c p q (keep (has mask) (from 0 k)) m) e };
       }
 
-  step : (x : ℕ) → x < v → keep (has mask) (from x (v - x)) ≡ cond (has mask x) (x ∷ keep (has mask) (from (x + 1) (v - (x + 1)))) (keep (has mask) (from (x + 1) (v - (x + 1))))
+  step : (x : ℕ) → x < v → keep (has mask) (from x (v - x)) ≡ cond (has mask x) (x ∷ keep (has mask) (from (x + 1) (v - (x + 1))))
+      (keep (has mask) (from (x + 1) (v - (x + 1))))
   step x h =
       let e : v - x ≡ suc (v - (x + 1)) = omega arith in
       let f : suc x ≡ x + 1 = omega arith in
@@ -91,7 +93,8 @@ module _ (condition : ℕ) (first second : List ℕ) (mask v : ℕ) (quads prese
               record { now = z .now; count = z .count; grown = z .grown; held = z .held; same = ap (λ (k : List ℕ). choices c p q k (z .now)) (sym e) ∙ z .same };
         }
 
-    pub chosen-one : has mask x ≡ true → (more : ℕ) (quads″ present″ : List ℕ) → Chose (choice condition (getD first x 0) (getD second x 0)) x quads′ present′ n quads″ present″ more
+    pub chosen-one : has mask x ≡ true → (more : ℕ) (quads″ present″ : List ℕ) → Chose
+        (choice condition (getD first x 0) (getD second x 0)) x quads′ present′ n quads″ present″ more
         → ChosenTo condition first second mask v quads present count (x + 1) more quads″ present″
     unfolding choices
     chosen-one b more quads″ present″ y =
@@ -118,7 +121,8 @@ module _ (condition : ℕ) (first second : List ℕ) (mask v : ℕ) (quads prese
               };
         }
 
-  pub chosen-all : (x n : ℕ) (quads′ present′ : List ℕ) → ChosenTo condition first second mask v quads present count x n quads′ present′ → v ≤ x → Chosen condition first second mask v quads present count n quads′ present′
+  pub chosen-all : (x n : ℕ) (quads′ present′ : List ℕ) → ChosenTo condition first second mask v quads present count x n quads′ present′ → v ≤ x
+      → Chosen condition first second mask v quads present count n quads′ present′
   unfolding choices
   chosen-all x n quads′ present′ r h =
       record {
@@ -129,7 +133,8 @@ module _ (condition : ℕ) (first second : List ℕ) (mask v : ℕ) (quads prese
       }
 
 starts-more : (x : ℕ) → map start (upto (x + 1)) ≡ map start (upto x) ++ (start x ∷ [])
-starts-more x = let e : x + 1 ≡ suc x = omega arith in ap (λ (k : ℕ). map start (upto k)) e ∙ ap (map start) (from-more 0 x) ∙ map-append start (upto x) ((0 + x) ∷ []) ∙ ap (λ (k : ℕ). map start (upto x) ++ (start k ∷ [])) (omega arith)
+starts-more x = let e : x + 1 ≡ suc x = omega arith in ap (λ (k : ℕ). map start (upto k)) e ∙ ap (map start) (from-more 0 x) ∙ map-append start (upto x) ((0 + x) ∷ [])
+    ∙ ap (λ (k : ℕ). map start (upto x) ++ (start k ∷ [])) (omega arith)
 
 -- the next variable's place is the only one that changes
 from-next : (i n k : ℕ) → (k ≡ n → ⊥) → getD (from i n) k 0 ≡ getD (from i (suc n)) k 0

@@ -17,10 +17,12 @@ use Rattle.gates.specs.Quads.{quadsOf}
 pub quads-r1 : quadsOf r1 (gatesOf r1) ≡
     0x01 ∷ 0 ∷ 0 ∷ 0 ∷ 0x00 ∷ 1 ∷ 0 ∷ 0 ∷ 0x00 ∷ 2 ∷ 0 ∷ 0
     ∷ 0x22 ∷ 1 ∷ 2 ∷ 0 ∷ 0x22 ∷ 2 ∷ 2 ∷ 0 ∷ 0x30 ∷ 0 ∷ 3 ∷ 4 ∷ []
-unfolding number kindOf operationOf codeOf readMark readCount readKinds readHeader readVariable readWord readBit operationWith exprWith readExpr readAssign branchWith statementWith blockWith blockFuel readBlock readRule applyGate makeExpr assignsIn assigns choices makeStatement makeBlock plainCircuit quadsOf
+unfolding number kindOf operationOf codeOf readMark readCount readKinds readHeader readVariable readWord readBit operationWith exprWith readExpr readAssign branchWith
+    statementWith blockWith blockFuel readBlock readRule applyGate makeExpr assignsIn assigns choices makeStatement makeBlock plainCircuit quadsOf
 quads-r1 = refl
 
 -- example 7's rule: a word, two products and the constant 7
 pub quads-r7 : quadsOf r7 (gatesOf r7) ≡ 0x00 ∷ 0 ∷ 0 ∷ 0 ∷ 0x22 ∷ 0 ∷ 0 ∷ 0 ∷ 0x22 ∷ 0 ∷ 1 ∷ 0 ∷ 0x11 ∷ 7 ∷ 0 ∷ 0 ∷ []
-unfolding number kindOf operationOf codeOf readMark readCount readKinds readHeader readVariable readWord readBit operationWith exprWith readExpr readAssign branchWith statementWith blockWith blockFuel readBlock readRule applyGate makeExpr assignsIn assigns choices makeStatement makeBlock plainCircuit quadsOf
+unfolding number kindOf operationOf codeOf readMark readCount readKinds readHeader readVariable readWord readBit operationWith exprWith readExpr readAssign branchWith
+    statementWith blockWith blockFuel readBlock readRule applyGate makeExpr assignsIn assigns choices makeStatement makeBlock plainCircuit quadsOf
 quads-r7 = refl

@@ -40,7 +40,8 @@ module _ (s : List ℕ) (m : Parsed Expr) (present quads : List ℕ) (count : �
       }
 
   -- each written constant is a gate
-  pub made-word : (n next more : ℕ) (after : List ℕ) → m ≡ parsed (word n) next → Pushed (0x11 ∷ n ∷ 0 ∷ 0 ∷ []) quads count after more → ExprMade s m present quads count next count more after
+  pub made-word : (n next more : ℕ) (after : List ℕ) → m ≡ parsed (word n) next → Pushed (0x11 ∷ n ∷ 0 ∷ 0 ∷ []) quads count after more
+      → ExprMade s m present quads count next count more after
   unfolding makeExpr
   made-word n next more after e q =
       record {
@@ -50,7 +51,8 @@ module _ (s : List ℕ) (m : Parsed Expr) (present quads : List ℕ) (count : �
         stands = λ p C held st few. last-place s C (gate.word n) held few;
       }
 
-  pub made-bit : (n next more : ℕ) (after : List ℕ) → m ≡ parsed (bit n) next → Pushed (0x12 ∷ n ∷ 0 ∷ 0 ∷ []) quads count after more → ExprMade s m present quads count next count more after
+  pub made-bit : (n next more : ℕ) (after : List ℕ) → m ≡ parsed (bit n) next → Pushed (0x12 ∷ n ∷ 0 ∷ 0 ∷ []) quads count after more
+      → ExprMade s m present quads count next count more after
   unfolding makeExpr
   made-bit n next more after e q =
       record {
@@ -109,7 +111,8 @@ module _ (s : List ℕ) (m : Parsed Expr) (present quads : List ℕ) (count : �
         }
 
 -- by the code c that stands there, an operation's
-module _ (deep : ℕ) (s : List ℕ) (want : Kind) (at : ℕ) (h : IsRead (readExpr deep s want at)) (c : Code) (e : c ≡ codeOf (getD s at 0)) (op : Operation) (q : c .form ≡ Apply op) where
+module _ (deep : ℕ) (s : List ℕ) (want : Kind) (at : ℕ) (h : IsRead (readExpr deep s want at)) (c : Code) (e : c ≡ codeOf (getD s at 0)) (op : Operation)
+    (q : c .form ≡ Apply op) where
   is-entry : c ≡ entryOf op
   is-entry = code-entry (getD s at 0) c op e q
 
@@ -126,7 +129,8 @@ module _ (deep : ℕ) (s : List ℕ) (want : Kind) (at : ℕ) (h : IsRead (readE
   first-taken =
       subst⁻¹ (λ (x : Code). IsRead (readExpr (deep - 1) s (x .takes) (at + 1))) is-entry (read.first-argument (readExpr (deep - 1) s) op (at + 1) whole)
 
-  module _ (present quads : List ℕ) (count place n k : ℕ) (between : List ℕ) (x : ExprMade s (readExpr (deep - 1) s (c .takes) (at + 1)) present quads count n place k between) where
+  module _ (present quads : List ℕ) (count place n k : ℕ) (between : List ℕ)
+      (x : ExprMade s (readExpr (deep - 1) s (c .takes) (at + 1)) present quads count n place k between) where
     first-is : readExpr (deep - 1) s (entryOf op .takes) (at + 1) ≡ parsed (x .what) n
     first-is = ap (λ (y : Code). readExpr (deep - 1) s (y .takes) (at + 1)) (sym is-entry) ∙ x .read
 
@@ -146,7 +150,8 @@ module _ (deep : ℕ) (s : List ℕ) (want : Kind) (at : ℕ) (h : IsRead (readE
           (read.second-argument (readExpr (deep - 1) s) op (at + 1) (x .what) n first-is not-one whole)
 
       pub made-two : (place′ n′ k′ : ℕ) (between′ : List ℕ) → ExprMade s (readExpr (deep - 1) s (c .takes) n) present between k n′ place′ k′ between′
-          → (more : ℕ) (after : List ℕ) → Applied (applyGate op place place′) between′ k′ after more → ExprMade s (readExpr deep s want at) present quads count n′ k′ more after
+          → (more : ℕ) (after : List ℕ) → Applied (applyGate op place place′) between′ k′ after more → ExprMade s
+          (readExpr deep s want at) present quads count n′ k′ more after
       made-two place′ n′ k′ between′ y more after p =
           two-made s (readExpr deep s want at) present quads count op (readExpr (deep - 1) s (c .takes) (at + 1)) place n k between x
           (readExpr (deep - 1) s (c .takes) n) place′ n′ k′ between′ y more after

@@ -44,7 +44,8 @@ statement-length (branch c b d) m =
     choices-length (n .place) (first .present) (second .present) (assignedIn b d (length (m .present))) (record { gates = second .gates; present = m .present })
 
 -- the same thing read another way
-pub done-as : {A : Type 0} (make : A → Making → Making) (assigned : A → ℕ → Bool) (s : List ℕ) (m k : Parsed A) {quads present quads′ present′ : List ℕ} {count next more mask : ℕ}
+pub done-as : {A : Type 0} (make : A → Making → Making) (assigned : A → ℕ → Bool) (s : List ℕ)
+    (m k : Parsed A) {quads present quads′ present′ : List ℕ} {count next more mask : ℕ}
     → m ≡ k → Done make assigned s k quads present count next more mask quads′ present′ → Done make assigned s m quads present count next more mask quads′ present′
 done-as make assigned s m k e d = record { what = d .what; read = e ∙ d .read; marks = d .marks; done = d .done }
 
@@ -85,7 +86,8 @@ module _ (s : List ℕ) (nest at : ℕ) (h : IsRead (branchWith (readBlock s) s 
   pub test-taken : IsRead (readExpr deepest s kind.Bit (at + 1))
   test-taken = read-is (readExpr deepest s kind.Bit (at + 1)) (opened .test)
 
-  module _ (present quads : List ℕ) (count place n k : ℕ) (quads1 : List ℕ) (t : ExprMade s (readExpr deepest s kind.Bit (at + 1)) present quads count n place k quads1) where
+  module _ (present quads : List ℕ) (count place n k : ℕ) (quads1 : List ℕ)
+      (t : ExprMade s (readExpr deepest s kind.Bit (at + 1)) present quads count n place k quads1) where
     at-test : parsed (t .what) n ≡ parsed (opened .c) (opened .first)
     at-test = sym (t .read) ∙ opened .test
 
@@ -145,7 +147,8 @@ module _ (s : List ℕ) (nest at : ℕ) (h : IsRead (branchWith (readBlock s) s 
                   let m3 : Making = record { gates = g .gates; present = m .present } in
                   let h3 : Held s m3 quads3 present k2 = record { stored = hg .stored; wide = held .wide; stand = λ u. held .stand (omega arith) } in
                   let ready : length (m3 .gates) ≤ 256 → ChoiceParts (e .place) (f .present) (g .present) place first second
-                  = λ u. record { test = t .stands (m .present) (m .gates) (held .stored) (held .stand) (omega arith); yes = hf .stand (omega arith); no = hg .stand u } in
+                  = λ u. record { test = t .stands (m .present) (m .gates) (held .stored) (held .stand) (omega arith); yes = hf .stand (omega arith); no = hg .stand u }
+                  in
                   let list : keep (has (bitOr mask1 mask2)) (upto v) ≡ assignedIn (x .what) (y .what) (length (m .present))
                   = ap (λ (j : ℕ). keep (has (bitOr mask1 mask2)) (upto j)) (same ∙ sym l)
                   ∙ keep-same (has (bitOr mask1 mask2)) (λ j. assigns (x .what) j || assigns (y .what) j) (upto (length (m .present)))

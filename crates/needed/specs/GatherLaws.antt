@@ -52,7 +52,8 @@ pub record GatheringConditions (ranks gates : List ℕ) (count g t : ℕ) : Type
   pub so-far : t ≡ length (markedIn ranks g)
   pub gathered : gates ≡ over (markedIn ranks g) (replicate mostConditions 0)
 
-pub gathering-start : (ranks : List ℕ) (count : ℕ) → (count ≤ mostGates) × (length (markedIn ranks count) ≤ mostConditions) → GatheringConditions ranks (replicate mostConditions 0) count 0 0
+pub gathering-start : (ranks : List ℕ) (count : ℕ) → (count ≤ mostGates) × (length (markedIn ranks count) ≤ mostConditions) → GatheringConditions ranks
+    (replicate mostConditions 0) count 0 0
 unfolding markedIn
 gathering-start ranks count p = record { low = omega arith; room = p .0; few = p .1; so-far = refl; gathered = sym (over-nil (replicate mostConditions 0)) }
 
@@ -87,7 +88,8 @@ gathering-one ranks gates new count g t u i l h q r =
       room = i .room;
       few = i .few;
       so-far = rw (one, length-append) (omega (arith, i .so-far));
-      gathered = rw (i .gathered, one) (over-snoc (markedIn ranks g) (replicate mostConditions 0) t g (sym (i .so-far)) (rw (length-replicate {A = ℕ} mostConditions 0) fits));
+      gathered = rw (i .gathered, one)
+          (over-snoc (markedIn ranks g) (replicate mostConditions 0) t g (sym (i .so-far)) (rw (length-replicate {A = ℕ} mostConditions 0) fits));
     })
 
 pub gathering-none : (ranks gates new : List ℕ) (count g t u : ℕ) → GatheringConditions ranks gates count g t → g < count → getD ranks g 0 ≡ 0
@@ -96,5 +98,6 @@ gathering-none ranks gates new count g t u i l h q r =
     let none : markedIn ranks (g + 1) ≡ markedIn ranks g = ap (markedIn ranks) (more g) ∙ marked-none ranks g h ∙ append-nil (markedIn ranks g) in
     rw (q, r) (record { low = omega arith; room = i .room; few = i .few; so-far = rw none (i .so-far); gathered = rw none (i .gathered) })
 
-pub gathering-end : (ranks gates : List ℕ) (count g t : ℕ) → GatheringConditions ranks gates count g t → count ≤ g → gates ≡ over (markedIn ranks count) (replicate mostConditions 0)
+pub gathering-end : (ranks gates : List ℕ) (count g t : ℕ) → GatheringConditions ranks gates count g t → count ≤ g → gates ≡ over (markedIn ranks count)
+    (replicate mostConditions 0)
 gathering-end ranks gates count g t i l = let e : count ≡ g = omega (arith, i .low) in rw e (i .gathered)

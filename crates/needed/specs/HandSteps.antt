@@ -61,12 +61,14 @@ module _ (quads ranks : List ℕ) (count i c a b : ℕ) (p : Passable quads rank
   unfolding handGate
   choice-hands t s M N q r n =
       let k : t ≡ condition-found .at = omega (arith, q, condition-place) in
-      let u = hand-choice 64 (conditions (gatesIn quads count)) (conditions-once (gatesIn quads count)) (condition-found .at) (condition-found .inside) a b (getD M i 0) M in
+      let u = hand-choice 64 (conditions (gatesIn quads count)) (conditions-once (gatesIn quads count)) (condition-found .at) (condition-found .inside) a b
+      (getD M i 0) M in
       n ∙ rw (choice-at quads count i c a b l h e f g, k, r) (sym (rw (condition-found .same) at u))
 
 -- Another gate.
 
-form-hands : (N : ℕ) (cs : List ℕ) (f : Form) (a : ℕ) (l : List ℕ) (s : ℕ) (M : List ℕ) → hand (numbers N cs) (ofForm f a l) s M ≡ addAll (numbers N cs) (arguments (ofForm f a l)) s M
+form-hands : (N : ℕ) (cs : List ℕ) (f : Form) (a : ℕ) (l : List ℕ) (s : ℕ) (M : List ℕ) → hand (numbers N cs) (ofForm f a l) s M ≡ addAll (numbers N cs)
+    (arguments (ofForm f a l)) s M
 form-hands N cs End a l s M = refl
 form-hands N cs Assign a l s M = refl
 form-hands N cs Skip a l s M = refl
@@ -78,7 +80,8 @@ form-hands N cs (Apply op) a l s M = refl
 form-hands N cs Unknown a l s M = refl
 
 module _ (quads ranks : List ℕ) (count i : ℕ) (p : Passable quads ranks count) (l : i < count) (h : codeAt quads i ≡ choiceCode → ⊥) where
-  other-at : gateAt (gatesIn quads count) i ≡ ofForm (codeOf (codeAt quads i) .form) (firstAt quads i) (argumentsOf (codeOf (codeAt quads i)) (firstAt quads i) (secondAt quads i))
+  other-at : gateAt (gatesIn quads count) i ≡ ofForm (codeOf (codeAt quads i) .form) (firstAt quads i)
+      (argumentsOf (codeOf (codeAt quads i)) (firstAt quads i) (secondAt quads i))
   other-at = gates-at quads count i l ∙ other-in quads i h
 
   other-arguments : arguments (gateAt (gatesIn quads count) i) ≡ argumentsOf (codeOf (codeAt quads i)) (firstAt quads i) (secondAt quads i)

@@ -141,7 +141,8 @@ earlier-in quads n e i a h m = e i a (rw (gates-at quads n i h) m)
 -- one gate more, and its cost
 pub costs-more : (quads : List ℕ) (i : ℕ) → costs (gatesIn quads (suc i)) ≡ costs (gatesIn quads i) + codeCost (getD quads (4 * i) 0)
 unfolding gatesIn gateIn
-costs-more quads i = costs-add (gatesIn quads i) _ ∙ rw (cost-code (getD quads (4 * i) 0) (getD quads (4 * i + 1) 0) (getD quads (4 * i + 2) 0) (getD quads (4 * i + 3) 0))
+costs-more quads i = costs-add (gatesIn quads i) _ ∙ rw
+    (cost-code (getD quads (4 * i) 0) (getD quads (4 * i + 1) 0) (getD quads (4 * i + 2) 0) (getD quads (4 * i + 3) 0))
 
 pub costs-none : (quads : List ℕ) → costs (gatesIn quads 0) ≡ 0
 unfolding gatesIn costs

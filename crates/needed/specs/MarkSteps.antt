@@ -107,7 +107,8 @@ marking-choice quads ranks new count i c m l h e q =
     go g (inr n) = rw (ne-eqb g c n, getD-set-other ranks c g 1 0 n) (m .marked .marks g)
 
 -- one turn at another gate
-pub marking-other : (quads ranks new : List ℕ) (count i : ℕ) → Marking quads ranks count i → i < count → (codeAt quads i ≡ choiceCode → ⊥) → new ≡ ranks → Marking quads new count (i + 1)
+pub marking-other : (quads ranks new : List ℕ) (count i : ℕ) → Marking quads ranks count i → i < count → (codeAt quads i ≡ choiceCode → ⊥) → new ≡ ranks
+    → Marking quads new count (i + 1)
 unfolding markOf
 marking-other quads ranks new count i m l h q =
     record {
@@ -170,5 +171,6 @@ conditions-numbered quads marks ranks count p m n =
         n .above g k ∙ m .marks g ∙ ap bitOf (marks-above quads count count (p .1) (omega arith) g k)
         ∙ sym (rank-none (conditions C) g (λ i. omega (arith, condition-below C g i)))
 
-pub conditions-counted : (quads marks : List ℕ) (count r : ℕ) → Marked (gatesIn quads count) marks → r ≡ length (markedIn marks count) → r ≡ length (conditions (gatesIn quads count))
+pub conditions-counted : (quads marks : List ℕ) (count r : ℕ) → Marked (gatesIn quads count) marks → r ≡ length (markedIn marks count) → r ≡ length
+    (conditions (gatesIn quads count))
 conditions-counted quads marks count r m e = e ∙ ap length (marked-held quads marks count m)

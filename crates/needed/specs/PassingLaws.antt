@@ -145,7 +145,8 @@ found-needed quads ranks wanted M₁ M₂ M₃ count p i e₁ e₂ e₃ =
     let S = numbers 64 (conditions C) in
     let n : length C ≡ count = gates-length quads count in
     let r : length C + (256 - count) ≡ 256 = omega (arith, p .room) in
-    e₃ ∙ ap (passSets S C count) (e₂ ∙ sym (add-all 64 (conditions C) wanted (whole 64) M₁) ∙ ap (addAll S wanted (whole 64)) (e₁ ∙ ap (λ (k : ℕ). replicate k 0) (sym r)))
+    e₃ ∙ ap (passSets S C count)
+    (e₂ ∙ sym (add-all 64 (conditions C) wanted (whole 64) M₁) ∙ ap (addAll S wanted (whole 64)) (e₁ ∙ ap (λ (k : ℕ). replicate k 0) (sym r)))
     ∙ ap (λ (k : ℕ). passSets S C k (addAll S wanted (whole 64) (replicate (length C + (256 - count)) 0))) (sym n)
     ∙ preconditions-room S C wanted (p .earlier) (λ g m. rw n (i g m)) (256 - count)
 

@@ -108,8 +108,10 @@ module _ (quads : List ℕ) (g : ℕ) where
           split (leb 0x20 code)
           (λ l. split (leb code 0x27)
           (λ u. applies (leb-true _ _ l, leb-true _ _ u))
-          (λ u. starts (λ r. omega (arith, r, leb-false code 0x27 u)) (unknown-gate code (firstAt quads g) (secondAt quads g) (thirdAt quads g) n h v w z (inr (leb-false _ _ u)))))
-          (λ l. starts (λ r. omega (arith, r, leb-false 0x20 code l)) (unknown-gate code (firstAt quads g) (secondAt quads g) (thirdAt quads g) n h v w z (inl (leb-false _ _ l))))
+          (λ u. starts (λ r. omega (arith, r, leb-false code 0x27 u))
+          (unknown-gate code (firstAt quads g) (secondAt quads g) (thirdAt quads g) n h v w z (inr (leb-false _ _ u)))))
+          (λ l. starts (λ r. omega (arith, r, leb-false 0x20 code l))
+          (unknown-gate code (firstAt quads g) (secondAt quads g) (thirdAt quads g) n h v w z (inl (leb-false _ _ l))))
 
       go : (code ≡ choiceCode) ⊎ (code ≡ choiceCode → ⊥) → (code ≡ 0x11) ⊎ (code ≡ 0x11 → ⊥) → (code ≡ 0x12) ⊎ (code ≡ 0x12 → ⊥)
           → (code ≡ 0x10) ⊎ (code ≡ 0x10 → ⊥) → KindIn quads g

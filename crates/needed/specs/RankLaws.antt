@@ -44,7 +44,8 @@ pub record Found (l : List ℕ) (g : ℕ) : Type 0 where
 pub rank-found : (l : List ℕ) (g : ℕ) → g ∈ l → Found l g
 unfolding rankIn
 rank-found [] g m = absurd m
-rank-found (c ∷ l) g m = split (eqb g c) (λ e. record { at = 0; rank = rw e; inside = omega arith; same = sym (eqb-true g c e) }) (λ e. later e (rank-found l g (other e m)))
+rank-found (c ∷ l) g m = split (eqb g c) (λ e. record { at = 0; rank = rw e; inside = omega arith; same = sym (eqb-true g c e) })
+    (λ e. later e (rank-found l g (other e m)))
   where
     other : eqb g c ≡ false → g ∈ (c ∷ l) → g ∈ l
     other e (inl f) = absurd (eqb-false g c e f)

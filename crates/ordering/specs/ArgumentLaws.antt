@@ -42,7 +42,8 @@ pub record Arguing (quads group waits₀ : List ℕ) (i base n : ℕ) (waits : L
   pub made : waits ≡ putEach base (map (λ a. getD group a 0) (take k (argumentsAt quads i))) waits₀
 
 module _ (quads group waits₀ : List ℕ) (i base n : ℕ) where
-  pub arguing-start : i < 256 → base + 4 ≤ 1024 → n ≡ arityOf (codeAt quads i) → length waits₀ ≡ 1024 → Into group (argumentsAt quads i) → Arguing quads group waits₀ i base n waits₀ 0
+  pub arguing-start : i < 256 → base + 4 ≤ 1024 → n ≡ arityOf (codeAt quads i) → length waits₀ ≡ 1024 → Into group (argumentsAt quads i)
+      → Arguing quads group waits₀ i base n waits₀ 0
   arguing-start h r e s m =
       record { gate = h; room = r; arity = e; into = m; below = omega arith; size₀ = s; size = s; made = puts-none base waits₀ }
 
@@ -90,7 +91,8 @@ module _ (conds group : List ℕ) (s : ℕ) (waits₀ : List ℕ) (base : ℕ) w
       → (getD conds t 0 < 256) × (getD group (getD conds t 0) 0 < 256)
   unfolding rests
   resting-into waits t g l h =
-      g .into (getD conds t 0) (in-map (λ u. getD conds u 0) t (keep (restsOn 6 s) (upto 6)) (keep-in (restsOn 6 s) (upto 6) t (from-in 0 6 t (omega arith) (omega arith)) h))
+      g .into (getD conds t 0)
+      (in-map (λ u. getD conds u 0) t (keep (restsOn 6 s) (upto 6)) (keep-in (restsOn 6 s) (upto 6) t (from-in 0 6 t (omega arith) (omega arith)) h))
 
   pub resting-yes : (waits new : List ℕ) (t q : ℕ) → Resting conds group s waits₀ base waits t → t < 6 → restsOn 6 s t ≡ true → q ≡ getD group (getD conds t 0) 0
       → new ≡ putBit base q waits → Resting conds group s waits₀ base new (t + 1)
@@ -101,7 +103,8 @@ module _ (conds group : List ℕ) (s : ℕ) (waits₀ : List ℕ) (base : ℕ) w
         below = omega arith;
         size₀ = g .size₀;
         size = put-length base q waits new k ∙ g .size;
-        made = one-more base (getD conds t 0) q group (map (λ u. getD conds u 0) (keep (restsOn 6 s) (upto t))) (map (λ u. getD conds u 0) (keep (restsOn 6 s) (upto (t + 1)))) waits₀ waits new
+        made = one-more base (getD conds t 0) q group (map (λ u. getD conds u 0) (keep (restsOn 6 s) (upto t)))
+            (map (λ u. getD conds u 0) (keep (restsOn 6 s) (upto (t + 1)))) waits₀ waits new
             (ap (map (λ u. getD conds u 0)) (keep-yes (restsOn 6 s) t h) ∙ map-append (λ u. getD conds u 0) (keep (restsOn 6 s) (upto t)) (t ∷ [])) (g .made) f k;
       }
 

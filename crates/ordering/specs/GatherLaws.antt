@@ -41,7 +41,13 @@ module _ (group : List ℕ) (count : ℕ) where
         room = s .room;
         below = omega arith;
         words = rw e (put-words 4 0 i left (s .words));
-        holds = λ q k. rw (e, keep-yes (λ p. eqb (getD group p 0) p) i (eq-eqb (getD group i 0) i h), elem-more q (keep (λ p. eqb (getD group p 0) p) (upto i)) i, ← s .holds q k)
+        holds = λ q k. rw (
+          e,
+          keep-yes (λ p. eqb (getD group p 0) p) i (eq-eqb (getD group i 0) i h),
+          elem-more q
+              (keep (λ p. eqb (getD group p 0) p) (upto i)) i,
+          ← s .holds q k,
+        )
             (put-bit 4 0 left (s .words .size) (omega arith) i (omega (arith, s .room)) 0 q k);
       }
 
@@ -90,7 +96,8 @@ module _ (quads : List ℕ) (count : ℕ) (needs conds group places : List ℕ) 
   abbrev g : ℕ → ℕ
   g = λ x. getD group x 0
 
-  pub gathering-start : (waits : List ℕ) → Orderable quads count conds group places → waits ≡ replicate 1024 0 → GatheringWaits quads count needs conds group places waits 0
+  pub gathering-start : (waits : List ℕ) → Orderable quads count conds group places → waits ≡ replicate 1024 0
+      → GatheringWaits quads count needs conds group places waits 0
   unfolding waitsBelow
   gathering-start waits o e = record { orderable = o; below = omega arith; words = clear-words 1024 waits e; holds = λ p q h l. clear-bit 1024 (4 * p) q waits e }
 
@@ -121,7 +128,8 @@ module _ (quads : List ℕ) (count : ℕ) (needs conds group places : List ℕ) 
         let h : a < count = rw (gates-length quads count) at k in
         (omega (arith, s .orderable .room), group-low a h)
 
-    step : (new : List ℕ) → new ≡ putEach (4 * g i) (map g (readsOf C needs (members (length C) g (g i)) i)) waits → GatheringWaits quads count needs conds group places new (i + 1)
+    step : (new : List ℕ) → new ≡ putEach (4 * g i) (map g (readsOf C needs (members (length C) g (g i)) i)) waits
+        → GatheringWaits quads count needs conds group places new (i + 1)
     step new e = record { orderable = s .orderable; below = omega arith; words = rw e (puts-words 1024 (4 * g i) reads waits (s .words)); holds = held }
       where
         reads : List ℕ
@@ -141,14 +149,23 @@ module _ (quads : List ℕ) (count : ℕ) (needs conds group places : List ℕ) 
           where
             go : (p ≡ g i) ⊎ (p ≡ g i → ⊥)
                 → cond (eqb p (g i)) (cond (elem q reads) true (bitIn (4 * p) waits q)) (bitIn (4 * p) waits q) ≡ elem q (waitsBelow C needs g (i + 1) p)
-            go (inl f) = rw (f, eq-eqb (g i) (g i) refl, ← f, s .holds p q h k, below-yes C needs g i p (sym f), elem-joined q (waitsBelow C needs g i p) (map g (readsOf C needs (members (length C) g p) i)))
+            go (inl f) = rw (
+              f,
+              eq-eqb (g i) (g i) refl,
+              ← f,
+              s .holds p q h k,
+              below-yes C needs g i p (sym f),
+              elem-joined q (waitsBelow C needs g i p)
+                  (map g (readsOf C needs (members (length C) g p) i)),
+            )
             go (inr f) = rw (ne-eqb p (g i) f, below-no C needs g i p (λ z. f (sym z))) (s .holds p q h k)
 
     pub gathering-size : (base : ℕ) (m mid : List ℕ) → mid ≡ putEach base m waits → length mid ≡ 1024
     gathering-size base m mid e = ap length e ∙ puts-words 1024 base m waits (s .words) .size
 
     -- a member of a group of one
-    pub gathering-alone : (new : List ℕ) (p : ℕ) → p ≡ getD group i 0 → getD places i 0 ≡ 0 → new ≡ putEach (4 * p) (map (λ a. getD group a 0) (argumentsAt quads i)) waits
+    pub gathering-alone : (new : List ℕ) (p : ℕ) → p ≡ getD group i 0 → getD places i 0 ≡ 0 → new ≡ putEach (4 * p)
+        (map (λ a. getD group a 0) (argumentsAt quads i)) waits
         → GatheringWaits quads count needs conds group places new (i + 1)
     gathering-alone new p e z h = step new (h ∙ rw e (ap (λ (r : List ℕ). putEach (4 * g i) (map g r) waits) reads))
       where
@@ -163,7 +180,8 @@ module _ (quads : List ℕ) (count : ℕ) (needs conds group places : List ℕ) 
     gathering-joined mid new p n e z f h k =
         step new
         (k ∙ rw (h, f, e) (puts-append (4 * g i) (map g (argumentsAt quads i)) (map g (map (λ t. getD conds t 0) (rests 6 (getD needs i 0)))) waits
-        ∙ ap (λ (r : List ℕ). putEach (4 * g i) r waits) (sym (map-append g (argumentsAt quads i) (map (λ t. getD conds t 0) (rests 6 (getD needs i 0)))) ∙ ap (map g) reads)))
+        ∙ ap (λ (r : List ℕ). putEach (4 * g i) r waits)
+        (sym (map-append g (argumentsAt quads i) (map (λ t. getD conds t 0) (rests 6 (getD needs i 0)))) ∙ ap (map g) reads)))
       where
         reads : argumentsAt quads i ++ map (λ t. getD conds t 0) (rests 6 (getD needs i 0)) ≡ readsOf C needs (members (length C) g (g i)) i
         reads = rw (gates-length quads count, s .orderable .many i l, ne-eqb (getD places i 0) 0 z, ← rests-here, arguments-here)
@@ -171,7 +189,11 @@ module _ (quads : List ℕ) (count : ℕ) (needs conds group places : List ℕ) 
   pub gathering-end : (waits : List ℕ) (i : ℕ) → GatheringWaits quads count needs conds group places waits i → count ≤ i → Waiting C needs g waits
   unfolding waitsBelow waitsFor
   gathering-end waits i s l =
-      record { words = s .words; holds = λ p q h k. s .holds p q h k ∙ ap (λ (n : ℕ). elem q (map g (flat (readsOf C needs (members (length C) g p)) (keep (λ x. eqb (g x) p) (upto n))))) len }
+      record {
+        words = s .words;
+        holds = λ p q h k. s .holds p q h k ∙ ap
+            (λ (n : ℕ). elem q (map g (flat (readsOf C needs (members (length C) g p)) (keep (λ x. eqb (g x) p) (upto n))))) len;
+      }
     where
       len : i ≡ length C
       len = omega (arith, s .below, gates-length quads count)

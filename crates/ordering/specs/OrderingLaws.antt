@@ -32,7 +32,8 @@ module _ (quads : List ℕ) (count : ℕ) (needs group : List ℕ) where
   abbrev g : ℕ → ℕ
   g = λ x. getD group x 0
 
-  pub ordering-start : (conds places waits left order₀ : List ℕ) → Orderable quads count conds group places → Waiting C needs g waits → Left g count left → length order₀ ≡ 256
+  pub ordering-start : (conds places waits left order₀ : List ℕ) → Orderable quads count conds group places → Waiting C needs g waits → Left g count left
+      → length order₀ ≡ 256
       → PlacingIn quads count needs group waits order₀ order₀ left 0 0 []
   ordering-start conds places waits left order₀ o w l s =
       placing-start (waitsFor C needs g) g count waits order₀ left

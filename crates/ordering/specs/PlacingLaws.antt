@@ -114,7 +114,8 @@ module _ (W : ℕ → List ℕ) (group : ℕ → ℕ) (n : ℕ) (waits order₀ 
           is = s .tabled .remains (p .0) (placing-room .0) ∙ rw (new-group .1, ∈→elem (p .0) (groups n group) (new-group .0))
 
           go : (q ≡ p .0) ⊎ (q ≡ p .0 → ⊥)
-              → cond (eqb q (p .0)) false (cond (elem q done) false (elem q (groups n group))) ≡ cond (cond (eqb q (p .0)) true (elem q done)) false (elem q (groups n group))
+              → cond (eqb q (p .0)) false (cond (elem q done) false (elem q (groups n group))) ≡ cond (cond (eqb q (p .0)) true (elem q done)) false
+              (elem q (groups n group))
           go (inl f) = rw (eq-eqb q (p .0) f)
           go (inr f) = rw (ne-eqb q (p .0) f)
 

@@ -71,7 +71,8 @@ unfolding argumentsAt arityOf
 arguments-at quads i = go (same? (codeAt quads i) choiceCode)
   where
     go : (codeAt quads i ≡ choiceCode) ⊎ (codeAt quads i ≡ choiceCode → ⊥)
-        → arguments (gateIn quads i) ≡ take (cond (eqb (codeAt quads i) choiceCode) 3 (codeOf (codeAt quads i) .arity)) (firstAt quads i ∷ secondAt quads i ∷ thirdAt quads i ∷ [])
+        → arguments (gateIn quads i) ≡ take (cond (eqb (codeAt quads i) choiceCode) 3 (codeOf (codeAt quads i) .arity))
+        (firstAt quads i ∷ secondAt quads i ∷ thirdAt quads i ∷ [])
     go (inl e) = ap arguments (choice-in quads i e) ∙ rw (eq-eqb (codeAt quads i) choiceCode e)
     go (inr n) =
         arguments-in quads i n
@@ -92,7 +93,8 @@ arguments-length quads i = length-take-le (arityOf (codeAt quads i)) (firstAt qu
 pub argument-at : (quads : List ℕ) (i k : ℕ) → k < arityOf (codeAt quads i) → getD (argumentsAt quads i) k 0 ≡ getD quads (4 * i + 1 + k) 0
 unfolding argumentsAt
 argument-at quads i k h =
-    getD-take (arityOf (codeAt quads i)) (firstAt quads i ∷ secondAt quads i ∷ thirdAt quads i ∷ []) k 0 h ∙ place-of quads i k (omega (arith, arity-most (codeAt quads i)))
+    getD-take (arityOf (codeAt quads i)) (firstAt quads i ∷ secondAt quads i ∷ thirdAt quads i ∷ []) k 0 h ∙ place-of quads i k
+    (omega (arith, arity-most (codeAt quads i)))
 
 pub argument-in : (quads : List ℕ) (i k a : ℕ) → k < arityOf (codeAt quads i) → a ≡ getD quads (4 * i + 1 + k) 0 → a ∈ argumentsAt quads i
 argument-in quads i k a h e = rw (e ∙ sym (argument-at quads i k h)) (getD-in (argumentsAt quads i) k (rw (arguments-length quads i) h))

@@ -40,7 +40,8 @@ unfolding bitIn
 wait-bit waits p q = refl
 
 -- a run of words is free of what is left when each is
-free-word : (waits left : List ℕ) (p w k : ℕ) → freeFrom waits left p w k ≡ true → (v : ℕ) → w ≤ v → v < w + k → excludes (getD waits (4 * p + v) 0) (getD left v 0) ≡ true
+free-word : (waits left : List ℕ) (p w k : ℕ) → freeFrom waits left p w k ≡ true → (v : ℕ) → w ≤ v → v < w + k → excludes (getD waits (4 * p + v) 0)
+    (getD left v 0) ≡ true
 unfolding freeFrom
 free-word waits left p w zero h v a b = absurd (omega arith)
 free-word waits left p w (suc k) h v a b =
@@ -48,7 +49,8 @@ free-word waits left p w (suc k) h v a b =
     (λ t. split (eqb v w) (λ e. rw (eqb-true v w e) t) (λ e. free-word waits left p (w + 1) k (rw t at h) v (omega (arith, eqb-false v w e)) (omega arith)))
     (λ t. absurd (false≢true (rw t at h)))
 
-free-back : (waits left : List ℕ) (p w k : ℕ) → ((v : ℕ) → w ≤ v → v < w + k → excludes (getD waits (4 * p + v) 0) (getD left v 0) ≡ true) → freeFrom waits left p w k ≡ true
+free-back : (waits left : List ℕ) (p w k : ℕ) → ((v : ℕ) → w ≤ v → v < w + k → excludes (getD waits (4 * p + v) 0) (getD left v 0) ≡ true)
+    → freeFrom waits left p w k ≡ true
 unfolding freeFrom
 free-back waits left p w zero h = refl
 free-back waits left p w (suc k) h = rw (h w (omega arith) (omega arith)) (free-back waits left p (w + 1) k (λ v a b. h v (omega arith) (omega arith)))

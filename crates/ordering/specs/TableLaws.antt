@@ -44,7 +44,8 @@ clear-words n w e =
 
 pub clear-bit : (n base q : ℕ) (w : List ℕ) → w ≡ replicate n 0 → bitIn base w q ≡ false
 unfolding bitIn
-clear-bit n base q w e = ap (λ (l : List ℕ). bit (getD l (base + q / 64) 0) (q % 64)) e ∙ ap (λ (x : ℕ). bit x (q % 64)) (getD-zeros n (base + q / 64)) ∙ bit-none (q % 64)
+clear-bit n base q w e = ap (λ (l : List ℕ). bit (getD l (base + q / 64) 0) (q % 64)) e ∙ ap (λ (x : ℕ). bit x (q % 64)) (getD-zeros n (base + q / 64)) ∙ bit-none
+    (q % 64)
 
 -- a store of a number of 64 bits
 set-words : (n i x : ℕ) (w : List ℕ) → HasWords n w → x < 2 ^ 64 → HasWords n (set w i x)
@@ -111,7 +112,8 @@ put-bit n p w size room q l p′ q′ l′ = go (same? p′ p) (same? (q′ / 64
         (both f ∙ ap (λ (b : Bool). bit old (q′ % 64) || b) (ap (λ (y : ℕ). bit (2 ^ (q % 64)) (y % 64)) g ∙ bit-pow (q % 64)) ∙ or-true (bit old (q′ % 64)))
     go (inl e) (inl f) (inr g) =
         rw (eq-eqb p′ p e, ne-eqb q′ q g, e)
-        (both f ∙ ap (λ (b : Bool). bit old (q′ % 64) || b) (bit-pow-other (q % 64) (q′ % 64) (λ z. g (same-place q q′ f z))) ∙ or-false (bit old (q′ % 64)) ∙ sym (was f))
+        (both f ∙ ap (λ (b : Bool). bit old (q′ % 64) || b) (bit-pow-other (q % 64) (q′ % 64) (λ z. g (same-place q q′ f z))) ∙ or-false (bit old (q′ % 64)) ∙ sym
+        (was f))
 
 -- a strike strikes one group
 pub strike-bit : (w : List ℕ) → length w ≡ 4 → (q : ℕ) → q < 256 → bitIn 0 w q ≡ true → (q′ : ℕ) → q′ < 256

@@ -36,14 +36,16 @@ module _ (p : List ℕ) (bytes : Bytes p) where
       written : bytesOf 2 (numberAt 2 p at) ≡ take 2 (drop at p)
       written =
           ap (λ (w : ℕ). bytesOf w (numberAt 2 p at)) (sym size)
-          ∙ bytes-number (take 2 (drop at p)) (λ i l. let m : i < 2 = rw size at l in rw (getD-take 2 (drop at p) i 0 m, getD-drop at p i 0) (bytes (at + i) (omega arith)))
+          ∙ bytes-number (take 2 (drop at p))
+          (λ i l. let m : i < 2 = rw size at l in rw (getD-take 2 (drop at p) i 0 m, getD-drop at p i 0) (bytes (at + i) (omega arith)))
 
   numbers-bytes : (n at : ℕ) → at + 2 * n ≤ length p → drop at p ≡ flat (bytesOf 2) (numbersAt n p at) ++ drop (at + 2 * n) p
   numbers-bytes zero at h = let e : at ≡ at + 2 * 0 = omega arith in ap (λ (k : ℕ). drop k p) e
   numbers-bytes (suc n) at h =
       let e : at + 2 + 2 * n ≡ at + 2 * suc n = omega arith in
       two-bytes at (omega arith)
-      ∙ ap (λ (r : List ℕ). bytesOf 2 (numberAt 2 p at) ++ r) (numbers-bytes n (at + 2) (omega arith) ∙ ap (λ (k : ℕ). flat (bytesOf 2) (numbersAt n p (at + 2)) ++ drop k p) e)
+      ∙ ap (λ (r : List ℕ). bytesOf 2 (numberAt 2 p at) ++ r)
+      (numbers-bytes n (at + 2) (omega arith) ∙ ap (λ (k : ℕ). flat (bytesOf 2) (numbersAt n p (at + 2)) ++ drop k p) e)
       ∙ sym (append-assoc (bytesOf 2 (numberAt 2 p at)) (flat (bytesOf 2) (numbersAt n p (at + 2))) (drop (at + 2 * suc n) p))
 
   groups-bytes : (n at : ℕ) → Ends n p at → drop at p ≡ groupsBytes (groupsFrom n p at)

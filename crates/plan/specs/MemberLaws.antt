@@ -50,7 +50,8 @@ module _ (C : Gates) where
           → (x : List ℕ) × (gateAt C g ≡ operation (first .0) x)
       as-first g k (op, c, x, e) =
           let b : byteOf (first .0) ≡ byteOf op =
-          ap operationByte (sym (first .3)) ∙ eqb-true _ _ (every-right (λ i. eqb (operationByte (gateAt C m)) (operationByte (gateAt C i))) l .0 a g k) ∙ ap operationByte e in
+          ap operationByte (sym (first .3)) ∙ eqb-true _ _ (every-right (λ i. eqb (operationByte (gateAt C m)) (operationByte (gateAt C i))) l .0 a g k)
+          ∙ ap operationByte e in
           (x, e ∙ ap (λ (o : Operation). operation o x) (sym (byte-one (first .0) op b)))
 
       each : (g : ℕ) → g ∈ (m ∷ l) → (x : List ℕ) × (gateAt C g ≡ operation (first .0) x)
@@ -71,7 +72,8 @@ module _ (C : Gates) where
       → ((everyGroup (every (λ g. isCostly (gateAt C g))) Gs ≡ true) × (everyGroup (alike C) Gs ≡ true)) ↔ EachGroup (OneCostly C) Gs
   costly-right Gs s = (λ h. to Gs s (h .0) (h .1), λ o. (back-27 Gs o, back-28 Gs o))
     where
-      to : (Gs : Plan) → EachGroup (λ G. 2 ≤ length G) Gs → everyGroup (every (λ g. isCostly (gateAt C g))) Gs ≡ true → everyGroup (alike C) Gs ≡ true → EachGroup (OneCostly C) Gs
+      to : (Gs : Plan) → EachGroup (λ G. 2 ≤ length G) Gs → everyGroup (every (λ g. isCostly (gateAt C g))) Gs ≡ true → everyGroup (alike C) Gs ≡ true → EachGroup
+          (OneCostly C) Gs
       to [] s h a = tt
       to (G ∷ Gs) (s, t) h a =
           let r = both (every (λ g. isCostly (gateAt C g)) G) _ h in

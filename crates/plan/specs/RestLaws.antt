@@ -75,7 +75,8 @@ module _ (C : Gates) (wanted : List ℕ) (earlier : Earlier C) (inside : (g : �
   -- the condition gates listed for m are those that its being needed rests on
   pub rests-list : (m : ℕ) → restsOf C (preconditionSets mostConditions C wanted) m ≡ preRests (needed C wanted m) (conditions C)
   unfolding restsOf
-  rests-list m = sym (rests-places mostConditions (preconditionOf mostConditions C wanted m) (conditions C) (needed C wanted m) (precondition-holds C wanted earlier inside mostConditions few m))
+  rests-list m = sym (rests-places mostConditions (preconditionOf mostConditions C wanted m) (conditions C) (needed C wanted m)
+      (precondition-holds C wanted earlier inside mostConditions few m))
 
   unneeded : (σ : Setting) (m : ℕ) → needed C wanted m σ ≡ false → Needed C wanted σ m → ⊥
   unneeded σ m f n = true≢false (sym (needed-complete C wanted σ earlier inside m n) ∙ f)

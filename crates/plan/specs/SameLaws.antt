@@ -33,7 +33,8 @@ module _ (W Z : ℕ → List ℕ) (same : (p : ℕ) → W p ≡ Z p) where
   schedule-same : (gs : List ℕ) (k : ℕ) (done : List ℕ) → schedule W gs k done ≡ schedule Z gs k done
   schedule-same gs zero done = refl
   schedule-same gs (suc k) done =
-      ap (λ (f : Option ℕ). elim f [ none ↦ done | some p ↦ schedule W gs k (p ∷ done) ]) (first-same done gs) ∙ go (firstReady Z done gs) (λ p. schedule-same gs k (p ∷ done))
+      ap (λ (f : Option ℕ). elim f [ none ↦ done | some p ↦ schedule W gs k (p ∷ done) ]) (first-same done gs) ∙ go (firstReady Z done gs)
+      (λ p. schedule-same gs k (p ∷ done))
     where
       go : (f : Option ℕ) → ((p : ℕ) → schedule W gs k (p ∷ done) ≡ schedule Z gs k (p ∷ done))
           → _≡_ {A = List ℕ} (elim f [ none ↦ done | some p ↦ schedule W gs k (p ∷ done) ]) (elim f [ none ↦ done | some p ↦ schedule Z gs k (p ∷ done) ])

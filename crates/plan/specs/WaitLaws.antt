@@ -46,7 +46,8 @@ module _ (C : Gates) (wanted : List ℕ) (earlier : Earlier C) (inside : (g : �
       of : (m a : ℕ) → (a ∈ arguments (gateAt C m)) ⊎ (a ∈ cond (leb 2 (length ms)) (restsOf C sets m) [])
           → (a ∈ arguments (gateAt C m)) ⊎ ((2 ≤ length ms) × RestsOn C wanted m a)
       of m a (inl k) = inl k
-      of m a (inr k) = split (leb 2 (length ms)) (λ t. inr (leb-true 2 (length ms) t, rests-right C wanted earlier inside few m a .0 (rw t at k))) (λ t. absurd (rw t at k))
+      of m a (inr k) = split (leb 2 (length ms)) (λ t. inr (leb-true 2 (length ms) t, rests-right C wanted earlier inside few m a .0 (rw t at k)))
+          (λ t. absurd (rw t at k))
 
       to : q ∈ map group (flat (readsOf C sets ms) ms) → Waits C wanted group p q
       to h =

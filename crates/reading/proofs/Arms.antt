@@ -13,7 +13,8 @@ use Rattle.reading.specs.Tree.{Expr, Block}
 use Rattle.reading.specs.Expressions.{exprForm}
 use Rattle.reading.specs.Blocks.{statementForm}
 
-pub no-expression : (f : Form) (s : List ℕ) (argument : Kind → ℕ → Parsed Expr) (want : Kind) (deep at : ℕ) → OneOf (0 ∷ 1 ∷ 2 ∷ 3 ∷ 8 ∷ []) (tagOf the-type f) → exprForm f s argument want deep at ≡ refused 5 at
+pub no-expression : (f : Form) (s : List ℕ) (argument : Kind → ℕ → Parsed Expr) (want : Kind) (deep at : ℕ) → OneOf (0 ∷ 1 ∷ 2 ∷ 3 ∷ 8 ∷ []) (tagOf the-type f)
+    → exprForm f s argument want deep at ≡ refused 5 at
 no-expression End s argument want deep at h = refl
 no-expression Assign s argument want deep at h = refl
 no-expression Skip s argument want deep at h = refl
@@ -24,7 +25,8 @@ no-expression Bit s argument want deep at h = absurd (miss (0 ∷ 1 ∷ 2 ∷ 3 
 no-expression (Apply op) s argument want deep at h = absurd (miss (0 ∷ 1 ∷ 2 ∷ 3 ∷ 8 ∷ []) 7 tt h)
 no-expression Unknown s argument want deep at h = refl
 
-pub no-statement : (f : Form) (block : ℕ → ℕ → Parsed Block) (s : List ℕ) (nest at : ℕ) → OneOf (0 ∷ 4 ∷ 5 ∷ 6 ∷ 7 ∷ 8 ∷ []) (tagOf the-type f) → statementForm f block s nest at ≡ refused 5 at
+pub no-statement : (f : Form) (block : ℕ → ℕ → Parsed Block) (s : List ℕ) (nest at : ℕ) → OneOf (0 ∷ 4 ∷ 5 ∷ 6 ∷ 7 ∷ 8 ∷ []) (tagOf the-type f)
+    → statementForm f block s nest at ≡ refused 5 at
 no-statement End block s nest at h = refl
 no-statement Assign block s nest at h = absurd (miss (0 ∷ 4 ∷ 5 ∷ 6 ∷ 7 ∷ 8 ∷ []) 1 tt h)
 no-statement Skip block s nest at h = absurd (miss (0 ∷ 4 ∷ 5 ∷ 6 ∷ 7 ∷ 8 ∷ []) 2 tt h)

@@ -54,7 +54,8 @@ module _ (s : List ℕ) where
   unfolding codeOf
   skip-back nest at rest h = statement-as s nest at (codeOf 0x02) form.Skip (ap codeOf (sym (byte-at s at 0x02 rest h .byte))) refl
 
-  branch-back : (nest : ℕ) (c : Expr) (x y : Block) (at n m l : ℕ) (rest : List ℕ) → 0 < nest → drop at s ≡ 0x03 ∷ rest → readExpr deepest s kind.Bit (at + 1) ≡ parsed c n
+  branch-back : (nest : ℕ) (c : Expr) (x y : Block) (at n m l : ℕ) (rest : List ℕ) → 0 < nest → drop at s ≡ 0x03 ∷ rest → readExpr deepest s kind.Bit
+      (at + 1) ≡ parsed c n
       → readBlock s (nest - 1) n ≡ parsed x m → readBlock s (nest - 1) m ≡ parsed y l → readStatement s nest at ≡ parsed (branch c x y) l
   unfolding codeOf branchWith
   branch-back nest c x y at n m l rest z h r p q =

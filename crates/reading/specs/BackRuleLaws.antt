@@ -68,4 +68,5 @@ module _ (kinds : List ℕ) (b : Block) where
     pub well-back : readRule (ruleBytes kinds b) ≡ parsed b (length (ruleBytes kinds b))
     well-back =
         rule-is (ruleBytes kinds b) (omega (arith, size-is)) (w .size)
-        ∙ rw (header-back, body-back, le-leb (length (ruleBytes kinds b)) (6 + length kinds + length (blockBytes b)) (omega (arith, size-is))) (ap (parsed b) (sym size-is))
+        ∙ rw (header-back, body-back, le-leb (length (ruleBytes kinds b)) (6 + length kinds + length (blockBytes b)) (omega (arith, size-is)))
+        (ap (parsed b) (sym size-is))

@@ -21,7 +21,8 @@ use Rattle.reading.specs.Blocks.{readAssign, branchWith, statementForm, 
 use Rattle.reading.specs.FuelLaws.{block-is}
 
 -- an assignment's expression decides
-pub assign-past : (s : List ℕ) (at : ℕ) {r : Step} → at + 1 < length s → getD s (at + 1) 0 < variables s → r ≡ stepOf (readExpr deepest s (kindAt s (getD s (at + 1) 0)) (at + 2)) → r ≡ stepOf (readAssign s at)
+pub assign-past : (s : List ℕ) (at : ℕ) {r : Step} → at + 1 < length s → getD s (at + 1) 0 < variables s → r ≡ stepOf
+    (readExpr deepest s (kindAt s (getD s (at + 1) 0)) (at + 2)) → r ≡ stepOf (readAssign s at)
 unfolding readAssign
 assign-past s at h v q =
     rw (lt-ltb _ _ h, lt-ltb _ _ v) (then-parsed (readExpr deepest s (kindAt s (getD s (at + 1) 0)) (at + 2)) (assign (getD s (at + 1) 0)) q)
@@ -45,13 +46,15 @@ module _ (s : List ℕ) (nest at : ℕ) where
       unfolding branchWith
       branch-refused h = rw (as-branch, some-left nest z) (refused-then (readExpr deepest s kind.Bit (at + 1)) _ h)
 
-      pub branch-first : {n k p : ℕ} → Past n ≡ stepOf (readExpr deepest s kind.Bit (at + 1)) → Refused k p ≡ stepOf (readBlock s (nest - 1) n) → Refused k p ≡ stepOf (readStatement s nest at)
+      pub branch-first : {n k p : ℕ} → Past n ≡ stepOf (readExpr deepest s kind.Bit (at + 1)) → Refused k p ≡ stepOf (readBlock s (nest - 1) n) → Refused k p ≡ stepOf
+          (readStatement s nest at)
       unfolding branchWith
       branch-first {n} h g =
           rw (as-branch, some-left nest z)
           (past-then (readExpr deepest s kind.Bit (at + 1)) _ h (λ c. refused-then (readBlock s (nest - 1) n) _ g))
 
-      pub branch-second : {n m : ℕ} {r : Step} → Past n ≡ stepOf (readExpr deepest s kind.Bit (at + 1)) → Past m ≡ stepOf (readBlock s (nest - 1) n) → r ≡ stepOf (readBlock s (nest - 1) m) → r ≡ stepOf (readStatement s nest at)
+      pub branch-second : {n m : ℕ} {r : Step} → Past n ≡ stepOf (readExpr deepest s kind.Bit (at + 1)) → Past m ≡ stepOf (readBlock s (nest - 1) n) → r ≡ stepOf
+          (readBlock s (nest - 1) m) → r ≡ stepOf (readStatement s nest at)
       unfolding branchWith
       branch-second {n} {m} h g q =
           rw (as-branch, some-left nest z)

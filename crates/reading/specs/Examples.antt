@@ -68,17 +68,20 @@ unfolding exprBytes statementBytes blockBytes
 r1-product = inFirst (inAssign whole)
 
 r1-read : readRule r1 ≡ parsed r1-tree 29
-unfolding number kindOf operationOf codeOf readMark readCount readKinds readHeader readVariable readWord readBit operationWith exprWith readExpr readAssign branchWith statementWith blockWith blockFuel readBlock readRule
+unfolding number kindOf operationOf codeOf readMark readCount readKinds readHeader readVariable readWord readBit operationWith exprWith readExpr readAssign branchWith
+    statementWith blockWith blockFuel readBlock readRule
 r1-read = refl
 
 -- example 4: R1 cut by one byte; one 00 more; byte 11 made 03, made 01; byte 14 made 28, made 23
 example-4 : map reads (take 28 r1 ∷ (r1 ++ (0x00 ∷ [])) ∷ set r1 11 0x03 ∷ set r1 11 0x01 ∷ set r1 14 0x28 ∷ set r1 14 0x23 ∷ [])
     ≡ refusal 4 28 ∷ refusal 9 29 ∷ refusal 6 11 ∷ refusal 7 11 ∷ refusal 5 14 ∷ refusal 7 14 ∷ []
-unfolding number kindOf operationOf codeOf readMark readCount readKinds readHeader readVariable readWord readBit operationWith exprWith readExpr readAssign branchWith statementWith blockWith blockFuel readBlock readRule
+unfolding number kindOf operationOf codeOf readMark readCount readKinds readHeader readVariable readWord readBit operationWith exprWith readExpr readAssign branchWith
+    statementWith blockWith blockFuel readBlock readRule
 example-4 = refl
 
 -- example 10, what reading decides of it: 8 deep accepted, 9 deep 8; 6 nested accepted, 7 nested 8
 example-10 : map reads (deep 7 ∷ deep 8 ∷ nests 6 ∷ nests 7 ∷ [])
     ≡ success 0 0 0 0 0 ∷ refusal 8 17 ∷ success 0 0 0 0 0 ∷ refusal 8 25 ∷ []
-unfolding number kindOf operationOf codeOf readMark readCount readKinds readHeader readVariable readWord readBit operationWith exprWith readExpr readAssign branchWith statementWith blockWith blockFuel readBlock readRule
+unfolding number kindOf operationOf codeOf readMark readCount readKinds readHeader readVariable readWord readBit operationWith exprWith readExpr readAssign branchWith
+    statementWith blockWith blockFuel readBlock readRule
 example-10 = refl

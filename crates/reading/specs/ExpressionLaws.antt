@@ -47,7 +47,8 @@ module _ (argument : Kind → ℕ → Parsed Expr) (op : Operation) (at : ℕ) w
   arguments-one : {n : ℕ} → Past n ≡ stepOf (argument (entryOf op .takes) at) → entryOf op .arity ≡ 1 → Past n ≡ stepOf (argumentsWith argument op at)
   arguments-one h e = past-then (argument (entryOf op .takes) at) _ h (λ x. rw (eq-eqb _ _ e))
 
-  arguments-two : {n : ℕ} {r : Step} → Past n ≡ stepOf (argument (entryOf op .takes) at) → (entryOf op .arity ≡ 1 → ⊥) → r ≡ stepOf (argument (entryOf op .takes) n) → r ≡ stepOf (argumentsWith argument op at)
+  arguments-two : {n : ℕ} {r : Step} → Past n ≡ stepOf (argument (entryOf op .takes) at) → (entryOf op .arity ≡ 1 → ⊥) → r ≡ stepOf (argument (entryOf op .takes) n)
+      → r ≡ stepOf (argumentsWith argument op at)
   arguments-two {n} h e g =
       past-then (argument (entryOf op .takes) at) _ h
       (λ x. rw (ne-eqb _ _ e) (then-parsed (argument (entryOf op .takes) n) (λ y. two op x y) g))
@@ -98,9 +99,11 @@ module _ (deep : ℕ) (s : List ℕ) (want : Kind) (at : ℕ) where
           pub expr-one : {n : ℕ} → Past n ≡ stepOf (readExpr (deep - 1) s (c .takes) (at + 1)) → c .arity ≡ 1 → Past n ≡ stepOf (readExpr deep s want at)
           expr-one h a = arguments-one (readExpr (deep - 1) s) op (at + 1) (first h) (ap (λ (x : Code). x .arity) (sym is-entry) ∙ a) ∙ ap stepOf (sym expr-arguments)
 
-          pub expr-two : {n : ℕ} {r : Step} → Past n ≡ stepOf (readExpr (deep - 1) s (c .takes) (at + 1)) → (c .arity ≡ 1 → ⊥) → r ≡ stepOf (readExpr (deep - 1) s (c .takes) n) → r ≡ stepOf (readExpr deep s want at)
+          pub expr-two : {n : ℕ} {r : Step} → Past n ≡ stepOf (readExpr (deep - 1) s (c .takes) (at + 1)) → (c .arity ≡ 1 → ⊥) → r ≡ stepOf
+              (readExpr (deep - 1) s (c .takes) n) → r ≡ stepOf (readExpr deep s want at)
           expr-two {n} h a g =
-              arguments-two (readExpr (deep - 1) s) op (at + 1) (first h) (λ q. a (ap (λ (x : Code). x .arity) is-entry ∙ q)) (g ∙ ap (λ (x : Code). stepOf (readExpr (deep - 1) s (x .takes) n)) is-entry)
+              arguments-two (readExpr (deep - 1) s) op (at + 1) (first h) (λ q. a (ap (λ (x : Code). x .arity) is-entry ∙ q))
+              (g ∙ ap (λ (x : Code). stepOf (readExpr (deep - 1) s (x .takes) n)) is-entry)
               ∙ ap stepOf (sym expr-arguments)
 
 -- Reading goes forward.

@@ -92,14 +92,20 @@ pub record OperationRead (deep : ℕ) (s : List ℕ) (op : Operation) (want : Ki
   pub kind : entryOf op .gives ≡ want
   pub is : m ≡ argumentsWith (readExpr (deep - 1) s) op (at + 1)
 
-operation-read : (s : List ℕ) (op : Operation) (want : Kind) (deep at : ℕ) → IsRead (operationWith (below deep s) op want deep at) → OperationRead deep s op want at (operationWith (below deep s) op want deep at)
+operation-read : (s : List ℕ) (op : Operation) (want : Kind) (deep at : ℕ) → IsRead (operationWith (below deep s) op want deep at) → OperationRead deep s op want at
+    (operationWith (below deep s) op want deep at)
 unfolding operationWith
 operation-read s op want deep at h =
     let last = argumentsWith (below deep s) op (at + 1) in
     let a = unless-read (sameKind (entryOf op .gives) want) 7 at (unless (ltb 0 deep) 8 at last) h in
     let b = unless-read (ltb 0 deep) 8 at last (a .1) in
     let l : 0 < deep = ltb-true 0 deep (b .0) in
-    record { level = l; kind = same-kind _ _ (a .0); is = rw (a .0, b .0) (ap (λ (g : Kind → ℕ → Parsed Expr). argumentsWith g op (at + 1)) (below-is deep s (omega arith))) }
+    record {
+      level = l;
+      kind = same-kind _ _ (a .0);
+      is = rw (a .0, b .0)
+          (ap (λ (g : Kind → ℕ → Parsed Expr). argumentsWith g op (at + 1)) (below-is deep s (omega arith)));
+    }
 
 -- by the code c that stands there
 module _ (deep : ℕ) (s : List ℕ) (want : Kind) (at : ℕ) (h : IsRead (readExpr deep s want at)) (c : Code) (e : c ≡ codeOf (getD s at 0)) where
@@ -144,5 +150,6 @@ module _ (argument : Kind → ℕ → Parsed Expr) (op : Operation) (at : ℕ) w
         let r = rest-read (argument (entryOf op .takes) at) (λ x n. secondWith (eqb (entryOf op .arity) 1) argument op x n) x n p h in
         first-read (argument (entryOf op .takes) n) (λ y m. parsed (two op x y) m) (rw (ne-eqb _ _ a) at r)
 
-    pub arguments-two : (entryOf op .arity ≡ 1 → ⊥) → (y : Expr) (m : ℕ) → argument (entryOf op .takes) n ≡ parsed y m → argumentsWith argument op at ≡ parsed (two op x y) m
+    pub arguments-two : (entryOf op .arity ≡ 1 → ⊥) → (y : Expr) (m : ℕ) → argument (entryOf op .takes) n ≡ parsed y m → argumentsWith argument op at ≡ parsed
+        (two op x y) m
     arguments-two a y m q = rw (p, ne-eqb _ _ a, q)

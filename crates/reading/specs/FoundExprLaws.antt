@@ -95,7 +95,8 @@ module _ (s : List ℕ) where
         typed = same-kind _ _ k;
         words = λ b. word-fits s b (at + 1) inside;
         shallow = ltb-true _ _ d;
-        bytes = λ b. drop-one s at 0x11 l c ∙ ap (λ (r : List ℕ). 0x11 ∷ r) (word-bytes s b (at + 1) inside ∙ ap (λ (n : ℕ). bytesOf 4 (numberAt 4 s (at + 1)) ++ drop n s) q);
+        bytes = λ b. drop-one s at 0x11 l c ∙ ap (λ (r : List ℕ). 0x11 ∷ r)
+            (word-bytes s b (at + 1) inside ∙ ap (λ (n : ℕ). bytesOf 4 (numberAt 4 s (at + 1)) ++ drop n s) q);
       }))))
 
   of-bit : (want : Kind) (deep at : ℕ) → getD s at 0 ≡ 0x12 → Finds (ExprFound s want deep at) (readBit s want deep at)
@@ -142,7 +143,8 @@ module _ (s : List ℕ) where
     of-second argument g false t x n r =
         finds-then (argument (entryOf op .takes) n) _ (g (entryOf op .takes) n) (λ y m q. found (is-two x y n m (arity-two op (eqb-false _ _ t)) r q))
 
-  module _ (want : Kind) (level deep at : ℕ) (up : 0 < deep → level < deep) (inside : at < length s) (argument : Kind → ℕ → Parsed Expr) (g : FindsExpr level argument) where
+  module _ (want : Kind) (level deep at : ℕ) (up : 0 < deep → level < deep) (inside : at < length s) (argument : Kind → ℕ → Parsed Expr)
+      (g : FindsExpr level argument) where
     of-operation : (op : Operation) → getD s at 0 ≡ byteOf op → Finds (ExprFound s want deep at) (operationWith argument op want deep at)
     unfolding operationWith
     of-operation op c =

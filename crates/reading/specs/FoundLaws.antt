@@ -72,7 +72,8 @@ module _ (s : List ℕ) where
         nests = omega (arith, p .nests, q .nests);
         bytes = λ b.
             here ∙ ap (λ (u : List ℕ). 0x03 ∷ u) (r .bytes b
-            ∙ ap (λ (u : List ℕ). exprBytes c ++ u) (p .bytes b ∙ ap (λ (u : List ℕ). blockBytes x ++ u) (q .bytes b) ∙ sym (append-assoc (blockBytes x) (blockBytes y) (drop l s)))
+            ∙ ap (λ (u : List ℕ). exprBytes c ++ u)
+            (p .bytes b ∙ ap (λ (u : List ℕ). blockBytes x ++ u) (q .bytes b) ∙ sym (append-assoc (blockBytes x) (blockBytes y) (drop l s)))
             ∙ sym (append-assoc (exprBytes c) (blockBytes x ++ blockBytes y) (drop l s)));
       }
 

@@ -24,7 +24,8 @@ mutual
   pub data StatementUpToOrder : Statement → Statement → Type 0 where
     assign : {x : ℕ} {d e : Expr} → ExprUpToOrder d e → StatementUpToOrder (tree.assign x d) (tree.assign x e)
     skip : StatementUpToOrder tree.skip tree.skip
-    branch : {c c′ : Expr} {b b′ d d′ : Block} → ExprUpToOrder c c′ → BlockUpToOrder b b′ → BlockUpToOrder d d′ → StatementUpToOrder (tree.branch c b d) (tree.branch c′ b′ d′)
+    branch : {c c′ : Expr} {b b′ d d′ : Block} → ExprUpToOrder c c′ → BlockUpToOrder b b′ → BlockUpToOrder d d′ → StatementUpToOrder (tree.branch c b d)
+        (tree.branch c′ b′ d′)
 
   pub data BlockUpToOrder : Block → Block → Type 0 where
     end : BlockUpToOrder tree.end tree.end

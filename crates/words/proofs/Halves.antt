@@ -13,5 +13,6 @@ pub halves : (v w n : ℕ) (d e ys : List ℕ) → v + w ≤ length d → e ≡ 
     → ys ≡ over (bytesOf w (n % 256 ^ w)) (take (length e - v) (drop v e))
     → putMid v (length e - v) e ys ≡ over (bytesOf (v + w) n) d
 halves v w n d e ys h p r =
-    over-rest (bytesOf v (n / 256 ^ w)) (bytesOf w (n % 256 ^ w)) d e ys v (sym (length-bytes v (n / 256 ^ w))) (rw (length-bytes v (n / 256 ^ w), length-bytes w (n % 256 ^ w)) h) p r
+    over-rest (bytesOf v (n / 256 ^ w)) (bytesOf w (n % 256 ^ w)) d e ys v (sym (length-bytes v (n / 256 ^ w)))
+    (rw (length-bytes v (n / 256 ^ w), length-bytes w (n % 256 ^ w)) h) p r
     ∙ ap (λ (l : List ℕ). over l d) (sym (bytes-append v w n))

@@ -61,7 +61,8 @@ module _ (s p : List ℕ) where
   done-placed i q m = rw (sym (order-ends i)) (in-append q (reverse (drop i (writingOrder s p))) (doneAt s p i) (inr m))
 
   -- the group of turn i
-  pub next-group : (i : ℕ) → i < length (writingOrder s p) → (getD (writingOrder s p) i 0 < gateCount s) × (group (getD (writingOrder s p) i 0) ≡ getD (writingOrder s p) i 0)
+  pub next-group : (i : ℕ) → i < length (writingOrder s p) → (getD (writingOrder s p) i 0 < gateCount s) ×
+      (group (getD (writingOrder s p) i 0) ≡ getD (writingOrder s p) i 0)
   next-group i l =
       let q = getD (writingOrder s p) i 0 in
       let m : q ∈ doneAt s p (suc i) = rw (done-next i l) (inl refl) in

@@ -23,7 +23,8 @@ use Rattle.writing.specs.TurnLaws.{stage-more, turn-is, turn-measurable,
 pub record Measuring (p quads needs places ord : List ℕ) (groups wires bytes cost i : ℕ) : Type 0 where
   pub below : i ≤ groups
   pub measures : Measures p quads needs places ord groups
-  pub summed : (count : ℕ) (group conds : List ℕ) → Turnable p quads count needs group places conds ord groups → Sum p quads count needs group places ord i wires bytes cost
+  pub summed : (count : ℕ) (group conds : List ℕ) → Turnable p quads count needs group places conds ord groups
+      → Sum p quads count needs group places ord i wires bytes cost
 
 module _ (p quads needs places ord : List ℕ) (groups : ℕ) where
   none : (count : ℕ) (group : List ℕ) → Sum p quads count needs group places ord 0 0 0 0
@@ -45,14 +46,16 @@ module _ (p quads needs places ord : List ℕ) (groups : ℕ) where
         pub measuring-small : (wires + a ≤ 640) × (bytes + b ≤ 8832) × (cost + c ≤ 10240)
         measuring-small =
             let m = l .measures in
-            turn-small p quads (m .count) needs (m .group) places ord (m .conds) groups (m .turnable) i g at h eg ea wires bytes cost a b c (l .summed (m .count) (m .group) (m .conds) (m .turnable)) z
+            turn-small p quads (m .count) needs (m .group) places ord (m .conds) groups (m .turnable) i g at h eg ea wires bytes cost a b c
+            (l .summed (m .count) (m .group) (m .conds) (m .turnable)) z
 
         pub measuring-step : Measuring p quads needs places ord groups (wires + a) (bytes + b) (cost + c) (i + 1)
         measuring-step =
             record {
               below = omega (arith, h);
               measures = l .measures;
-              summed = λ count group conds t. turn-sum p quads count needs group places ord conds groups t i g at h eg ea wires bytes cost a b c (l .summed count group conds t) z;
+              summed = λ count group conds t. turn-sum p quads count needs group places ord conds groups t i g at h eg ea wires bytes cost a b c
+                  (l .summed count group conds t) z;
             }
 
   pub measuring-end : (wires bytes cost i : ℕ) → Measuring p quads needs places ord groups wires bytes cost i → groups ≤ i
@@ -73,7 +76,8 @@ module _ (p quads : List ℕ) (count : ℕ) (needs group places ord : List ℕ) 
   turn-pieces zero = refl
   turn-pieces (suc i) =
       ap (λ (b : List ℕ). b ++ turnPiece i) (turn-pieces i)
-      ∙ sym (bytes-append (stage p quads count needs group places ord i .records) (turnRecords p quads count needs group places (stage p quads count needs group places ord i) (getD ord i 0)))
+      ∙ sym (bytes-append (stage p quads count needs group places ord i .records)
+      (turnRecords p quads count needs group places (stage p quads count needs group places ord i) (getD ord i 0)))
 
   -- i groups are written: n wires, and the wire of each
   pub record PuttingGroups (groups : ℕ) (out out₀ wires : List ℕ) (at n i : ℕ) : Type 0 where
@@ -81,7 +85,8 @@ module _ (p quads : List ℕ) (count : ℕ) (needs group places ord : List ℕ) 
     pub counted : n ≡ length (stage p quads count needs group places ord i .records)
     pub wired : wires ≡ stage p quads count needs group places ord i .wires
 
-  pub putting-start : (groups : ℕ) (out wires : List ℕ) → length (recordsBytes (stage p quads count needs group places ord groups .records)) ≤ length out → wires ≡ replicate mostGates 0
+  pub putting-start : (groups : ℕ) (out wires : List ℕ) → length (recordsBytes (stage p quads count needs group places ord groups .records)) ≤ length out
+      → wires ≡ replicate mostGates 0
       → PuttingGroups groups out out wires 0 0 0
   unfolding stage
   putting-start groups out wires h e = record { filling = filling-start turnPiece out groups (rw (turn-pieces groups) h); counted = refl; wired = e }
@@ -91,10 +96,12 @@ module _ (p quads : List ℕ) (count : ℕ) (needs group places ord : List ℕ) 
       piece-is : recordsBytes (emitIn quads count needs (wireIn group wires) n (membersOf p place (getD ord i 0))) ≡ turnPiece i
       piece-is = ap (λ (R : List Record). recordsBytes R) (turn-is p quads count needs group places ord i g place n wires eg ea (l .wired) (l .counted))
 
-      pub putting-fits : (at + length (recordsBytes (emitIn quads count needs (wireIn group wires) n (membersOf p place (getD ord i 0)))) ≤ length out) × (length out ≡ length out₀)
+      pub putting-fits : (at + length (recordsBytes (emitIn quads count needs (wireIn group wires) n (membersOf p place (getD ord i 0)))) ≤ length out) ×
+          (length out ≡ length out₀)
       putting-fits = (rw piece-is (filling-fits turnPiece out out₀ groups at i (l .filling) h), filling-length turnPiece out out₀ groups at i (l .filling) h)
 
-      pub putting-room : length (recordsBytes (emitIn quads count needs (wireIn group wires) n (membersOf p place (getD ord i 0)))) ≤ length (take (length out - at) (drop at out))
+      pub putting-room : length (recordsBytes (emitIn quads count needs (wireIn group wires) n (membersOf p place (getD ord i 0)))) ≤ length
+          (take (length out - at) (drop at out))
       putting-room = rw piece-is (filling-room turnPiece out out₀ groups at i (l .filling) h)
 
       pub putting-step : (conds : List ℕ) → Turnable p quads count needs group places conds ord groups → (k u : ℕ) (ys : List ℕ)
@@ -117,7 +124,8 @@ module _ (p quads : List ℕ) (count : ℕ) (needs group places ord : List ℕ) 
     putting-same h = filling-same turnPiece out out₀ groups at i (l .filling) h
 
     pub putting-end : groups ≤ i → (at ≡ length (recordsBytes (stage p quads count needs group places ord groups .records)))
-        × ((out ≡ over (recordsBytes (stage p quads count needs group places ord groups .records)) out₀) × (wires ≡ stage p quads count needs group places ord groups .wires))
+        × ((out ≡ over (recordsBytes (stage p quads count needs group places ord groups .records)) out₀) ×
+        (wires ≡ stage p quads count needs group places ord groups .wires))
     putting-end h =
         let e : groups ≡ i = omega (arith, h, l .filling .below) in
         let f = rw (turn-pieces groups) at (filling-end turnPiece out out₀ groups at i (l .filling) h) in

@@ -29,7 +29,8 @@ module _ (outputs : List ℕ) (wire : ℕ → ℕ) where
       ap (λ (b : List ℕ). b ++ outputPiece v) (output-pieces v (omega (arith, h)))
       ∙ sym
       (ap (λ (l : List ℕ). wiresBytes (map wire l)) (take-suc outputs v 0 h) ∙ ap wiresBytes (map-append wire (take v outputs) (getD outputs v 0 ∷ []))
-      ∙ wires-append (map wire (take v outputs)) (wire (getD outputs v 0) ∷ []) ∙ ap (λ (b : List ℕ). wiresBytes (map wire (take v outputs)) ++ b) (append-nil (outputPiece v)))
+      ∙ wires-append (map wire (take v outputs)) (wire (getD outputs v 0) ∷ []) ∙ ap (λ (b : List ℕ). wiresBytes (map wire (take v outputs)) ++ b)
+      (append-nil (outputPiece v)))
 
   -- a wire for each variable
   pub outputs-count : (v : ℕ) → v ≤ length outputs → length (map wire (take v outputs)) ≡ v
@@ -111,7 +112,8 @@ module _ (v : ℕ) (R : List Record) (outs d : List ℕ) (room : length (fileByt
       front = length-append (headBytes v wired) (recordsBytes R) ∙ omega (arith, head-long v wired, en)
 
       records-put : putMid 8 (length e - 8) e ys ≡ over (headBytes v wired ++ recordsBytes R) d
-      records-put = behind (headBytes v wired) (recordsBytes R) (headBytes v wired ++ recordsBytes R) d e ys 8 (sym (head-long v wired)) refl (omega (arith, front, en, fits)) w r
+      records-put = behind (headBytes v wired) (recordsBytes R) (headBytes v wired ++ recordsBytes R) d e ys 8 (sym (head-long v wired)) refl
+          (omega (arith, front, en, fits)) w r
 
       records-length : length (putMid 8 (length e - 8) e ys) ≡ length d
       records-length = ap (λ (k : List ℕ). length k) records-put ∙ length-over (headBytes v wired ++ recordsBytes R) d (omega (arith, front, en, fits))
@@ -125,9 +127,12 @@ module _ (v : ℕ) (R : List Record) (outs d : List ℕ) (room : length (fileByt
       )
 
       whole : fileBytes v R outs ≡ (headBytes v wired ++ recordsBytes R) ++ wiresBytes outs
-      whole = rw ew (sym (append-assoc (headBytes v (length R)) (recordsBytes R) (wiresBytes outs) ∙ append-assoc (mark ++ (v ∷ [])) (bytesOf 2 (length R)) (recordsBytes R ++ wiresBytes outs)))
+      whole = rw ew (sym (append-assoc (headBytes v (length R)) (recordsBytes R) (wiresBytes outs) ∙ append-assoc (mark ++ (v ∷ [])) (bytesOf 2 (length R))
+          (recordsBytes R ++ wiresBytes outs)))
 
-      pub file-put : (os zs : List ℕ) → os ≡ outs → zs ≡ over (wiresBytes os) (take (length (putMid 8 (length e - 8) e ys) - (8 + n)) (drop (8 + n) (putMid 8 (length e - 8) e ys)))
+      pub file-put : (os zs : List ℕ) → os ≡ outs → zs ≡ over (wiresBytes os)
+          (take (length (putMid 8 (length e - 8) e ys) - (8 + n)) (drop (8 + n) (putMid 8 (length e - 8) e ys)))
           → putMid (8 + n) (length (putMid 8 (length e - 8) e ys) - (8 + n)) (putMid 8 (length e - 8) e ys) zs ≡ over (fileBytes v R outs) d
       file-put os zs eo z =
-          behind (headBytes v wired ++ recordsBytes R) (wiresBytes outs) (fileBytes v R outs) d (putMid 8 (length e - 8) e ys) zs (8 + n) (sym front) whole room records-put (rw eo at z)
+          behind (headBytes v wired ++ recordsBytes R) (wiresBytes outs) (fileBytes v R outs) d (putMid 8 (length e - 8) e ys) zs (8 + n)
+          (sym front) whole room records-put (rw eo at z)

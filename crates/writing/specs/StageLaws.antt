@@ -43,7 +43,8 @@ module _ (s : List ℕ) (C : Gates) (sets tabs : List ℕ) (e : (g : ℕ) → ge
   emit-alike n [] = refl
   emit-alike n (m ∷ []) = refl
   emit-alike n (m ∷ k ∷ l) =
-      ap (λ (g : List Record). joined n (gateOperation (gateAt C m)) g (map (valuesAt s C sets wire (m ∷ k ∷ l)) (upto (length (arguments (gateAt C m)))))) (guards-alike (m ∷ k ∷ l))
+      ap (λ (g : List Record). joined n (gateOperation (gateAt C m)) g (map (valuesAt s C sets wire (m ∷ k ∷ l)) (upto (length (arguments (gateAt C m))))))
+      (guards-alike (m ∷ k ∷ l))
 
 -- what stands in the arrays of a checked plan after i turns
 abbrev pub checkedStage : List ℕ → List ℕ → ℕ → Stage
@@ -89,7 +90,8 @@ module _ (s p : List ℕ) (h : planAnswer s p .number ≡ 0) where
       ap (turnRecords p (builtQuads s) (gateCount s) (builtNeeds s) table (checkedPlaces s p) (turned i)) (turn-is s p h i)
       ∙ ap (emitIn (builtQuads s) (gateCount s) (builtNeeds s) (wireIn table (turned i .wires)) (length (turned i .records))) (members-are s p h q (g .0) (g .1))
       ∙ ap (λ (k : ℕ). emitIn (builtQuads s) (gateCount s) (builtNeeds s) (wireIn table (turned i .wires)) k ms) (ap length (m .records))
-      ∙ emit-in s (builtQuads s) C (gates-shaped s p h) (quads-held s p h) (builtNeeds s) (wireIn table (turned i .wires)) (length (after i .records)) ms (members-below q)
+      ∙ emit-in s (builtQuads s) C (gates-shaped s p h) (quads-held s p h) (builtNeeds s) (wireIn table (turned i .wires)) (length (after i .records)) ms
+      (members-below q)
       ∙ emit-alike s C (builtNeeds s) sets (built-need s (rule-taken s p h)) (wireIn table (turned i .wires)) (length (after i .records)) ms
       ∙ emit-same s C sets (wireIn table (turned i .wires)) (λ a. after i .wire (group a)) (length (after i .records)) ms arguing resting (members-two s p h q)
     where
@@ -104,7 +106,8 @@ module _ (s p : List ℕ) (h : planAnswer s p .number ≡ 0) where
 
       arguing : (k a : ℕ) → k ∈ ms → a ∈ arguments (gateAt C k) → wireIn table (turned i .wires) a ≡ after i .wire (group a)
       arguing k a j b =
-          wire-same i m a (omega (arith, built-earlier s (rule-taken s p h) k a b, members-below q k j)) (next-waits s p i l (group a) (waits-argument C sets group q k a j b))
+          wire-same i m a (omega (arith, built-earlier s (rule-taken s p h) k a b, members-below q k j))
+          (next-waits s p i l (group a) (waits-argument C sets group q k a j b))
 
       resting : 2 ≤ length ms → (k a : ℕ) → k ∈ ms → a ∈ restsOf C sets k → wireIn table (turned i .wires) a ≡ after i .wire (group a)
       resting many k a j b =
@@ -147,7 +150,8 @@ module _ (s p : List ℕ) (h : planAnswer s p .number ≡ 0) where
       stored x = ap (λ (k : ℕ). getD (set (turned i .wires) k (length (turned i .records) + length new - 1)) x 0) (sym (turn-is s p h i))
 
       wires : (x : ℕ) → x ∈ (q ∷ doneAt s p i)
-          → getD (set (turned i .wires) (getD (checkedOrder s p) i 0) (length (turned i .records) + length new - 1)) x 0 ≡ written s C sets group (q ∷ doneAt s p i) .wire x
+          → getD (set (turned i .wires) (getD (checkedOrder s p) i 0) (length (turned i .records) + length new - 1)) x 0 ≡ written s C sets group
+          (q ∷ doneAt s p i) .wire x
       wires x (inl e) = rw e (sym (stored q) ∙ getD-set-same (turned i .wires) q _ 0 room ∙ last)
       wires x (inr d) =
           let o = next-once s p i l in

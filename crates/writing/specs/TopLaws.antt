@@ -64,12 +64,14 @@ module _ (s p : List ℕ) (h : planAnswer s p .number ≡ 0) where
     small : (g : ℕ) → SmallGate (gateAt (gatesOf s) g)
     small g =
         let (b, n, read) = planned-read s p h in
-        small-gate (kindOfGate (kindAt s) (gatesOf s)) (variables s) (gateAt (gatesOf s) g) (plain-fits s bytes b n read g) (rule-starting s b n read g) (built-variables s (rule-taken s p h))
+        small-gate (kindOfGate (kindAt s) (gatesOf s)) (variables s) (gateAt (gatesOf s) g) (plain-fits s bytes b n read g) (rule-starting s b n read g)
+        (built-variables s (rule-taken s p h))
 
     turn-alone : (q : ℕ) → q < gateCount s → Writable (builtQuads s) (checkedGroups s p) q
     turn-alone q l =
         let taken = rule-taken s p h in
-        writable-held s (builtQuads s) (gatesOf s) (gates-shaped s p h) (quads-held s p h) (built-room s taken) (built-earlier s taken) (checkedGroups s p) table-named q l (small q)
+        writable-held s (builtQuads s) (gatesOf s) (gates-shaped s p h) (quads-held s p h) (built-room s taken) (built-earlier s taken)
+        (checkedGroups s p) table-named q l (small q)
 
   -- a group of two or more, at its place in the plan
   module _ (q : ℕ) (l : q < gateCount s) (e : group q ≡ q) (z : placeOf p q ≡ 0 → ⊥) where

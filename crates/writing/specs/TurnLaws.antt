@@ -43,32 +43,39 @@ module _ (p quads : List ℕ) (count : ℕ) (needs : List ℕ) (wire : ℕ → �
     alone-room k h = rw alone-bytes at h
 
     pub alone-put : (k : ℕ) (d o : List ℕ) → k ≡ length (recordBytes (aloneIn quads wire q)) → o ≡ over (recordBytes (aloneIn quads wire q)) d
-        → (k ≡ length (recordsBytes (emitIn quads count needs wire n (membersOf p at q)))) × (o ≡ over (recordsBytes (emitIn quads count needs wire n (membersOf p at q))) d)
+        → (k ≡ length (recordsBytes (emitIn quads count needs wire n (membersOf p at q)))) ×
+        (o ≡ over (recordsBytes (emitIn quads count needs wire n (membersOf p at q))) d)
     alone-put k d o x y = rw alone-bytes (x, y)
 
   module _ (e : at ≡ 0 → ⊥) where
-    pub joined-room : (k : ℕ) → length (recordsBytes (emitIn quads count needs wire n (membersOf p at q))) ≤ k → length (recordsBytes (emitIn quads count needs wire n (groupAt p at))) ≤ k
+    pub joined-room : (k : ℕ) → length (recordsBytes (emitIn quads count needs wire n (membersOf p at q))) ≤ k → length
+        (recordsBytes (emitIn quads count needs wire n (groupAt p at))) ≤ k
     joined-room k h = rw (members-joined p at q e) at h
 
-    pub joined-put : (k : ℕ) (d o : List ℕ) → k ≡ length (recordsBytes (emitIn quads count needs wire n (groupAt p at))) → o ≡ over (recordsBytes (emitIn quads count needs wire n (groupAt p at))) d
-        → (k ≡ length (recordsBytes (emitIn quads count needs wire n (membersOf p at q)))) × (o ≡ over (recordsBytes (emitIn quads count needs wire n (membersOf p at q))) d)
+    pub joined-put : (k : ℕ) (d o : List ℕ) → k ≡ length (recordsBytes (emitIn quads count needs wire n (groupAt p at))) → o ≡ over
+        (recordsBytes (emitIn quads count needs wire n (groupAt p at))) d
+        → (k ≡ length (recordsBytes (emitIn quads count needs wire n (membersOf p at q)))) ×
+        (o ≡ over (recordsBytes (emitIn quads count needs wire n (membersOf p at q))) d)
     joined-put k d o x y = rw (members-joined p at q e) (x, y)
 
 -- The turns.
 
 module _ (p quads : List ℕ) (count : ℕ) (needs group places ord : List ℕ) where
   -- one turn more
-  pub stage-more : (i : ℕ) → stage p quads count needs group places ord (i + 1) ≡ turn p quads count needs group places (stage p quads count needs group places ord i) (getD ord i 0)
+  pub stage-more : (i : ℕ) → stage p quads count needs group places ord (i + 1) ≡ turn p quads count needs group places (stage p quads count needs group places ord i)
+      (getD ord i 0)
   unfolding stage
   stage-more i = rw (add-one i)
 
   -- the records of turn i, as the code has them in hand: the group g, at its place, over the wires w from wire n on
   pub turn-is : (i g at n : ℕ) (w : List ℕ) → g ≡ getD ord i 0 → at ≡ getD places g 0 → w ≡ stage p quads count needs group places ord i .wires
       → n ≡ length (stage p quads count needs group places ord i .records)
-      → emitIn quads count needs (wireIn group w) n (membersOf p at (getD ord i 0)) ≡ turnRecords p quads count needs group places (stage p quads count needs group places ord i) (getD ord i 0)
+      → emitIn quads count needs (wireIn group w) n (membersOf p at (getD ord i 0)) ≡ turnRecords p quads count needs group places
+      (stage p quads count needs group places ord i) (getD ord i 0)
   turn-is i g at n w eg ea ew en = rw (ea, eg, ew, en)
 
-  module _ (conds : List ℕ) (groups : ℕ) (t : Turnable p quads count needs group places conds ord groups) (i g at : ℕ) (h : i < groups) (eg : g ≡ getD ord i 0) (ea : at ≡ getD places g 0) where
+  module _ (conds : List ℕ) (groups : ℕ) (t : Turnable p quads count needs group places conds ord groups) (i g at : ℕ) (h : i < groups) (eg : g ≡ getD ord i 0)
+      (ea : at ≡ getD places g 0) where
     place : at ≡ getD places (getD ord i 0) 0
     place = ea ∙ ap (λ (k : ℕ). getD places k 0) eg
 
@@ -146,7 +153,8 @@ module _ (p quads : List ℕ) (count : ℕ) (needs group places ord : List ℕ) 
           costs = rw (R, cost-append (S .records) T) (omega (arith, s .costs, v));
         }
 
-    pub turn-small : (wires bytes cost a b c : ℕ) → Sum p quads count needs group places ord i wires bytes cost → Measured quads needs (membersOf p at (getD ord i 0)) a b c
+    pub turn-small : (wires bytes cost a b c : ℕ) → Sum p quads count needs group places ord i wires bytes cost → Measured quads needs
+        (membersOf p at (getD ord i 0)) a b c
         → (wires + a ≤ 640) × (bytes + b ≤ 8832) × (cost + c ≤ 10240)
     turn-small wires bytes cost a b c s z =
         let n = turn-sum wires bytes cost a b c s z in

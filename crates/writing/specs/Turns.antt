@@ -47,4 +47,5 @@ pub record OutputsPlaced (outputs : List ℕ) (v : ℕ) (group : List ℕ) : Typ
 -- the file of v variables: outputs: the gate that gives each variable's result
 abbrev pub fileIn : List ℕ → List ℕ → ℕ → List ℕ → List ℕ → List ℕ → List ℕ → ℕ → ℕ → List ℕ → List ℕ
 fileIn p quads count needs group places ord groups v outputs =
-    fileBytes v (stage p quads count needs group places ord groups .records) (map (wireIn group (stage p quads count needs group places ord groups .wires)) (take v outputs))
+    fileBytes v (stage p quads count needs group places ord groups .records)
+    (map (wireIn group (stage p quads count needs group places ord groups .wires)) (take v outputs))

@@ -118,7 +118,8 @@ module _ (s p : List ℕ) (c : Checked) (k : Handed s p c) where
     records-are =
         rw (k .quads, k .needs, k .group, k .places, k .order, gates-are, groups-are) (last-records s p taken)
 
-    pub outputs-are : map (wireIn (c .group) (stage p (c .quads) (c .answer .gates) (c .needs) (c .group) (c .places) (c .order) (c .groups) .wires)) (take (variables s) (c .outputs)) ≡ outputWires s p
+    pub outputs-are : map (wireIn (c .group) (stage p (c .quads) (c .answer .gates) (c .needs) (c .group) (c .places) (c .order) (c .groups) .wires))
+        (take (variables s) (c .outputs)) ≡ outputWires s p
     outputs-are =
         rw (k .quads, k .needs, k .outputs, k .group, k .places, k .order, gates-are, groups-are) (last-outputs s p taken)
 
@@ -133,7 +134,8 @@ module _ (s p : List ℕ) (c : Checked) (k : Handed s p c) where
     outputs-held : length (c .outputs) ≡ 32
     outputs-held =
         let e = accepted-builds s (rule-taken s p taken) (outputsOf s) in
-        let few : length (ifAccepted s (outputsOf s)) ≤ mostVariables = rw e (omega (arith, built-outputs-length s (rule-taken s p taken), built-variables s (rule-taken s p taken))) in
+        let few : length (ifAccepted s (outputsOf s)) ≤ mostVariables = rw e
+        (omega (arith, built-outputs-length s (rule-taken s p taken), built-variables s (rule-taken s p taken))) in
         ap length (k .outputs) ∙ padded-length mostVariables (ifAccepted s (outputsOf s)) few
 
     pub outputs-placed : OutputsPlaced (c .outputs) (variables s) (c .group)
@@ -175,7 +177,8 @@ module _ (s p : List ℕ) (c : Checked) (k : Handed s p c) where
           × ((wires ≡ length (stage p (c .quads) (c .answer .gates) (c .needs) (c .group) (c .places) (c .order) (c .groups) .records))
           × OutputsPlaced (c .outputs) (variables s) (c .group)))
       file-ready b d l =
-          let e : length (fileIn p (c .quads) (c .answer .gates) (c .needs) (c .group) (c .places) (c .order) (c .groups) (variables s) (c .outputs)) ≡ length (fusedFile s p) = ap length file-is in
+          let e : length (fileIn p (c .quads) (c .answer .gates) (c .needs) (c .group) (c .places) (c .order) (c .groups) (variables s) (c .outputs)) ≡ length
+          (fusedFile s p) = ap length file-is in
           let n : length (fusedFile s p) ≤ length d = omega (arith, l, size-is) in
           (rw e n, (arrays-turnable b, (m .wired, outputs-placed)))
 

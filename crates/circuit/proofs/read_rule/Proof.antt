@@ -7,21 +7,25 @@ use Rattle.circuit.proofs.read_rule.Statement.{statement}
 use Rattle.circuit.proofs.read_rule.Tie as tie
 
 returns : tie.Need-returns
-returns c = answer-refused (now (c .before .before .before .before .args .rule)) (c .before .before .read-rule .result) (c .before .before .read-rule .ensures) (c .if1 .taken)
+returns c = answer-refused (now (c .before .before .before .before .args .rule)) (c .before .before .read-rule .result) (c .before .before .read-rule .ensures)
+    (c .if1 .taken)
 
 make-rule-requires : tie.Need-make-rule-requires
-make-rule-requires c κs = answer-read (now (c .before .before .before .before .before .before .args .rule)) (c .before .before .before .before .read-rule .result) (c .before .before .before .before .read-rule .ensures) (c .before .before .if1 .left)
+make-rule-requires c κs = answer-read (now (c .before .before .before .before .before .before .args .rule)) (c .before .before .before .before .read-rule .result)
+    (c .before .before .before .before .read-rule .ensures) (c .before .before .if1 .left)
 
 whole-requires : tie.Need-whole-requires
 whole-requires c κs =
     let s = now (c .before .before .before .before .before .before .before .before .before .args .rule) in
-    let read = answer-read s (c .before .before .before .before .before .before .before .read-rule .result) (c .before .before .before .before .before .before .before .read-rule .ensures) (c .before .before .before .before .before .if1 .left) in
+    let read = answer-read s (c .before .before .before .before .before .before .before .read-rule .result)
+    (c .before .before .before .before .before .before .before .read-rule .ensures) (c .before .before .before .before .before .if1 .left) in
     made-earlier s _ _ _ read (c .before .before .make-rule .ensures)
 
 returns-2 : tie.Need-returns-2
 returns-2 c =
     let s = now (c .before .before .before .before .before .before .before .before .before .before .args .rule) in
-    let read = answer-read s (c .before .before .before .before .before .before .before .before .read-rule .result) (c .before .before .before .before .before .before .before .before .read-rule .ensures) (c .before .before .before .before .before .before .if1 .left) in
+    let read = answer-read s (c .before .before .before .before .before .before .before .before .read-rule .result)
+    (c .before .before .before .before .before .before .before .before .read-rule .ensures) (c .before .before .before .before .before .before .if1 .left) in
     c .whole .ensures .0 ∙ made-whole s _ _ _ read (c .before .before .before .make-rule .ensures) _ ∙ sym (answer-whole s read)
 
 pub read-rule-spec : {M : Type 1} → statement M

@@ -12,10 +12,19 @@ number-conditions-requires : tie.Need-number-conditions-requires
 number-conditions-requires c κs = (c .before .if1 .left, c .before .before .pre (c .before .if1 .left))
 
 returns-2 : tie.Need-returns-2
-returns-2 c = (c .refused2 .ensures ∙ sym (whole-eleven _ _ _ _ (c .before .before .before .before .if1 .left) (c .before .before .number-conditions .ensures .0) (c .before .if2 .taken)), λ h. c .before .before .number-conditions .ensures .1)
+returns-2 c = (
+  c .refused2 .ensures ∙ sym
+      (whole-eleven _ _ _ _ (c .before .before .before .before .if1 .left) (c .before .before .number-conditions .ensures .0) (c .before .if2 .taken)),
+  λ h.
+      c .before .before .number-conditions .ensures .1,
+)
 
 returns-3 : tie.Need-returns-3
-returns-3 c = (sym (whole-taken _ _ _ _ _ (c .before .before .before .before .if1 .left) (c .before .before .number-conditions .ensures .0) (c .before .if2 .left) (c .cost .ensures)), λ h. c .before .before .number-conditions .ensures .1)
+returns-3 c = (
+  sym (whole-taken _ _ _ _ _ (c .before .before .before .before .if1 .left) (c .before .before .number-conditions .ensures .0) (c .before .if2 .left)
+      (c .cost .ensures)),
+  λ h. c .before .before .number-conditions .ensures .1,
+)
 
 pub whole-spec : {M : Type 1} → statement M
 whole-spec =

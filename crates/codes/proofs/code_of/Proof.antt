@@ -36,12 +36,15 @@ unfolding codeOf
 returns-7 c = rw (c .before .match .keys7) (c .plain-code7 .ensures)
 
 returns-8 : tie.Need-returns-8
-returns-8 c = c .entry-of .ensures ∙ ap entryOf (c .before .operation-of .ensures) ∙ sym (code-operation _ (c .before .before .before .if1 .left) (omega (arith, c .before .before .if2 .taken)))
+returns-8 c = c .entry-of .ensures ∙ ap entryOf (c .before .operation-of .ensures) ∙ sym
+    (code-operation _ (c .before .before .before .if1 .left) (omega (arith, c .before .before .if2 .taken)))
 
 returns-9 : tie.Need-returns-9
 returns-9 c =
     let r = c .before .before .match .rest in
-    c .plain-code8 .ensures ∙ sym (code-unknown _ (r .0 .0 .0 .0 .0 .0 .1) (r .0 .0 .0 .0 .0 .1) (r .0 .0 .0 .0 .1) (r .0 .0 .0 .1) (r .0 .0 .1) (r .0 .1) (r .1) (⊎-elim (λ w. inl (w .taken)) (λ w. inr (w .1 .left)) (c .before .if1 .came)))
+    c .plain-code8 .ensures ∙ sym
+    (code-unknown _ (r .0 .0 .0 .0 .0 .0 .1) (r .0 .0 .0 .0 .0 .1) (r .0 .0 .0 .0 .1) (r .0 .0 .0 .1) (r .0 .0 .1) (r .0 .1) (r .1)
+    (⊎-elim (λ w. inl (w .taken)) (λ w. inr (w .1 .left)) (c .before .if1 .came)))
 
 pub code-of-spec : {M : Type 1} → statement M
 code-of-spec =

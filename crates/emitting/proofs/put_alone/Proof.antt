@@ -6,19 +6,30 @@ use Rattle.emitting.proofs.put_alone.Statement.{statement}
 use Rattle.emitting.proofs.put_alone.Tie as tie
 
 wire-at-requires : tie.Need-wire-at-requires
-wire-at-requires c κs = (omega (arith, c .before .before .before .before .pre .1 .coded .inside), choice-placed _ _ _ (c .before .before .before .before .pre .1) (c .if1 .taken) .0)
+wire-at-requires c κs =
+    (omega (arith, c .before .before .before .before .pre .1 .coded .inside), choice-placed _ _ _ (c .before .before .before .before .pre .1) (c .if1 .taken) .0)
 
 wire-at-requires-2 : tie.Need-wire-at-requires-2
-wire-at-requires-2 c κs = (omega (arith, c .before .before .before .before .before .pre .1 .coded .inside), choice-placed _ _ _ (c .before .before .before .before .before .pre .1) (c .before .if1 .taken) .1 .0)
+wire-at-requires-2 c κs = (
+  omega (arith, c .before .before .before .before .before .pre .1 .coded .inside),
+  choice-placed _ _ _ (c .before .before .before .before .before .pre .1)
+      (c .before .if1 .taken) .1 .0,
+)
 
 wire-at-requires-3 : tie.Need-wire-at-requires-3
-wire-at-requires-3 c κs = (omega (arith, c .before .before .before .before .before .before .pre .1 .coded .inside), choice-placed _ _ _ (c .before .before .before .before .before .before .pre .1) (c .before .before .if1 .taken) .1 .1)
+wire-at-requires-3 c κs = (
+  omega (arith, c .before .before .before .before .before .before .pre .1 .coded .inside),
+  choice-placed _ _ _
+      (c .before .before .before .before .before .before .pre .1) (c .before .before .if1 .taken) .1 .1,
+)
 
 put-choice-requires : tie.Need-put-choice-requires
 put-choice-requires c κs = choice-room _ _ _ _ (c .before .before .before .before .if1 .taken) (c .before .before .before .before .before .before .before .before .pre .0)
 
 returns : tie.Need-returns
-returns c = choice-put _ _ _ _ _ _ _ _ (c .before .before .before .before .before .before .before .if1 .taken) (c .before .before .before .before .before .before .wire-at .ensures) (c .before .before .before .before .before .wire-at2 .ensures) (c .before .before .before .before .wire-at3 .ensures) (c .before .before .put-choice .ensures)
+returns c = choice-put _ _ _ _ _ _ _ _ (c .before .before .before .before .before .before .before .if1 .taken)
+    (c .before .before .before .before .before .before .wire-at .ensures) (c .before .before .before .before .before .wire-at2 .ensures)
+    (c .before .before .before .before .wire-at3 .ensures) (c .before .before .put-choice .ensures)
 
 put-word-requires : tie.Need-put-word-requires
 put-word-requires c κs = word-room _ _ _ _ (c .before .before .if2 .taken) (c .before .before .before .before .before .before .before .pre .0)
@@ -36,7 +47,8 @@ returns-3 : tie.Need-returns-3
 returns-3 c = bit-put _ _ _ _ _ (c .before .before .before .before .before .if3 .taken) (c .before .before .put-short .ensures)
 
 cast-put-short-4 : tie.Need-cast-put-short-4
-cast-put-short-4 c = omega (arith, first-start _ _ (c .before .before .before .before .before .before .before .before .before .pre .1 .coded) (omega (arith, c .before .before .if4 .taken)))
+cast-put-short-4 c = omega
+    (arith, first-start _ _ (c .before .before .before .before .before .before .before .before .before .pre .1 .coded) (omega (arith, c .before .before .if4 .taken)))
 
 put-short-requires-2 : tie.Need-put-short-requires-2
 put-short-requires-2 c κs = start-room _ _ _ _ (c .before .before .if4 .taken) (c .before .before .before .before .before .before .before .before .before .pre .0)
@@ -45,7 +57,15 @@ returns-4 : tie.Need-returns-4
 returns-4 c = start-put _ _ _ _ _ (c .before .before .before .before .before .if4 .taken) (c .before .before .put-short2 .ensures)
 
 put-applied-requires : tie.Need-put-applied-requires
-put-applied-requires c κs = (c .before .before .before .before .before .before .before .before .pre .0, (c .before .before .before .before .before .before .before .before .pre .1, applies-in _ _ (c .before .before .before .before .before .before .before .before .pre .1 .coded) (c .before .before .before .before .if1 .left) (c .before .before .before .if2 .left) (c .before .before .if3 .left) (c .before .if4 .left)))
+put-applied-requires c κs = (
+  c .before .before .before .before .before .before .before .before .pre .0,
+  (
+    c .before .before .before .before .before .before .before .before .pre .1,
+    applies-in _ _
+        (c .before .before .before .before .before .before .before .before .pre .1 .coded) (c .before .before .before .before .if1 .left)
+        (c .before .before .before .if2 .left) (c .before .before .if3 .left) (c .before .if4 .left),
+  ),
+)
 
 pub put-alone-spec : {M : Type 1} → statement M
 put-alone-spec =

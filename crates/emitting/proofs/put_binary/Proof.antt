@@ -6,7 +6,10 @@ use Rattle.emitting.proofs.put_binary.Statement.{statement}
 use Rattle.emitting.proofs.put_binary.Tie as tie
 
 returns : tie.Need-returns
-returns c = wire-behind (c .before .before .before .before .before .before .before .before .before .args .code ∷ []) (c .before .before .before .before .before .before .before .before .before .args .a .0 ∷ []) _ 3 _ _ _ refl (c .before .before .before .before .before .before .before .before .before .pre) (c .before .before .before .before .before .before .put-unary .ensures) (c .before .before .put16 .ensures)
+returns c = wire-behind (c .before .before .before .before .before .before .before .before .before .args .code ∷ [])
+    (c .before .before .before .before .before .before .before .before .before .args .a .0 ∷ []) _ 3 _ _ _ refl
+    (c .before .before .before .before .before .before .before .before .before .pre) (c .before .before .before .before .before .before .put-unary .ensures)
+    (c .before .before .put16 .ensures)
 
 pub put-binary-spec : {M : Type 1} → statement M
 put-binary-spec =

@@ -4,7 +4,8 @@ use Rattle.emitting.proofs.put_pair.Statement.{statement}
 use Rattle.emitting.proofs.put_pair.Tie as tie
 
 returns : tie.Need-returns
-returns c = pair-behind _ _ _ _ _ (c .before .before .before .before .before .before .before .before .before .pre) (c .before .before .before .before .before .before .put16 .ensures) (c .before .before .put162 .ensures)
+returns c = pair-behind _ _ _ _ _ (c .before .before .before .before .before .before .before .before .before .pre)
+    (c .before .before .before .before .before .before .put16 .ensures) (c .before .before .put162 .ensures)
 
 pub put-pair-spec : {M : Type 1} → statement M
 put-pair-spec =

@@ -11,7 +11,9 @@ returns : tie.Need-returns
 returns c = let a = c .before .before .before .before .before .before .before .before .before .before .before .before .args in (
   refl,
   pick-put (pairsIn (a .quads .now) (wireIn (a .group .now) (a .wires .now)) (a .first .0) (a .k) (groupAt (a .plan .now) (a .at))) _ _ _ _
-      (pairs-count (a .quads .now) (wireIn (a .group .now) (a .wires .now)) (a .first .0) (a .k) (a .plan .now) (a .at)) (c .before .before .before .before .before .before .before .before .before .before .before .before .pre .0) (c .before .before .before .before .before .before .before .put-short .ensures) (c .before .before .before .put-pairs .ensures),
+      (pairs-count (a .quads .now) (wireIn (a .group .now) (a .wires .now)) (a .first .0) (a .k) (a .plan .now) (a .at))
+      (c .before .before .before .before .before .before .before .before .before .before .before .before .pre .0)
+      (c .before .before .before .before .before .before .before .put-short .ensures) (c .before .before .before .put-pairs .ensures),
 )
 
 pub put-pick-spec : {M : Type 1} → statement M

@@ -6,7 +6,10 @@ use Rattle.emitting.proofs.put_picks.Tie as tie
 
 returns : tie.Need-returns
 returns c = let a = c .before .before .before .before .before .before .before .before .before .before .args in
-    picks-put (a .quads .now) (wireIn (a .group .now) (a .wires .now)) (a .first .0) (a .plan .now) (a .at) _ _ _ _ _ (c .before .before .before .before .before .before .before .before .before .before .pre .0) (c .before .before .before .before .before .before .put-pick .ensures .0) (c .before .before .put-pick2 .ensures .0) (c .before .before .before .before .before .before .put-pick .ensures .1) (c .before .before .put-pick2 .ensures .1)
+    picks-put (a .quads .now) (wireIn (a .group .now) (a .wires .now)) (a .first .0) (a .plan .now) (a .at) _ _ _ _ _
+    (c .before .before .before .before .before .before .before .before .before .before .pre .0)
+    (c .before .before .before .before .before .before .put-pick .ensures .0) (c .before .before .put-pick2 .ensures .0)
+    (c .before .before .before .before .before .before .put-pick .ensures .1) (c .before .before .put-pick2 .ensures .1)
 
 pub put-picks-spec : {M : Type 1} → statement M
 put-picks-spec =

@@ -25,23 +25,39 @@ wire-of-requires : tie.Need-wire-of-requires Inv-loop μ-loop
 wire-of-requires c κs = c .before .before .before .before .before .before .pre .1 .guarded _ (c .before .before .before .loop-test .taken)
 
 sub-put16 : tie.Need-sub-put16 Inv-loop μ-loop
-sub-put16 c = let z : c .before .before .before .before .before .loop .n + 2 ≤ length (c .before .before .before .before .before .loop .out) = rests-fits _ _ _ _ _ _ _ (c .before .before .before .before .before .loop .inv) (c .before .before .before .before .loop-test .taken) (sym (c .before .before .before .rests-on .ensures) ∙ c .before .before .if1 .taken) .0 in search needs
+sub-put16 c =
+    let z : c .before .before .before .before .before .loop .n + 2 ≤ length (c .before .before .before .before .before .loop .out) = rests-fits _ _ _ _ _ _ _
+    (c .before .before .before .before .before .loop .inv) (c .before .before .before .before .loop-test .taken)
+    (sym (c .before .before .before .rests-on .ensures) ∙ c .before .before .if1 .taken) .0 in
+    search needs
 
 part-put16-start : tie.Need-part-put16-start Inv-loop μ-loop
-part-put16-start c = let z : c .before .before .before .before .before .loop .n + 2 ≤ length (c .before .before .before .before .before .loop .out) = rests-fits _ _ _ _ _ _ _ (c .before .before .before .before .before .loop .inv) (c .before .before .before .before .loop-test .taken) (sym (c .before .before .before .rests-on .ensures) ∙ c .before .before .if1 .taken) .0 in search needs
+part-put16-start c =
+    let z : c .before .before .before .before .before .loop .n + 2 ≤ length (c .before .before .before .before .before .loop .out) = rests-fits _ _ _ _ _ _ _
+    (c .before .before .before .before .before .loop .inv) (c .before .before .before .before .loop-test .taken)
+    (sym (c .before .before .before .rests-on .ensures) ∙ c .before .before .if1 .taken) .0 in
+    search needs
 
 put16-requires : tie.Need-put16-requires Inv-loop μ-loop
-put16-requires c κs = rests-room _ _ _ _ _ _ _ (c .before .before .before .before .before .before .loop .inv) (c .before .before .before .before .before .loop-test .taken) (sym (c .before .before .before .before .rests-on .ensures) ∙ c .before .before .before .if1 .taken)
+put16-requires c κs = rests-room _ _ _ _ _ _ _ (c .before .before .before .before .before .before .loop .inv)
+    (c .before .before .before .before .before .loop-test .taken) (sym (c .before .before .before .before .rests-on .ensures) ∙ c .before .before .before .if1 .taken)
 
 add-n : tie.Need-add-n Inv-loop μ-loop
-add-n c = let f = rests-fits _ _ _ _ _ _ _ (c .before .before .before .before .before .before .before .before .before .loop .inv) (c .before .before .before .before .before .before .before .before .loop-test .taken) (sym (c .before .before .before .before .before .before .before .rests-on .ensures) ∙ c .before .before .before .before .before .before .if1 .taken) in
-    let z : c .before .before .before .before .before .before .before .before .before .loop .n + 2 ≤ length (c .before .before .before .before .before .before .before .before .before .before .before .args .out .now) = omega (arith, f .0, f .1) in
+add-n c =
+    let f = rests-fits _ _ _ _ _ _ _ (c .before .before .before .before .before .before .before .before .before .loop .inv)
+    (c .before .before .before .before .before .before .before .before .loop-test .taken)
+    (sym (c .before .before .before .before .before .before .before .rests-on .ensures) ∙ c .before .before .before .before .before .before .if1 .taken) in
+    let z : c .before .before .before .before .before .before .before .before .before .loop .n + 2 ≤ length
+    (c .before .before .before .before .before .before .before .before .before .before .before .args .out .now) = omega (arith, f .0, f .1) in
     search needs
 
 loop-again : tie.Need-loop-again Inv-loop μ-loop
 loop-again c = ⊎-elim
-    (λ w. rw (w .7, w .8) (rests-step _ _ _ _ _ _ _ (c .before .before .before .loop .inv) (c .before .before .loop-test .taken) (sym (c .before .rests-on .ensures) ∙ w .0 .taken) _ _ (w .2 .ensures) (w .4 .ensures)))
-    (λ w. rw (w .1, w .2) (rests-pass _ _ _ _ _ _ _ (c .before .before .before .loop .inv) (c .before .before .loop-test .taken) (sym (c .before .rests-on .ensures) ∙ w .0 .left)))
+    (λ w. rw (w .7, w .8)
+    (rests-step _ _ _ _ _ _ _ (c .before .before .before .loop .inv) (c .before .before .loop-test .taken) (sym (c .before .rests-on .ensures) ∙ w .0 .taken) _ _
+    (w .2 .ensures) (w .4 .ensures)))
+    (λ w. rw (w .1, w .2)
+    (rests-pass _ _ _ _ _ _ _ (c .before .before .before .loop .inv) (c .before .before .loop-test .taken) (sym (c .before .rests-on .ensures) ∙ w .0 .left)))
     (c .if1 .came)
 
 same-length : tie.Need-same-length Inv-loop μ-loop

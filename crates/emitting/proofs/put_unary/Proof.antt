@@ -6,7 +6,9 @@ use Rattle.emitting.proofs.put_unary.Statement.{statement}
 use Rattle.emitting.proofs.put_unary.Tie as tie
 
 returns : tie.Need-returns
-returns c = wire-behind (c .before .before .before .before .before .before .before .before .before .args .code ∷ []) [] _ 1 _ _ _ refl (c .before .before .before .before .before .before .before .before .before .pre) (c .before .before .before .before .before .before .put-byte .ensures) (c .before .before .put16 .ensures)
+returns c = wire-behind (c .before .before .before .before .before .before .before .before .before .args .code ∷ []) [] _ 1 _ _ _ refl
+    (c .before .before .before .before .before .before .before .before .before .pre) (c .before .before .before .before .before .before .put-byte .ensures)
+    (c .before .before .put16 .ensures)
 
 pub put-unary-spec : {M : Type 1} → statement M
 put-unary-spec =

@@ -4,7 +4,8 @@ use Rattle.emitting.proofs.put_word.Statement.{statement}
 use Rattle.emitting.proofs.put_word.Tie as tie
 
 returns : tie.Need-returns
-returns c = word-behind _ _ _ _ (c .before .before .before .before .before .before .before .before .before .pre) (c .before .before .before .before .before .before .put-byte .ensures) (c .before .before .put32 .ensures)
+returns c = word-behind _ _ _ _ (c .before .before .before .before .before .before .before .before .before .pre)
+    (c .before .before .before .before .before .before .put-byte .ensures) (c .before .before .put32 .ensures)
 
 pub put-word-spec : {M : Type 1} → statement M
 put-word-spec =

@@ -17,7 +17,8 @@ returns-2 : tie.Need-returns-2
 returns-2 c =
     let c5 = c .before .before .before .before .before in
     row-28 (gatesIn (now (c5 .args .quads)) (c5 .args .count)) (now (c5 .args .needs)) (now (c5 .args .plan))
-    (sym (c .before .before .before .every-join .ensures) ∙ not-false _ (c .before .before .if1 .left)) (sym (c .before .every-join2 .ensures) ∙ not-true _ (c .if2 .taken))
+    (sym (c .before .before .before .every-join .ensures) ∙ not-false _ (c .before .before .if1 .left))
+    (sym (c .before .every-join2 .ensures) ∙ not-true _ (c .if2 .taken))
 
 returns-3 : tie.Need-returns-3
 returns-3 c =

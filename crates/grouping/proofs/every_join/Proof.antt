@@ -8,7 +8,8 @@ use Rattle.grouping.proofs.every_join.Statement.{statement}
 use Rattle.grouping.proofs.every_join.Tie as tie
 
 abbrev Inv-loop : tie.InvT-loop
-Inv-loop row plan quads count needs unchecked₀ at₀ unchecked at = Ahead count plan unchecked at × TestingGroups (joinTest (gatesIn quads count) needs row) plan unchecked at
+Inv-loop row plan quads count needs unchecked₀ at₀ unchecked at = Ahead count plan unchecked at × TestingGroups
+    (joinTest (gatesIn quads count) needs row) plan unchecked at
 
 abbrev μ-loop : tie.MeasureT-loop
 μ-loop row plan quads count needs unchecked₀ at₀ unchecked at = unchecked
@@ -17,14 +18,18 @@ groups-counted-requires : tie.Need-groups-counted-requires Inv-loop μ-loop
 groups-counted-requires c κs = c .before .pre .least
 
 loop-holds : tie.Need-loop-holds Inv-loop μ-loop
-loop-holds c =
-    (ahead-start _ _ _ (c .before .before .pre) (c .groups-counted .ensures), testing-start _ _ _ (readable-lie _ _ (c .before .before .pre)) (c .groups-counted .ensures))
+loop-holds c = (
+  ahead-start _ _ _ (c .before .before .pre) (c .groups-counted .ensures),
+  testing-start _ _ _ (readable-lie _ _ (c .before .before .pre))
+      (c .groups-counted .ensures),
+)
 
 join-holds-requires : tie.Need-join-holds-requires Inv-loop μ-loop
 join-holds-requires c κs = ahead-fits _ _ _ _ (c .before .loop .inv .0) (c .loop-test .taken)
 
 returns : tie.Need-returns Inv-loop μ-loop
-returns c = testing-fails _ _ _ _ _ (c .before .before .before .loop .inv .1) (c .before .before .loop-test .taken) (c .before .join-holds .ensures) (not-true _ (c .if1 .taken))
+returns c = testing-fails _ _ _ _ _ (c .before .before .before .loop .inv .1) (c .before .before .loop-test .taken) (c .before .join-holds .ensures)
+    (not-true _ (c .if1 .taken))
 
 after-requires : tie.Need-after-requires Inv-loop μ-loop
 after-requires c κs = lie-inside _ _ _ (c .before .before .before .loop .inv .1 .lie) (c .before .before .loop-test .taken)

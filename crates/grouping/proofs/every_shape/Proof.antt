@@ -18,7 +18,8 @@ shape-holds-requires : tie.Need-shape-holds-requires Inv-loop μ-loop
 shape-holds-requires c κs = lie-here _ _ _ (c .before .loop .inv .lie) (c .loop-test .taken)
 
 returns : tie.Need-returns Inv-loop μ-loop
-returns c = testing-fails _ _ _ _ _ (c .before .before .before .loop .inv) (c .before .before .loop-test .taken) (c .before .shape-holds .ensures) (not-true _ (c .if1 .taken))
+returns c = testing-fails _ _ _ _ _ (c .before .before .before .loop .inv) (c .before .before .loop-test .taken) (c .before .shape-holds .ensures)
+    (not-true _ (c .if1 .taken))
 
 after-requires : tie.Need-after-requires Inv-loop μ-loop
 after-requires c κs = lie-inside _ _ _ (c .before .before .before .loop .inv .lie) (c .before .before .loop-test .taken)

@@ -21,7 +21,8 @@ join-groups-requires c κs =
 returns-2 : tie.Need-returns-2
 returns-2 c =
     let c7 = c .before .before .before .before .before .before .before in (
-      layout-none (c7 .args .count) (now (c7 .args .plan)) _ _ (c .before .before .before .before .before .layout-row .ensures) (c .before .before .before .before .if1 .left)
+      layout-none (c7 .args .count) (now (c7 .args .plan)) _ _ (c .before .before .before .before .before .layout-row .ensures)
+          (c .before .before .before .before .if1 .left)
           (c .before .join-groups .ensures .0) (c .if2 .taken),
       (λ e. c .before .join-groups .ensures .1 .0 (c .if2 .taken), λ e. c .before .join-groups .ensures .1 .1 (c .if2 .taken)),
     )
@@ -29,7 +30,8 @@ returns-2 c =
 returns-3 : tie.Need-returns-3
 returns-3 c =
     let c7 = c .before .before .before .before .before .before .before in (
-      layout-26 (c7 .args .count) (now (c7 .args .plan)) _ _ (c .before .before .before .before .before .layout-row .ensures) (c .before .before .before .before .if1 .left)
+      layout-26 (c7 .args .count) (now (c7 .args .plan)) _ _ (c .before .before .before .before .before .layout-row .ensures)
+          (c .before .before .before .before .if1 .left)
           (c .before .join-groups .ensures .0) (c .if2 .left),
       (λ e. absurd (omega (arith, e)), λ e. absurd (omega (arith, e))),
     )

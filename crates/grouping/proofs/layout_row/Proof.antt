@@ -59,7 +59,8 @@ returns-5 c =
     let c11 = c9 .before .before in
     row-24 _ (now (c11 .args .plan)) (sym (c9 .size-fits .ensures) ∙ not-false _ (c8 .if1 .left)) (sym (c7 .marked .ensures) ∙ not-false _ (c6 .if2 .left))
     (sym (c .before .before .before .before .before .gates-counted .ensures) ∙ c .before .before .before .before .if3 .left)
-    (sym (c .before .before .before .groups-end .ensures) ∙ not-false _ (c .before .before .if4 .left)) (sym (c .before .every-shape .ensures) ∙ not-true _ (c .if5 .taken))
+    (sym (c .before .before .before .groups-end .ensures) ∙ not-false _ (c .before .before .if4 .left))
+    (sym (c .before .every-shape .ensures) ∙ not-true _ (c .if5 .taken))
 
 every-shape-requires-2 : tie.Need-every-shape-requires-2
 every-shape-requires-2 c κs =

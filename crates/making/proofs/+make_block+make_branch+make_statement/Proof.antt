@@ -81,7 +81,8 @@ make-statement-below t =
     make-statement.Pre
 
 abbrev make-block-Inv-loop : make-block-lts.InvT-loop
-make-block-Inv-loop s at nest present₀ quads₀ count here₀ n₀ assigned₀ present quads here n assigned = Walked s nest at quads₀ present₀ count here n assigned quads present
+make-block-Inv-loop s at nest present₀ quads₀ count here₀ n₀ assigned₀ present quads here n assigned = Walked s nest at quads₀ present₀ count here n assigned quads
+    present
 
 abbrev make-block-μ-loop : make-block-lts.MeasureT-loop
 make-block-μ-loop s at nest present₀ quads₀ count here₀ n₀ assigned₀ present quads here n assigned = length s - here
@@ -93,54 +94,146 @@ abbrev make-branch-claims : ℕ → make-branch-lts.Claims
 make-branch-claims t = (make-expr-reads.Asked, make-expr-reads.Learnt, make-block-below t, make-block.Post, make-choices-reads.Asked, make-choices-reads.Learnt)
 
 abbrev make-statement-claims : ℕ → make-statement-lts.Claims
-make-statement-claims t = (code-of-reads.Asked, code-of-reads.Learnt, make-assign-reads.Asked, make-assign-reads.Learnt, passed-reads.Asked, passed-reads.Learnt, make-branch-below t, make-branch.Post)
+make-statement-claims t = (
+  code-of-reads.Asked,
+  code-of-reads.Learnt,
+  make-assign-reads.Asked,
+  make-assign-reads.Learnt,
+  passed-reads.Asked,
+  passed-reads.Learnt,
+  make-branch-below t,
+  make-branch.Post,
+)
 
 make-block-returns : (t : ℕ) → make-block-lts.Need-returns (make-block-claims t) (make-block-at t) make-block.Post make-block-Inv-loop make-block-μ-loop
 make-block-returns t c =
-    let a = c .before .before .before .before .args in let l = c .before .before .loop in walked-all (now (a .s)) (a .nest) (a .at) (now (a .quads)) (now (a .present)) (a .count) (l .here) (l .n) (l .assigned) (l .quads) (l .present) (l .inv) (c .if1 .taken)
+    let a = c .before .before .before .before .args in let l = c .before .before .loop in walked-all (now (a .s)) (a .nest) (a .at) (now (a .quads)) (now (a .present))
+    (a .count) (l .here) (l .n) (l .assigned) (l .quads) (l .present) (l .inv) (c .if1 .taken)
 
-make-block-make-statement-requires : (t : ℕ) → make-block-lts.Need-make-statement-requires (make-block-claims t) (make-block-at t) make-block.Post make-block-Inv-loop make-block-μ-loop
+make-block-make-statement-requires : (t : ℕ) → make-block-lts.Need-make-statement-requires (make-block-claims t)
+    (make-block-at t) make-block.Post make-block-Inv-loop make-block-μ-loop
 make-block-make-statement-requires t c κs =
-    let a = c .before .before .before .before .before .before .args in let l = c .before .before .before .before .loop in let i = block-inside (now (a .s)) (a .nest) (l .here) (rest-taken (now (a .s)) (a .nest) (a .at) (now (a .quads)) (now (a .present)) (a .count) (l .here) (l .n) (l .assigned) (l .quads) (l .present) (l .inv)) in
-    (omega (arith, l .inv .onward), (c .before .before .before .before .before .before .pre .1 .0, (i, statement-taken (now (a .s)) (a .nest) (a .at) (now (a .quads)) (now (a .present)) (a .count) (l .here) (l .n) (l .assigned) (l .quads) (l .present) (l .inv) (c .before .before .if1 .left))))
+    let a = c .before .before .before .before .before .before .args in let l = c .before .before .before .before .loop in let i = block-inside (now (a .s)) (a .nest)
+    (l .here) (rest-taken (now (a .s)) (a .nest) (a .at) (now (a .quads)) (now (a .present)) (a .count) (l .here) (l .n) (l .assigned) (l .quads) (l .present)
+    (l .inv)) in (
+      omega (arith, l .inv .onward),
+      (
+        c .before .before .before .before .before .before .pre .1 .0,
+        (
+          i,
+          statement-taken (now (a .s)) (a .nest) (a .at) (now (a .quads)) (now (a .present)) (a .count) (l .here) (l .n) (l .assigned) (l .quads) (l .present) (l .inv)
+              (c .before .before .if1 .left),
+        ),
+      ),
+    )
 
 make-block-loop-again : (t : ℕ) → make-block-lts.Need-loop-again (make-block-claims t) (make-block-at t) make-block.Post make-block-Inv-loop make-block-μ-loop
 make-block-loop-again t c =
-    let a = c .before .before .before .before .before .before .before .before .args in let l = c .before .before .before .before .before .before .loop in walked-more (now (a .s)) (a .nest) (a .at) (now (a .quads)) (now (a .present)) (a .count) (l .here) (l .n) (l .assigned) (l .quads) (l .present) (l .inv) (c .before .before .before .before .if1 .left) (c .before .make-statement .result .next) (c .before .make-statement .result .count) (c .before .make-statement .result .assigned) _ _
-    (forward-read (readStatement (now (a .s)) (a .nest) (l .here)) (statement-forward (now (a .s)) (a .nest) (l .here)) (c .before .make-statement .ensures .read)) (c .before .make-statement .ensures)
+    let a = c .before .before .before .before .before .before .before .before .args in let l = c .before .before .before .before .before .before .loop in walked-more
+    (now (a .s)) (a .nest) (a .at) (now (a .quads)) (now (a .present)) (a .count) (l .here) (l .n) (l .assigned) (l .quads) (l .present) (l .inv)
+    (c .before .before .before .before .if1 .left) (c .before .make-statement .result .next) (c .before .make-statement .result .count)
+    (c .before .make-statement .result .assigned) _ _
+    (forward-read (readStatement (now (a .s)) (a .nest) (l .here)) (statement-forward (now (a .s)) (a .nest) (l .here)) (c .before .make-statement .ensures .read))
+    (c .before .make-statement .ensures)
 
 make-branch-make-block-requires : (t : ℕ) → make-branch-lts.Need-make-block-requires (make-branch-claims t) (make-branch-at t) make-branch.Post
 make-branch-make-block-requires t c κs =
-    let a = c .before .before .before .before .before .before .before .before .args in let h = c .before .before .before .before .before .before .before .before .pre .1 .1 .1 in
-    (omega (arith, forward-read (readExpr deepest (now (a .s)) Bit (a .at + 1)) (expr-forward deepest (now (a .s)) Bit (a .at + 1)) (c .before .before .before .before .make-expr .ensures .read)), (c .before .before .before .before .before .before .before .before .pre .1 .0, first-taken (now (a .s)) (a .nest) (a .at) h (now (a .present)) (now (a .quads)) (a .count) (c .before .before .before .before .make-expr .result .gate .0) (c .before .before .before .before .make-expr .result .next) (c .before .before .before .before .make-expr .result .count) _ (c .before .before .before .before .make-expr .ensures)))
+    let a = c .before .before .before .before .before .before .before .before .args in let h =
+    c .before .before .before .before .before .before .before .before .pre .1 .1 .1 in (
+      omega (
+        arith,
+        forward-read (readExpr deepest (now (a .s)) Bit (a .at + 1)) (expr-forward deepest (now (a .s)) Bit (a .at + 1))
+            (c .before .before .before .before .make-expr .ensures .read),
+      ),
+      (
+        c .before .before .before .before .before .before .before .before .pre .1 .0,
+        first-taken (now (a .s)) (a .nest) (a .at) h (now (a .present)) (now (a .quads))
+            (a .count) (c .before .before .before .before .make-expr .result .gate .0) (c .before .before .before .before .make-expr .result .next)
+            (c .before .before .before .before .make-expr .result .count) _ (c .before .before .before .before .make-expr .ensures),
+      ),
+    )
 
 make-branch-make-block-requires-2 : (t : ℕ) → make-branch-lts.Need-make-block-requires-2 (make-branch-claims t) (make-branch-at t) make-branch.Post
 make-branch-make-block-requires-2 t c κs =
-    let a = c .before .before .before .before .before .before .before .before .before .before .before .args in let h = c .before .before .before .before .before .before .before .before .before .before .before .pre .1 .1 .1 in
-    (omega (arith, forward-read (readExpr deepest (now (a .s)) Bit (a .at + 1)) (expr-forward deepest (now (a .s)) Bit (a .at + 1)) (c .before .before .before .before .before .before .before .make-expr .ensures .read), forward-read (readBlock (now (a .s)) (a .nest - 1) (c .before .before .before .before .before .before .before .make-expr .result .next)) (block-forward (now (a .s)) (a .nest - 1) (c .before .before .before .before .before .before .before .make-expr .result .next)) (c .before .before .make-block .ensures .read)), (c .before .before .before .before .before .before .before .before .before .before .before .pre .1 .0, second-taken (now (a .s)) (a .nest) (a .at) h (now (a .present)) (now (a .quads)) (a .count) (c .before .before .before .before .before .before .before .make-expr .result .gate .0) (c .before .before .before .before .before .before .before .make-expr .result .next) (c .before .before .before .before .before .before .before .make-expr .result .count) _ (c .before .before .before .before .before .before .before .make-expr .ensures) (c .before .before .make-block .result .next) (c .before .before .make-block .result .count) (c .before .before .make-block .result .assigned) _ _ (c .before .before .make-block .ensures)))
+    let a = c .before .before .before .before .before .before .before .before .before .before .before .args in let h =
+    c .before .before .before .before .before .before .before .before .before .before .before .pre .1 .1 .1 in (
+      omega (
+        arith,
+        forward-read (readExpr deepest (now (a .s)) Bit (a .at + 1)) (expr-forward deepest (now (a .s)) Bit (a .at + 1))
+            (c .before .before .before .before .before .before .before .make-expr .ensures .read),
+        forward-read
+            (readBlock (now (a .s)) (a .nest - 1) (c .before .before .before .before .before .before .before .make-expr .result .next))
+            (block-forward (now (a .s)) (a .nest - 1) (c .before .before .before .before .before .before .before .make-expr .result .next))
+            (c .before .before .make-block .ensures .read),
+      ),
+      (
+        c .before .before .before .before .before .before .before .before .before .before .before .pre .1 .0,
+        second-taken (now (a .s)) (a .nest) (a .at) h
+            (now (a .present)) (now (a .quads)) (a .count) (c .before .before .before .before .before .before .before .make-expr .result .gate .0)
+            (c .before .before .before .before .before .before .before .make-expr .result .next)
+            (c .before .before .before .before .before .before .before .make-expr .result .count) _
+            (c .before .before .before .before .before .before .before .make-expr .ensures) (c .before .before .make-block .result .next)
+            (c .before .before .make-block .result .count) (c .before .before .make-block .result .assigned) _ _ (c .before .before .make-block .ensures),
+      ),
+    )
 
 make-branch-returns : (t : ℕ) → make-branch-lts.Need-returns (make-branch-claims t) (make-branch-at t) make-branch.Post
 make-branch-returns t c =
-    let a = c .before .before .before .before .before .before .before .before .before .before .before .before .before .before .before .before .before .before .before .before .args in let h = c .before .before .before .before .before .before .before .before .before .before .before .before .before .before .before .before .before .before .before .before .pre .1 .1 .1 in made-branch (now (a .s)) (a .nest) (a .at) h (now (a .present)) (now (a .quads)) (a .count) (c .before .before .before .before .before .before .before .before .before .before .before .before .before .before .before .before .make-expr .result .gate .0) (c .before .before .before .before .before .before .before .before .before .before .before .before .before .before .before .before .make-expr .result .next) (c .before .before .before .before .before .before .before .before .before .before .before .before .before .before .before .before .make-expr .result .count) _ (c .before .before .before .before .before .before .before .before .before .before .before .before .before .before .before .before .make-expr .ensures)
-    (c .before .before .before .before .before .before .before .before .before .before .before .make-block .result .next) (c .before .before .before .before .before .before .before .before .before .before .before .make-block .result .count) (c .before .before .before .before .before .before .before .before .before .before .before .make-block .result .assigned) _ _ (c .before .before .before .before .before .before .before .before .before .before .before .make-block .ensures)
-    (c .before .before .before .before .before .before .before .before .make-block2 .result .next) (c .before .before .before .before .before .before .before .before .make-block2 .result .count) (c .before .before .before .before .before .before .before .before .make-block2 .result .assigned) _ _ (c .before .before .before .before .before .before .before .before .make-block2 .ensures)
-    (c .before .before .before .before .before .before .before .before .before .before .before .before .before .before .before .before .before .before .before .before .pre .1 .0 .few) (variables (now (a .s))) (c .make-choices .result) _ _ refl (c .make-choices .ensures)
+    let a = c .before .before .before .before .before .before .before .before .before .before .before .before .before .before .before .before .before .before .before .before .args in
+    let h = c .before .before .before .before .before .before .before .before .before .before .before .before .before .before .before .before .before .before .before .before .pre .1 .1 .1 in
+    made-branch (now (a .s)) (a .nest) (a .at) h (now (a .present)) (now (a .quads)) (a .count)
+    (c .before .before .before .before .before .before .before .before .before .before .before .before .before .before .before .before .make-expr .result .gate .0)
+    (c .before .before .before .before .before .before .before .before .before .before .before .before .before .before .before .before .make-expr .result .next)
+    (c .before .before .before .before .before .before .before .before .before .before .before .before .before .before .before .before .make-expr .result .count) _
+    (c .before .before .before .before .before .before .before .before .before .before .before .before .before .before .before .before .make-expr .ensures)
+    (c .before .before .before .before .before .before .before .before .before .before .before .make-block .result .next)
+    (c .before .before .before .before .before .before .before .before .before .before .before .make-block .result .count)
+    (c .before .before .before .before .before .before .before .before .before .before .before .make-block .result .assigned) _ _
+    (c .before .before .before .before .before .before .before .before .before .before .before .make-block .ensures)
+    (c .before .before .before .before .before .before .before .before .make-block2 .result .next)
+    (c .before .before .before .before .before .before .before .before .make-block2 .result .count)
+    (c .before .before .before .before .before .before .before .before .make-block2 .result .assigned) _ _
+    (c .before .before .before .before .before .before .before .before .make-block2 .ensures)
+    (c .before .before .before .before .before .before .before .before .before .before .before .before .before .before .before .before .before .before .before .before .pre .1 .0 .few)
+    (variables (now (a .s))) (c .make-choices .result) _ _ refl (c .make-choices .ensures)
 
 make-statement-make-assign-requires : (t : ℕ) → make-statement-lts.Need-make-assign-requires (make-statement-claims t) (make-statement-at t) make-statement.Post
 make-statement-make-assign-requires t c κs =
-    let a = c .before .before .before .before .before .before .before .args in let code = c .before .before .before .before .code-of .result in let is = c .before .before .before .before .code-of .ensures in (c .before .before .before .before .before .before .before .pre .1 .0, statement-read-as (now (a .s)) (a .nest) (a .at) code is (c .before .before .before .before .before .before .before .pre .1 .1 .1) form.Assign (c .before .before .enum-told .given .1))
+    let a = c .before .before .before .before .before .before .before .args in let code = c .before .before .before .before .code-of .result in let is =
+    c .before .before .before .before .code-of .ensures in (
+      c .before .before .before .before .before .before .before .pre .1 .0,
+      statement-read-as (now (a .s)) (a .nest) (a .at) code is
+          (c .before .before .before .before .before .before .before .pre .1 .1 .1) form.Assign (c .before .before .enum-told .given .1),
+    )
 
 make-statement-make-branch-requires : (t : ℕ) → make-statement-lts.Need-make-branch-requires (make-statement-claims t) (make-statement-at t) make-statement.Post
 make-statement-make-branch-requires t c κs =
-    let a = c .before .before .before .before .before .before .before .args in let code = c .before .before .before .before .code-of .result in let is = c .before .before .before .before .code-of .ensures in (omega arith, (c .before .before .before .before .before .before .before .pre .1 .0, (c .before .before .before .before .before .before .before .pre .1 .1 .0, statement-read-as (now (a .s)) (a .nest) (a .at) code is (c .before .before .before .before .before .before .before .pre .1 .1 .1) form.Branch (c .before .before .enum-told3 .given .1))))
+    let a = c .before .before .before .before .before .before .before .args in let code = c .before .before .before .before .code-of .result in let is =
+    c .before .before .before .before .code-of .ensures in (
+      omega arith,
+      (
+        c .before .before .before .before .before .before .before .pre .1 .0,
+        (
+          c .before .before .before .before .before .before .before .pre .1 .1 .0,
+          statement-read-as (now (a .s)) (a .nest) (a .at) code is
+              (c .before .before .before .before .before .before .before .pre .1 .1 .1) form.Branch (c .before .before .enum-told3 .given .1),
+        ),
+      ),
+    )
 
 make-statement-returns : (t : ℕ) → make-statement-lts.Need-returns (make-statement-claims t) (make-statement-at t) make-statement.Post
 make-statement-returns t c =
-    let a = c .before .before .before .before .before .before .before .before .args in let code = c .before .before .before .before .before .code-of .result in let is = c .before .before .before .before .before .code-of .ensures in done-as makeStatement assignsIn (now (a .s)) (readStatement (now (a .s)) (a .nest) (a .at)) (readAssign (now (a .s)) (a .at)) (statement-as (now (a .s)) (a .nest) (a .at) code form.Assign is (c .before .before .before .enum-told .given .1)) (c .make-assign .ensures)
+    let a = c .before .before .before .before .before .before .before .before .args in let code = c .before .before .before .before .before .code-of .result in let is =
+    c .before .before .before .before .before .code-of .ensures in done-as makeStatement assignsIn (now (a .s)) (readStatement (now (a .s)) (a .nest) (a .at))
+    (readAssign (now (a .s)) (a .at)) (statement-as (now (a .s)) (a .nest) (a .at) code form.Assign is (c .before .before .before .enum-told .given .1))
+    (c .make-assign .ensures)
 
 make-statement-returns-3 : (t : ℕ) → make-statement-lts.Need-returns-3 (make-statement-claims t) (make-statement-at t) make-statement.Post
 make-statement-returns-3 t c =
-    let a = c .before .before .before .before .before .before .before .before .args in let code = c .before .before .before .before .before .code-of .result in let is = c .before .before .before .before .before .code-of .ensures in done-as makeStatement assignsIn (now (a .s)) (readStatement (now (a .s)) (a .nest) (a .at)) (branchWith (readBlock (now (a .s))) (now (a .s)) (a .nest) (a .at)) (statement-as (now (a .s)) (a .nest) (a .at) code form.Branch is (c .before .before .before .enum-told3 .given .1)) (c .make-branch .ensures)
+    let a = c .before .before .before .before .before .before .before .before .args in let code = c .before .before .before .before .before .code-of .result in let is =
+    c .before .before .before .before .before .code-of .ensures in done-as makeStatement assignsIn (now (a .s)) (readStatement (now (a .s)) (a .nest) (a .at))
+    (branchWith (readBlock (now (a .s))) (now (a .s)) (a .nest) (a .at))
+    (statement-as (now (a .s)) (a .nest) (a .at) code form.Branch is (c .before .before .before .enum-told3 .given .1)) (c .make-branch .ensures)
 
 pub +make-block+make-branch+make-statement-spec : {M : Type 1} → statement M
 +make-block+make-branch+make-statement-spec =
@@ -149,19 +242,32 @@ pub +make-block+make-branch+make-statement-spec : {M : Type 1} → statement M
     make-block-Inv-loop
     make-block-μ-loop
     (λ c. let a = c .before .args in walked-none (now (a .s)) (a .nest) (a .at) (now (a .quads)) (now (a .present)) (a .count) (c .before .pre .1 .1))
-    (λ c. let a = c .before .before .before .args in let l = c .before .loop in block-inside (now (a .s)) (a .nest) (l .here) (rest-taken (now (a .s)) (a .nest) (a .at) (now (a .quads)) (now (a .present)) (a .count) (l .here) (l .n) (l .assigned) (l .quads) (l .present) (l .inv)))
-    (λ c. let a = c .before .before .before .before .args in let l = c .before .before .loop in omega (arith, block-inside (now (a .s)) (a .nest) (l .here) (rest-taken (now (a .s)) (a .nest) (a .at) (now (a .quads)) (now (a .present)) (a .count) (l .here) (l .n) (l .assigned) (l .quads) (l .present) (l .inv))))
+    (λ c. let a = c .before .before .before .args in let l = c .before .loop in block-inside (now (a .s)) (a .nest) (l .here)
+    (rest-taken (now (a .s)) (a .nest) (a .at) (now (a .quads)) (now (a .present)) (a .count) (l .here) (l .n) (l .assigned) (l .quads) (l .present) (l .inv)))
+    (λ c. let a = c .before .before .before .before .args in let l = c .before .before .loop in omega (
+      arith,
+      block-inside (now (a .s)) (a .nest) (l .here)
+          (rest-taken (now (a .s)) (a .nest) (a .at) (now (a .quads)) (now (a .present)) (a .count) (l .here) (l .n) (l .assigned) (l .quads) (l .present) (l .inv)),
+    ))
     (make-block-returns t)
     (make-block-make-statement-requires t)
-    (λ c. let a = c .before .before .before .before .before .before .before .before .args in let l = c .before .before .before .before .before .before .loop in omega (arith, block-inside (now (a .s)) (a .nest) (l .here) (rest-taken (now (a .s)) (a .nest) (a .at) (now (a .quads)) (now (a .present)) (a .count) (l .here) (l .n) (l .assigned) (l .quads) (l .present) (l .inv)), forward-read (readStatement (now (a .s)) (a .nest) (l .here)) (statement-forward (now (a .s)) (a .nest) (l .here)) (c .before .make-statement .ensures .read)))
+    (λ c. let a = c .before .before .before .before .before .before .before .before .args in let l = c .before .before .before .before .before .before .loop in omega (
+      arith,
+      block-inside (now (a .s)) (a .nest) (l .here)
+          (rest-taken (now (a .s)) (a .nest) (a .at) (now (a .quads)) (now (a .present)) (a .count) (l .here) (l .n) (l .assigned) (l .quads) (l .present) (l .inv)),
+      forward-read (readStatement (now (a .s)) (a .nest) (l .here)) (statement-forward (now (a .s)) (a .nest) (l .here)) (c .before .make-statement .ensures .read),
+    ))
     (make-block-loop-again t))
     (λ t. make-branch-lts.spec (make-branch-claims t) (make-branch-at t)
     make-branch.Post
     (λ c. search needs)
-    (λ c κs. let a = c .before .before .before .args in let h = c .before .before .before .pre .1 .1 .1 in (c .before .before .before .pre .1 .0, test-taken (now (a .s)) (a .nest) (a .at) h))
-    (λ c. let a = c .before .before .before .before .before .before .args in let h = c .before .before .before .before .before .before .pre .1 .1 .1 in omega (arith, branch-level (now (a .s)) (a .nest) (a .at) h))
+    (λ c κs. let a = c .before .before .before .args in let h = c .before .before .before .pre .1 .1 .1 in
+    (c .before .before .before .pre .1 .0, test-taken (now (a .s)) (a .nest) (a .at) h))
+    (λ c. let a = c .before .before .before .before .before .before .args in let h = c .before .before .before .before .before .before .pre .1 .1 .1 in omega
+    (arith, branch-level (now (a .s)) (a .nest) (a .at) h))
     (make-branch-make-block-requires t)
-    (λ c. let a = c .before .before .before .before .before .before .before .before .before .args in let h = c .before .before .before .before .before .before .before .before .before .pre .1 .1 .1 in omega (arith, branch-level (now (a .s)) (a .nest) (a .at) h))
+    (λ c. let a = c .before .before .before .before .before .before .before .before .before .args in
+    let h = c .before .before .before .before .before .before .before .before .before .pre .1 .1 .1 in omega (arith, branch-level (now (a .s)) (a .nest) (a .at) h))
     (make-branch-make-block-requires-2 t)
     (λ c. omega (arith, c .before .before .before .before .before .before .before .before .before .before .before .before .before .before .before .before .before .pre .1 .0 .kinds))
     (λ c κs. c .before .before .before .before .before .before .before .before .before .before .before .before .before .before .before .before .before .before .before .pre .1 .0 .few)
@@ -190,11 +296,32 @@ pub +make-block+make-branch+make-statement-spec : {M : Type 1} → statement M
     (λ c. search needs)
     (λ c κs. search needs)
     (make-statement-returns t)
-    (λ c. let a = c .before .before .before .before .before .before .args in let code = c .before .before .before .code-of .result in let is = c .before .before .before .code-of .ensures in made-skip (now (a .s)) (a .nest) (a .at) code is (c .before .enum-told2 .given .1) (now (a .quads)) (now (a .present)) (a .count) (c .passed .result .next) (c .passed .result .count) (c .passed .result .assigned) (c .passed .ensures .0) (c .passed .ensures .1 .0) (c .passed .ensures .1 .1))
+    (λ c. let a = c .before .before .before .before .before .before .args in let code = c .before .before .before .code-of .result in
+    let is = c .before .before .before .code-of .ensures in made-skip (now (a .s)) (a .nest) (a .at) code is (c .before .enum-told2 .given .1) (now (a .quads))
+    (now (a .present)) (a .count) (c .passed .result .next) (c .passed .result .count) (c .passed .result .assigned) (c .passed .ensures .0)
+    (c .passed .ensures .1 .0) (c .passed .ensures .1 .1))
     (make-statement-returns-3 t)
-    (λ c. let a = c .before .before .before .before .before .before .args in let code = c .before .before .before .code-of .result in let is = c .before .before .before .code-of .ensures in absurd (statement-read-as (now (a .s)) (a .nest) (a .at) code is (c .before .before .before .before .before .before .pre .1 .1 .1) form.End (c .before .enum-told4 .given .1)))
-    (λ c. let a = c .before .before .before .before .before .before .args in let code = c .before .before .before .code-of .result in let is = c .before .before .before .code-of .ensures in absurd (statement-read-as (now (a .s)) (a .nest) (a .at) code is (c .before .before .before .before .before .before .pre .1 .1 .1) form.Variable (c .before .enum-told5 .given .1)))
-    (λ c. let a = c .before .before .before .before .before .before .args in let code = c .before .before .before .code-of .result in let is = c .before .before .before .code-of .ensures in absurd (statement-read-as (now (a .s)) (a .nest) (a .at) code is (c .before .before .before .before .before .before .pre .1 .1 .1) form.Word (c .before .enum-told6 .given .1)))
-    (λ c. let a = c .before .before .before .before .before .before .args in let code = c .before .before .before .code-of .result in let is = c .before .before .before .code-of .ensures in absurd (statement-read-as (now (a .s)) (a .nest) (a .at) code is (c .before .before .before .before .before .before .pre .1 .1 .1) form.Bit (c .before .enum-told7 .given .1)))
-    (λ c. let a = c .before .before .before .before .before .before .args in let code = c .before .before .before .code-of .result in let is = c .before .before .before .code-of .ensures in absurd (statement-read-as (now (a .s)) (a .nest) (a .at) code is (c .before .before .before .before .before .before .pre .1 .1 .1) (form.Apply (c .before .enum-told8 .given .0 .0)) (c .before .enum-told8 .given .1)))
-    (λ c. let a = c .before .before .before .before .before .before .args in let code = c .before .before .before .code-of .result in let is = c .before .before .before .code-of .ensures in absurd (statement-read-as (now (a .s)) (a .nest) (a .at) code is (c .before .before .before .before .before .before .pre .1 .1 .1) form.Unknown (c .before .enum-told9 .given .1)))
+    (λ c. let a = c .before .before .before .before .before .before .args in let code = c .before .before .before .code-of .result in
+    let is = c .before .before .before .code-of .ensures in absurd
+    (statement-read-as (now (a .s)) (a .nest) (a .at) code is (c .before .before .before .before .before .before .pre .1 .1 .1) form.End
+    (c .before .enum-told4 .given .1)))
+    (λ c. let a = c .before .before .before .before .before .before .args in let code = c .before .before .before .code-of .result in
+    let is = c .before .before .before .code-of .ensures in absurd
+    (statement-read-as (now (a .s)) (a .nest) (a .at) code is (c .before .before .before .before .before .before .pre .1 .1 .1) form.Variable
+    (c .before .enum-told5 .given .1)))
+    (λ c. let a = c .before .before .before .before .before .before .args in let code = c .before .before .before .code-of .result in
+    let is = c .before .before .before .code-of .ensures in absurd
+    (statement-read-as (now (a .s)) (a .nest) (a .at) code is (c .before .before .before .before .before .before .pre .1 .1 .1) form.Word
+    (c .before .enum-told6 .given .1)))
+    (λ c. let a = c .before .before .before .before .before .before .args in let code = c .before .before .before .code-of .result in
+    let is = c .before .before .before .code-of .ensures in absurd
+    (statement-read-as (now (a .s)) (a .nest) (a .at) code is (c .before .before .before .before .before .before .pre .1 .1 .1) form.Bit
+    (c .before .enum-told7 .given .1)))
+    (λ c. let a = c .before .before .before .before .before .before .args in let code = c .before .before .before .code-of .result in
+    let is = c .before .before .before .code-of .ensures in absurd
+    (statement-read-as (now (a .s)) (a .nest) (a .at) code is (c .before .before .before .before .before .before .pre .1 .1 .1)
+    (form.Apply (c .before .enum-told8 .given .0 .0)) (c .before .enum-told8 .given .1)))
+    (λ c. let a = c .before .before .before .before .before .before .args in let code = c .before .before .before .code-of .result in
+    let is = c .before .before .before .code-of .ensures in absurd
+    (statement-read-as (now (a .s)) (a .nest) (a .at) code is (c .before .before .before .before .before .before .pre .1 .1 .1) form.Unknown
+    (c .before .enum-told9 .given .1)))

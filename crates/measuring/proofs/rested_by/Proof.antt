@@ -25,19 +25,44 @@ member-requires : tie.Need-member-requires Inv-loop μ-loop
 member-requires c κs = (c .before .before .before .before .pre .within, c .loop-test .taken)
 
 mul-rested : tie.Need-mul-rested Inv-loop μ-loop
-mul-rested c = record { fits = omega (arith, member-inside _ _ _ _ (c .before .before .before .before .before .before .pre) (c .before .member .ensures) (c .before .before .loop-test .taken)) }
+mul-rested c = record {
+  fits = omega (
+    arith,
+    member-inside _ _ _ _ (c .before .before .before .before .before .before .pre) (c .before .member .ensures)
+        (c .before .before .loop-test .taken),
+  );
+}
 
 element-copy-out-rested : tie.Need-element-copy-out-rested Inv-loop μ-loop
-element-copy-out-rested c = member-inside _ _ _ _ (c .before .before .before .before .before .before .pre) (c .before .member .ensures) (c .before .before .loop-test .taken)
+element-copy-out-rested c = member-inside _ _ _ _ (c .before .before .before .before .before .before .pre) (c .before .member .ensures)
+    (c .before .before .loop-test .taken)
 
 add-n : tie.Need-add-n Inv-loop μ-loop
-add-n c = record { fits = omega (arith, c .before .before .before .before .before .loop .inv .few, c .before .before .before .before .loop-test .taken, c .rested .ensures, few-rests (getD (c .before .before .before .before .before .before .before .before .args .needs .now) (c .before .before .before .member .result .0) 0), c .before .before .before .before .before .before .shared-slice-known2 .given (c .before .before .before .before .before .before .before .before .args .at)) }
+add-n c = record {
+  fits = omega (
+    arith,
+    c .before .before .before .before .before .loop .inv .few,
+    c .before .before .before .before .loop-test .taken,
+    c .rested .ensures,
+    few-rests
+        (getD (c .before .before .before .before .before .before .before .before .args .needs .now) (c .before .before .before .member .result .0) 0),
+    c .before .before .before .before .before .before .shared-slice-known2 .given (c .before .before .before .before .before .before .before .before .args .at),
+  );
+}
 
 loop-again : tie.Need-loop-again Inv-loop μ-loop
-loop-again c = summing-step _ _ _ _ _ _ (c .before .before .before .before .before .loop .inv) (omega (arith, length-group (c .before .before .before .before .before .before .before .before .args .plan .now) (c .before .before .before .before .before .before .before .before .args .at), c .before .before .before .before .loop-test .taken)) (c .before .before .before .member .ensures) (c .rested .ensures)
+loop-again c = summing-step _ _ _ _ _ _ (c .before .before .before .before .before .loop .inv)
+    (omega (
+      arith,
+      length-group (c .before .before .before .before .before .before .before .before .args .plan .now)
+          (c .before .before .before .before .before .before .before .before .args .at),
+      c .before .before .before .before .loop-test .taken,
+    ))
+    (c .before .before .before .member .ensures) (c .rested .ensures)
 
 returns : tie.Need-returns Inv-loop μ-loop
-returns c = summing-end _ _ _ _ (c .before .loop .inv) (omega (arith, length-group (c .before .before .before .before .args .plan .now) (c .before .before .before .before .args .at), c .loop-test .left))
+returns c = summing-end _ _ _ _ (c .before .loop .inv)
+    (omega (arith, length-group (c .before .before .before .before .args .plan .now) (c .before .before .before .before .args .at), c .loop-test .left))
 
 pub rested-by-spec : {M : Type 1} → statement M
 rested-by-spec =

@@ -15,10 +15,13 @@ cast-code-of : tie.Need-cast-code-of
 cast-code-of c = record { fits = omega (arith, coded-byte _ _ (c .before .before .before .before .pre)) }
 
 returns-3 : tie.Need-returns-3
-returns-3 c = short-sized _ _ (c .before .before .before .before .before .before .before .pre) (c .before .before .before .before .if1 .left) (c .before .before .before .if2 .left) _ (c .before .before .code-of .ensures) (c .if3 .taken)
+returns-3 c = short-sized _ _ (c .before .before .before .before .before .before .before .pre) (c .before .before .before .before .if1 .left)
+    (c .before .before .before .if2 .left) _ (c .before .before .code-of .ensures) (c .if3 .taken)
 
 returns-4 : tie.Need-returns-4
-returns-4 c = applied-sized _ _ (c .before .before .before .before .before .before .before .before .before .pre) (c .before .before .before .before .before .before .if1 .left) (c .before .before .before .before .before .if2 .left) _ (c .before .before .before .before .code-of .ensures) (c .before .before .if3 .left)
+returns-4 c = applied-sized _ _ (c .before .before .before .before .before .before .before .before .before .pre)
+    (c .before .before .before .before .before .before .if1 .left) (c .before .before .before .before .before .if2 .left) _
+    (c .before .before .before .before .code-of .ensures) (c .before .before .if3 .left)
 
 pub size-alone-spec : {M : Type 1} → statement M
 size-alone-spec =

@@ -13,25 +13,69 @@ cast-code-of : tie.Need-cast-code-of
 cast-code-of c = record { fits = omega (arith, joined-first _ _ _ _ (c .before .before .before .before .before .before .pre) (c .before .before .member .ensures) .1) }
 
 mul-t13 : tie.Need-mul-t13
-mul-t13 c = record { fits = omega (arith, c .before .before .before .before .before .shared-slice-known2 .given (c .before .before .before .before .before .before .before .args .at)) }
+mul-t13 c = record {
+  fits = omega
+      (arith, c .before .before .before .before .before .shared-slice-known2 .given (c .before .before .before .before .before .before .before .args .at));
+}
 
 mul-t17 : tie.Need-mul-t17
-mul-t17 c = record { fits = omega (arith, c .before .before .before .before .rested-by .ensures, rested-few (c .before .before .before .before .before .before .before .args .needs .now) (c .before .before .before .before .before .before .before .args .plan .now) (c .before .before .before .before .before .before .before .args .at), c .before .before .before .before .before .shared-slice-known2 .given (c .before .before .before .before .before .before .before .args .at)) }
+mul-t17 c = record {
+  fits = omega (
+    arith,
+    c .before .before .before .before .rested-by .ensures,
+    rested-few (c .before .before .before .before .before .before .before .args .needs .now)
+        (c .before .before .before .before .before .before .before .args .plan .now)
+        (c .before .before .before .before .before .before .before .args .at),
+    c .before .before .before .before .before .shared-slice-known2 .given
+        (c .before .before .before .before .before .before .before .args .at),
+  );
+}
 
 add-t18 : tie.Need-add-t18
-add-t18 c = record { fits = omega (arith, c .before .before .before .before .rested-by .ensures, rested-few (c .before .before .before .before .before .before .before .args .needs .now) (c .before .before .before .before .before .before .before .args .plan .now) (c .before .before .before .before .before .before .before .args .at), c .before .before .before .before .before .shared-slice-known2 .given (c .before .before .before .before .before .before .before .args .at)) }
+add-t18 c = record {
+  fits = omega (
+    arith,
+    c .before .before .before .before .rested-by .ensures,
+    rested-few (c .before .before .before .before .before .before .before .args .needs .now)
+        (c .before .before .before .before .before .before .before .args .plan .now)
+        (c .before .before .before .before .before .before .before .args .at),
+    c .before .before .before .before .before .shared-slice-known2 .given
+        (c .before .before .before .before .before .before .before .args .at),
+  );
+}
 
 add-t19 : tie.Need-add-t19
-add-t19 c = record { fits = omega (arith, c .before .before .before .before .rested-by .ensures, rested-few (c .before .before .before .before .before .before .before .args .needs .now) (c .before .before .before .before .before .before .before .args .plan .now) (c .before .before .before .before .before .before .before .args .at), c .before .before .before .before .before .shared-slice-known2 .given (c .before .before .before .before .before .before .before .args .at)) }
+add-t19 c = record {
+  fits = omega (
+    arith,
+    c .before .before .before .before .rested-by .ensures,
+    rested-few (c .before .before .before .before .before .before .before .args .needs .now)
+        (c .before .before .before .before .before .before .before .args .plan .now)
+        (c .before .before .before .before .before .before .before .args .at),
+    c .before .before .before .before .before .shared-slice-known2 .given
+        (c .before .before .before .before .before .before .before .args .at),
+  );
+}
 
 mul-t20 : tie.Need-mul-t20
-mul-t20 c = record { fits = omega (arith, c .before .before .before .before .before .shared-slice-known2 .given (c .before .before .before .before .before .before .before .args .at)) }
+mul-t20 c = record {
+  fits = omega
+      (arith, c .before .before .before .before .before .shared-slice-known2 .given (c .before .before .before .before .before .before .before .args .at));
+}
 
 add-t22 : tie.Need-add-t22
-add-t22 c = let z : getD (c .before .before .before .before .before .before .before .before .args .plan .now) (c .before .before .before .before .before .before .before .before .args .at) 0 < 256 = omega (arith, c .before .before .before .before .before .before .shared-slice-known2 .given (c .before .before .before .before .before .before .before .before .args .at)) in search needs
+add-t22 c =
+    let z : getD (c .before .before .before .before .before .before .before .before .args .plan .now)
+    (c .before .before .before .before .before .before .before .before .args .at) 0 < 256 = omega (
+      arith,
+      c .before .before .before .before .before .before .shared-slice-known2 .given
+          (c .before .before .before .before .before .before .before .before .args .at),
+    ) in
+    search needs
 
 returns : tie.Need-returns
-returns c = joined-sized _ _ _ _ _ _ _ (c .before .before .before .before .before .before .before .before .pre) (c .before .before .before .before .before .rested-by .ensures) (c .before .before .before .before .member .ensures) (c .before .code-of .ensures)
+returns c = joined-sized _ _ _ _ _ _ _ (c .before .before .before .before .before .before .before .before .pre)
+    (c .before .before .before .before .before .rested-by .ensures) (c .before .before .before .before .member .ensures) (c .before .code-of .ensures)
 
 pub size-joined-spec : {M : Type 1} → statement M
 size-joined-spec =

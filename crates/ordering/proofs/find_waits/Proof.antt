@@ -37,7 +37,8 @@ mul-if1 c =
     record { fits = omega (arith, c6 .loop .inv .orderable .room, c .before .before .before .before .before .loop-test .taken) }
 
 element-copy-out-if1 : tie.Need-element-copy-out-if1 Inv-loop μ-loop
-element-copy-out-if1 c = omega (arith, c .before .before .before .before .before .before .loop .inv .orderable .room, c .before .before .before .before .before .loop-test .taken)
+element-copy-out-if1 c = omega
+    (arith, c .before .before .before .before .before .before .loop .inv .orderable .room, c .before .before .before .before .before .loop-test .taken)
 
 mul-wait-conditions : tie.Need-mul-wait-conditions Inv-loop μ-loop
 mul-wait-conditions c =
@@ -56,7 +57,11 @@ wait-conditions-requires c κs =
     let i = c .before .before .before .before .before .before .before .before .before .before .loop .inv in
     let t = c .before .before .before .before .before .before .before .before .before .loop-test .taken in (
       rw (c .before .before .before .before .before .before .before .before .group-of .ensures) (gathering-group _ _ _ _ _ _ _ _ i t),
-      (gathering-size _ _ _ _ _ _ _ _ i t _ _ _ (c .before .before .before .before .before .before .wait-arguments .ensures), gathering-conditions _ _ _ _ _ _ _ _ i t _ refl),
+      (
+        gathering-size _ _ _ _ _ _ _ _ i t _ _ _
+            (c .before .before .before .before .before .before .wait-arguments .ensures),
+        gathering-conditions _ _ _ _ _ _ _ _ i t _ refl,
+      ),
     )
 
 loop-again : tie.Need-loop-again Inv-loop μ-loop

@@ -9,7 +9,8 @@ use Rattle.ordering.proofs.order_groups.Statement.{statement}
 use Rattle.ordering.proofs.order_groups.Tie as tie
 
 abbrev Inv-loop : tie.InvT-loop
-Inv-loop quads count needs conditions group places order₀ waits left₀ k₀ from₀ order left k from = (done : List ℕ) × PlacingIn quads count needs group waits order₀ order left k from done
+Inv-loop quads count needs conditions group places order₀ waits left₀ k₀ from₀ order left k from = (done : List ℕ)
+    × PlacingIn quads count needs group waits order₀ order left k from done
 
 abbrev μ-loop : tie.MeasureT-loop
 μ-loop quads count needs conditions group places order₀ waits left₀ k₀ from₀ order left k from = (count - from) + (256 - k)
@@ -38,7 +39,11 @@ cast-t20 : tie.Need-cast-t20 Inv-loop μ-loop
 cast-t20 c = record { fits = omega (arith, c .before .loop .inv .1 .tabled .room, c .loop-test .taken) }
 
 has-requires : tie.Need-has-requires Inv-loop μ-loop
-has-requires c κs = (omega (arith, c .before .before .loop .inv .1 .tabled .lefts .size), omega (arith, c .before .before .loop .inv .1 .tabled .room, c .before .loop-test .taken))
+has-requires c κs = (
+  omega (arith, c .before .before .loop .inv .1 .tabled .lefts .size),
+  omega
+      (arith, c .before .before .loop .inv .1 .tabled .room, c .before .loop-test .taken),
+)
 
 slice-aggregate-next-ready : tie.Need-slice-aggregate-next-ready Inv-loop μ-loop
 slice-aggregate-next-ready c = sym (c .before .before .before .before .before .loop .inv .1 .tabled .waiting .size)
@@ -54,7 +59,10 @@ next-ready-requires c κs =
 mul-order : tie.Need-mul-order Inv-loop μ-loop
 mul-order c =
     let c10 = c .before .before .before .before .before .before .before .before .before .before in
-    record { fits = omega (arith, placing-room _ _ _ _ _ _ _ _ _ _ (c10 .loop .inv .1) _ (sym (c .before .p .given .1) ∙ c .before .before .before .next-ready .ensures) .1) }
+    record {
+      fits = omega
+          (arith, placing-room _ _ _ _ _ _ _ _ _ _ (c10 .loop .inv .1) _ (sym (c .before .p .given .1) ∙ c .before .before .before .next-ready .ensures) .1);
+    }
 
 element-write-order : tie.Need-element-write-order Inv-loop μ-loop
 element-write-order c =
@@ -76,7 +84,10 @@ add-k : tie.Need-add-k Inv-loop μ-loop
 add-k c =
     let c6 = c .before .before .before .before .before .before in
     let c13 = c6 .before .before .before .before .before .before .before in
-    record { fits = omega (arith, placing-room _ _ _ _ _ _ _ _ _ _ (c13 .loop .inv .1) _ (sym (c .before .before .before .before .p .given .1) ∙ c6 .next-ready .ensures) .1) }
+    record {
+      fits = omega
+          (arith, placing-room _ _ _ _ _ _ _ _ _ _ (c13 .loop .inv .1) _ (sym (c .before .before .before .before .p .given .1) ∙ c6 .next-ready .ensures) .1);
+    }
 
 loop-less : tie.Need-loop-less Inv-loop μ-loop
 loop-less c =
@@ -116,7 +127,8 @@ loop-again-2 c = (
 )
 
 returns-2 : tie.Need-returns-2 Inv-loop μ-loop
-returns-2 c = ordering-end _ _ _ (c .before .before .before .before .before .before .before .before .args .group .now) _ _ _ _ _ _ _ (c .before .loop .inv .1) (c .loop-test .left)
+returns-2 c = ordering-end _ _ _ (c .before .before .before .before .before .before .before .before .args .group .now) _ _ _ _ _ _ _ (c .before .loop .inv .1)
+    (c .loop-test .left)
 
 pub order-groups-spec : {M : Type 1} → statement M
 order-groups-spec =

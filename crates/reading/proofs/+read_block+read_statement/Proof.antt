@@ -70,42 +70,64 @@ abbrev read-block-claims : ℕ → read-block-lts.Claims
 read-block-claims t = (read-statement-below t, read-statement.Post)
 
 abbrev read-statement-claims : ℕ → read-statement-lts.Claims
-read-statement-claims t = (code-of-reads.Asked, code-of-reads.Learnt, read-assign-reads.Asked, read-assign-reads.Learnt, read-expr-reads.Asked, read-expr-reads.Learnt, read-block-below t, read-block.Post)
+read-statement-claims t = (
+  code-of-reads.Asked,
+  code-of-reads.Learnt,
+  read-assign-reads.Asked,
+  read-assign-reads.Learnt,
+  read-expr-reads.Asked,
+  read-expr-reads.Learnt,
+  read-block-below t,
+  read-block.Post,
+)
 
 read-block-loop-holds : (t : ℕ) → read-block-lts.Need-loop-holds (read-block-claims t) (read-block-at t) read-block.Post read-block-Inv-loop read-block-μ-loop
 read-block-loop-holds t c = (search needs, refl)
 
 read-block-returns : (t : ℕ) → read-block-lts.Need-returns (read-block-claims t) (read-block-at t) read-block.Post read-block-Inv-loop read-block-μ-loop
-read-block-returns t c = let a = c .before .before .before .args in let l = c .before .loop in ap stepOf (sym (block-short (now (a .s)) (a .nest) (l .here) (c .if1 .taken))) ∙ l .inv .1
+read-block-returns t c = let a = c .before .before .before .args in let l = c .before .loop in ap stepOf
+    (sym (block-short (now (a .s)) (a .nest) (l .here) (c .if1 .taken))) ∙ l .inv .1
 
 read-block-returns-2 : (t : ℕ) → read-block-lts.Need-returns-2 (read-block-claims t) (read-block-at t) read-block.Post read-block-Inv-loop read-block-μ-loop
-read-block-returns-2 t c = let a = c .before .before .before .before .before .args in let l = c .before .before .before .loop in block-end (now (a .s)) (a .nest) (l .here) (c .before .before .if1 .left) (c .if2 .taken) ∙ l .inv .1
+read-block-returns-2 t c = let a = c .before .before .before .before .before .args in let l = c .before .before .before .loop in block-end (now (a .s)) (a .nest)
+    (l .here) (c .before .before .if1 .left) (c .if2 .taken) ∙ l .inv .1
 
 read-block-loop-less : (t : ℕ) → read-block-lts.Need-loop-less (read-block-claims t) (read-block-at t) read-block.Post read-block-Inv-loop read-block-μ-loop
 read-block-loop-less t c =
     let a = c .before .before .before .before .before .before .before .before .before .args in let l = c .before .before .before .before .before .before .before .loop in
-    omega (arith, forward-past (readStatement (now (a .s)) (a .nest) (l .here)) (statement-forward (now (a .s)) (a .nest) (l .here)) (sym (c .before .next .given .1) ∙ c .before .before .before .read-statement .ensures))
+    omega (
+      arith,
+      forward-past (readStatement (now (a .s)) (a .nest) (l .here)) (statement-forward (now (a .s)) (a .nest) (l .here))
+          (sym (c .before .next .given .1) ∙ c .before .before .before .read-statement .ensures),
+    )
 
 read-block-loop-again : (t : ℕ) → read-block-lts.Need-loop-again (read-block-claims t) (read-block-at t) read-block.Post read-block-Inv-loop read-block-μ-loop
 read-block-loop-again t c =
     let a = c .before .before .before .before .before .before .before .before .before .args in let l = c .before .before .before .before .before .before .before .loop in
     let step = sym (c .before .next .given .1) ∙ c .before .before .before .read-statement .ensures in (
       omega (arith, forward-past (readStatement (now (a .s)) (a .nest) (l .here)) (statement-forward (now (a .s)) (a .nest) (l .here)) step),
-      block-more (now (a .s)) (a .nest) (l .here) (c .before .before .before .before .before .before .if1 .left) (c .before .before .before .before .if2 .left) step ∙ l .inv .1,
+      block-more (now (a .s)) (a .nest) (l .here) (c .before .before .before .before .before .before .if1 .left) (c .before .before .before .before .if2 .left) step
+          ∙ l .inv .1,
     )
 
 read-block-returns-3 : (t : ℕ) → read-block-lts.Need-returns-3 (read-block-claims t) (read-block-at t) read-block.Post read-block-Inv-loop read-block-μ-loop
 read-block-returns-3 t c =
     let a = c .before .before .before .before .before .before .before .before .before .args in let l = c .before .before .before .before .before .before .before .loop in
-    block-refused (now (a .s)) (a .nest) (l .here) (c .before .before .before .before .before .before .if1 .left) (c .before .before .before .before .if2 .left) (sym (c .before .number .given .1) ∙ c .before .before .before .read-statement .ensures) ∙ l .inv .1
+    block-refused (now (a .s)) (a .nest) (l .here) (c .before .before .before .before .before .before .if1 .left) (c .before .before .before .before .if2 .left)
+    (sym (c .before .number .given .1) ∙ c .before .before .before .read-statement .ensures) ∙ l .inv .1
 
 read-statement-returns : (t : ℕ) → read-statement-lts.Need-returns (read-statement-claims t) (read-statement-at t) read-statement.Post
-read-statement-returns t c = let a = c .before .before .before .before .before .before .args in branch-deep (now (a .s)) (a .nest) (a .at) (c .before .before .before .code-of .result) (c .before .before .before .code-of .ensures) (c .before .enum-told3 .given .1) (c .if1 .taken)
+read-statement-returns t c = let a = c .before .before .before .before .before .before .args in branch-deep (now (a .s)) (a .nest) (a .at)
+    (c .before .before .before .code-of .result) (c .before .before .before .code-of .ensures) (c .before .enum-told3 .given .1) (c .if1 .taken)
 
 read-statement-read-block-requires : (t : ℕ) → read-statement-lts.Need-read-block-requires (read-statement-claims t) (read-statement-at t) read-statement.Post
 read-statement-read-block-requires t c κs =
     let a = c .before .before .before .before .before .before .before .before .before .before .args in
-    omega (arith, forward-past (readExpr deepest (now (a .s)) Bit (a .at + 1)) (expr-forward deepest (now (a .s)) Bit (a .at + 1)) (sym (c .before .first .given .1) ∙ c .before .before .before .read-expr .ensures))
+    omega (
+      arith,
+      forward-past (readExpr deepest (now (a .s)) Bit (a .at + 1)) (expr-forward deepest (now (a .s)) Bit (a .at + 1))
+          (sym (c .before .first .given .1) ∙ c .before .before .before .read-expr .ensures),
+    )
 
 read-statement-read-block-requires-2 : (t : ℕ) → read-statement-lts.Need-read-block-requires-2 (read-statement-claims t) (read-statement-at t) read-statement.Post
 read-statement-read-block-requires-2 t c κs =
@@ -113,32 +135,47 @@ read-statement-read-block-requires-2 t c κs =
     let first = c .before .before .before .before .before .first .given .0 .0 in
     omega (
       arith,
-      forward-past (readExpr deepest (now (a .s)) Bit (a .at + 1)) (expr-forward deepest (now (a .s)) Bit (a .at + 1)) (sym (c .before .before .before .before .before .first .given .1) ∙ c .before .before .before .before .before .before .before .read-expr .ensures),
-      forward-past (readBlock (now (a .s)) (a .nest - 1) first) (block-forward (now (a .s)) (a .nest - 1) first) (sym (c .before .second .given .1) ∙ c .before .before .before .read-block .ensures),
+      forward-past (readExpr deepest (now (a .s)) Bit (a .at + 1)) (expr-forward deepest (now (a .s)) Bit (a .at + 1))
+          (sym (c .before .before .before .before .before .first .given .1) ∙ c .before .before .before .before .before .before .before .read-expr .ensures),
+      forward-past (readBlock (now (a .s)) (a .nest - 1) first) (block-forward (now (a .s)) (a .nest - 1) first)
+          (sym (c .before .second .given .1) ∙ c .before .before .before .read-block .ensures),
     )
 
 read-statement-returns-2 : (t : ℕ) → read-statement-lts.Need-returns-2 (read-statement-claims t) (read-statement-at t) read-statement.Post
-read-statement-returns-2 t c = let a = c .before .before .before .before .before .before .args in c .read-assign .ensures ∙ ap stepOf (sym (statement-as (now (a .s)) (a .nest) (a .at) (c .before .before .before .code-of .result) form.Assign (c .before .before .before .code-of .ensures) (c .before .enum-told .given .1)))
+read-statement-returns-2 t c = let a = c .before .before .before .before .before .before .args in c .read-assign .ensures ∙ ap stepOf
+    (sym (statement-as (now (a .s)) (a .nest) (a .at) (c .before .before .before .code-of .result) form.Assign (c .before .before .before .code-of .ensures)
+    (c .before .enum-told .given .1)))
 
 read-statement-returns-3 : (t : ℕ) → read-statement-lts.Need-returns-3 (read-statement-claims t) (read-statement-at t) read-statement.Post
-read-statement-returns-3 t c = let a = c .before .before .before .before .before .args in ap stepOf (sym (statement-as (now (a .s)) (a .nest) (a .at) (c .before .before .code-of .result) form.Skip (c .before .before .code-of .ensures) (c .enum-told2 .given .1)))
+read-statement-returns-3 t c = let a = c .before .before .before .before .before .args in ap stepOf
+    (sym (statement-as (now (a .s)) (a .nest) (a .at) (c .before .before .code-of .result) form.Skip (c .before .before .code-of .ensures) (c .enum-told2 .given .1)))
 
 read-statement-returns-4 : (t : ℕ) → read-statement-lts.Need-returns-4 (read-statement-claims t) (read-statement-at t) read-statement.Post
 read-statement-returns-4 t c =
     let a = c .before .before .before .before .before .before .before .before .before .before .before .before .before .before .before .args in
-    branch-second (now (a .s)) (a .nest) (a .at) (c .before .before .before .before .before .before .before .before .before .before .before .before .code-of .result) (c .before .before .before .before .before .before .before .before .before .before .before .before .code-of .ensures) (c .before .before .before .before .before .before .before .before .before .before .enum-told3 .given .1) (c .before .before .before .before .before .before .before .before .before .if1 .left)
-    (sym (c .before .before .before .before .before .before .first .given .1) ∙ c .before .before .before .before .before .before .before .before .read-expr .ensures) (sym (c .before .before .second .given .1) ∙ c .before .before .before .before .read-block .ensures) (c .read-block2 .ensures)
+    branch-second (now (a .s)) (a .nest) (a .at) (c .before .before .before .before .before .before .before .before .before .before .before .before .code-of .result)
+    (c .before .before .before .before .before .before .before .before .before .before .before .before .code-of .ensures)
+    (c .before .before .before .before .before .before .before .before .before .before .enum-told3 .given .1)
+    (c .before .before .before .before .before .before .before .before .before .if1 .left)
+    (sym (c .before .before .before .before .before .before .first .given .1) ∙ c .before .before .before .before .before .before .before .before .read-expr .ensures)
+    (sym (c .before .before .second .given .1) ∙ c .before .before .before .before .read-block .ensures) (c .read-block2 .ensures)
 
 read-statement-returns-5 : (t : ℕ) → read-statement-lts.Need-returns-5 (read-statement-claims t) (read-statement-at t) read-statement.Post
 read-statement-returns-5 t c =
     let a = c .before .before .before .before .before .before .before .before .before .before .before .before .before .before .args in
-    branch-first (now (a .s)) (a .nest) (a .at) (c .before .before .before .before .before .before .before .before .before .before .before .code-of .result) (c .before .before .before .before .before .before .before .before .before .before .before .code-of .ensures) (c .before .before .before .before .before .before .before .before .before .enum-told3 .given .1) (c .before .before .before .before .before .before .before .before .if1 .left)
-    (sym (c .before .before .before .before .before .first .given .1) ∙ c .before .before .before .before .before .before .before .read-expr .ensures) (sym (c .before .number .given .1) ∙ c .before .before .before .read-block .ensures)
+    branch-first (now (a .s)) (a .nest) (a .at) (c .before .before .before .before .before .before .before .before .before .before .before .code-of .result)
+    (c .before .before .before .before .before .before .before .before .before .before .before .code-of .ensures)
+    (c .before .before .before .before .before .before .before .before .before .enum-told3 .given .1)
+    (c .before .before .before .before .before .before .before .before .if1 .left)
+    (sym (c .before .before .before .before .before .first .given .1) ∙ c .before .before .before .before .before .before .before .read-expr .ensures)
+    (sym (c .before .number .given .1) ∙ c .before .before .before .read-block .ensures)
 
 read-statement-returns-6 : (t : ℕ) → read-statement-lts.Need-returns-6 (read-statement-claims t) (read-statement-at t) read-statement.Post
 read-statement-returns-6 t c =
     let a = c .before .before .before .before .before .before .before .before .before .before .args in
-    branch-refused (now (a .s)) (a .nest) (a .at) (c .before .before .before .before .before .before .before .code-of .result) (c .before .before .before .before .before .before .before .code-of .ensures) (c .before .before .before .before .before .enum-told3 .given .1) (c .before .before .before .before .if1 .left) (sym (c .before .number2 .given .1) ∙ c .before .before .before .read-expr .ensures)
+    branch-refused (now (a .s)) (a .nest) (a .at) (c .before .before .before .before .before .before .before .code-of .result)
+    (c .before .before .before .before .before .before .before .code-of .ensures) (c .before .before .before .before .before .enum-told3 .given .1)
+    (c .before .before .before .before .if1 .left) (sym (c .before .number2 .given .1) ∙ c .before .before .before .read-expr .ensures)
 
 read-statement-returns-7 : (t : ℕ) → read-statement-lts.Need-returns-7 (read-statement-claims t) (read-statement-at t) read-statement.Post
 read-statement-returns-7 t c =

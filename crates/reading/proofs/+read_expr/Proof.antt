@@ -31,7 +31,20 @@ read-expr-below t =
     and 1 read-expr-kinds.ps (falls 1 read-expr-kinds.ps _<_ μ-read-expr t) read-expr.Pre
 
 abbrev read-expr-claims : ℕ → read-expr-lts.Claims
-read-expr-claims t = (code-of-reads.Asked, code-of-reads.Learnt, read-variable-reads.Asked, read-variable-reads.Learnt, read-word-reads.Asked, read-word-reads.Learnt, read-bit-reads.Asked, read-bit-reads.Learnt, same-kind-reads.Asked, same-kind-reads.Learnt, read-expr-below t, read-expr.Post)
+read-expr-claims t = (
+  code-of-reads.Asked,
+  code-of-reads.Learnt,
+  read-variable-reads.Asked,
+  read-variable-reads.Learnt,
+  read-word-reads.Asked,
+  read-word-reads.Learnt,
+  read-bit-reads.Asked,
+  read-bit-reads.Learnt,
+  same-kind-reads.Asked,
+  same-kind-reads.Learnt,
+  read-expr-below t,
+  read-expr.Post,
+)
 
 read-expr-returns : (t : ℕ) → read-expr-lts.Need-returns (read-expr-claims t) (read-expr-at t) read-expr.Post
 read-expr-returns t c = let a = c .before .before .args in expr-short (a .deep) (now (a .s)) (a .want) (a .at) (c .if1 .taken)
@@ -39,47 +52,75 @@ read-expr-returns t c = let a = c .before .before .args in expr-short (a .deep) 
 read-expr-returns-2 : (t : ℕ) → read-expr-lts.Need-returns-2 (read-expr-claims t) (read-expr-at t) read-expr.Post
 read-expr-returns-2 t c =
     let a = c .before .before .before .before .before .before .before .before .args in
-    expr-kind (a .deep) (now (a .s)) (a .want) (a .at) (c .before .before .before .before .code-of .result) (c .before .before .before .before .before .before .if1 .left) (c .before .before .before .before .code-of .ensures) (c .before .before .enum-told4 .given .0 .0) (c .before .before .enum-told4 .given .1) (sym (c .before .same-kind .ensures) ∙ not-true _ (c .if2 .taken))
+    expr-kind (a .deep) (now (a .s)) (a .want) (a .at) (c .before .before .before .before .code-of .result)
+    (c .before .before .before .before .before .before .if1 .left) (c .before .before .before .before .code-of .ensures) (c .before .before .enum-told4 .given .0 .0)
+    (c .before .before .enum-told4 .given .1) (sym (c .before .same-kind .ensures) ∙ not-true _ (c .if2 .taken))
 
 read-expr-returns-3 : (t : ℕ) → read-expr-lts.Need-returns-3 (read-expr-claims t) (read-expr-at t) read-expr.Post
 read-expr-returns-3 t c =
     let a = c .before .before .before .before .before .before .before .before .before .args in
-    expr-deep (a .deep) (now (a .s)) (a .want) (a .at) (c .before .before .before .before .before .code-of .result) (c .before .before .before .before .before .before .before .if1 .left) (c .before .before .before .before .before .code-of .ensures) (c .before .before .before .enum-told4 .given .0 .0) (c .before .before .before .enum-told4 .given .1) (sym (c .before .before .same-kind .ensures) ∙ not-false _ (c .before .if2 .left)) (c .if3 .taken)
+    expr-deep (a .deep) (now (a .s)) (a .want) (a .at) (c .before .before .before .before .before .code-of .result)
+    (c .before .before .before .before .before .before .before .if1 .left) (c .before .before .before .before .before .code-of .ensures)
+    (c .before .before .before .enum-told4 .given .0 .0) (c .before .before .before .enum-told4 .given .1)
+    (sym (c .before .before .same-kind .ensures) ∙ not-false _ (c .before .if2 .left)) (c .if3 .taken)
 
 read-expr-returns-4 : (t : ℕ) → read-expr-lts.Need-returns-4 (read-expr-claims t) (read-expr-at t) read-expr.Post
 read-expr-returns-4 t c =
     let a = c .before .before .before .before .before .before .before .args in
-    c .read-variable .ensures ∙ ap stepOf (sym (expr-as (a .deep) (now (a .s)) (a .want) (a .at) (c .before .before .before .code-of .result) (c .before .before .before .before .before .if1 .left) (c .before .before .before .code-of .ensures) Variable (c .before .enum-told .given .1)))
+    c .read-variable .ensures ∙ ap stepOf
+    (sym (expr-as (a .deep) (now (a .s)) (a .want) (a .at) (c .before .before .before .code-of .result) (c .before .before .before .before .before .if1 .left)
+    (c .before .before .before .code-of .ensures) Variable (c .before .enum-told .given .1)))
 
 read-expr-returns-5 : (t : ℕ) → read-expr-lts.Need-returns-5 (read-expr-claims t) (read-expr-at t) read-expr.Post
 read-expr-returns-5 t c =
     let a = c .before .before .before .before .before .before .before .args in
-    c .read-word .ensures ∙ ap stepOf (sym (expr-as (a .deep) (now (a .s)) (a .want) (a .at) (c .before .before .before .code-of .result) (c .before .before .before .before .before .if1 .left) (c .before .before .before .code-of .ensures) Word (c .before .enum-told2 .given .1)))
+    c .read-word .ensures ∙ ap stepOf
+    (sym (expr-as (a .deep) (now (a .s)) (a .want) (a .at) (c .before .before .before .code-of .result) (c .before .before .before .before .before .if1 .left)
+    (c .before .before .before .code-of .ensures) Word (c .before .enum-told2 .given .1)))
 
 read-expr-returns-6 : (t : ℕ) → read-expr-lts.Need-returns-6 (read-expr-claims t) (read-expr-at t) read-expr.Post
 read-expr-returns-6 t c =
     let a = c .before .before .before .before .before .before .before .args in
-    c .read-bit .ensures ∙ ap stepOf (sym (expr-as (a .deep) (now (a .s)) (a .want) (a .at) (c .before .before .before .code-of .result) (c .before .before .before .before .before .if1 .left) (c .before .before .before .code-of .ensures) Bit (c .before .enum-told3 .given .1)))
+    c .read-bit .ensures ∙ ap stepOf
+    (sym (expr-as (a .deep) (now (a .s)) (a .want) (a .at) (c .before .before .before .code-of .result) (c .before .before .before .before .before .if1 .left)
+    (c .before .before .before .code-of .ensures) Bit (c .before .enum-told3 .given .1)))
 
 read-expr-returns-7 : (t : ℕ) → read-expr-lts.Need-returns-7 (read-expr-claims t) (read-expr-at t) read-expr.Post
 read-expr-returns-7 t c =
     let a = c .before .before .before .before .before .before .before .before .before .before .before .before .before .before .before .args in
-    expr-one (a .deep) (now (a .s)) (a .want) (a .at) (c .before .before .before .before .before .before .before .before .before .before .before .code-of .result) (c .before .before .before .before .before .before .before .before .before .before .before .before .before .if1 .left) (c .before .before .before .before .before .before .before .before .before .before .before .code-of .ensures) (c .before .before .before .before .before .before .before .before .before .enum-told4 .given .0 .0) (c .before .before .before .before .before .before .before .before .before .enum-told4 .given .1)
-    (sym (c .before .before .before .before .before .before .before .before .same-kind .ensures) ∙ not-false _ (c .before .before .before .before .before .before .before .if2 .left)) (c .before .before .before .before .before .before .if3 .left)
+    expr-one (a .deep) (now (a .s)) (a .want) (a .at) (c .before .before .before .before .before .before .before .before .before .before .before .code-of .result)
+    (c .before .before .before .before .before .before .before .before .before .before .before .before .before .if1 .left)
+    (c .before .before .before .before .before .before .before .before .before .before .before .code-of .ensures)
+    (c .before .before .before .before .before .before .before .before .before .enum-told4 .given .0 .0)
+    (c .before .before .before .before .before .before .before .before .before .enum-told4 .given .1)
+    (sym (c .before .before .before .before .before .before .before .before .same-kind .ensures) ∙ not-false _
+    (c .before .before .before .before .before .before .before .if2 .left)) (c .before .before .before .before .before .before .if3 .left)
     (sym (c .before .before .before .next .given .1) ∙ c .before .before .before .before .before .read-expr .ensures) (c .if4 .taken)
 
 read-expr-returns-8 : (t : ℕ) → read-expr-lts.Need-returns-8 (read-expr-claims t) (read-expr-at t) read-expr.Post
 read-expr-returns-8 t c =
     let a = c .before .before .before .before .before .before .before .before .before .before .before .before .before .before .before .before .args in
-    expr-two (a .deep) (now (a .s)) (a .want) (a .at) (c .before .before .before .before .before .before .before .before .before .before .before .before .code-of .result) (c .before .before .before .before .before .before .before .before .before .before .before .before .before .before .if1 .left) (c .before .before .before .before .before .before .before .before .before .before .before .before .code-of .ensures) (c .before .before .before .before .before .before .before .before .before .before .enum-told4 .given .0 .0) (c .before .before .before .before .before .before .before .before .before .before .enum-told4 .given .1)
-    (sym (c .before .before .before .before .before .before .before .before .before .same-kind .ensures) ∙ not-false _ (c .before .before .before .before .before .before .before .before .if2 .left)) (c .before .before .before .before .before .before .before .if3 .left)
-    (sym (c .before .before .before .before .next .given .1) ∙ c .before .before .before .before .before .before .read-expr .ensures) (c .before .if4 .left) (c .read-expr2 .ensures)
+    expr-two (a .deep) (now (a .s)) (a .want) (a .at)
+    (c .before .before .before .before .before .before .before .before .before .before .before .before .code-of .result)
+    (c .before .before .before .before .before .before .before .before .before .before .before .before .before .before .if1 .left)
+    (c .before .before .before .before .before .before .before .before .before .before .before .before .code-of .ensures)
+    (c .before .before .before .before .before .before .before .before .before .before .enum-told4 .given .0 .0)
+    (c .before .before .before .before .before .before .before .before .before .before .enum-told4 .given .1)
+    (sym (c .before .before .before .before .before .before .before .before .before .same-kind .ensures) ∙ not-false _
+    (c .before .before .before .before .before .before .before .before .if2 .left)) (c .before .before .before .before .before .before .before .if3 .left)
+    (sym (c .before .before .before .before .next .given .1) ∙ c .before .before .before .before .before .before .read-expr .ensures) (c .before .if4 .left)
+    (c .read-expr2 .ensures)
 
 read-expr-returns-9 : (t : ℕ) → read-expr-lts.Need-returns-9 (read-expr-claims t) (read-expr-at t) read-expr.Post
 read-expr-returns-9 t c =
     let a = c .before .before .before .before .before .before .before .before .before .before .before .before .before .args in
-    expr-refused (a .deep) (now (a .s)) (a .want) (a .at) (c .before .before .before .before .before .before .before .before .before .code-of .result) (c .before .before .before .before .before .before .before .before .before .before .before .if1 .left) (c .before .before .before .before .before .before .before .before .before .code-of .ensures) (c .before .before .before .before .before .before .before .enum-told4 .given .0 .0) (c .before .before .before .before .before .before .before .enum-told4 .given .1)
-    (sym (c .before .before .before .before .before .before .same-kind .ensures) ∙ not-false _ (c .before .before .before .before .before .if2 .left)) (c .before .before .before .before .if3 .left)
+    expr-refused (a .deep) (now (a .s)) (a .want) (a .at) (c .before .before .before .before .before .before .before .before .before .code-of .result)
+    (c .before .before .before .before .before .before .before .before .before .before .before .if1 .left)
+    (c .before .before .before .before .before .before .before .before .before .code-of .ensures)
+    (c .before .before .before .before .before .before .before .enum-told4 .given .0 .0)
+    (c .before .before .before .before .before .before .before .enum-told4 .given .1)
+    (sym (c .before .before .before .before .before .before .same-kind .ensures) ∙ not-false _ (c .before .before .before .before .before .if2 .left))
+    (c .before .before .before .before .if3 .left)
     (sym (c .before .number .given .1) ∙ c .before .before .before .read-expr .ensures)
 
 read-expr-returns-10 : (t : ℕ) → read-expr-lts.Need-returns-10 (read-expr-claims t) (read-expr-at t) read-expr.Post

@@ -16,15 +16,32 @@ returns-2 c = rw (sym (c .before .before .same-kind .ensures) ∙ not-false _ (c
 
 returns-3 : tie.Need-returns-3
 unfolding readBit
-returns-3 c = rw (sym (c .before .before .before .same-kind .ensures) ∙ not-false _ (c .before .before .if1 .left), some-left _ (c .before .if2 .left), le-ltb _ _ (c .if3 .taken))
+returns-3 c = rw (
+  sym (c .before .before .before .same-kind .ensures) ∙ not-false _ (c .before .before .if1 .left),
+  some-left _ (c .before .if2 .left),
+  le-ltb _ _
+      (c .if3 .taken),
+)
 
 returns-4 : tie.Need-returns-4
 unfolding readBit
-returns-4 c = rw (sym (c .before .before .before .before .before .same-kind .ensures) ∙ not-false _ (c .before .before .before .before .if1 .left), some-left _ (c .before .before .before .if2 .left), lt-ltb _ _ (c .before .before .if3 .left), lt-leb _ _ (c .if4 .taken))
+returns-4 c = rw (
+  sym (c .before .before .before .before .before .same-kind .ensures) ∙ not-false _ (c .before .before .before .before .if1 .left),
+  some-left _
+      (c .before .before .before .if2 .left),
+  lt-ltb _ _ (c .before .before .if3 .left),
+  lt-leb _ _ (c .if4 .taken),
+)
 
 returns-5 : tie.Need-returns-5
 unfolding readBit
-returns-5 c = rw (sym (c .before .before .before .before .before .same-kind .ensures) ∙ not-false _ (c .before .before .before .before .if1 .left), some-left _ (c .before .before .before .if2 .left), lt-ltb _ _ (c .before .before .if3 .left), le-leb _ _ (c .if4 .left))
+returns-5 c = rw (
+  sym (c .before .before .before .before .before .same-kind .ensures) ∙ not-false _ (c .before .before .before .before .if1 .left),
+  some-left _
+      (c .before .before .before .if2 .left),
+  lt-ltb _ _ (c .before .before .if3 .left),
+  le-leb _ _ (c .if4 .left),
+)
 
 pub read-bit-spec : {M : Type 1} → statement M
 read-bit-spec =

@@ -20,11 +20,27 @@ returns-3 c = rw (some-left _ (c .before .before .before .before .if1 .left), lt
 
 returns-4 : tie.Need-returns-4
 unfolding readVariable
-returns-4 c = rw (some-left _ (c .before .before .before .before .before .before .before .if1 .left), lt-ltb _ _ (c .before .before .before .before .before .before .if2 .left), lt-ltb _ _ (c .before .before .before .if3 .left), ← c .before .before .kind-at .ensures, sym (c .before .same-kind .ensures) ∙ not-true _ (c .if4 .taken))
+returns-4 c = rw (
+  some-left _ (c .before .before .before .before .before .before .before .if1 .left),
+  lt-ltb _ _
+      (c .before .before .before .before .before .before .if2 .left),
+  lt-ltb _ _ (c .before .before .before .if3 .left),
+  ← c .before .before .kind-at .ensures,
+  sym
+      (c .before .same-kind .ensures) ∙ not-true _ (c .if4 .taken),
+)
 
 returns-5 : tie.Need-returns-5
 unfolding readVariable
-returns-5 c = rw (some-left _ (c .before .before .before .before .before .before .before .if1 .left), lt-ltb _ _ (c .before .before .before .before .before .before .if2 .left), lt-ltb _ _ (c .before .before .before .if3 .left), ← c .before .before .kind-at .ensures, sym (c .before .same-kind .ensures) ∙ not-false _ (c .if4 .left))
+returns-5 c = rw (
+  some-left _ (c .before .before .before .before .before .before .before .if1 .left),
+  lt-ltb _ _
+      (c .before .before .before .before .before .before .if2 .left),
+  lt-ltb _ _ (c .before .before .before .if3 .left),
+  ← c .before .before .kind-at .ensures,
+  sym
+      (c .before .same-kind .ensures) ∙ not-false _ (c .if4 .left),
+)
 
 pub read-variable-spec : {M : Type 1} → statement M
 read-variable-spec =

@@ -16,11 +16,21 @@ returns-2 c = rw (sym (c .before .before .same-kind .ensures) ∙ not-false _ (c
 
 returns-3 : tie.Need-returns-3
 unfolding readWord
-returns-3 c = rw (sym (c .before .before .before .same-kind .ensures) ∙ not-false _ (c .before .before .if1 .left), some-left _ (c .before .if2 .left), lt-leb _ _ (c .if3 .taken))
+returns-3 c = rw (
+  sym (c .before .before .before .same-kind .ensures) ∙ not-false _ (c .before .before .if1 .left),
+  some-left _ (c .before .if2 .left),
+  lt-leb _ _
+      (c .if3 .taken),
+)
 
 returns-4 : tie.Need-returns-4
 unfolding readWord
-returns-4 c = rw (sym (c .before .before .before .same-kind .ensures) ∙ not-false _ (c .before .before .if1 .left), some-left _ (c .before .if2 .left), le-leb _ _ (c .if3 .left))
+returns-4 c = rw (
+  sym (c .before .before .before .same-kind .ensures) ∙ not-false _ (c .before .before .if1 .left),
+  some-left _ (c .before .if2 .left),
+  le-leb _ _
+      (c .if3 .left),
+)
 
 pub read-word-spec : {M : Type 1} → statement M
 read-word-spec =

@@ -40,7 +40,11 @@ returns-2 c =
 part-run-file-end : tie.Need-part-run-file-end
 part-run-file-end c =
     let w = c .before .before .before .before .before .before in
-    omega (arith, size-inside _ (w .before .before .before .before .before .before .args .plan .now) _ zeros zeros-length (w .write .ensures .0) (c .before .before .before .if1 .left))
+    omega (
+      arith,
+      size-inside _ (w .before .before .before .before .before .before .args .plan .now) _ zeros zeros-length (w .write .ensures .0)
+          (c .before .before .before .if1 .left),
+    )
 
 -- src/lib.rt:28:5
 run-file-requires : tie.Need-run-file-requires

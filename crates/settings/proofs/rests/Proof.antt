@@ -32,8 +32,16 @@ loop-less c = search needs
 loop-again : tie.Need-loop-again Inv-loop μ-loop
 loop-again c =
     ⊎-elim
-    (λ w. (search needs, w .2 ∙ collect-in (restsOn 6 (c .before .before .before .before .args .s)) _ _ _ (c .before .before .before .loop .inv .1) (sym (c .before .rests-on .ensures) ∙ w .0 .taken) (w .1 .ensures)))
-    (λ w. (search needs, w .1 ∙ collect-out (restsOn 6 (c .before .before .before .before .args .s)) _ _ (c .before .before .before .loop .inv .1) (sym (c .before .rests-on .ensures) ∙ w .0 .left)))
+    (λ w. (
+      search needs,
+      w .2 ∙ collect-in (restsOn 6 (c .before .before .before .before .args .s)) _ _ _ (c .before .before .before .loop .inv .1)
+          (sym (c .before .rests-on .ensures) ∙ w .0 .taken) (w .1 .ensures),
+    ))
+    (λ w. (
+      search needs,
+      w .1 ∙ collect-out (restsOn 6 (c .before .before .before .before .args .s)) _ _ (c .before .before .before .loop .inv .1)
+          (sym (c .before .rests-on .ensures) ∙ w .0 .left),
+    ))
     (c .if1 .came)
 
 returns : tie.Need-returns Inv-loop μ-loop

@@ -41,7 +41,11 @@ loop-again c =
           (ne-eqb _ _ (v .0 .left)) (w .2 ∙ v .1) (w .3))
           (w .1 .came),
     ))
-    (λ w. (search needs, spreading-out _ _ _ _ _ _ _ _ (c .before .before .before .loop .inv .1) (search needs) (sym (c .before .among .ensures) ∙ w .0 .left) (w .1) (w .2)))
+    (λ w. (
+      search needs,
+      spreading-out _ _ _ _ _ _ _ _ (c .before .before .before .loop .inv .1) (search needs) (sym (c .before .among .ensures) ∙ w .0 .left) (w .1)
+          (w .2),
+    ))
     (c .if1 .came)
 
 returns : tie.Need-returns Inv-loop μ-loop

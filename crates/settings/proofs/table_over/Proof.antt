@@ -50,14 +50,16 @@ loop-again c =
       search needs,
       (
         search needs,
-        w .2 ∙ collect-in (bitsOf (c .before .before .before .before .before .before .args .s) (c .before .before .before .before .before .before .args .on)) _ _ _ (c .before .before .before .before .loop .inv .1 .1) (here ∙ w .0 .taken) (w .1 .ensures),
+        w .2 ∙ collect-in (bitsOf (c .before .before .before .before .before .before .args .s) (c .before .before .before .before .before .before .args .on)) _ _ _
+            (c .before .before .before .before .loop .inv .1 .1) (here ∙ w .0 .taken) (w .1 .ensures),
       ),
     ))
     (λ w. (
       search needs,
       (
         search needs,
-        w .1 ∙ collect-out (bitsOf (c .before .before .before .before .before .before .args .s) (c .before .before .before .before .before .before .args .on)) _ _ (c .before .before .before .before .loop .inv .1 .1) (here ∙ w .0 .left),
+        w .1 ∙ collect-out (bitsOf (c .before .before .before .before .before .before .args .s) (c .before .before .before .before .before .before .args .on)) _ _
+            (c .before .before .before .before .loop .inv .1 .1) (here ∙ w .0 .left),
       ),
     ))
     (c .if1 .came)
@@ -66,7 +68,8 @@ returns : tie.Need-returns Inv-loop μ-loop
 unfolding tableOver
 returns c =
     let e : c .before .loop .j ≡ c .before .before .size .result = omega arith in
-    c .before .loop .inv .1 .1 ∙ ap (λ (k : ℕ). collect k (bitsOf (c .before .before .before .args .s) (c .before .before .before .args .on))) (e ∙ c .before .before .size .ensures)
+    c .before .loop .inv .1 .1 ∙ ap (λ (k : ℕ). collect k (bitsOf (c .before .before .before .args .s) (c .before .before .before .args .on)))
+    (e ∙ c .before .before .size .ensures)
 
 pub table-over-spec : {M : Type 1} → statement M
 table-over-spec =

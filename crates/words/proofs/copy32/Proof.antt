@@ -20,8 +20,12 @@ loop-holds c = (search needs, refl, sym (over-nil _))
 
 loop-again : tie.Need-loop-again Inv-loop μ-loop
 loop-again c =
-    let a = c .before .before .before .args in let l = c .before .before .loop in
-    (search needs, simp length-set (l .inv .1), ap (λ (t : List ℕ). set t (l .i) (getD (now (a .from)) (l .i) 0)) (l .inv .2) ∙ copy-more (now (a .from)) (now (a .to)) (l .i) (c .before .loop-test .taken) (c .before .before .before .pre))
+    let a = c .before .before .before .args in let l = c .before .before .loop in (
+      search needs,
+      simp length-set (l .inv .1),
+      ap (λ (t : List ℕ). set t (l .i) (getD (now (a .from)) (l .i) 0)) (l .inv .2) ∙ copy-more (now (a .from)) (now (a .to))
+          (l .i) (c .before .loop-test .taken) (c .before .before .before .pre),
+    )
 
 returns : tie.Need-returns Inv-loop μ-loop
 returns c = let a = c .before .before .args in let l = c .before .loop in l .inv .2 ∙ copy-all (now (a .from)) (now (a .to)) (l .i) (c .loop-test .left)

@@ -29,7 +29,8 @@ same-length : tie.Need-same-length
 same-length c = search needs
 
 returns : tie.Need-returns
-returns c = halves 4 4 _ _ _ _ (c .before .before .before .before .before .before .before .before .before .pre) (c .before .before .before .before .before .before .put32 .ensures) (c .before .before .put322 .ensures)
+returns c = halves 4 4 _ _ _ _ (c .before .before .before .before .before .before .before .before .before .pre)
+    (c .before .before .before .before .before .before .put32 .ensures) (c .before .before .put322 .ensures)
 
 pub put64-spec : {M : Type 1} → statement M
 put64-spec =

@@ -22,7 +22,10 @@ element-copy-out-q c = omega (arith, c .loop-test .taken, c .before .loop .inv .
 
 mul-wide16 : tie.Need-mul-wide16 Inv-loop μ-loop
 mul-wide16 c =
-    record { fits = omega (arith, measuring-inside _ _ _ _ _ _ _ _ _ _ _ (c .before .before .before .loop .inv) (c .before .before .loop-test .taken) (c .wide16 .ensures .0)) }
+    record {
+      fits = omega
+          (arith, measuring-inside _ _ _ _ _ _ _ _ _ _ _ (c .before .before .before .loop .inv) (c .before .before .loop-test .taken) (c .wide16 .ensures .0));
+    }
 
 element-copy-out-wide16 : tie.Need-element-copy-out-wide16 Inv-loop μ-loop
 element-copy-out-wide16 c = measuring-inside _ _ _ _ _ _ _ _ _ _ _ (c .before .before .before .loop .inv) (c .before .before .loop-test .taken) (c .wide16 .ensures .0)

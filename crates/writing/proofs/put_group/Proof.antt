@@ -8,7 +8,8 @@ put-alone-requires : tie.Need-put-alone-requires
 put-alone-requires c κs =
     let c4 = c .before .before .before .before in
     let a = c4 .args in (
-      alone-room (a .plan .now) (a .quads .now) (a .count) (a .needs .now) (wireIn (a .group .now) (a .wires .now)) (a .at) (a .q .0) (a .first .0) (c .before .if1 .taken) _
+      alone-room (a .plan .now) (a .quads .now) (a .count) (a .needs .now) (wireIn (a .group .now) (a .wires .now)) (a .at) (a .q .0) (a .first .0)
+          (c .before .if1 .taken) _
           (c4 .pre .0),
       c4 .pre .1 .alone (c .before .if1 .taken),
     )
