@@ -92,8 +92,8 @@ pub plan-accepted : (s p : List ℕ) → (planAnswer s p .number ≡ 0) ↔ ((ru
 plan-accepted = laws.plan-accepted
 
 -- "Then every record reads only earlier wires,"
-pub reads-earlier : (s p : List ℕ) → planAnswer s p .number ≡ 0 → Bytes s → ReadsEarlier (fileRecords (fusedFile s p))
-reads-earlier = runs.file-earlier
+pub reads-earlier : (s p : List ℕ) → Bytes s → planAnswer s p .number ≡ 0 → ReadsEarlier (fileRecords (fusedFile s p))
+reads-earlier s p bytes h = runs.file-earlier s p h bytes
 
 -- "and the file's own records"
 pub file-run : (s p : List ℕ) → Bytes s → planAnswer s p .number ≡ 0 → (inputs : List ℕ) → length inputs ≡ variables s
@@ -101,9 +101,9 @@ pub file-run : (s p : List ℕ) → Bytes s → planAnswer s p .number ≡ 0 →
 file-run = figures.file-run
 
 -- "and every run of it give every variable the figure of a direct run": it writes what the direct run writes,
-pub same-results : (s p : List ℕ) → planAnswer s p .number ≡ 0 → Bytes s → (inputs results : List ℕ)
+pub same-results : (s p : List ℕ) → Bytes s → planAnswer s p .number ≡ 0 → (inputs results : List ℕ)
     → fusedResults s p inputs results ≡ runResults (ruleAnswer s) s inputs results
-same-results = runs.same-results
+same-results s p bytes h = runs.same-results s p h bytes
 
 -- is refused with the same number exactly where the direct run is,
 pub same-number : (s p : List ℕ) → planAnswer s p .number ≡ 0 → (inputs : List ℕ) (room : ℕ)

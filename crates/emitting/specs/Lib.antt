@@ -8,6 +8,7 @@ pub mod GuardLaws
 pub mod LoopLaws
 pub mod JoinLaws
 pub mod JoinedLaws
+pub mod JoinedSizes
 pub mod SizeLaws
 pub mod EmitLaws
 pub mod HeldLaws

@@ -15,7 +15,7 @@ use Rattle.fused.specs.Records.{Record, recordsCost}
 use Rattle.fused.specs.CircuitFile.{recordBytes, recordsBytes}
 use Rattle.fused.specs.SizeLaws.{size-append, cost-append}
 use Rattle.emitting.specs.Emitted.{wireIn, aloneIn, emitIn, Writable, JoinWritable, Measured}
-use Rattle.emitting.specs.JoinedLaws.{joined-sized}
+use Rattle.emitting.specs.JoinedSizes.{joined-sized}
 use Rattle.writing.specs.Staged.{Stage, membersOf, turnRecords, turn, stage, Turnable}
 use Rattle.writing.specs.Turns.{wiresOf, Measurable, Puttable, Sum}
 
