@@ -48,7 +48,8 @@ module _ (quads : List ℕ) (g : ℕ) where
   first-bit f e = let z : FitsGate (codeAt quads g) (bit (firstAt quads g)) = subst (FitsGate (codeAt quads g)) (bit-in quads g e) (f .fits) in z
 
   pub first-start : Coded quads g → codeAt quads g ≤ 1 → firstAt quads g < 256
-  first-start f h = let z : FitsGate (codeAt quads g) (start (firstAt quads g)) = subst (FitsGate (codeAt quads g)) (start-in quads g (omega (arith, h))) (f .fits) in
+  first-start f h =
+      let z : FitsGate (codeAt quads g) (start (firstAt quads g)) = subst (FitsGate (codeAt quads g)) (start-in quads g (omega (arith, h))) (f .fits) in
       z .1
 
   module _ (group : List ℕ) (w : Writable quads group g) where

@@ -30,7 +30,7 @@ module _ (quads : List ℕ) (wire : ℕ → ℕ) (n : ℕ) (p : List ℕ) (at : 
   picks-long = length-append (recordBytes (pick (pairsIn quads wire n 0 (groupAt p at)))) (recordBytes (pick (pairsIn quads wire n 1 (groupAt p at)))) ∙ omega
       (arith, pick-long 0, pick-long 1)
 
-  fused-long : (k : ℕ) → length (fusedBytes quads wire n k (groupAt p at)) ≡ 9 + 8 * getD p at 0
+  pub fused-long : (k : ℕ) → length (fusedBytes quads wire n k (groupAt p at)) ≡ 9 + 8 * getD p at 0
   fused-long k =
       let o : length (wiresBytes ((n + k) ∷ (n + k + 1) ∷ [])) ≡ 4 = wires-size ((n + k) ∷ (n + k + 1) ∷ []) in
       let z : suc (length (wiresBytes ((n + k) ∷ (n + k + 1) ∷ []))) ≡ 5 = omega (arith, o) in

@@ -52,7 +52,9 @@ restOne s t = cond (restsOn mostConditions s t) (t ∷ []) []
 
 pub few-rests : (s : ℕ) → length (rests mostConditions s) ≤ 6
 unfolding rests
-few-rests s = let e : length (upto mostConditions) ≡ 6 = length-from 0 mostConditions in omega (arith, length-keep (restsOn mostConditions s) (upto mostConditions), e)
+few-rests s =
+    let e : length (upto mostConditions) ≡ 6 = length-from 0 mostConditions in
+    omega (arith, length-keep (restsOn mostConditions s) (upto mostConditions), e)
 
 pub record CountingRests (s n t : ℕ) : Type 0 where
   pub below : t ≤ 6

@@ -69,7 +69,9 @@ module _ (f figures : List ℕ) (at count here left : ℕ) (p : Picking f figure
 
 pub none-picked : (f figures : List ℕ) (at count here left : ℕ) → Picking f figures at count here left → left ≤ 0
     → 0 ≡ pickFigure (held figures) (pairsAt count f at)
-none-picked f figures at count here left p h = let e : left ≡ 0 = omega arith in sym (p .same ∙ ap (λ (n : ℕ). pickFigure (held figures) (pairsAt n f here)) e)
+none-picked f figures at count here left p h =
+    let e : left ≡ 0 = omega arith in
+    sym (p .same ∙ ap (λ (n : ℕ). pickFigure (held figures) (pairsAt n f here)) e)
 
 -- amid the wires of a guard: j is the number of the wires from t on
 pub record CountingWires (f figures : List ℕ) (at count t j : ℕ) : Type 0 where

@@ -133,8 +133,10 @@ module _ (condition : ℕ) (first second : List ℕ) (mask v : ℕ) (quads prese
       }
 
 starts-more : (x : ℕ) → map start (upto (x + 1)) ≡ map start (upto x) ++ (start x ∷ [])
-starts-more x = let e : x + 1 ≡ suc x = omega arith in ap (λ (k : ℕ). map start (upto k)) e ∙ ap (map start) (from-more 0 x) ∙ map-append start (upto x) ((0 + x) ∷ [])
-    ∙ ap (λ (k : ℕ). map start (upto x) ++ (start k ∷ [])) (omega arith)
+starts-more x =
+    let e : x + 1 ≡ suc x = omega arith in
+    ap (λ (k : ℕ). map start (upto k)) e ∙ ap (map start) (from-more 0 x) ∙ map-append start (upto x) ((0 + x) ∷ []) ∙ ap
+    (λ (k : ℕ). map start (upto x) ++ (start k ∷ [])) (omega arith)
 
 -- the next variable's place is the only one that changes
 from-next : (i n k : ℕ) → (k ≡ n → ⊥) → getD (from i n) k 0 ≡ getD (from i (suc n)) k 0

@@ -102,7 +102,9 @@ wanting-step wanted M₀ M N x g s w l e f q =
     }
 
 pub wanting-end : (wanted M₀ M : List ℕ) (x : ℕ) → Wanting wanted M₀ M x → length wanted ≤ x → M ≡ addNumbers wanted (whole 64) M₀
-wanting-end wanted M₀ M x w l = let e : x ≡ length wanted = omega (arith, w .low) in w .done ∙ ap (λ (k : List ℕ). addNumbers k (whole 64) M₀) (rw e (take-length wanted))
+wanting-end wanted M₀ M x w l =
+    let e : x ≡ length wanted = omega (arith, w .low) in
+    w .done ∙ ap (λ (k : List ℕ). addNumbers k (whole 64) M₀) (rw e (take-length wanted))
 
 -- The loop downwards over the gates.
 

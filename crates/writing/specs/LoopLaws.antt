@@ -40,7 +40,9 @@ module _ (p quads needs places ord : List ℕ) (groups : ℕ) where
 
     module _ (at : ℕ) (ea : at ≡ getD places g 0) where
       pub measuring-group : Measurable quads p at (getD ord i 0)
-      measuring-group = let m = l .measures in turn-measurable p quads (m .count) needs (m .group) places ord (m .conds) groups (m .turnable) i g at h eg ea
+      measuring-group =
+          let m = l .measures in
+          turn-measurable p quads (m .count) needs (m .group) places ord (m .conds) groups (m .turnable) i g at h eg ea
 
       module _ (a b c : ℕ) (z : Measured quads needs (membersOf p at (getD ord i 0)) a b c) where
         pub measuring-small : (wires + a ≤ 640) × (bytes + b ≤ 8832) × (cost + c ≤ 10240)

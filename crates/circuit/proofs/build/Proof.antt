@@ -9,13 +9,16 @@ use Rattle.circuit.proofs.build.Statement.{statement}
 use Rattle.circuit.proofs.build.Tie as tie
 
 returns : tie.Need-returns
-returns c = let s = now (c .before .before .before .before .before .args .rule) in built-nothing s (c .before .before .before .read-rule .result) _ _ _ _ _
+returns c =
+    let s = now (c .before .before .before .before .before .args .rule) in
+    built-nothing s (c .before .before .before .read-rule .result) _ _ _ _ _
     (answer-refused s (c .before .before .before .read-rule .result) (c .before .before .before .read-rule .ensures) (c .before .if1 .taken)) (c .before .if1 .taken)
     (c .nothing .ensures)
 
 make-rule-requires : tie.Need-make-rule-requires
-make-rule-requires c κs = let s = now (c .before .before .before .before .before .before .args .rule) in answer-read s
-    (c .before .before .before .before .read-rule .result) (c .before .before .before .before .read-rule .ensures) (c .before .before .if1 .left)
+make-rule-requires c κs =
+    let s = now (c .before .before .before .before .before .before .args .rule) in
+    answer-read s (c .before .before .before .before .read-rule .result) (c .before .before .before .before .read-rule .ensures) (c .before .before .if1 .left)
 
 whole-requires : tie.Need-whole-requires
 whole-requires c κs =

@@ -13,7 +13,8 @@ cast-v : tie.Need-cast-v
 cast-v c = record { fits = omega (arith, ready-variables _ _ _ _ _ (c .before .before .pre)) }
 
 find-needed-requires : tie.Need-find-needed-requires
-find-needed-requires c κs = let p = c .before .before .before .before .before .pre in
+find-needed-requires c κs =
+    let p = c .before .before .before .before .before .pre in
     (ready-passable _ _ _ _ _ p, (ready-variables _ _ _ _ _ p, ready-wanted _ _ _ _ _ p))
 
 condition-gates-requires : tie.Need-condition-gates-requires

@@ -107,15 +107,18 @@ make-statement-claims t = (
 
 make-block-returns : (t : ℕ) → make-block-lts.Need-returns (make-block-claims t) (make-block-at t) make-block.Post make-block-Inv-loop make-block-μ-loop
 make-block-returns t c =
-    let a = c .before .before .before .before .args in let l = c .before .before .loop in walked-all (now (a .s)) (a .nest) (a .at) (now (a .quads)) (now (a .present))
-    (a .count) (l .here) (l .n) (l .assigned) (l .quads) (l .present) (l .inv) (c .if1 .taken)
+    let a = c .before .before .before .before .args in
+    let l = c .before .before .loop in
+    walked-all (now (a .s)) (a .nest) (a .at) (now (a .quads)) (now (a .present)) (a .count) (l .here) (l .n) (l .assigned) (l .quads) (l .present) (l .inv)
+    (c .if1 .taken)
 
 make-block-make-statement-requires : (t : ℕ) → make-block-lts.Need-make-statement-requires (make-block-claims t)
     (make-block-at t) make-block.Post make-block-Inv-loop make-block-μ-loop
 make-block-make-statement-requires t c κs =
-    let a = c .before .before .before .before .before .before .args in let l = c .before .before .before .before .loop in let i = block-inside (now (a .s)) (a .nest)
-    (l .here) (rest-taken (now (a .s)) (a .nest) (a .at) (now (a .quads)) (now (a .present)) (a .count) (l .here) (l .n) (l .assigned) (l .quads) (l .present)
-    (l .inv)) in (
+    let a = c .before .before .before .before .before .before .args in
+    let l = c .before .before .before .before .loop in
+    let i = block-inside (now (a .s)) (a .nest) (l .here)
+    (rest-taken (now (a .s)) (a .nest) (a .at) (now (a .quads)) (now (a .present)) (a .count) (l .here) (l .n) (l .assigned) (l .quads) (l .present) (l .inv)) in (
       omega (arith, l .inv .onward),
       (
         c .before .before .before .before .before .before .pre .1 .0,
@@ -129,8 +132,9 @@ make-block-make-statement-requires t c κs =
 
 make-block-loop-again : (t : ℕ) → make-block-lts.Need-loop-again (make-block-claims t) (make-block-at t) make-block.Post make-block-Inv-loop make-block-μ-loop
 make-block-loop-again t c =
-    let a = c .before .before .before .before .before .before .before .before .args in let l = c .before .before .before .before .before .before .loop in walked-more
-    (now (a .s)) (a .nest) (a .at) (now (a .quads)) (now (a .present)) (a .count) (l .here) (l .n) (l .assigned) (l .quads) (l .present) (l .inv)
+    let a = c .before .before .before .before .before .before .before .before .args in
+    let l = c .before .before .before .before .before .before .loop in
+    walked-more (now (a .s)) (a .nest) (a .at) (now (a .quads)) (now (a .present)) (a .count) (l .here) (l .n) (l .assigned) (l .quads) (l .present) (l .inv)
     (c .before .before .before .before .if1 .left) (c .before .make-statement .result .next) (c .before .make-statement .result .count)
     (c .before .make-statement .result .assigned) _ _
     (forward-read (readStatement (now (a .s)) (a .nest) (l .here)) (statement-forward (now (a .s)) (a .nest) (l .here)) (c .before .make-statement .ensures .read))
@@ -138,8 +142,8 @@ make-block-loop-again t c =
 
 make-branch-make-block-requires : (t : ℕ) → make-branch-lts.Need-make-block-requires (make-branch-claims t) (make-branch-at t) make-branch.Post
 make-branch-make-block-requires t c κs =
-    let a = c .before .before .before .before .before .before .before .before .args in let h =
-    c .before .before .before .before .before .before .before .before .pre .1 .1 .1 in (
+    let a = c .before .before .before .before .before .before .before .before .args in
+    let h = c .before .before .before .before .before .before .before .before .pre .1 .1 .1 in (
       omega (
         arith,
         forward-read (readExpr deepest (now (a .s)) Bit (a .at + 1)) (expr-forward deepest (now (a .s)) Bit (a .at + 1))
@@ -155,8 +159,8 @@ make-branch-make-block-requires t c κs =
 
 make-branch-make-block-requires-2 : (t : ℕ) → make-branch-lts.Need-make-block-requires-2 (make-branch-claims t) (make-branch-at t) make-branch.Post
 make-branch-make-block-requires-2 t c κs =
-    let a = c .before .before .before .before .before .before .before .before .before .before .before .args in let h =
-    c .before .before .before .before .before .before .before .before .before .before .before .pre .1 .1 .1 in (
+    let a = c .before .before .before .before .before .before .before .before .before .before .before .args in
+    let h = c .before .before .before .before .before .before .before .before .before .before .before .pre .1 .1 .1 in (
       omega (
         arith,
         forward-read (readExpr deepest (now (a .s)) Bit (a .at + 1)) (expr-forward deepest (now (a .s)) Bit (a .at + 1))
@@ -199,8 +203,9 @@ make-branch-returns t c =
 
 make-statement-make-assign-requires : (t : ℕ) → make-statement-lts.Need-make-assign-requires (make-statement-claims t) (make-statement-at t) make-statement.Post
 make-statement-make-assign-requires t c κs =
-    let a = c .before .before .before .before .before .before .before .args in let code = c .before .before .before .before .code-of .result in let is =
-    c .before .before .before .before .code-of .ensures in (
+    let a = c .before .before .before .before .before .before .before .args in
+    let code = c .before .before .before .before .code-of .result in
+    let is = c .before .before .before .before .code-of .ensures in (
       c .before .before .before .before .before .before .before .pre .1 .0,
       statement-read-as (now (a .s)) (a .nest) (a .at) code is
           (c .before .before .before .before .before .before .before .pre .1 .1 .1) form.Assign (c .before .before .enum-told .given .1),
@@ -208,8 +213,9 @@ make-statement-make-assign-requires t c κs =
 
 make-statement-make-branch-requires : (t : ℕ) → make-statement-lts.Need-make-branch-requires (make-statement-claims t) (make-statement-at t) make-statement.Post
 make-statement-make-branch-requires t c κs =
-    let a = c .before .before .before .before .before .before .before .args in let code = c .before .before .before .before .code-of .result in let is =
-    c .before .before .before .before .code-of .ensures in (
+    let a = c .before .before .before .before .before .before .before .args in
+    let code = c .before .before .before .before .code-of .result in
+    let is = c .before .before .before .before .code-of .ensures in (
       omega arith,
       (
         c .before .before .before .before .before .before .before .pre .1 .0,
@@ -223,16 +229,18 @@ make-statement-make-branch-requires t c κs =
 
 make-statement-returns : (t : ℕ) → make-statement-lts.Need-returns (make-statement-claims t) (make-statement-at t) make-statement.Post
 make-statement-returns t c =
-    let a = c .before .before .before .before .before .before .before .before .args in let code = c .before .before .before .before .before .code-of .result in let is =
-    c .before .before .before .before .before .code-of .ensures in done-as makeStatement assignsIn (now (a .s)) (readStatement (now (a .s)) (a .nest) (a .at))
-    (readAssign (now (a .s)) (a .at)) (statement-as (now (a .s)) (a .nest) (a .at) code form.Assign is (c .before .before .before .enum-told .given .1))
-    (c .make-assign .ensures)
+    let a = c .before .before .before .before .before .before .before .before .args in
+    let code = c .before .before .before .before .before .code-of .result in
+    let is = c .before .before .before .before .before .code-of .ensures in
+    done-as makeStatement assignsIn (now (a .s)) (readStatement (now (a .s)) (a .nest) (a .at)) (readAssign (now (a .s)) (a .at))
+    (statement-as (now (a .s)) (a .nest) (a .at) code form.Assign is (c .before .before .before .enum-told .given .1)) (c .make-assign .ensures)
 
 make-statement-returns-3 : (t : ℕ) → make-statement-lts.Need-returns-3 (make-statement-claims t) (make-statement-at t) make-statement.Post
 make-statement-returns-3 t c =
-    let a = c .before .before .before .before .before .before .before .before .args in let code = c .before .before .before .before .before .code-of .result in let is =
-    c .before .before .before .before .before .code-of .ensures in done-as makeStatement assignsIn (now (a .s)) (readStatement (now (a .s)) (a .nest) (a .at))
-    (branchWith (readBlock (now (a .s))) (now (a .s)) (a .nest) (a .at))
+    let a = c .before .before .before .before .before .before .before .before .args in
+    let code = c .before .before .before .before .before .code-of .result in
+    let is = c .before .before .before .before .before .code-of .ensures in
+    done-as makeStatement assignsIn (now (a .s)) (readStatement (now (a .s)) (a .nest) (a .at)) (branchWith (readBlock (now (a .s))) (now (a .s)) (a .nest) (a .at))
     (statement-as (now (a .s)) (a .nest) (a .at) code form.Branch is (c .before .before .before .enum-told3 .given .1)) (c .make-branch .ensures)
 
 pub +make-block+make-branch+make-statement-spec : {M : Type 1} → statement M

@@ -59,101 +59,140 @@ make-expr-shared-slice-read-code-of t c =
 
 make-expr-add-x : (t : ℕ) → make-expr-lts.Need-add-x (make-expr-claims t) (make-expr-at t) make-expr.Post
 make-expr-add-x t c =
-    let a = c .before .before .before .before .before .args in let h = c .before .before .before .before .before .pre .1 .1 in let code =
-    c .before .before .code-of .result in let is = c .before .before .code-of .ensures in
-    let v = as-variable (a .deep) (now (a .s)) (a .want) (a .at) h code is (c .enum-told .given .1) in omega (arith, v .inside)
+    let a = c .before .before .before .before .before .args in
+    let h = c .before .before .before .before .before .pre .1 .1 in
+    let code = c .before .before .code-of .result in
+    let is = c .before .before .code-of .ensures in
+    let v = as-variable (a .deep) (now (a .s)) (a .want) (a .at) h code is (c .enum-told .given .1) in
+    omega (arith, v .inside)
 
 make-expr-shared-slice-read-x : (t : ℕ) → make-expr-lts.Need-shared-slice-read-x (make-expr-claims t) (make-expr-at t) make-expr.Post
 make-expr-shared-slice-read-x t c =
-    let a = c .before .before .before .before .before .before .args in let h = c .before .before .before .before .before .before .pre .1 .1 in let code =
-    c .before .before .before .code-of .result in let is = c .before .before .before .code-of .ensures in
-    let v = as-variable (a .deep) (now (a .s)) (a .want) (a .at) h code is (c .before .enum-told .given .1) in v .inside
+    let a = c .before .before .before .before .before .before .args in
+    let h = c .before .before .before .before .before .before .pre .1 .1 in
+    let code = c .before .before .before .code-of .result in
+    let is = c .before .before .before .code-of .ensures in
+    let v = as-variable (a .deep) (now (a .s)) (a .want) (a .at) h code is (c .before .enum-told .given .1) in
+    v .inside
 
 make-expr-cast-x : (t : ℕ) → make-expr-lts.Need-cast-x (make-expr-claims t) (make-expr-at t) make-expr.Post
 make-expr-cast-x t c =
-    let a = c .before .before .before .before .before .before .args in let h = c .before .before .before .before .before .before .pre .1 .1 in let code =
-    c .before .before .before .code-of .result in let is = c .before .before .before .code-of .ensures in
-    let v = as-variable (a .deep) (now (a .s)) (a .want) (a .at) h code is (c .before .enum-told .given .1) in omega
-    (arith, v .inside, v .range, c .before .before .before .before .before .before .pre .1 .0 .few, c .shared-slice-known3 .given (a .at + 1))
+    let a = c .before .before .before .before .before .before .args in
+    let h = c .before .before .before .before .before .before .pre .1 .1 in
+    let code = c .before .before .before .code-of .result in
+    let is = c .before .before .before .code-of .ensures in
+    let v = as-variable (a .deep) (now (a .s)) (a .want) (a .at) h code is (c .before .enum-told .given .1) in
+    omega (arith, v .inside, v .range, c .before .before .before .before .before .before .pre .1 .0 .few, c .shared-slice-known3 .given (a .at + 1))
 
 make-expr-add-t20 : (t : ℕ) → make-expr-lts.Need-add-t20 (make-expr-claims t) (make-expr-at t) make-expr.Post
 make-expr-add-t20 t c =
-    let a = c .before .before .before .before .before .before .args in let h = c .before .before .before .before .before .before .pre .1 .1 in let code =
-    c .before .before .before .code-of .result in let is = c .before .before .before .code-of .ensures in
-    let v = as-variable (a .deep) (now (a .s)) (a .want) (a .at) h code is (c .before .enum-told .given .1) in omega (arith, v .inside)
+    let a = c .before .before .before .before .before .before .args in
+    let h = c .before .before .before .before .before .before .pre .1 .1 in
+    let code = c .before .before .before .code-of .result in
+    let is = c .before .before .before .code-of .ensures in
+    let v = as-variable (a .deep) (now (a .s)) (a .want) (a .at) h code is (c .before .enum-told .given .1) in
+    omega (arith, v .inside)
 
 make-expr-mul-t23 : (t : ℕ) → make-expr-lts.Need-mul-t23 (make-expr-claims t) (make-expr-at t) make-expr.Post
 make-expr-mul-t23 t c =
-    let a = c .before .before .before .before .before .before .args in let h = c .before .before .before .before .before .before .pre .1 .1 in let code =
-    c .before .before .before .code-of .result in let is = c .before .before .before .code-of .ensures in
-    let v = as-variable (a .deep) (now (a .s)) (a .want) (a .at) h code is (c .before .enum-told .given .1) in omega
-    (arith, v .inside, v .range, c .before .before .before .before .before .before .pre .1 .0 .few)
+    let a = c .before .before .before .before .before .before .args in
+    let h = c .before .before .before .before .before .before .pre .1 .1 in
+    let code = c .before .before .before .code-of .result in
+    let is = c .before .before .before .code-of .ensures in
+    let v = as-variable (a .deep) (now (a .s)) (a .want) (a .at) h code is (c .before .enum-told .given .1) in
+    omega (arith, v .inside, v .range, c .before .before .before .before .before .before .pre .1 .0 .few)
 
 make-expr-element-copy-out-t26 : (t : ℕ) → make-expr-lts.Need-element-copy-out-t26 (make-expr-claims t) (make-expr-at t) make-expr.Post
 make-expr-element-copy-out-t26 t c =
-    let a = c .before .before .before .before .before .before .args in let h = c .before .before .before .before .before .before .pre .1 .1 in let code =
-    c .before .before .before .code-of .result in let is = c .before .before .before .code-of .ensures in
-    let v = as-variable (a .deep) (now (a .s)) (a .want) (a .at) h code is (c .before .enum-told .given .1) in omega
-    (arith, v .inside, v .range, c .before .before .before .before .before .before .pre .1 .0 .few)
+    let a = c .before .before .before .before .before .before .args in
+    let h = c .before .before .before .before .before .before .pre .1 .1 in
+    let code = c .before .before .before .code-of .result in
+    let is = c .before .before .before .code-of .ensures in
+    let v = as-variable (a .deep) (now (a .s)) (a .want) (a .at) h code is (c .before .enum-told .given .1) in
+    omega (arith, v .inside, v .range, c .before .before .before .before .before .before .pre .1 .0 .few)
 
 make-expr-add-read32 : (t : ℕ) → make-expr-lts.Need-add-read32 (make-expr-claims t) (make-expr-at t) make-expr.Post
 make-expr-add-read32 t c =
-    let a = c .before .before .before .before .before .args in let h = c .before .before .before .before .before .pre .1 .1 in let code =
-    c .before .before .code-of .result in let is = c .before .before .code-of .ensures in
-    let v = as-word (a .deep) (now (a .s)) (a .want) (a .at) h code is (c .enum-told2 .given .1) in omega (arith, v .inside)
+    let a = c .before .before .before .before .before .args in
+    let h = c .before .before .before .before .before .pre .1 .1 in
+    let code = c .before .before .code-of .result in
+    let is = c .before .before .code-of .ensures in
+    let v = as-word (a .deep) (now (a .s)) (a .want) (a .at) h code is (c .enum-told2 .given .1) in
+    omega (arith, v .inside)
 
 make-expr-read32-requires : (t : ℕ) → make-expr-lts.Need-read32-requires (make-expr-claims t) (make-expr-at t) make-expr.Post
 make-expr-read32-requires t c κs =
-    let a = c .before .before .before .before .before .args in let h = c .before .before .before .before .before .pre .1 .1 in let code =
-    c .before .before .code-of .result in let is = c .before .before .code-of .ensures in
-    let v = as-word (a .deep) (now (a .s)) (a .want) (a .at) h code is (c .enum-told2 .given .1) in omega (arith, v .inside)
+    let a = c .before .before .before .before .before .args in
+    let h = c .before .before .before .before .before .pre .1 .1 in
+    let code = c .before .before .code-of .result in
+    let is = c .before .before .code-of .ensures in
+    let v = as-word (a .deep) (now (a .s)) (a .want) (a .at) h code is (c .enum-told2 .given .1) in
+    omega (arith, v .inside)
 
 make-expr-add-t28 : (t : ℕ) → make-expr-lts.Need-add-t28 (make-expr-claims t) (make-expr-at t) make-expr.Post
 make-expr-add-t28 t c =
-    let a = c .before .before .before .before .before .before .args in let h = c .before .before .before .before .before .before .pre .1 .1 in let code =
-    c .before .before .before .code-of .result in let is = c .before .before .before .code-of .ensures in
-    let v = as-word (a .deep) (now (a .s)) (a .want) (a .at) h code is (c .before .enum-told2 .given .1) in omega (arith, v .inside)
+    let a = c .before .before .before .before .before .before .args in
+    let h = c .before .before .before .before .before .before .pre .1 .1 in
+    let code = c .before .before .before .code-of .result in
+    let is = c .before .before .before .code-of .ensures in
+    let v = as-word (a .deep) (now (a .s)) (a .want) (a .at) h code is (c .before .enum-told2 .given .1) in
+    omega (arith, v .inside)
 
 make-expr-add-n : (t : ℕ) → make-expr-lts.Need-add-n (make-expr-claims t) (make-expr-at t) make-expr.Post
 make-expr-add-n t c =
-    let a = c .before .before .before .before .before .args in let h = c .before .before .before .before .before .pre .1 .1 in let code =
-    c .before .before .code-of .result in let is = c .before .before .code-of .ensures in
-    let v = as-bit (a .deep) (now (a .s)) (a .want) (a .at) h code is (c .enum-told3 .given .1) in omega (arith, v .inside)
+    let a = c .before .before .before .before .before .args in
+    let h = c .before .before .before .before .before .pre .1 .1 in
+    let code = c .before .before .code-of .result in
+    let is = c .before .before .code-of .ensures in
+    let v = as-bit (a .deep) (now (a .s)) (a .want) (a .at) h code is (c .enum-told3 .given .1) in
+    omega (arith, v .inside)
 
 make-expr-shared-slice-read-n : (t : ℕ) → make-expr-lts.Need-shared-slice-read-n (make-expr-claims t) (make-expr-at t) make-expr.Post
 make-expr-shared-slice-read-n t c =
-    let a = c .before .before .before .before .before .before .args in let h = c .before .before .before .before .before .before .pre .1 .1 in let code =
-    c .before .before .before .code-of .result in let is = c .before .before .before .code-of .ensures in
-    let v = as-bit (a .deep) (now (a .s)) (a .want) (a .at) h code is (c .before .enum-told3 .given .1) in v .inside
+    let a = c .before .before .before .before .before .before .args in
+    let h = c .before .before .before .before .before .before .pre .1 .1 in
+    let code = c .before .before .before .code-of .result in
+    let is = c .before .before .before .code-of .ensures in
+    let v = as-bit (a .deep) (now (a .s)) (a .want) (a .at) h code is (c .before .enum-told3 .given .1) in
+    v .inside
 
 make-expr-cast-n : (t : ℕ) → make-expr-lts.Need-cast-n (make-expr-claims t) (make-expr-at t) make-expr.Post
 make-expr-cast-n t c =
-    let a = c .before .before .before .before .before .before .args in let h = c .before .before .before .before .before .before .pre .1 .1 in let code =
-    c .before .before .before .code-of .result in let is = c .before .before .before .code-of .ensures in
-    let v = as-bit (a .deep) (now (a .s)) (a .want) (a .at) h code is (c .before .enum-told3 .given .1) in omega
-    (arith, v .low, v .inside, c .shared-slice-known4 .given (a .at + 1))
+    let a = c .before .before .before .before .before .before .args in
+    let h = c .before .before .before .before .before .before .pre .1 .1 in
+    let code = c .before .before .before .code-of .result in
+    let is = c .before .before .before .code-of .ensures in
+    let v = as-bit (a .deep) (now (a .s)) (a .want) (a .at) h code is (c .before .enum-told3 .given .1) in
+    omega (arith, v .low, v .inside, c .shared-slice-known4 .given (a .at + 1))
 
 make-expr-add-t32 : (t : ℕ) → make-expr-lts.Need-add-t32 (make-expr-claims t) (make-expr-at t) make-expr.Post
 make-expr-add-t32 t c =
-    let a = c .before .before .before .before .before .before .args in let h = c .before .before .before .before .before .before .pre .1 .1 in let code =
-    c .before .before .before .code-of .result in let is = c .before .before .before .code-of .ensures in
-    let v = as-bit (a .deep) (now (a .s)) (a .want) (a .at) h code is (c .before .enum-told3 .given .1) in omega (arith, v .inside)
+    let a = c .before .before .before .before .before .before .args in
+    let h = c .before .before .before .before .before .before .pre .1 .1 in
+    let code = c .before .before .before .code-of .result in
+    let is = c .before .before .before .code-of .ensures in
+    let v = as-bit (a .deep) (now (a .s)) (a .want) (a .at) h code is (c .before .enum-told3 .given .1) in
+    omega (arith, v .inside)
 
 make-expr-add-make-expr : (t : ℕ) → make-expr-lts.Need-add-make-expr (make-expr-claims t) (make-expr-at t) make-expr.Post
 make-expr-add-make-expr t c =
-    let a = c .before .before .before .before .before .before .args in omega
-    (arith, expr-inside (a .deep) (now (a .s)) (a .want) (a .at) (c .before .before .before .before .before .before .pre .1 .1))
+    let a = c .before .before .before .before .before .before .args in
+    omega (arith, expr-inside (a .deep) (now (a .s)) (a .want) (a .at) (c .before .before .before .before .before .before .pre .1 .1))
 
 make-expr-sub-make-expr : (t : ℕ) → make-expr-lts.Need-sub-make-expr (make-expr-claims t) (make-expr-at t) make-expr.Post
 make-expr-sub-make-expr t c =
-    let a = c .before .before .before .before .before .before .args in let h = c .before .before .before .before .before .before .pre .1 .1 in let code =
-    c .before .before .before .code-of .result in let is = c .before .before .before .code-of .ensures in omega
-    (arith, level (a .deep) (now (a .s)) (a .want) (a .at) h code is (c .before .form .given .0 .0) (c .before .form .given .1))
+    let a = c .before .before .before .before .before .before .args in
+    let h = c .before .before .before .before .before .before .pre .1 .1 in
+    let code = c .before .before .before .code-of .result in
+    let is = c .before .before .before .code-of .ensures in
+    omega (arith, level (a .deep) (now (a .s)) (a .want) (a .at) h code is (c .before .form .given .0 .0) (c .before .form .given .1))
 
 make-expr-make-expr-requires : (t : ℕ) → make-expr-lts.Need-make-expr-requires (make-expr-claims t) (make-expr-at t) make-expr.Post
 make-expr-make-expr-requires t c κs =
-    let a = c .before .before .before .before .before .before .before .args in let h = c .before .before .before .before .before .before .before .pre .1 .1 in let code =
-    c .before .before .before .before .code-of .result in let is = c .before .before .before .before .code-of .ensures in
+    let a = c .before .before .before .before .before .before .before .args in
+    let h = c .before .before .before .before .before .before .before .pre .1 .1 in
+    let code = c .before .before .before .before .code-of .result in
+    let is = c .before .before .before .before .code-of .ensures in
     let l = level (a .deep) (now (a .s)) (a .want) (a .at) h code is (c .before .before .form .given .0 .0) (c .before .before .form .given .1) in (
       omega arith,
       (
@@ -165,10 +204,11 @@ make-expr-make-expr-requires t c κs =
 
 make-expr-sub-make-expr-2 : (t : ℕ) → make-expr-lts.Need-sub-make-expr-2 (make-expr-claims t) (make-expr-at t) make-expr.Post
 make-expr-sub-make-expr-2 t c =
-    let a = c .before .before .before .before .before .before .before .before .before .before .args in let h =
-    c .before .before .before .before .before .before .before .before .before .before .pre .1 .1 in
+    let a = c .before .before .before .before .before .before .before .before .before .before .args in
+    let h = c .before .before .before .before .before .before .before .before .before .before .pre .1 .1 in
     let code = c .before .before .before .before .before .before .before .code-of .result in
-    let is = c .before .before .before .before .before .before .before .code-of .ensures in omega (
+    let is = c .before .before .before .before .before .before .before .code-of .ensures in
+    omega (
       arith,
       level (a .deep) (now (a .s)) (a .want) (a .at) h code is (c .before .before .before .before .before .form .given .0 .0)
           (c .before .before .before .before .before .form .given .1),
@@ -176,8 +216,8 @@ make-expr-sub-make-expr-2 t c =
 
 make-expr-make-expr-requires-2 : (t : ℕ) → make-expr-lts.Need-make-expr-requires-2 (make-expr-claims t) (make-expr-at t) make-expr.Post
 make-expr-make-expr-requires-2 t c κs =
-    let a = c .before .before .before .before .before .before .before .before .before .before .before .args in let h =
-    c .before .before .before .before .before .before .before .before .before .before .before .pre .1 .1 in
+    let a = c .before .before .before .before .before .before .before .before .before .before .before .args in
+    let h = c .before .before .before .before .before .before .before .before .before .before .before .pre .1 .1 in
     let code = c .before .before .before .before .before .before .before .before .code-of .result in
     let is = c .before .before .before .before .before .before .before .before .code-of .ensures in
     let l = level (a .deep) (now (a .s)) (a .want) (a .at) h code is (c .before .before .before .before .before .before .form .given .0 .0)
@@ -194,49 +234,55 @@ make-expr-make-expr-requires-2 t c κs =
 
 make-expr-returns : (t : ℕ) → make-expr-lts.Need-returns (make-expr-claims t) (make-expr-at t) make-expr.Post
 make-expr-returns t c =
-    let a = c .before .before .before .before .before .before .before .args in let h = c .before .before .before .before .before .before .before .pre .1 .1 in let code =
-    c .before .before .before .before .code-of .result in let is = c .before .before .before .before .code-of .ensures in
-    let v = as-variable (a .deep) (now (a .s)) (a .want) (a .at) h code is (c .before .before .enum-told .given .1) in made-variable (now (a .s))
-    (readExpr (a .deep) (now (a .s)) (a .want) (a .at)) (now (a .present)) (now (a .quads)) (a .count) (getD (now (a .s)) (a .at + 1) 0) (a .at + 2) (v .is)
+    let a = c .before .before .before .before .before .before .before .args in
+    let h = c .before .before .before .before .before .before .before .pre .1 .1 in
+    let code = c .before .before .before .before .code-of .result in
+    let is = c .before .before .before .before .code-of .ensures in
+    let v = as-variable (a .deep) (now (a .s)) (a .want) (a .at) h code is (c .before .before .enum-told .given .1) in
+    made-variable (now (a .s)) (readExpr (a .deep) (now (a .s)) (a .want) (a .at)) (now (a .present)) (now (a .quads)) (a .count) (getD (now (a .s)) (a .at + 1) 0)
+    (a .at + 2) (v .is)
 
 make-expr-returns-2 : (t : ℕ) → make-expr-lts.Need-returns-2 (make-expr-claims t) (make-expr-at t) make-expr.Post
 make-expr-returns-2 t c =
-    let a = c .before .before .before .before .before .before .before .before .args in let h =
-    c .before .before .before .before .before .before .before .before .pre .1 .1 in let code = c .before .before .before .before .before .code-of .result in
+    let a = c .before .before .before .before .before .before .before .before .args in
+    let h = c .before .before .before .before .before .before .before .before .pre .1 .1 in
+    let code = c .before .before .before .before .before .code-of .result in
     let is = c .before .before .before .before .before .code-of .ensures in
-    let v = as-word (a .deep) (now (a .s)) (a .want) (a .at) h code is (c .before .before .before .enum-told2 .given .1) in made-word (now (a .s))
-    (readExpr (a .deep) (now (a .s)) (a .want) (a .at)) (now (a .present)) (now (a .quads)) (a .count) (c .before .before .read32 .result) (a .at + 5)
-    (c .push .result) (c .push .last .0) (v .is ∙ ap (λ (n : ℕ). parsed (word n) (a .at + 5)) (sym (c .before .before .read32 .ensures))) (c .push .ensures)
+    let v = as-word (a .deep) (now (a .s)) (a .want) (a .at) h code is (c .before .before .before .enum-told2 .given .1) in
+    made-word (now (a .s)) (readExpr (a .deep) (now (a .s)) (a .want) (a .at)) (now (a .present)) (now (a .quads)) (a .count) (c .before .before .read32 .result)
+    (a .at + 5) (c .push .result) (c .push .last .0) (v .is ∙ ap (λ (n : ℕ). parsed (word n) (a .at + 5)) (sym (c .before .before .read32 .ensures)))
+    (c .push .ensures)
 
 make-expr-returns-3 : (t : ℕ) → make-expr-lts.Need-returns-3 (make-expr-claims t) (make-expr-at t) make-expr.Post
 make-expr-returns-3 t c =
-    let a = c .before .before .before .before .before .before .before .before .args in let h =
-    c .before .before .before .before .before .before .before .before .pre .1 .1 in let code = c .before .before .before .before .before .code-of .result in
+    let a = c .before .before .before .before .before .before .before .before .args in
+    let h = c .before .before .before .before .before .before .before .before .pre .1 .1 in
+    let code = c .before .before .before .before .before .code-of .result in
     let is = c .before .before .before .before .before .code-of .ensures in
-    let v = as-bit (a .deep) (now (a .s)) (a .want) (a .at) h code is (c .before .before .before .enum-told3 .given .1) in made-bit (now (a .s))
-    (readExpr (a .deep) (now (a .s)) (a .want) (a .at)) (now (a .present)) (now (a .quads)) (a .count) (getD (now (a .s)) (a .at + 1) 0) (a .at + 2)
-    (c .push2 .result) (c .push2 .last .0) (v .is) (c .push2 .ensures)
+    let v = as-bit (a .deep) (now (a .s)) (a .want) (a .at) h code is (c .before .before .before .enum-told3 .given .1) in
+    made-bit (now (a .s)) (readExpr (a .deep) (now (a .s)) (a .want) (a .at)) (now (a .present)) (now (a .quads)) (a .count) (getD (now (a .s)) (a .at + 1) 0)
+    (a .at + 2) (c .push2 .result) (c .push2 .last .0) (v .is) (c .push2 .ensures)
 
 make-expr-returns-4 : (t : ℕ) → make-expr-lts.Need-returns-4 (make-expr-claims t) (make-expr-at t) make-expr.Post
 make-expr-returns-4 t c =
-    let a = c .before .before .before .before .before .before .before .before .before .before .before .before .before .before .args in let h =
-    c .before .before .before .before .before .before .before .before .before .before .before .before .before .before .pre .1 .1 in
+    let a = c .before .before .before .before .before .before .before .before .before .before .before .before .before .before .args in
+    let h = c .before .before .before .before .before .before .before .before .before .before .before .before .before .before .pre .1 .1 in
     let code = c .before .before .before .before .before .before .before .before .before .before .before .code-of .result in
-    let is = c .before .before .before .before .before .before .before .before .before .before .before .code-of .ensures in made-one (a .deep) (now (a .s))
-    (a .want) (a .at) h code is (c .before .before .before .before .before .before .before .before .before .form .given .0 .0)
+    let is = c .before .before .before .before .before .before .before .before .before .before .before .code-of .ensures in
+    made-one (a .deep) (now (a .s)) (a .want) (a .at) h code is (c .before .before .before .before .before .before .before .before .before .form .given .0 .0)
     (c .before .before .before .before .before .before .before .before .before .form .given .1) (now (a .present)) (now (a .quads)) (a .count)
     (c .before .before .before .before .before .before .make-expr .result .gate .0) (c .before .before .before .before .before .before .make-expr .result .next)
     (c .before .before .before .before .before .before .make-expr .result .count) _ (c .before .before .before .before .before .before .make-expr .ensures)
-    (c .before .before .byte-of .result) (c .push3 .result) (c .push3 .last .0) (c .before .before .before .before .if1 .taken)
-    (c .before .before .byte-of .ensures) (c .push3 .ensures)
+    (c .before .before .byte-of .result) (c .push3 .result) (c .push3 .last .0) (c .before .before .before .before .if1 .taken) (c .before .before .byte-of .ensures)
+    (c .push3 .ensures)
 
 make-expr-returns-5 : (t : ℕ) → make-expr-lts.Need-returns-5 (make-expr-claims t) (make-expr-at t) make-expr.Post
 make-expr-returns-5 t c =
-    let a = c .before .before .before .before .before .before .before .before .before .before .before .before .before .before .args in let h =
-    c .before .before .before .before .before .before .before .before .before .before .before .before .before .before .pre .1 .1 in
+    let a = c .before .before .before .before .before .before .before .before .before .before .before .before .before .before .args in
+    let h = c .before .before .before .before .before .before .before .before .before .before .before .before .before .before .pre .1 .1 in
     let code = c .before .before .before .before .before .before .before .before .before .before .before .code-of .result in
-    let is = c .before .before .before .before .before .before .before .before .before .before .before .code-of .ensures in made-two (a .deep) (now (a .s))
-    (a .want) (a .at) h code is (c .before .before .before .before .before .before .before .before .before .form .given .0 .0)
+    let is = c .before .before .before .before .before .before .before .before .before .before .before .code-of .ensures in
+    made-two (a .deep) (now (a .s)) (a .want) (a .at) h code is (c .before .before .before .before .before .before .before .before .before .form .given .0 .0)
     (c .before .before .before .before .before .before .before .before .before .form .given .1) (now (a .present)) (now (a .quads)) (a .count)
     (c .before .before .before .before .before .before .make-expr .result .gate .0) (c .before .before .before .before .before .before .make-expr .result .next)
     (c .before .before .before .before .before .before .make-expr .result .count) _ (c .before .before .before .before .before .before .make-expr .ensures)

@@ -24,11 +24,14 @@ add-make-expr : tie.Need-add-make-expr
 add-make-expr c = let a = c .before .before .args in let r = assign-read (now (a .s)) (a .at) (c .before .before .pre .1) in omega (arith, r .inside)
 
 kind-at-requires : tie.Need-kind-at-requires
-kind-at-requires c κs = let a = c .before .before .args in let r = assign-read (now (a .s)) (a .at) (c .before .before .pre .1) in omega
-    (arith, r .range, c .before .before .pre .0 .kinds)
+kind-at-requires c κs =
+    let a = c .before .before .args in
+    let r = assign-read (now (a .s)) (a .at) (c .before .before .pre .1) in
+    omega (arith, r .range, c .before .before .pre .0 .kinds)
 
 make-expr-requires : tie.Need-make-expr-requires
-make-expr-requires c κs = let a = c .before .before .before .before .before .args in
+make-expr-requires c κs =
+    let a = c .before .before .before .before .before .args in
     let r = assign-read (now (a .s)) (a .at) (c .before .before .before .before .before .pre .1) in (
       c .before .before .before .before .before .pre .0,
       subst⁻¹ (λ (k : Kind). IsRead (readExpr deepest (now (a .s)) k (a .at + 2)))
@@ -36,30 +39,36 @@ make-expr-requires c κs = let a = c .before .before .before .before .before .ar
     )
 
 cast-i : tie.Need-cast-i
-cast-i c = let a = c .before .before .before .before .before .before .args in
-    let r = assign-read (now (a .s)) (a .at) (c .before .before .before .before .before .before .pre .1) in omega
-    (arith, r .range, c .before .before .before .before .before .before .pre .0 .few)
+cast-i c =
+    let a = c .before .before .before .before .before .before .args in
+    let r = assign-read (now (a .s)) (a .at) (c .before .before .before .before .before .before .pre .1) in
+    omega (arith, r .range, c .before .before .before .before .before .before .pre .0 .few)
 
 mul-present : tie.Need-mul-present
-mul-present c = let a = c .before .before .before .before .before .before .args in
-    let r = assign-read (now (a .s)) (a .at) (c .before .before .before .before .before .before .pre .1) in omega
-    (arith, r .range, c .before .before .before .before .before .before .pre .0 .few)
+mul-present c =
+    let a = c .before .before .before .before .before .before .args in
+    let r = assign-read (now (a .s)) (a .at) (c .before .before .before .before .before .before .pre .1) in
+    omega (arith, r .range, c .before .before .before .before .before .before .pre .0 .few)
 
 element-write-present : tie.Need-element-write-present
-element-write-present c = let a = c .before .before .before .before .before .before .args in
-    let r = assign-read (now (a .s)) (a .at) (c .before .before .before .before .before .before .pre .1) in omega
-    (arith, r .range, c .before .before .before .before .before .before .pre .0 .few)
+element-write-present c =
+    let a = c .before .before .before .before .before .before .args in
+    let r = assign-read (now (a .s)) (a .at) (c .before .before .before .before .before .before .pre .1) in
+    omega (arith, r .range, c .before .before .before .before .before .before .pre .0 .few)
 
 only-requires : tie.Need-only-requires
-only-requires c κs = let a = c .before .before .before .before .before .before .args in
-    let r = assign-read (now (a .s)) (a .at) (c .before .before .before .before .before .before .pre .1) in omega
-    (arith, r .range, c .before .before .before .before .before .before .pre .0 .few)
+only-requires c κs =
+    let a = c .before .before .before .before .before .before .args in
+    let r = assign-read (now (a .s)) (a .at) (c .before .before .before .before .before .before .pre .1) in
+    omega (arith, r .range, c .before .before .before .before .before .before .pre .0 .few)
 
 returns : tie.Need-returns
-returns c = let a = c .before .before .before .before .before .before .before .args in made-assign (now (a .s)) (a .at)
-    (c .before .before .before .before .before .before .before .pre .1) (c .before .before .before .before .before .before .before .pre .0 .few) (now (a .present))
-    (now (a .quads)) (a .count) (c .before .make-expr .result .next) (c .before .make-expr .result .gate .0) (c .before .make-expr .result .count) (c .only .result) _
-    (c .before .before .before .before .kind-at .result) (c .before .before .before .before .kind-at .ensures) (c .before .make-expr .ensures)
+returns c =
+    let a = c .before .before .before .before .before .before .before .args in
+    made-assign (now (a .s)) (a .at) (c .before .before .before .before .before .before .before .pre .1)
+    (c .before .before .before .before .before .before .before .pre .0 .few) (now (a .present)) (now (a .quads)) (a .count) (c .before .make-expr .result .next)
+    (c .before .make-expr .result .gate .0) (c .before .make-expr .result .count) (c .only .result) _ (c .before .before .before .before .kind-at .result)
+    (c .before .before .before .before .kind-at .ensures) (c .before .make-expr .ensures)
     (λ x. ap (λ (k : ℕ). has k x) (c .only .ensures) ∙ only-bit (getD (now (a .s)) (a .at + 1) 0) x)
 
 pub make-assign-spec : {M : Type 1} → statement M

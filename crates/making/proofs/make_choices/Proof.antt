@@ -16,7 +16,9 @@ abbrev μ-loop : tie.MeasureT-loop
 μ-loop condition first second assigned v present₀ quads₀ count n₀ x₀ present quads n x = v - x
 
 loop-holds : tie.Need-loop-holds Inv-loop μ-loop
-loop-holds c = let a = c .args in chosen-none (a .condition .0) (now (a .first)) (now (a .second)) (a .assigned) (a .v) (now (a .quads)) (now (a .present)) (a .count)
+loop-holds c =
+    let a = c .args in
+    chosen-none (a .condition .0) (now (a .first)) (now (a .second)) (a .assigned) (a .v) (now (a .quads)) (now (a .present)) (a .count)
 
 loop-again : tie.Need-loop-again Inv-loop μ-loop
 loop-again c =
@@ -31,8 +33,11 @@ loop-again c =
     (c .if1 .came)
 
 returns : tie.Need-returns Inv-loop μ-loop
-returns c = let a = c .before .before .args in let l = c .before .loop in chosen-all (a .condition .0) (now (a .first)) (now (a .second)) (a .assigned) (a .v)
-    (now (a .quads)) (now (a .present)) (a .count) (l .x) (l .n) (l .quads) (l .present) (l .inv) (c .loop-test .left)
+returns c =
+    let a = c .before .before .args in
+    let l = c .before .loop in
+    chosen-all (a .condition .0) (now (a .first)) (now (a .second)) (a .assigned) (a .v) (now (a .quads)) (now (a .present)) (a .count) (l .x) (l .n) (l .quads)
+    (l .present) (l .inv) (c .loop-test .left)
 
 pub make-choices-spec : {M : Type 1} → statement M
 make-choices-spec =

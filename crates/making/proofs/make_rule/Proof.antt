@@ -8,28 +8,39 @@ use Rattle.making.proofs.make_rule.Statement.{statement}
 use Rattle.making.proofs.make_rule.Tie as tie
 
 shared-slice-read-v : tie.Need-shared-slice-read-v
-shared-slice-read-v c = let a = c .before .before .before .before .args in let r = rule-read (now (a .s)) (c .before .before .before .before .pre) in omega
-    (arith, r .header .kinds)
+shared-slice-read-v c =
+    let a = c .before .before .before .before .args in
+    let r = rule-read (now (a .s)) (c .before .before .before .before .pre) in
+    omega (arith, r .header .kinds)
 
 cast-v : tie.Need-cast-v
-cast-v c = let a = c .before .before .before .before .args in let r = rule-read (now (a .s)) (c .before .before .before .before .pre) in omega (arith, r .header .few)
+cast-v c =
+    let a = c .before .before .before .before .args in
+    let r = rule-read (now (a .s)) (c .before .before .before .before .pre) in
+    omega (arith, r .header .few)
 
 make-starts-requires : tie.Need-make-starts-requires
-make-starts-requires c κs = let a = c .before .before .before .before .before .before .args in
-    let r = rule-read (now (a .s)) (c .before .before .before .before .before .before .pre) in (r .header, (refl, refl))
+make-starts-requires c κs =
+    let a = c .before .before .before .before .before .before .args in
+    let r = rule-read (now (a .s)) (c .before .before .before .before .before .before .pre) in
+    (r .header, (refl, refl))
 
 add-make-block : tie.Need-add-make-block
-add-make-block c = let a = c .before .before .before .before .before .before .before .args in
-    let r = rule-read (now (a .s)) (c .before .before .before .before .before .before .before .pre) in omega (arith, r .header .few)
+add-make-block c =
+    let a = c .before .before .before .before .before .before .before .args in
+    let r = rule-read (now (a .s)) (c .before .before .before .before .before .before .before .pre) in
+    omega (arith, r .header .few)
 
 make-block-requires : tie.Need-make-block-requires
-make-block-requires c κs = let a = c .before .before .before .before .before .before .before .before .before .args in
+make-block-requires c κs =
+    let a = c .before .before .before .before .before .before .before .before .before .args in
     let r = rule-read (now (a .s)) (c .before .before .before .before .before .before .before .before .before .pre) in
     (r .header, subst IsRead (r .block) (c .before .before .before .before .before .before .before .before .before .pre))
 
 returns : tie.Need-returns
-returns c = let a = c .before .before .before .before .before .before .before .before .before .before .args in rule-made (now (a .s))
-    (c .before .before .before .before .before .before .before .before .before .before .pre) _ _ (c .before .before .before .make-starts .result)
+returns c =
+    let a = c .before .before .before .before .before .before .before .before .before .before .args in
+    rule-made (now (a .s)) (c .before .before .before .before .before .before .before .before .before .before .pre) _ _ (c .before .before .before .make-starts .result)
     (c .before .before .before .make-starts .ensures) (c .make-block .result .next) (c .make-block .result .count) (c .make-block .result .assigned) _ _
     (c .make-block .ensures)
 

@@ -17,20 +17,25 @@ abbrev μ-loop : tie.MeasureT-loop
 μ-loop s present₀ quads₀ v n₀ x₀ present quads n x = v - x
 
 loop-holds : tie.Need-loop-holds Inv-loop μ-loop
-loop-holds c = let a = c .before .before .args in
+loop-holds c =
+    let a = c .before .before .args in
     (refl, started-none (now (a .s)) (now (a .quads)) (now (a .present)) (c .before .before .pre .1 .0) (c .before .before .pre .1 .1))
 
 loop-again : tie.Need-loop-again Inv-loop μ-loop
-loop-again c = let a = c .before .before .before .before .before .before .before .before .args in let l = c .before .before .before .before .before .loop in (
-  l .inv .0,
-  started-more (now (a .s)) (l .quads) (l .present) (l .x) (l .n) (c .before .before .start-code .result) (c .push .result) _ (l .inv .1)
-      (omega (arith, l .inv .0, c .before .before .before .before .loop-test .taken)) (c .before .before .before .before .before .before .before .before .pre .0 .few)
-      (c .before .before .start-code .ensures ∙ ap startCode (c .before .before .before .kind-at .ensures)) (c .push .ensures),
-)
+loop-again c =
+    let a = c .before .before .before .before .before .before .before .before .args in
+    let l = c .before .before .before .before .before .loop in (
+      l .inv .0,
+      started-more (now (a .s)) (l .quads) (l .present) (l .x) (l .n) (c .before .before .start-code .result) (c .push .result) _ (l .inv .1)
+          (omega (arith, l .inv .0, c .before .before .before .before .loop-test .taken)) (c .before .before .before .before .before .before .before .before .pre .0 .few)
+          (c .before .before .start-code .ensures ∙ ap startCode (c .before .before .before .kind-at .ensures)) (c .push .ensures),
+    )
 
 returns : tie.Need-returns Inv-loop μ-loop
-returns c = let a = c .before .before .before .before .args in let l = c .before .loop in started-all (now (a .s)) (l .quads) (l .present) (l .x) (l .n) (l .inv .1)
-    (omega (arith, l .inv .0, c .loop-test .left))
+returns c =
+    let a = c .before .before .before .before .args in
+    let l = c .before .loop in
+    started-all (now (a .s)) (l .quads) (l .present) (l .x) (l .n) (l .inv .1) (omega (arith, l .inv .0, c .loop-test .left))
 
 pub make-starts-spec : {M : Type 1} → statement M
 make-starts-spec =

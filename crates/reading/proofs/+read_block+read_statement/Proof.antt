@@ -85,16 +85,21 @@ read-block-loop-holds : (t : ℕ) → read-block-lts.Need-loop-holds (read-block
 read-block-loop-holds t c = (search needs, refl)
 
 read-block-returns : (t : ℕ) → read-block-lts.Need-returns (read-block-claims t) (read-block-at t) read-block.Post read-block-Inv-loop read-block-μ-loop
-read-block-returns t c = let a = c .before .before .before .args in let l = c .before .loop in ap stepOf
-    (sym (block-short (now (a .s)) (a .nest) (l .here) (c .if1 .taken))) ∙ l .inv .1
+read-block-returns t c =
+    let a = c .before .before .before .args in
+    let l = c .before .loop in
+    ap stepOf (sym (block-short (now (a .s)) (a .nest) (l .here) (c .if1 .taken))) ∙ l .inv .1
 
 read-block-returns-2 : (t : ℕ) → read-block-lts.Need-returns-2 (read-block-claims t) (read-block-at t) read-block.Post read-block-Inv-loop read-block-μ-loop
-read-block-returns-2 t c = let a = c .before .before .before .before .before .args in let l = c .before .before .before .loop in block-end (now (a .s)) (a .nest)
-    (l .here) (c .before .before .if1 .left) (c .if2 .taken) ∙ l .inv .1
+read-block-returns-2 t c =
+    let a = c .before .before .before .before .before .args in
+    let l = c .before .before .before .loop in
+    block-end (now (a .s)) (a .nest) (l .here) (c .before .before .if1 .left) (c .if2 .taken) ∙ l .inv .1
 
 read-block-loop-less : (t : ℕ) → read-block-lts.Need-loop-less (read-block-claims t) (read-block-at t) read-block.Post read-block-Inv-loop read-block-μ-loop
 read-block-loop-less t c =
-    let a = c .before .before .before .before .before .before .before .before .before .args in let l = c .before .before .before .before .before .before .before .loop in
+    let a = c .before .before .before .before .before .before .before .before .before .args in
+    let l = c .before .before .before .before .before .before .before .loop in
     omega (
       arith,
       forward-past (readStatement (now (a .s)) (a .nest) (l .here)) (statement-forward (now (a .s)) (a .nest) (l .here))
@@ -103,7 +108,8 @@ read-block-loop-less t c =
 
 read-block-loop-again : (t : ℕ) → read-block-lts.Need-loop-again (read-block-claims t) (read-block-at t) read-block.Post read-block-Inv-loop read-block-μ-loop
 read-block-loop-again t c =
-    let a = c .before .before .before .before .before .before .before .before .before .args in let l = c .before .before .before .before .before .before .before .loop in
+    let a = c .before .before .before .before .before .before .before .before .before .args in
+    let l = c .before .before .before .before .before .before .before .loop in
     let step = sym (c .before .next .given .1) ∙ c .before .before .before .read-statement .ensures in (
       omega (arith, forward-past (readStatement (now (a .s)) (a .nest) (l .here)) (statement-forward (now (a .s)) (a .nest) (l .here)) step),
       block-more (now (a .s)) (a .nest) (l .here) (c .before .before .before .before .before .before .if1 .left) (c .before .before .before .before .if2 .left) step
@@ -112,13 +118,16 @@ read-block-loop-again t c =
 
 read-block-returns-3 : (t : ℕ) → read-block-lts.Need-returns-3 (read-block-claims t) (read-block-at t) read-block.Post read-block-Inv-loop read-block-μ-loop
 read-block-returns-3 t c =
-    let a = c .before .before .before .before .before .before .before .before .before .args in let l = c .before .before .before .before .before .before .before .loop in
+    let a = c .before .before .before .before .before .before .before .before .before .args in
+    let l = c .before .before .before .before .before .before .before .loop in
     block-refused (now (a .s)) (a .nest) (l .here) (c .before .before .before .before .before .before .if1 .left) (c .before .before .before .before .if2 .left)
     (sym (c .before .number .given .1) ∙ c .before .before .before .read-statement .ensures) ∙ l .inv .1
 
 read-statement-returns : (t : ℕ) → read-statement-lts.Need-returns (read-statement-claims t) (read-statement-at t) read-statement.Post
-read-statement-returns t c = let a = c .before .before .before .before .before .before .args in branch-deep (now (a .s)) (a .nest) (a .at)
-    (c .before .before .before .code-of .result) (c .before .before .before .code-of .ensures) (c .before .enum-told3 .given .1) (c .if1 .taken)
+read-statement-returns t c =
+    let a = c .before .before .before .before .before .before .args in
+    branch-deep (now (a .s)) (a .nest) (a .at) (c .before .before .before .code-of .result) (c .before .before .before .code-of .ensures)
+    (c .before .enum-told3 .given .1) (c .if1 .taken)
 
 read-statement-read-block-requires : (t : ℕ) → read-statement-lts.Need-read-block-requires (read-statement-claims t) (read-statement-at t) read-statement.Post
 read-statement-read-block-requires t c κs =
@@ -142,13 +151,17 @@ read-statement-read-block-requires-2 t c κs =
     )
 
 read-statement-returns-2 : (t : ℕ) → read-statement-lts.Need-returns-2 (read-statement-claims t) (read-statement-at t) read-statement.Post
-read-statement-returns-2 t c = let a = c .before .before .before .before .before .before .args in c .read-assign .ensures ∙ ap stepOf
+read-statement-returns-2 t c =
+    let a = c .before .before .before .before .before .before .args in
+    c .read-assign .ensures ∙ ap stepOf
     (sym (statement-as (now (a .s)) (a .nest) (a .at) (c .before .before .before .code-of .result) form.Assign (c .before .before .before .code-of .ensures)
     (c .before .enum-told .given .1)))
 
 read-statement-returns-3 : (t : ℕ) → read-statement-lts.Need-returns-3 (read-statement-claims t) (read-statement-at t) read-statement.Post
-read-statement-returns-3 t c = let a = c .before .before .before .before .before .args in ap stepOf
-    (sym (statement-as (now (a .s)) (a .nest) (a .at) (c .before .before .code-of .result) form.Skip (c .before .before .code-of .ensures) (c .enum-told2 .given .1)))
+read-statement-returns-3 t c =
+    let a = c .before .before .before .before .before .args in
+    ap stepOf (sym (statement-as (now (a .s)) (a .nest) (a .at) (c .before .before .code-of .result) form.Skip (c .before .before .code-of .ensures)
+    (c .enum-told2 .given .1)))
 
 read-statement-returns-4 : (t : ℕ) → read-statement-lts.Need-returns-4 (read-statement-claims t) (read-statement-at t) read-statement.Post
 read-statement-returns-4 t c =

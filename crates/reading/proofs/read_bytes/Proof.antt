@@ -6,33 +6,42 @@ use Rattle.reading.proofs.read_bytes.Statement.{statement}
 use Rattle.reading.proofs.read_bytes.Tie as tie
 
 read-block-requires : tie.Need-read-block-requires
-read-block-requires c κs = let a = c .before .before .before .before .before .args in header-past (now (a .s)) (c .before .before .before .before .before .pre .0)
+read-block-requires c κs =
+    let a = c .before .before .before .before .before .args in
+    header-past (now (a .s)) (c .before .before .before .before .before .pre .0)
     (sym (c .before .body .given .1) ∙ c .before .before .before .read-header .ensures) .kinds
 
 returns : tie.Need-returns
-returns c = let a = c .before .before .before .before .before .before .before .before .before .before .args in rule-after (now (a .s))
-    (c .before .before .before .before .before .before .before .before .before .before .pre .0)
+returns c =
+    let a = c .before .before .before .before .before .before .before .before .before .before .args in
+    rule-after (now (a .s)) (c .before .before .before .before .before .before .before .before .before .before .pre .0)
     (c .before .before .before .before .before .before .before .before .before .before .pre .1)
-    (sym (c .before .before .before .before .before .before .body .given .1) ∙ c .before .before .before .before .before .before .before .before .read-header .ensures)
+    (sym (c .before .before .before .before .before .before .body .given .1)
+    ∙ c .before .before .before .before .before .before .before .before .read-header .ensures)
     (sym (c .before .before .end .given .1) ∙ c .before .before .before .before .read-block .ensures) (c .if1 .taken)
 
 returns-2 : tie.Need-returns-2
-returns-2 c = let a = c .before .before .before .before .before .before .before .before .before .before .args in rule-whole (now (a .s))
-    (c .before .before .before .before .before .before .before .before .before .before .pre .0)
+returns-2 c =
+    let a = c .before .before .before .before .before .before .before .before .before .before .args in
+    rule-whole (now (a .s)) (c .before .before .before .before .before .before .before .before .before .before .pre .0)
     (c .before .before .before .before .before .before .before .before .before .before .pre .1)
-    (sym (c .before .before .before .before .before .before .body .given .1) ∙ c .before .before .before .before .before .before .before .before .read-header .ensures)
+    (sym (c .before .before .before .before .before .before .body .given .1)
+    ∙ c .before .before .before .before .before .before .before .before .read-header .ensures)
     (sym (c .before .before .end .given .1) ∙ c .before .before .before .before .read-block .ensures) (c .if1 .left)
 
 returns-3 : tie.Need-returns-3
-returns-3 c = let a = c .before .before .before .before .before .before .before .before .before .args in rule-block (now (a .s))
-    (c .before .before .before .before .before .before .before .before .before .pre .0)
+returns-3 c =
+    let a = c .before .before .before .before .before .before .before .before .before .args in
+    rule-block (now (a .s)) (c .before .before .before .before .before .before .before .before .before .pre .0)
     (c .before .before .before .before .before .before .before .before .before .pre .1)
     (sym (c .before .before .before .before .before .body .given .1) ∙ c .before .before .before .before .before .before .before .read-header .ensures)
     (sym (c .before .number .given .1) ∙ c .before .before .before .read-block .ensures)
 
 returns-4 : tie.Need-returns-4
-returns-4 c = let a = c .before .before .before .before .before .args in rule-header (now (a .s)) (c .before .before .before .before .before .pre .0)
-    (c .before .before .before .before .before .pre .1) (sym (c .before .number2 .given .1) ∙ c .before .before .before .read-header .ensures)
+returns-4 c =
+    let a = c .before .before .before .before .before .args in
+    rule-header (now (a .s)) (c .before .before .before .before .before .pre .0) (c .before .before .before .before .before .pre .1)
+    (sym (c .before .number2 .given .1) ∙ c .before .before .before .read-header .ensures)
 
 pub read-bytes-spec : {M : Type 1} → statement M
 read-bytes-spec =

@@ -6,21 +6,25 @@ use Rattle.reading.proofs.read_header.Statement.{statement}
 use Rattle.reading.proofs.read_header.Tie as tie
 
 returns : tie.Need-returns
-returns c = let a = c .before .before .before .before .before .before .before .args in header-none (now (a .s))
-    (sym (c .before .before .enum-told .given .1) ∙ c .before .before .before .before .read-mark .ensures) (c .if1 .taken)
+returns c =
+    let a = c .before .before .before .before .before .before .before .args in
+    header-none (now (a .s)) (sym (c .before .before .enum-told .given .1) ∙ c .before .before .before .before .read-mark .ensures) (c .if1 .taken)
 
 returns-2 : tie.Need-returns-2
-returns-2 c = let a = c .before .before .before .before .before .before .before .before .args in header-many (now (a .s))
-    (sym (c .before .before .before .enum-told .given .1) ∙ c .before .before .before .before .before .read-mark .ensures) (c .if2 .taken)
+returns-2 c =
+    let a = c .before .before .before .before .before .before .before .before .args in
+    header-many (now (a .s)) (sym (c .before .before .before .enum-told .given .1) ∙ c .before .before .before .before .before .read-mark .ensures) (c .if2 .taken)
 
 returns-3 : tie.Need-returns-3
-returns-3 c = let a = c .before .before .before .before .before .before .before .before .before .args in header-kinds (now (a .s))
-    (sym (c .before .before .before .before .enum-told .given .1) ∙ c .before .before .before .before .before .before .read-mark .ensures) (c .before .before .if1 .left)
-    (c .before .if2 .left) (c .read-kinds .ensures)
+returns-3 c =
+    let a = c .before .before .before .before .before .before .before .before .before .args in
+    header-kinds (now (a .s)) (sym (c .before .before .before .before .enum-told .given .1) ∙ c .before .before .before .before .before .before .read-mark .ensures)
+    (c .before .before .if1 .left) (c .before .if2 .left) (c .read-kinds .ensures)
 
 returns-4 : tie.Need-returns-4
-returns-4 c = let a = c .before .before .before .before .before .before .args in header-mark (now (a .s))
-    (sym (c .before .number .given .1) ∙ c .before .before .before .read-mark .ensures)
+returns-4 c =
+    let a = c .before .before .before .before .before .before .args in
+    header-mark (now (a .s)) (sym (c .before .number .given .1) ∙ c .before .before .before .read-mark .ensures)
 
 pub read-header-spec : {M : Type 1} → statement M
 read-header-spec =

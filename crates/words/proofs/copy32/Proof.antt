@@ -28,7 +28,10 @@ loop-again c =
     )
 
 returns : tie.Need-returns Inv-loop μ-loop
-returns c = let a = c .before .before .args in let l = c .before .loop in l .inv .2 ∙ copy-all (now (a .from)) (now (a .to)) (l .i) (c .loop-test .left)
+returns c =
+    let a = c .before .before .args in
+    let l = c .before .loop in
+    l .inv .2 ∙ copy-all (now (a .from)) (now (a .to)) (l .i) (c .loop-test .left)
 
 pub copy32-spec : {M : Type 1} → statement M
 copy32-spec =

@@ -48,7 +48,8 @@ part-put-group-start c =
     search needs
 
 put-group-requires : tie.Need-put-group-requires Inv-loop μ-loop
-put-group-requires c κs = let l = c .before .before .before .before .before .before .before .loop .inv in
+put-group-requires c κs =
+    let l = c .before .before .before .before .before .before .before .loop .inv in
     let h = c .before .before .before .before .before .before .loop-test .taken in (
       putting-room _ _ _ _ _ _ _ _ _ _ _ _ _ _ l h _ _ (c .before .before .before .before .wide16 .ensures .0) (c .before .before .wide162 .ensures .0),
       turn-puttable _ _ _ _ _ _ _ _ _ (c .before .before .before .before .before .before .before .before .before .before .pre .1 .0) _ _ _ h
