@@ -5,8 +5,7 @@ use mathlib.Core.List.{List, [], _∷_}
 use mathlib.Core.Bool.{Bool, false, _&&_}
 use lib.Dec.{eqb, leb, ltb}
 use borrow.Author.Tests.{eqb-true, eqb-false, eq-eqb, ne-eqb, leb-true, le-leb, lt-leb}
-use Rattle.words.specs.TestLaws.{split}
-use Rattle.settings.specs.SetLaws.{both}
+use Rattle.words.specs.TestLaws.{split, both}
 use Rattle.codes.specs.Codes.{codeOf}
 use Rattle.codes.specs.CodeLaws.{byte-back}
 use Rattle.codes.specs.declared.Code.{Code}

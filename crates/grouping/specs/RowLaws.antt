@@ -7,8 +7,7 @@ use native.Mathlib.Omega.{arith}
 use lib.Dec.{leb, ltb}
 use lib.ListN.{length, getD, take}
 use borrow.Author.Tests.{eq-eqb, ne-eqb, leb-true, le-leb, lt-leb}
-use Rattle.words.specs.TestLaws.{split}
-use Rattle.settings.specs.SetLaws.{both}
+use Rattle.words.specs.TestLaws.{split, both}
 use Rattle.answers.specs.Parsing.{stepOf, readMark}
 use Rattle.answers.specs.ParsingLaws.{past-read, not-refused}
 use Rattle.answers.specs.declared.Step.the-variants.{Past, Refused}

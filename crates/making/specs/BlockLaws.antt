@@ -12,7 +12,7 @@ use Rattle.words.specs.BufferLaws.{padded-at, padded-length}
 use Rattle.words.specs.ListLaws.{length-from}
 use Rattle.settings.specs.Sets.{has}
 use Rattle.settings.specs.BitLaws.{bit-or, bit-none}
-use Rattle.settings.specs.SetLaws.{or-false}
+use Rattle.words.specs.TestLaws.{or-false}
 use Rattle.answers.specs.Parsing.{parsed, IsRead}
 use Rattle.answers.specs.ParsingLaws.{read-is, is-read, same-what, same-next}
 use Rattle.reading.specs.Limits.{nested}

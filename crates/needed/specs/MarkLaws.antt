@@ -8,12 +8,11 @@ use lib.ListN.{length, getD, length-set}
 use lib.Seq.{getD-set-same, getD-set-other, set-out}
 use borrow.Author.Tests.{not-true}
 use Rattle.words.specs.Lists.{_∈_}
-use Rattle.words.specs.TestLaws.{split, same?}
+use Rattle.words.specs.TestLaws.{split, same?, both, either, or-left, or-right}
 use Rattle.words.specs.ListLaws.{inside-list}
 use Rattle.gates.specs.Gates.{Gate, start, word, bit, operation, choice}
 use Rattle.settings.specs.Settings.{Setting}
 use Rattle.settings.specs.Interface.{SetsOf}
-use Rattle.settings.specs.SetLaws.{both, either, or-left, or-right}
 use Rattle.needed.specs.Needed.{asks}
 use Rattle.needed.specs.Pass.{add, addAll, hand}
 

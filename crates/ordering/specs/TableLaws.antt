@@ -12,12 +12,12 @@ use lib.ListN.{length, getD, set, replicate, length-set, length-replicate}
 use lib.Seq.{getD-set-same, getD-set-other, set-out}
 use borrow.Author.Tests.{eq-eqb, ne-eqb}
 use Rattle.words.specs.Lists.{_∈_, elem}
-use Rattle.words.specs.TestLaws.{split, same?}
+use Rattle.words.specs.TestLaws.{split, same?, or-false}
 use Rattle.words.specs.ListLaws.{getD-zeros, inside-list}
 use Rattle.settings.specs.Settings.{bit, unlike}
 use Rattle.settings.specs.Sets.{union, flipBit}
 use Rattle.settings.specs.BitLaws.{bit-zero, bit-suc, bit-pow, bit-none, bit-or, bit-xor}
-use Rattle.settings.specs.SetLaws.{union-below, or-false}
+use Rattle.settings.specs.SetLaws.{union-below}
 use Rattle.settings.specs.FlipLaws.{flip-below}
 use Rattle.ordering.specs.Tables.{bitIn, putBit, putEach, strikeBit, HasWords}
 

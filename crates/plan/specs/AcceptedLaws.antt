@@ -8,8 +8,7 @@ use native.Mathlib.Omega.{arith}
 use lib.Dec.{eqb, leb, ltb}
 use borrow.Author.Tests.{eqb-true, eqb-false, eq-eqb, ne-eqb, leb-true, le-leb, ltb-true}
 use lib.ListN.{length, take}
-use Rattle.words.specs.TestLaws.{split}
-use Rattle.settings.specs.SetLaws.{both}
+use Rattle.words.specs.TestLaws.{split, both}
 use Rattle.answers.specs.declared.Answer.{Answer}
 use Rattle.answers.specs.Answers.{refusal}
 use Rattle.answers.specs.Parsing.{parsed}

@@ -9,8 +9,7 @@ use native.Mathlib.Numerals.{add-one}
 use lib.Dec.{eqb}
 use lib.ListN.{length, getD, take, drop}
 use lib.Seq.{drop-cons}
-use Rattle.words.specs.TestLaws.{split}
-use Rattle.settings.specs.SetLaws.{both}
+use Rattle.words.specs.TestLaws.{split, both}
 use Rattle.answers.specs.Parsing.{readMark, IsRead}
 use Rattle.plan.specs.PlanFile.{mark, leastBytes}
 use Rattle.plan.specs.Rows.{same}

@@ -9,9 +9,8 @@ use lib.Dec.{eqb}
 use borrow.Author.Tests.{eqb-true, eqb-false, eq-eqb, ne-eqb}
 use lib.ListN.{length, getD}
 use Rattle.words.specs.Lists.{_∈_}
-use Rattle.words.specs.TestLaws.{split}
+use Rattle.words.specs.TestLaws.{split, both}
 use Rattle.settings.specs.Sets.{excludes}
-use Rattle.settings.specs.SetLaws.{both}
 use Rattle.codes.specs.Codes.{costly, byteOf, operationOf}
 use Rattle.codes.specs.CodeLaws.{byte-operation}
 use Rattle.codes.specs.declared.Operation.{Operation}

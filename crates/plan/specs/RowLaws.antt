@@ -9,8 +9,7 @@ use borrow.Author.Tests.{eqb-true, eq-eqb, leb-true, le-leb, ltb-true, lt-ltb}
 use lib.ListN.{length}
 use Rattle.words.specs.Lists.{_∈_, elem}
 use Rattle.words.specs.MemberLaws.{elem→∈, ∈→elem}
-use Rattle.words.specs.TestLaws.{split}
-use Rattle.settings.specs.SetLaws.{both}
+use Rattle.words.specs.TestLaws.{split, both}
 use Rattle.plan.specs.PlanFile.{Plan, after, EachGroup, Above, Rising, Listed, Apart, Ends, ends}
 use Rattle.plan.specs.Rows.{every, everyGroup, same, above, rises, listed, apart}
 use Rattle.plan.specs.Accepted.{Exist}

@@ -1,14 +1,14 @@
 -- Laws for document 01, "Needed gates (000 Def. 4)": sets of settings held as numbers, for any number of settings or conditions.
 use mathlib.Core.Path.{_≡_, refl, sym, ap, ap₂, _∙_}
-use mathlib.Core.Bool.{Bool, true, false, not, _&&_, _||_, true≢false, false≢true, and-eq-true-iff}
-use mathlib.Core.Logic.{_⊎_, inl, inr, _↔_}
+use mathlib.Core.Bool.{Bool, true, false, not, _&&_, _||_, true≢false, false≢true}
+use mathlib.Core.Logic.{_↔_}
 use Prim.Native.Nat.{ℕ, _+_, _/_, _^_, _<_}
 use native.Mathlib.Omega.{arith}
 use native.Mathlib.Nat.{add-comm, lt-of-le-of-lt}
 use lib.Dec.{eqb}
 use lib.Bits.{bitAnd, bitXor, and-le-l, and-le-r, or-lt}
 use borrow.Author.Tests.{eqb-true, eqb-false, ne-eqb, not-true}
-use Rattle.words.specs.TestLaws.{split, same-test}
+use Rattle.words.specs.TestLaws.{split, same-test, both}
 use Rattle.settings.specs.Settings.{bit, unlike}
 use Rattle.settings.specs.Sets.{has, empty, collect, whole, union, given, without, Disjoint, excludes, flipBit, MovedBy, restsOn, movers}
 use Rattle.settings.specs.BitLaws.{bit-and, bit-or, bit-xor, bit-none, bit-shift, some-bit, collect-below, collect-has}
@@ -47,25 +47,6 @@ those-below N p s = lt-of-le-of-lt (and-le-r s (collect N p)) (collect-below N p
 
 pub without-below : (N t s : ℕ) → without N t s < 2 ^ N
 without-below N t s = those-below N (λ j. not (bit j t)) s
-
--- two bits: both 1, one of them 1, unlike
-pub both : (a b : Bool) → (a && b) ≡ true → (a ≡ true) × (b ≡ true)
-both a b = and-eq-true-iff a b .0
-
-pub either : (a b : Bool) → (a || b) ≡ true → (a ≡ true) ⊎ (b ≡ true)
-either true b h = inl refl
-either false b h = inr h
-
-pub or-left : (a b : Bool) → a ≡ true → (a || b) ≡ true
-or-left a b h = rw h
-
-pub or-right : (a b : Bool) → b ≡ true → (a || b) ≡ true
-or-right true b h = refl
-or-right false b h = h
-
-pub or-false : (b : Bool) → (b || false) ≡ b
-or-false true = refl
-or-false false = refl
 
 pub unlike-means : (a b : Bool) → unlike a b ≡ true → a ≡ b → ⊥
 unlike-means true true h e = false≢true h
