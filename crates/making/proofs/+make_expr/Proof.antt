@@ -100,23 +100,28 @@ make-expr-returns t c = made-variable _ _ _ _ _ _ _ (the-variable t (c .before .
 make-expr-returns-2 : (t : ℕ) → make-expr-lts.Need-returns-2 (make-expr-claims t) (make-expr-at t) make-expr.Post
 make-expr-returns-2 t c =
     let n = c .before .before .read32 in
+    let w = c .before .before .before in
     made-word _ _ _ _ _ (n .result) _ _ _
-    (the-word t (c .before .before .before) .is ∙ ap (λ (k : ℕ). parsed (word k) (c .before .before .before .before .before .before .before .before .args .at + 5)) (sym (n .ensures))) (c .push .ensures)
+    (the-word t w .is ∙ ap (λ (k : ℕ). parsed (word k) (w .before .before .before .before .before .args .at + 5)) (sym (n .ensures))) (c .push .ensures)
 
 make-expr-returns-3 : (t : ℕ) → make-expr-lts.Need-returns-3 (make-expr-claims t) (make-expr-at t) make-expr.Post
 make-expr-returns-3 t c = made-bit _ _ _ _ _ _ _ _ _ (the-bit t (c .before .before .before) .is) (c .push2 .ensures)
 
 make-expr-returns-4 : (t : ℕ) → make-expr-lts.Need-returns-4 (make-expr-claims t) (make-expr-at t) make-expr.Post
 make-expr-returns-4 t c =
-    let f = c .before .before .before .before .before .before .before .before .before in
+    let i = c .before .before .before .before in
+    let x = i .before .before in
+    let f = x .before .before .before in
     made-one _ _ _ _ (f .before .before .before .before .before .pre .1 .1) _ (f .before .before .code-of .ensures) _ (f .form .given .1) _ _ _ _ _ _ _
-    (c .before .before .before .before .before .before .make-expr .ensures) _ _ _ (c .before .before .before .before .if1 .taken) (c .before .before .byte-of .ensures) (c .push3 .ensures)
+    (x .make-expr .ensures) _ _ _ (i .if1 .taken) (c .before .before .byte-of .ensures) (c .push3 .ensures)
 
 make-expr-returns-5 : (t : ℕ) → make-expr-lts.Need-returns-5 (make-expr-claims t) (make-expr-at t) make-expr.Post
 make-expr-returns-5 t c =
-    let f = c .before .before .before .before .before .before .before .before .before in
+    let i = c .before .before .before .before in
+    let x = i .before .before in
+    let f = x .before .before .before in
     made-two _ _ _ _ (f .before .before .before .before .before .pre .1 .1) _ (f .before .before .code-of .ensures) _ (f .form .given .1) _ _ _ _ _ _ _
-    (c .before .before .before .before .before .before .make-expr .ensures) (c .before .before .before .before .if1 .left) _ _ _ _ (c .before .before .make-expr2 .ensures) _ _ (c .apply-gate .ensures)
+    (x .make-expr .ensures) (i .if1 .left) _ _ _ _ (c .before .before .make-expr2 .ensures) _ _ (c .apply-gate .ensures)
 
 pub +make-expr-spec : {M : Type 1} → statement M
 +make-expr-spec = close μ-make-expr λ t. make-expr-lts.spec (make-expr-claims t) (make-expr-at t)
@@ -166,8 +171,13 @@ pub +make-expr-spec : {M : Type 1} → statement M
     (make-expr-returns-3 t)
     (make-expr-returns-4 t)
     (make-expr-returns-5 t)
-    (λ c. absurd (expr-taken _ _ _ _ (c .before .before .before .before .before .before .pre .1 .1) _ (c .before .before .before .code-of .ensures) End (c .before .enum-told4 .given .1)))
-    (λ c. absurd (expr-taken _ _ _ _ (c .before .before .before .before .before .before .pre .1 .1) _ (c .before .before .before .code-of .ensures) Assign (c .before .enum-told5 .given .1)))
-    (λ c. absurd (expr-taken _ _ _ _ (c .before .before .before .before .before .before .pre .1 .1) _ (c .before .before .before .code-of .ensures) Skip (c .before .enum-told6 .given .1)))
-    (λ c. absurd (expr-taken _ _ _ _ (c .before .before .before .before .before .before .pre .1 .1) _ (c .before .before .before .code-of .ensures) Branch (c .before .enum-told7 .given .1)))
-    (λ c. absurd (expr-taken _ _ _ _ (c .before .before .before .before .before .before .pre .1 .1) _ (c .before .before .before .code-of .ensures) Unknown (c .before .enum-told8 .given .1)))
+    (λ c. let b = c .before .before .before in
+    absurd (expr-taken _ _ _ _ (b .before .before .before .pre .1 .1) _ (b .code-of .ensures) End (c .before .enum-told4 .given .1)))
+    (λ c. let b = c .before .before .before in
+    absurd (expr-taken _ _ _ _ (b .before .before .before .pre .1 .1) _ (b .code-of .ensures) Assign (c .before .enum-told5 .given .1)))
+    (λ c. let b = c .before .before .before in
+    absurd (expr-taken _ _ _ _ (b .before .before .before .pre .1 .1) _ (b .code-of .ensures) Skip (c .before .enum-told6 .given .1)))
+    (λ c. let b = c .before .before .before in
+    absurd (expr-taken _ _ _ _ (b .before .before .before .pre .1 .1) _ (b .code-of .ensures) Branch (c .before .enum-told7 .given .1)))
+    (λ c. let b = c .before .before .before in
+    absurd (expr-taken _ _ _ _ (b .before .before .before .pre .1 .1) _ (b .code-of .ensures) Unknown (c .before .enum-told8 .given .1)))
