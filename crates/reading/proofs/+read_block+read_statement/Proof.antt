@@ -23,9 +23,9 @@ use Rattle.reading.proofs.+read_block+read_statement.Lts-read_block as 
 use Rattle.reading.proofs.read_statement.Reads as read-statement
 use Rattle.reading.proofs.read_statement.Kinds as read-statement-kinds
 use Rattle.reading.proofs.+read_block+read_statement.Lts-read_statement as read-statement-lts
-use Rattle.codes.proofs.code_of.Reads as code-of-reads
-use Rattle.reading.proofs.read_assign.Reads as read-assign-reads
-use Rattle.reading.proofs.read_expr.Reads as read-expr-reads
+use Rattle.codes.proofs.code_of.Reads as code
+use Rattle.reading.proofs.read_assign.Reads as assign
+use Rattle.reading.proofs.read_expr.Reads as expr
 use Rattle.reading.proofs.+read_block+read_statement.{statement}
 use Rattle.reading.proofs.+read_block+read_statement.Tie.{close}
 
@@ -36,28 +36,16 @@ abbrev μ-read-statement : Measures 1 read-statement-kinds.ps ℕ
 μ-read-statement κs a = 2 * (length (now (a .0)) - a .1 .0)
 
 abbrev read-block-at : ℕ → In 1 read-block-kinds.ps
-read-block-at t =
-    and 1 read-block-kinds.ps (is 1 read-block-kinds.ps μ-read-block t) read-block.Pre
+read-block-at t = and 1 read-block-kinds.ps (is 1 read-block-kinds.ps μ-read-block t) read-block.Pre
 
 abbrev read-block-below : ℕ → In 1 read-block-kinds.ps
-read-block-below t =
-    and 1 read-block-kinds.ps (falls 1 read-block-kinds.ps _<_ μ-read-block t) read-block.Pre
+read-block-below t = and 1 read-block-kinds.ps (falls 1 read-block-kinds.ps _<_ μ-read-block t) read-block.Pre
 
 abbrev read-statement-at : ℕ → In 1 read-statement-kinds.ps
-read-statement-at t =
-    and
-    1
-    read-statement-kinds.ps
-    (is 1 read-statement-kinds.ps μ-read-statement t)
-    read-statement.Pre
+read-statement-at t = and 1 read-statement-kinds.ps (is 1 read-statement-kinds.ps μ-read-statement t) read-statement.Pre
 
 abbrev read-statement-below : ℕ → In 1 read-statement-kinds.ps
-read-statement-below t =
-    and
-    1
-    read-statement-kinds.ps
-    (falls 1 read-statement-kinds.ps _<_ μ-read-statement t)
-    read-statement.Pre
+read-statement-below t = and 1 read-statement-kinds.ps (falls 1 read-statement-kinds.ps _<_ μ-read-statement t) read-statement.Pre
 
 abbrev read-block-Inv-loop : read-block-lts.InvT-loop
 read-block-Inv-loop s at nest here₀ here =
@@ -70,31 +58,7 @@ abbrev read-block-claims : ℕ → read-block-lts.Claims
 read-block-claims t = (read-statement-below t, read-statement.Post)
 
 abbrev read-statement-claims : ℕ → read-statement-lts.Claims
-read-statement-claims t = (
-  code-of-reads.Asked,
-  code-of-reads.Learnt,
-  read-assign-reads.Asked,
-  read-assign-reads.Learnt,
-  read-expr-reads.Asked,
-  read-expr-reads.Learnt,
-  read-block-below t,
-  read-block.Post,
-)
-
-read-block-loop-holds : (t : ℕ) → read-block-lts.Need-loop-holds (read-block-claims t) (read-block-at t) read-block.Post read-block-Inv-loop read-block-μ-loop
-read-block-loop-holds t c = (search needs, refl)
-
-read-block-returns : (t : ℕ) → read-block-lts.Need-returns (read-block-claims t) (read-block-at t) read-block.Post read-block-Inv-loop read-block-μ-loop
-read-block-returns t c =
-    let a = c .before .before .before .args in
-    let l = c .before .loop in
-    ap stepOf (sym (block-short (now (a .s)) (a .nest) (l .here) (c .if1 .taken))) ∙ l .inv .1
-
-read-block-returns-2 : (t : ℕ) → read-block-lts.Need-returns-2 (read-block-claims t) (read-block-at t) read-block.Post read-block-Inv-loop read-block-μ-loop
-read-block-returns-2 t c =
-    let a = c .before .before .before .before .before .args in
-    let l = c .before .before .before .loop in
-    block-end (now (a .s)) (a .nest) (l .here) (c .before .before .if1 .left) (c .if2 .taken) ∙ l .inv .1
+read-statement-claims t = (code.Asked, code.Learnt, assign.Asked, assign.Learnt, expr.Asked, expr.Learnt, read-block-below t, read-block.Post)
 
 read-block-loop-less : (t : ℕ) → read-block-lts.Need-loop-less (read-block-claims t) (read-block-at t) read-block.Post read-block-Inv-loop read-block-μ-loop
 read-block-loop-less t c =
@@ -123,12 +87,6 @@ read-block-returns-3 t c =
     block-refused (now (a .s)) (a .nest) (l .here) (c .before .before .before .before .before .before .if1 .left) (c .before .before .before .before .if2 .left)
     (sym (c .before .number .given .1) ∙ c .before .before .before .read-statement .ensures) ∙ l .inv .1
 
-read-statement-returns : (t : ℕ) → read-statement-lts.Need-returns (read-statement-claims t) (read-statement-at t) read-statement.Post
-read-statement-returns t c =
-    let a = c .before .before .before .before .before .before .args in
-    branch-deep (now (a .s)) (a .nest) (a .at) (c .before .before .before .code-of .result) (c .before .before .before .code-of .ensures)
-    (c .before .enum-told3 .given .1) (c .if1 .taken)
-
 read-statement-read-block-requires : (t : ℕ) → read-statement-lts.Need-read-block-requires (read-statement-claims t) (read-statement-at t) read-statement.Post
 read-statement-read-block-requires t c κs =
     let a = c .before .before .before .before .before .before .before .before .before .before .args in
@@ -149,19 +107,6 @@ read-statement-read-block-requires-2 t c κs =
       forward-past (readBlock (now (a .s)) (a .nest - 1) first) (block-forward (now (a .s)) (a .nest - 1) first)
           (sym (c .before .second .given .1) ∙ c .before .before .before .read-block .ensures),
     )
-
-read-statement-returns-2 : (t : ℕ) → read-statement-lts.Need-returns-2 (read-statement-claims t) (read-statement-at t) read-statement.Post
-read-statement-returns-2 t c =
-    let a = c .before .before .before .before .before .before .args in
-    c .read-assign .ensures ∙ ap stepOf
-    (sym (statement-as (now (a .s)) (a .nest) (a .at) (c .before .before .before .code-of .result) form.Assign (c .before .before .before .code-of .ensures)
-    (c .before .enum-told .given .1)))
-
-read-statement-returns-3 : (t : ℕ) → read-statement-lts.Need-returns-3 (read-statement-claims t) (read-statement-at t) read-statement.Post
-read-statement-returns-3 t c =
-    let a = c .before .before .before .before .before .args in
-    ap stepOf (sym (statement-as (now (a .s)) (a .nest) (a .at) (c .before .before .code-of .result) form.Skip (c .before .before .code-of .ensures)
-    (c .enum-told2 .given .1)))
 
 read-statement-returns-4 : (t : ℕ) → read-statement-lts.Need-returns-4 (read-statement-claims t) (read-statement-at t) read-statement.Post
 read-statement-returns-4 t c =
@@ -202,11 +147,11 @@ pub +read-block+read-statement-spec : {M : Type 1} → statement M
     read-block.Post
     read-block-Inv-loop
     read-block-μ-loop
-    (read-block-loop-holds t)
-    (read-block-returns t)
+    (λ c. (search needs, refl))
+    (λ c. let l = c .before .loop in ap stepOf (sym (block-short _ _ _ (c .if1 .taken))) ∙ l .inv .1)
     (λ c. search needs)
     (λ c. search needs)
-    (read-block-returns-2 t)
+    (λ c. block-end _ _ _ (c .before .before .if1 .left) (c .if2 .taken) ∙ c .before .before .before .loop .inv .1)
     (λ c κs. search needs)
     (λ c. search needs)
     (read-block-loop-less t)
@@ -222,7 +167,7 @@ pub +read-block+read-statement-spec : {M : Type 1} → statement M
     (λ c. search needs)
     (λ c. search needs)
     (λ c. search needs)
-    (read-statement-returns t)
+    (λ c. let b = c .before .before .before in branch-deep _ _ _ _ (b .code-of .ensures) (c .before .enum-told3 .given .1) (c .if1 .taken))
     (λ c. search needs)
     (λ c κs. search needs)
     (λ c. search needs)
@@ -233,8 +178,9 @@ pub +read-block+read-statement-spec : {M : Type 1} → statement M
     (read-statement-read-block-requires-2 t)
     (λ c. search needs)
     (λ c. search needs)
-    (read-statement-returns-2 t)
-    (read-statement-returns-3 t)
+    (λ c. let b = c .before .before .before in
+    c .read-assign .ensures ∙ ap stepOf (sym (statement-as _ _ _ _ form.Assign (b .code-of .ensures) (c .before .enum-told .given .1))))
+    (λ c. ap stepOf (sym (statement-as _ _ _ _ form.Skip (c .before .before .code-of .ensures) (c .enum-told2 .given .1))))
     (read-statement-returns-4 t)
     (read-statement-returns-5 t)
     (read-statement-returns-6 t)
