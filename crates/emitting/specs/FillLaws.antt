@@ -78,12 +78,6 @@ module _ (f : ℕ → List ℕ) (out out₀ : List ℕ) (n at i : ℕ) (l : Fill
         held = rw (pieces-more f i) (over-rest (pieces f i) (f i) out₀ out ys at (l .reached) reach (l .held) w);
       }
 
-  -- or there is nothing to write
-  pub filling-pass : f i ≡ [] → Filling f out out₀ n at (i + 1)
-  filling-pass e =
-      let m : pieces f (i + 1) ≡ pieces f i = pieces-more f i ∙ ap (λ (b : List ℕ). pieces f i ++ b) e ∙ append-nil (pieces f i) in
-      record { below = omega arith; room = l .room; reached = rw m (l .reached); held = rw m (l .held) }
-
 pub filling-end : (f : ℕ → List ℕ) (out out₀ : List ℕ) (n at i : ℕ) → Filling f out out₀ n at i → n ≤ i
     → (at ≡ length (pieces f n)) × (out ≡ over (pieces f n) out₀)
 filling-end f out out₀ n at i l h =

@@ -6,6 +6,7 @@ use native.Mathlib.Omega.{arith}
 use lib.ListN.{length, getD, length-append, length-map}
 use Rattle.words.specs.Lists.{_∈_}
 use Rattle.settings.specs.Sets.{rests}
+use Rattle.settings.specs.PlaceLaws.{few-rests}
 use Rattle.codes.specs.Codes.{entryOf, operationOf, codeOf}
 use Rattle.codes.specs.CodeLaws.{code-operation}
 use Rattle.codes.specs.declared.Code.{Code}
@@ -21,7 +22,6 @@ use Rattle.fused.specs.SizeLaws.{cost-append}
 use Rattle.emitting.specs.Emitted.{emitIn, guardIn, guardsIn, argumentAt, pairsIn, restedBy, Joinable, Measured}
 use Rattle.plan.specs.NumberLaws.{length-group, member-in}
 use Rattle.emitting.specs.GuardLaws.{guard-size}
-use Rattle.emitting.specs.PieceLaws.{few-rests}
 use Rattle.emitting.specs.JoinLaws.{fusedBytes, two-applies, joinedIn, emit-joined, joined-bytes}
 use Rattle.fused.specs.SizeJoined.{length-pairs}
 use Rattle.emitting.specs.JoinedLaws.{fused-long}
@@ -118,7 +118,7 @@ joined-first quads p at g j e =
 rested-most : (sets ms : List ℕ) → restedBy sets ms ≤ 6 * length ms
 rested-most sets [] = omega arith
 rested-most sets (m ∷ ms) =
-    let z : length (rests mostConditions (getD sets m 0)) + restedBy sets ms ≤ 6 * suc (length ms) = omega (arith, few-rests (getD sets m 0), rested-most sets ms) in
+    let z : length (rests mostConditions (getD sets m 0)) + restedBy sets ms ≤ 6 * suc (length ms) = omega (arith, few-rests 6 (getD sets m 0), rested-most sets ms) in
     z
 
 pub rested-few : (sets p : List ℕ) (at : ℕ) → restedBy sets (groupAt p at) ≤ 6 * getD p at 0

@@ -1,7 +1,6 @@
 -- Laws of the loops that write the wires of a guard, the guards of a group and the pairs of a pick: start, room, step, end. Assumes nothing.
 use Prim.Native.Nat.{ℕ, _+_, _-_, _*_, _≤_, _<_}
 use mathlib.Core.Path.{_≡_, sym, ap, _∙_}
-use mathlib.Core.Bool.{true, false}
 use mathlib.Core.List.{List, [], _∷_, map}
 use native.Mathlib.Omega.{arith}
 use lib.ListN.{length, getD, take, drop, length-map}
@@ -10,16 +9,16 @@ use Rattle.words.specs.Numbers.{bytesOf}
 use Rattle.words.specs.NumberLaws.{length-bytes}
 use Rattle.words.specs.Buffers.{over}
 use Rattle.words.specs.BufferLaws.{length-over}
-use Rattle.settings.specs.Sets.{restsOn, rests}
+use Rattle.settings.specs.Sets.{rests}
 use Rattle.gates.specs.Limits.{mostGates, mostConditions}
 use Rattle.plan.specs.PlanFile.{groupAt}
 use Rattle.fused.specs.Records.{pairWires}
 use Rattle.fused.specs.CircuitFile.{wiresBytes, recordBytes, recordsBytes}
 use Rattle.fused.specs.SizeLaws.{wires-size, pairs-size}
 use Rattle.emitting.specs.Emitted.{guardIn, guardsIn, pairsIn, argumentAt, Grouped, Lies, Paired}
-use Rattle.emitting.specs.FillLaws.{pieces, Filling, filling-start, filling-room, filling-fits, filling-length, filling-step, filling-pass, filling-end}
+use Rattle.emitting.specs.FillLaws.{pieces, Filling, filling-start, filling-room, filling-fits, filling-length, filling-step, filling-end}
 use Rattle.plan.specs.NumberLaws.{length-group, member-in}
-use Rattle.emitting.specs.PieceLaws.{restPiece, rest-in, rest-out, rest-pieces, record-pieces, pair-pieces}
+use Rattle.emitting.specs.PieceLaws.{wire-pieces, record-pieces, pair-pieces}
 use Rattle.emitting.specs.GuardLaws.{rest-wires}
 use Rattle.fused.specs.SizeJoined.{length-pairs}
 
@@ -27,40 +26,43 @@ use Rattle.fused.specs.SizeJoined.{length-pairs}
 pub filling-same : (f : ℕ → List ℕ) (out out₀ : List ℕ) (n at i : ℕ) → Filling f out out₀ n at i → n ≤ i → length out ≡ length out₀
 filling-same f out out₀ n at i l h = ap (λ (o : List ℕ). length o) (filling-end f out out₀ n at i l h .1) ∙ length-over (pieces f n) out₀ (l .room)
 
--- The wires of a guard.
+-- The wires of a guard: piece i is that of condition i of those that s rests on.
 
-module _ (conds : List ℕ) (wire : ℕ → ℕ) (s : ℕ) where
-  pub rests-start : (out : List ℕ) → 2 * length (rests mostConditions s) ≤ length out → Filling (restPiece conds wire s) out out mostConditions 0 0
-  rests-start out h = filling-start (restPiece conds wire s) out mostConditions (rw (rest-pieces conds wire s, rest-wires conds wire s) h)
+unfoldable pub restPiece : List ℕ → (ℕ → ℕ) → ℕ → ℕ → List ℕ
+restPiece conds wire s i = bytesOf 2 (wire (getD conds (getD (rests mostConditions s) i 0) 0))
 
-  module _ (out out₀ : List ℕ) (at t : ℕ) (l : Filling (restPiece conds wire s) out out₀ mostConditions at t) (h : t < 6) (e : restsOn mostConditions s t ≡ true) where
-    size : length (restPiece conds wire s t) ≡ 2
-    size = ap (λ (b : List ℕ). length b) (rest-in conds wire s t e) ∙ length-bytes 2 (wire (getD conds t 0))
+module _ (conds : List ℕ) (wire : ℕ → ℕ) (s k : ℕ) where
+  rest-pieces : k ≡ length (rests mostConditions s) → pieces (restPiece conds wire s) k ≡ wiresBytes (map (λ t. wire (getD conds t 0)) (rests mostConditions s))
+  unfolding restPiece
+  rest-pieces e = rw e (wire-pieces (λ t. wire (getD conds t 0)) (rests mostConditions s))
+
+  pub rests-start : (out : List ℕ) → k ≡ length (rests mostConditions s) → 2 * length (rests mostConditions s) ≤ length out → Filling (restPiece conds wire s) out out k 0 0
+  rests-start out e h = filling-start (restPiece conds wire s) out k (rw (rest-pieces e, rest-wires conds wire s) h)
+
+  module _ (out out₀ : List ℕ) (at i : ℕ) (l : Filling (restPiece conds wire s) out out₀ k at i) (h : i < k) where
+    size : length (restPiece conds wire s i) ≡ 2
+    unfolding restPiece
+    size = length-bytes 2 (wire (getD conds (getD (rests mostConditions s) i 0) 0))
 
     pub rests-fits : (at + 2 ≤ length out) × (length out ≡ length out₀)
     rests-fits = (
-      omega (arith, filling-fits (restPiece conds wire s) out out₀ mostConditions at t l h, size),
-      filling-length
-          (restPiece conds wire s) out out₀ mostConditions at t l h,
+      omega (arith, filling-fits (restPiece conds wire s) out out₀ k at i l h, size),
+      filling-length (restPiece conds wire s) out out₀ k at i l h,
     )
 
     pub rests-room : 2 ≤ length (take (length out - at) (drop at out))
-    rests-room = omega (arith, filling-room (restPiece conds wire s) out out₀ mostConditions at t l h, size)
+    rests-room = omega (arith, filling-room (restPiece conds wire s) out out₀ k at i l h, size)
 
-    pub rests-step : (w : ℕ) (ys : List ℕ) → w ≡ wire (getD conds t 0) → ys ≡ over (bytesOf 2 w) (take (length out - at) (drop at out))
-        → Filling (restPiece conds wire s) (putMid at (length out - at) out ys) out₀ mostConditions (at + 2) (t + 1)
-    rests-step w ys q p =
-        filling-step (restPiece conds wire s) out out₀ mostConditions at t l h 2 ys (sym size)
-        (p ∙ ap (λ (b : List ℕ). over b (take (length out - at) (drop at out))) (ap (bytesOf 2) q ∙ sym (rest-in conds wire s t e)))
+    pub rests-step : (t w : ℕ) (ys : List ℕ) → t ≡ getD (rests mostConditions s) i 0 → w ≡ wire (getD conds t 0)
+        → ys ≡ over (bytesOf 2 w) (take (length out - at) (drop at out)) → Filling (restPiece conds wire s) (putMid at (length out - at) out ys) out₀ k (at + 2) (i + 1)
+    unfolding restPiece
+    rests-step t w ys e q p =
+        let v : w ≡ wire (getD conds (getD (rests mostConditions s) i 0) 0) = rw e at q in
+        filling-step (restPiece conds wire s) out out₀ k at i l h 2 ys (sym size) (rw v at p)
 
-  pub rests-pass : (out out₀ : List ℕ) (at t : ℕ) → Filling (restPiece conds wire s) out out₀ mostConditions at t → t < 6 → restsOn mostConditions s t ≡ false
-      → Filling (restPiece conds wire s) out out₀ mostConditions at (t + 1)
-  rests-pass out out₀ at t l h e = filling-pass (restPiece conds wire s) out out₀ mostConditions at t l h (rest-out conds wire s t e)
-
-  pub rests-end : (out out₀ : List ℕ) (at t : ℕ) → Filling (restPiece conds wire s) out out₀ mostConditions at t → 6 ≤ t
+  pub rests-end : (out out₀ : List ℕ) (at i : ℕ) → Filling (restPiece conds wire s) out out₀ k at i → k ≤ i → k ≡ length (rests mostConditions s)
       → out ≡ over (wiresBytes (map (λ t. wire (getD conds t 0)) (rests mostConditions s))) out₀
-  rests-end out out₀ at t l h =
-      filling-end (restPiece conds wire s) out out₀ mostConditions at t l h .1 ∙ ap (λ (b : List ℕ). over b out₀) (rest-pieces conds wire s)
+  rests-end out out₀ at i l h e = filling-end (restPiece conds wire s) out out₀ k at i l h .1 ∙ ap (λ (b : List ℕ). over b out₀) (rest-pieces e)
 
 -- The members of a group.
 

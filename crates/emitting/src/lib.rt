@@ -152,37 +152,21 @@ pub fn put_alone(
     put_applied(out, quads, group, wires, g)
 }
 
-// How many conditions a precondition rests on.
-pub fn rested(set: u64) -> u8
-    ensures { λ r. ⌜ r ≡ length (rests mostConditions set) ⌝ }
-{
-    let mut n: u8 = 0;
-    let mut t: u8 = 0;
-    while t < settings::CONDITIONS {
-        if settings::rests_on(set, t) {
-            n = n + 1;
-        }
-        t = t + 1;
-    }
-    n
-}
-
 // The wires of the conditions that s rests on, rising.
 fn put_rested(out: &mut [u8], s: u64, conditions: &[u16; 6], group: &[u16; 256], wires: &[u16; 256])
     requires { ⌜ (2 * length (rests mostConditions s) ≤ length (now out)) × Guarded (now conditions) (now group) ⌝ }
     ensures { λ r. ⌜ now (out .exit) ≡ over (wiresBytes (map (λ t. wireIn (now (group .entry)) (now (wires .entry)) (getD (now (conditions .entry)) t 0)) (rests mostConditions s))) (now (out .entry)) ⌝ }
 {
+    let r = settings::rested(s);
+    let count = r.count as usize;
     let mut n: usize = 0;
-    let mut t: u8 = 0;
-    while t < settings::CONDITIONS {
-        if settings::rests_on(s, t) {
-            let i = t as usize;
-            let c = GateId(conditions[i]);
-            let w = wire_of(group, wires, c);
-            words::put16(&mut out[n..], w.0);
-            n = n + 2;
-        }
-        t = t + 1;
+    let mut i: usize = 0;
+    while i < count {
+        let t = r.at[i] as usize;
+        let w = wire_of(group, wires, GateId(conditions[t]));
+        words::put16(&mut out[n..], w.0);
+        n = n + 2;
+        i = i + 1;
     }
 }
 
@@ -198,7 +182,7 @@ fn put_guard(
     ensures counted { λ r. ⌜ r ≡ length (recordBytes (guardIn (now (conditions .entry)) (wireIn (now (group .entry)) (now (wires .entry))) s)) ⌝ }
     ensures written { λ r. ⌜ now (out .exit) ≡ over (recordBytes (guardIn (now (conditions .entry)) (wireIn (now (group .entry)) (now (wires .entry))) s)) (now (out .entry)) ⌝ }
 {
-    let d = rested(s);
+    let d = settings::rested(s).count;
     put_short(out, GUARD, d);
     put_rested(&mut out[2..], s, conditions, group, wires);
     let n = 2 + 2 * (d as usize);

@@ -60,7 +60,7 @@ fn rested_by(plan: &[u8], at: usize, needs: &[u64; 256]) -> usize
     while i < size {
         let m = plan::member(plan, at, i);
         let g = m.0 as usize;
-        n = n + (emitting::rested(needs[g]) as usize);
+        n = n + (settings::rested(needs[g]).count as usize);
         i = i + 1;
     }
     n

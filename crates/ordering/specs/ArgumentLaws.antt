@@ -1,18 +1,21 @@
--- Laws of the two loops that put waits: over a gate's arguments, and over the conditions that its set rests on. Assumes nothing.
+-- Laws of the two loops that put waits, over a gate's arguments and over the conditions that its set rests on: each walks a list. Assumes nothing.
 use Prim.Native.Nat.{ℕ, _+_, _*_, _≤_, _<_}
 use mathlib.Core.Path.{_≡_, refl, sym, ap, _∙_}
-use mathlib.Core.Bool.{true, false}
 use mathlib.Core.List.{List, [], _∷_, _++_, map, map-append}
+use native.Mathlib.Numerals.{add-one}
 use native.Mathlib.Omega.{arith}
-use lib.ListN.{length, getD, take, length-set}
-use Rattle.words.specs.Lists.{keep, upto}
-use Rattle.words.specs.MemberLaws.{keep-in, from-in, in-map}
-use Rattle.settings.specs.Sets.{restsOn, rests}
+use lib.ListN.{length, getD, take, length-set, length-map}
+use lib.Seq.{take-suc, take-all}
+use Rattle.words.specs.MemberLaws.{getD-in}
+use Rattle.words.specs.Buffers.{padded}
+use Rattle.settings.specs.Sets.{rests}
+use Rattle.settings.specs.PlaceLaws.{rested-at}
+use Rattle.gates.specs.FigureLaws.{map-at}
 use Rattle.needed.specs.Held.{codeAt}
 use Rattle.ordering.specs.Tables.{putBit, putEach}
 use Rattle.ordering.specs.Reads.{arityOf, argumentsAt, Into}
 use Rattle.ordering.specs.TableLaws.{puts-more}
-use Rattle.ordering.specs.ReadLaws.{arity-most, argument-in, arguments-more, arguments-all, keep-yes, keep-no}
+use Rattle.ordering.specs.ReadLaws.{arity-most, arguments-length, argument-at}
 
 put-length : (base q : ℕ) (w new : List ℕ) → new ≡ putBit base q w → length new ≡ length w
 unfolding putBit
@@ -30,100 +33,49 @@ one-more base a q group l m w₀ w new e h f k =
     ∙ ap (λ (r : List ℕ). putEach base r w₀)
     (ap (λ (b : ℕ). map (λ x. getD group x 0) l ++ (b ∷ [])) f ∙ sym (map-append (λ x. getD group x 0) l (a ∷ [])) ∙ ap (map (λ x. getD group x 0)) (sym e))
 
--- The arguments of gate i: those below place k are put.
-pub record Arguing (quads group waits₀ : List ℕ) (i base n : ℕ) (waits : List ℕ) (k : ℕ) : Type 0 where
-  pub gate : i < 256
+-- The gates of a list: group p waits for the groups of the first k.
+pub record Putting (group l waits₀ : List ℕ) (base : ℕ) (waits : List ℕ) (k : ℕ) : Type 0 where
   pub room : base + 4 ≤ 1024
-  pub arity : n ≡ arityOf (codeAt quads i)
-  pub into : Into group (argumentsAt quads i)
-  pub below : k ≤ n
-  pub size₀ : length waits₀ ≡ 1024
+  pub into : Into group l
+  pub below : k ≤ length l
   pub size : length waits ≡ 1024
-  pub made : waits ≡ putEach base (map (λ a. getD group a 0) (take k (argumentsAt quads i))) waits₀
+  pub made : waits ≡ putEach base (map (λ a. getD group a 0) (take k l)) waits₀
 
-module _ (quads group waits₀ : List ℕ) (i base n : ℕ) where
-  pub arguing-start : i < 256 → base + 4 ≤ 1024 → n ≡ arityOf (codeAt quads i) → length waits₀ ≡ 1024 → Into group (argumentsAt quads i)
-      → Arguing quads group waits₀ i base n waits₀ 0
-  arguing-start h r e s m =
-      record { gate = h; room = r; arity = e; into = m; below = omega arith; size₀ = s; size = s; made = puts-none base waits₀ }
+module _ (group l waits₀ : List ℕ) (base : ℕ) where
+  pub putting-start : base + 4 ≤ 1024 → length waits₀ ≡ 1024 → Into group l → Putting group l waits₀ base waits₀ 0
+  putting-start r e m = record { room = r; into = m; below = omega arith; size = e; made = puts-none base waits₀ }
 
-  pub arguing-place : (waits : List ℕ) (k : ℕ) → Arguing quads group waits₀ i base n waits k → k < n → k < 3
-  arguing-place waits k g l = omega (arith, g .arity, arity-most (codeAt quads i))
+  pub putting-into : (waits : List ℕ) (k a : ℕ) → Putting group l waits₀ base waits k → k < length l → a ≡ getD l k 0 → (a < 256) × (getD group a 0 < 256)
+  putting-into waits k a g h e = g .into a (rw e (getD-in l k h))
 
-  pub arguing-into : (waits : List ℕ) (k a : ℕ) → Arguing quads group waits₀ i base n waits k → k < n → a ≡ getD quads (4 * i + 1 + k) 0
-      → (a < 256) × (getD group a 0 < 256)
-  arguing-into waits k a g l e = g .into a (argument-in quads i k a (omega (arith, g .arity)) e)
-
-  pub arguing-step : (waits new : List ℕ) (k a q : ℕ) → Arguing quads group waits₀ i base n waits k → k < n → a ≡ getD quads (4 * i + 1 + k) 0 → q ≡ getD group a 0
-      → new ≡ putBit base q waits → Arguing quads group waits₀ i base n new (k + 1)
-  arguing-step waits new k a q g l e f h =
-      record {
-        gate = g .gate;
-        room = g .room;
-        arity = g .arity;
-        into = g .into;
-        below = omega arith;
-        size₀ = g .size₀;
-        size = put-length base q waits new h ∙ g .size;
-        made = one-more base a q group (take k (argumentsAt quads i)) (take (k + 1) (argumentsAt quads i)) waits₀ waits new
-            (arguments-more quads i k (omega (arith, g .arity)) ∙ ap (λ (b : ℕ). take k (argumentsAt quads i) ++ (b ∷ [])) (sym e)) (g .made) f h;
-      }
-
-  pub arguing-end : (waits : List ℕ) (k : ℕ) → Arguing quads group waits₀ i base n waits k → n ≤ k
-      → waits ≡ putEach base (map (λ a. getD group a 0) (argumentsAt quads i)) waits₀
-  arguing-end waits k g l =
-      g .made ∙ ap (λ (r : List ℕ). putEach base (map (λ a. getD group a 0) r) waits₀) (arguments-all quads i k (omega (arith, g .arity)))
-
--- The conditions that s rests on: those below place t are put.
-pub record Resting (conds group : List ℕ) (s : ℕ) (waits₀ : List ℕ) (base : ℕ) (waits : List ℕ) (t : ℕ) : Type 0 where
-  pub room : base + 4 ≤ 1024
-  pub into : Into group (map (λ u. getD conds u 0) (rests 6 s))
-  pub below : t ≤ 6
-  pub size₀ : length waits₀ ≡ 1024
-  pub size : length waits ≡ 1024
-  pub made : waits ≡ putEach base (map (λ a. getD group a 0) (map (λ u. getD conds u 0) (keep (restsOn 6 s) (upto t)))) waits₀
-
-module _ (conds group : List ℕ) (s : ℕ) (waits₀ : List ℕ) (base : ℕ) where
-  pub resting-start : base + 4 ≤ 1024 → length waits₀ ≡ 1024 → Into group (map (λ u. getD conds u 0) (rests 6 s)) → Resting conds group s waits₀ base waits₀ 0
-  resting-start r e m = record { room = r; into = m; below = omega arith; size₀ = e; size = e; made = puts-none base waits₀ }
-
-  pub resting-into : (waits : List ℕ) (t : ℕ) → Resting conds group s waits₀ base waits t → t < 6 → restsOn 6 s t ≡ true
-      → (getD conds t 0 < 256) × (getD group (getD conds t 0) 0 < 256)
-  unfolding rests
-  resting-into waits t g l h =
-      g .into (getD conds t 0)
-      (in-map (λ u. getD conds u 0) t (keep (restsOn 6 s) (upto 6)) (keep-in (restsOn 6 s) (upto 6) t (from-in 0 6 t (omega arith) (omega arith)) h))
-
-  pub resting-yes : (waits new : List ℕ) (t q : ℕ) → Resting conds group s waits₀ base waits t → t < 6 → restsOn 6 s t ≡ true → q ≡ getD group (getD conds t 0) 0
-      → new ≡ putBit base q waits → Resting conds group s waits₀ base new (t + 1)
-  resting-yes waits new t q g l h f k =
+  pub putting-step : (waits new : List ℕ) (k a q : ℕ) → Putting group l waits₀ base waits k → k < length l → a ≡ getD l k 0 → q ≡ getD group a 0
+      → new ≡ putBit base q waits → Putting group l waits₀ base new (k + 1)
+  putting-step waits new k a q g h e f p =
+      let m : take (k + 1) l ≡ take k l ++ (a ∷ []) = rw (add-one k, e) (take-suc l k 0 h) in
       record {
         room = g .room;
         into = g .into;
         below = omega arith;
-        size₀ = g .size₀;
-        size = put-length base q waits new k ∙ g .size;
-        made = one-more base (getD conds t 0) q group (map (λ u. getD conds u 0) (keep (restsOn 6 s) (upto t)))
-            (map (λ u. getD conds u 0) (keep (restsOn 6 s) (upto (t + 1)))) waits₀ waits new
-            (ap (map (λ u. getD conds u 0)) (keep-yes (restsOn 6 s) t h) ∙ map-append (λ u. getD conds u 0) (keep (restsOn 6 s) (upto t)) (t ∷ [])) (g .made) f k;
+        size = put-length base q waits new p ∙ g .size;
+        made = one-more base a q group (take k l) (take (k + 1) l) waits₀ waits new m (g .made) f p;
       }
 
-  pub resting-no : (waits new : List ℕ) (t : ℕ) → Resting conds group s waits₀ base waits t → t < 6 → restsOn 6 s t ≡ false → new ≡ waits
-      → Resting conds group s waits₀ base new (t + 1)
-  resting-no waits new t g l h k =
-      record {
-        room = g .room;
-        into = g .into;
-        below = omega arith;
-        size₀ = g .size₀;
-        size = ap length k ∙ g .size;
-        made = k ∙ g .made
-            ∙ ap (λ (r : List ℕ). putEach base (map (λ a. getD group a 0) (map (λ u. getD conds u 0) r)) waits₀) (sym (keep-no (restsOn 6 s) t h));
-      }
+  pub putting-end : (waits : List ℕ) (k : ℕ) → Putting group l waits₀ base waits k → length l ≤ k → waits ≡ putEach base (map (λ a. getD group a 0) l) waits₀
+  putting-end waits k g h = g .made ∙ ap (λ (r : List ℕ). putEach base (map (λ a. getD group a 0) r) waits₀) (take-all k l h)
 
-  pub resting-end : (waits : List ℕ) (t : ℕ) → Resting conds group s waits₀ base waits t → 6 ≤ t
-      → waits ≡ putEach base (map (λ a. getD group a 0) (map (λ u. getD conds u 0) (rests 6 s))) waits₀
-  unfolding rests
-  resting-end waits t g l =
-      let e : t ≡ 6 = omega (arith, g .below) in
-      g .made ∙ ap (λ (k : ℕ). putEach base (map (λ a. getD group a 0) (map (λ u. getD conds u 0) (keep (restsOn 6 s) (upto k)))) waits₀) e
+-- argument k of gate i, of n
+pub argument-of : (quads : List ℕ) (i k n : ℕ) → n ≡ arityOf (codeAt quads i) → k < n
+    → (k < 3) × ((k < length (argumentsAt quads i)) × (getD quads (4 * i + 1 + k) 0 ≡ getD (argumentsAt quads i) k 0))
+argument-of quads i k n e h = (
+  omega (arith, arity-most (codeAt quads i)),
+  (omega (arith, arguments-length quads i), sym (argument-at quads i k (omega arith))),
+)
+
+-- the gate of condition i of those that s rests on, k of them, listed in an array
+pub rested-gate : (conds : List ℕ) (s : ℕ) (at : List ℕ) (k i : ℕ) → (k ≡ length (rests 6 s)) × (at ≡ padded 6 (rests 6 s)) → i < k
+    → (i < length (map (λ t. getD conds t 0) (rests 6 s))) × (getD conds (getD at i 0) 0 ≡ getD (map (λ t. getD conds t 0) (rests 6 s)) i 0)
+rested-gate conds s at k i h l =
+    let n : i < length (rests 6 s) = omega (arith, h .0) in (
+      rw (length-map (rests 6 s) (λ t. getD conds t 0)) n,
+      ap (λ (t : ℕ). getD conds t 0) (rested-at 6 s at k i h l .0) ∙ sym (map-at (λ t. getD conds t 0) (rests 6 s) i n),
+    )

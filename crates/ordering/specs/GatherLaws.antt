@@ -12,6 +12,7 @@ use Rattle.words.specs.Lists.{_∈_, elem, keep, upto, flat}
 use Rattle.words.specs.MemberLaws.{map-in, elem-more}
 use Rattle.words.specs.TestLaws.{same?}
 use Rattle.settings.specs.Sets.{rests}
+use Rattle.settings.specs.ListLaws.{keep-yes, keep-no}
 use Rattle.gates.specs.Gates.{Gates, gateAt, arguments}
 use Rattle.needed.specs.Held.{gatesIn}
 use Rattle.needed.specs.HeldLaws.{gates-length, gates-at}
@@ -22,7 +23,7 @@ use Rattle.ordering.specs.Tables.{HasWords, bitIn, putBit, putEach}
 use Rattle.ordering.specs.Reads.{argumentsAt, Into, Orderable}
 use Rattle.ordering.specs.Gathering.{Waiting, Left}
 use Rattle.ordering.specs.TableLaws.{clear-words, clear-bit, put-words, put-bit, puts-words, puts-bit, puts-append}
-use Rattle.ordering.specs.ReadLaws.{arguments-at, keep-yes, keep-no, elem-joined, flat-last}
+use Rattle.ordering.specs.ReadLaws.{arguments-at, elem-joined, flat-last}
 
 -- The set of groups left: those named by a gate below i.
 pub record Listing (group : List ℕ) (count : ℕ) (left : List ℕ) (i : ℕ) : Type 0 where

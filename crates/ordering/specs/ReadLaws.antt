@@ -1,18 +1,15 @@
--- Laws of what a gate reads: its arguments by its code, and runs of numbers one longer. Assumes nothing.
+-- Laws of what a gate reads: its arguments by its code, and lists joined. Assumes nothing.
 use Prim.Native.Nat.{ℕ, zero, suc, _+_, _*_, _≤_, _<_}
 use mathlib.Core.Path.{_≡_, refl, sym, ap, _∙_}
-use mathlib.Core.Bool.{Bool, true, false, cond}
+use mathlib.Core.Bool.{true, cond}
 use mathlib.Core.List.{List, [], _∷_, _++_, append-assoc, append-nil}
 use mathlib.Core.Logic.{_⊎_, inl, inr}
-use native.Mathlib.Nat.{zero-add}
 use native.Mathlib.Omega.{arith}
 use lib.ListN.{length, getD, take}
-use lib.Seq.{take-suc, take-all, getD-take, length-take-le}
+use lib.Seq.{getD-take, length-take-le}
 use lib.Dec.{eqb}
 use borrow.Author.Tests.{eq-eqb, ne-eqb}
-use Rattle.words.specs.Lists.{_∈_, elem, keep, upto, flat}
-use Rattle.words.specs.ListLaws.{from-more, keep-more}
-use Rattle.words.specs.MemberLaws.{getD-in}
+use Rattle.words.specs.Lists.{elem, flat}
 use Rattle.words.specs.TestLaws.{split, same?}
 use Rattle.codes.specs.Codes.{codeOf}
 use Rattle.codes.specs.declared.Code.{Code}
@@ -86,7 +83,7 @@ place-of quads i (suc zero) h = ap (λ (j : ℕ). getD quads j 0) (omega arith)
 place-of quads i (suc (suc zero)) h = ap (λ (j : ℕ). getD quads j 0) (omega arith)
 place-of quads i (suc (suc (suc k))) h = absurd (omega arith)
 
-arguments-length : (quads : List ℕ) (i : ℕ) → length (argumentsAt quads i) ≡ arityOf (codeAt quads i)
+pub arguments-length : (quads : List ℕ) (i : ℕ) → length (argumentsAt quads i) ≡ arityOf (codeAt quads i)
 unfolding argumentsAt
 arguments-length quads i = length-take-le (arityOf (codeAt quads i)) (firstAt quads i ∷ secondAt quads i ∷ thirdAt quads i ∷ []) (arity-most (codeAt quads i))
 
@@ -96,30 +93,7 @@ argument-at quads i k h =
     getD-take (arityOf (codeAt quads i)) (firstAt quads i ∷ secondAt quads i ∷ thirdAt quads i ∷ []) k 0 h ∙ place-of quads i k
     (omega (arith, arity-most (codeAt quads i)))
 
-pub argument-in : (quads : List ℕ) (i k a : ℕ) → k < arityOf (codeAt quads i) → a ≡ getD quads (4 * i + 1 + k) 0 → a ∈ argumentsAt quads i
-argument-in quads i k a h e = rw (e ∙ sym (argument-at quads i k h)) (getD-in (argumentsAt quads i) k (rw (arguments-length quads i) h))
-
-pub arguments-more : (quads : List ℕ) (i k : ℕ) → k < arityOf (codeAt quads i)
-    → take (k + 1) (argumentsAt quads i) ≡ take k (argumentsAt quads i) ++ (getD quads (4 * i + 1 + k) 0 ∷ [])
-arguments-more quads i k h =
-    let e : k + 1 ≡ suc k = omega arith in
-    rw e (take-suc (argumentsAt quads i) k 0 (rw (arguments-length quads i) h) ∙ ap (λ (a : ℕ). take k (argumentsAt quads i) ++ (a ∷ [])) (argument-at quads i k h))
-
-pub arguments-all : (quads : List ℕ) (i k : ℕ) → arityOf (codeAt quads i) ≤ k → take k (argumentsAt quads i) ≡ argumentsAt quads i
-arguments-all quads i k h = take-all k (argumentsAt quads i) (rw (arguments-length quads i) h)
-
--- one more of a kept or joined run
-kept-next : (p : ℕ → Bool) (n : ℕ) → keep p (upto (n + 1)) ≡ keep p (upto n) ++ cond (p n) (n ∷ []) []
-kept-next p n =
-    let e : n + 1 ≡ suc n = omega arith in
-    rw e (ap (keep p) (from-more 0 n ∙ ap (λ (k : ℕ). upto n ++ (k ∷ [])) (zero-add n)) ∙ keep-more p (upto n) n)
-
-pub keep-yes : (p : ℕ → Bool) (n : ℕ) → p n ≡ true → keep p (upto (n + 1)) ≡ keep p (upto n) ++ (n ∷ [])
-keep-yes p n h = kept-next p n ∙ rw h
-
-pub keep-no : (p : ℕ → Bool) (n : ℕ) → p n ≡ false → keep p (upto (n + 1)) ≡ keep p (upto n)
-keep-no p n h = kept-next p n ∙ rw h (append-nil (keep p (upto n)))
-
+-- joined runs, and one more of them
 pub elem-joined : (q : ℕ) (l m : List ℕ) → elem q (l ++ m) ≡ cond (elem q m) true (elem q l)
 elem-joined q [] m = split (elem q m) (λ t. rw t) (λ t. rw t)
 elem-joined q (x ∷ l) m = split (eqb q x) (λ t. rw t (split (elem q m) (λ u. rw u) (λ u. rw u))) (λ t. rw t (elem-joined q l m))

@@ -127,14 +127,14 @@ fn wait_conditions(conditions: &[u16; 6], group: &[u16; 256], s: u64, p: GateId,
     requires { ⌜ (p .0 < 256) × ((length (now waits) ≡ 1024) × Into (now group) (map (λ t. getD (now conditions) t 0) (rests 6 s))) ⌝ }
     ensures { λ r. ⌜ now (waits .exit) ≡ putEach (4 * p .0) (map (λ a. getD (now (group .entry)) a 0) (map (λ t. getD (now (conditions .entry)) t 0) (rests 6 s))) (now (waits .entry)) ⌝ }
 {
-    let mut t: u8 = 0;
-    while t < settings::CONDITIONS {
-        if settings::rests_on(s, t) {
-            let i = t as usize;
-            let c = GateId(conditions[i]);
-            wait_for(waits, p, group_of(group, c));
-        }
-        t = t + 1;
+    let r = settings::rested(s);
+    let n = r.count as usize;
+    let mut i: usize = 0;
+    while i < n {
+        let t = r.at[i] as usize;
+        let c = GateId(conditions[t]);
+        wait_for(waits, p, group_of(group, c));
+        i = i + 1;
     }
 }
 

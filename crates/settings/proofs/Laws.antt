@@ -7,14 +7,18 @@ use native.Mathlib.Nat.{pow-suc, pow-succ', mul-add, mul-assoc, mul-comm, one-mu
 use native.Mathlib.Numerals.{add-one}
 use native.Mathlib.Omega.{arith}
 use lib.Bits.{bitOr, or-shifted-r}
-use lib.ListN.{length}
+use lib.ListN.{length, set, replicate, length-append}
 use borrow.Author.Tests.{eq-eqb, ne-eqb}
-use Rattle.words.specs.Lists.{_∈_, keep, from}
+use Rattle.words.specs.Lists.{_∈_, keep, from, upto}
+use Rattle.words.specs.ListLaws.{length-from, length-keep}
 use Rattle.words.specs.MemberLaws.{keep-from, from-below}
+use Rattle.words.specs.Buffers.{padded}
+use Rattle.words.specs.BufferLaws.{padded-more}
 use Rattle.settings.specs.Settings.{odd, bitOf, bit, settingOf, numberOf}
-use Rattle.settings.specs.Sets.{collect}
+use Rattle.settings.specs.Sets.{collect, restsOn, rests}
 use Rattle.settings.specs.Guards.{spread, chosen}
 use Rattle.settings.specs.BitLaws.{collect-below}
+use Rattle.settings.specs.ListLaws.{keep-yes, keep-no}
 use Rattle.settings.specs.SettingLaws.{numberOf-agree, settingOf-out}
 
 -- a bit above all others is put in by "or"
@@ -34,6 +38,34 @@ collect-in p j x y hx h hy =
 pub collect-out : (p : ℕ → Bool) (j x : ℕ) → x ≡ collect j p → p j ≡ false → x ≡ collect (j + 1) p
 unfolding collect
 collect-out p j x hx h = hx ∙ rw (add-one j, h) (omega arith)
+
+-- the conditions below t that pass the test p lie in an array of n places, k of them
+pub record Listing (n : ℕ) (p : ℕ → Bool) (at : List ℕ) (k t : ℕ) : Type 0 where
+  pub below : t ≤ n
+  pub counted : k ≡ length (keep p (upto t))
+  pub listed : at ≡ padded n (keep p (upto t))
+
+pub listing-start : (p : ℕ → Bool) → Listing 6 p (replicate 6 0) 0 0
+listing-start p = record { below = omega arith; counted = refl; listed = refl }
+
+-- there is a place for one more
+pub listing-room : (n : ℕ) (p : ℕ → Bool) (at : List ℕ) (k t : ℕ) → Listing n p at k t → t < n → k < n
+listing-room n p at k t z h = omega (arith, z .counted, length-keep p (upto t), length-from 0 t)
+
+pub listing-in : (n : ℕ) (p : ℕ → Bool) (at new : List ℕ) (k j t : ℕ) → Listing n p at k t → t < n → p t ≡ true → new ≡ set at k t → j ≡ k + 1
+    → Listing n p new j (t + 1)
+listing-in n p at new k j t z h e q r = record {
+  below = omega arith;
+  counted = rw (r, keep-yes p t e, length-append) (omega (arith, z .counted));
+  listed = q ∙ rw (z .listed, keep-yes p t e) (padded-more n (keep p (upto t)) k t (sym (z .counted)) (listing-room n p at k t z h));
+}
+
+pub listing-out : (n : ℕ) (p : ℕ → Bool) (at new : List ℕ) (k j t : ℕ) → Listing n p at k t → t < n → p t ≡ false → new ≡ at → j ≡ k → Listing n p new j (t + 1)
+listing-out n p at new k j t z h e q r = record { below = omega arith; counted = rw (r, keep-no p t e) (z .counted); listed = rw (q, keep-no p t e) (z .listed) }
+
+pub listing-end : (n s : ℕ) (at : List ℕ) (k t : ℕ) → Listing n (restsOn n s) at k t → n ≤ t → (k ≡ length (rests n s)) × (at ≡ padded n (rests n s))
+unfolding rests
+listing-end n s at k t z h = let e : t ≡ n = omega (arith, z .below) in (rw e at (z .counted), rw e at (z .listed))
 
 -- the conditions of `on` from t to n, rising
 unfoldable pub later : ℕ → ℕ → ℕ → List ℕ

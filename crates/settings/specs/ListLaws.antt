@@ -1,14 +1,14 @@
 -- Laws for document 01, "Needed gates (000 Def. 4)": searches below a number, of rising lists of conditions, and of lists that hold nothing twice.
-use mathlib.Core.Path.{_≡_, refl, sym, _∙_}
-use mathlib.Core.Bool.{Bool, true, false, true≢false, false≢true}
-use mathlib.Core.List.{List, [], _∷_}
+use mathlib.Core.Path.{_≡_, refl, sym, ap, _∙_}
+use mathlib.Core.Bool.{Bool, true, false, cond, true≢false, false≢true}
+use mathlib.Core.List.{List, [], _∷_, _++_, append-nil}
 use mathlib.Core.Logic.{_⊎_, inl, inr}
 use Prim.Native.Nat.{ℕ, zero, suc, _+_, _≤_, _<_}
 use native.Mathlib.Nat.{zero-add}
 use native.Mathlib.Omega.{arith}
 use lib.ListN.{getD}
 use Rattle.words.specs.Lists.{_∈_, keep, from, upto}
-use Rattle.words.specs.ListLaws.{getD-from}
+use Rattle.words.specs.ListLaws.{getD-from, from-more, keep-more}
 use Rattle.words.specs.MemberLaws.{keep-from, from-below}
 use Rattle.words.specs.TestLaws.{split, same?}
 use Rattle.settings.specs.Settings.{Once, anyBelow}
@@ -52,3 +52,15 @@ keep-none p (a ∷ l) h = rw (h a (inl refl)) (keep-none p l (λ b m. h b (inr m
 pub keep-once : (p : ℕ → Bool) (l : List ℕ) → Once l → Once (keep p l)
 keep-once p [] o = tt
 keep-once p (a ∷ l) (new, o) = split (p a) (λ e. rw e (λ m. new (keep-from p l a m .0), keep-once p l o)) (λ e. rw e (keep-once p l o))
+
+-- one number more of a run, kept or not
+kept-next : (p : ℕ → Bool) (n : ℕ) → keep p (upto (n + 1)) ≡ keep p (upto n) ++ cond (p n) (n ∷ []) []
+kept-next p n =
+    let e : n + 1 ≡ suc n = omega arith in
+    rw e (ap (keep p) (from-more 0 n ∙ ap (λ (k : ℕ). upto n ++ (k ∷ [])) (zero-add n)) ∙ keep-more p (upto n) n)
+
+pub keep-yes : (p : ℕ → Bool) (n : ℕ) → p n ≡ true → keep p (upto (n + 1)) ≡ keep p (upto n) ++ (n ∷ [])
+keep-yes p n h = kept-next p n ∙ rw h
+
+pub keep-no : (p : ℕ → Bool) (n : ℕ) → p n ≡ false → keep p (upto (n + 1)) ≡ keep p (upto n)
+keep-no p n h = kept-next p n ∙ rw h (append-nil (keep p (upto n)))

@@ -6,13 +6,15 @@ use Prim.Native.Nat.{ℕ, _%_, _^_, _≤_, _<_}
 use native.Mathlib.Nat.{le-of-eq, mod-lt, lt-of-lt-of-le}
 use native.Mathlib.Omega.{arith}
 use lib.Dec.{ltb}
-use lib.ListN.{length}
+use lib.ListN.{length, getD}
 use lib.Pow.{pow-mono, pow-pos}
 use borrow.Author.Tests.{ltb-true, ltb-false}
-use Rattle.words.specs.Lists.{_∈_, upto}
-use Rattle.words.specs.ListLaws.{length-from, keep-same}
-use Rattle.words.specs.MemberLaws.{from-below}
+use Rattle.words.specs.Lists.{_∈_, keep, upto}
+use Rattle.words.specs.ListLaws.{length-from, length-keep, keep-same}
+use Rattle.words.specs.MemberLaws.{from-below, keep-from, getD-in}
 use Rattle.words.specs.TestLaws.{split}
+use Rattle.words.specs.Buffers.{padded}
+use Rattle.words.specs.BufferLaws.{padded-at}
 use Rattle.settings.specs.Settings.{Setting, bit, Once, preRestsOn, preRests}
 use Rattle.settings.specs.Sets.{has, restsOn, rests}
 use Rattle.settings.specs.Holding.{Holds, test}
@@ -53,6 +55,24 @@ module _ (n s : ℕ) where
   pub rests-once : Once (rests n s)
   unfolding rests
   rests-once = keep-once (restsOn n s) (upto n) (from-once 0 n)
+
+  -- few conditions, each of them one of those there are
+  pub few-rests : length (rests n s) ≤ n
+  unfolding rests
+  few-rests = omega (arith, length-keep (restsOn n s) (upto n), length-from 0 n)
+
+  rests-below : (i : ℕ) → i < length (rests n s) → getD (rests n s) i 0 < n
+  unfolding rests
+  rests-below i h =
+      let l : List ℕ = keep (restsOn n s) (upto n) in
+      omega (arith, from-below 0 n (getD l i 0) (keep-from (restsOn n s) (upto n) (getD l i 0) (getD-in l i h) .0))
+
+  -- condition i of them, listed in an array
+  pub rested-at : (at : List ℕ) (k i : ℕ) → (k ≡ length (rests n s)) × (at ≡ padded n (rests n s)) → i < k
+      → (getD at i 0 ≡ getD (rests n s) i 0) × (getD at i 0 < n)
+  rested-at at k i h l =
+      let e : getD at i 0 ≡ getD (rests n s) i 0 = rw (h .1) (padded-at n (rests n s) i) in
+      (e, rw e (rests-below i (omega (arith, h .0))))
 
   -- a set that rests on none but the first m conditions repeats the pattern of its first 2 ^ m settings
   pub repeats : (m : ℕ) → m ≤ n → ((t : ℕ) → m ≤ t → t < n → restsOn n s t ≡ false) → (j : ℕ) → j < 2 ^ n → has s j ≡ has s (j % 2 ^ m)

@@ -2,6 +2,7 @@
 ghost use mathlib.Core.Path.{_≡_};
 ghost use Prim.Native.Nat.{_<_, _^_};
 ghost use lib.ListN.{length};
+ghost use Rattle.words.specs.Buffers.{padded};
 ghost use Rattle.settings.specs.Settings.{bit};
 ghost use Rattle.settings.specs.Sets as sets;
 ghost use Rattle.settings.specs.Guards as guards;
@@ -122,6 +123,31 @@ pub fn rests(s: u64) -> u8
         t = t + 1;
     }
     on
+}
+
+// Conditions, rising: so many of them, zeros after them.
+pub struct ConditionList {
+    pub count: u8,
+    pub at: [u8; 6],
+}
+
+// The conditions that s rests on, one after another.
+pub fn rested(s: u64) -> ConditionList
+    ensures counted { λ r. ⌜ r .count ≡ length (sets.rests 6 s) ⌝ }
+    ensures listed { λ r. ⌜ r .at ≡ padded 6 (sets.rests 6 s) ⌝ }
+{
+    let mut at = [0u8; 6];
+    let mut k: u8 = 0;
+    let mut t: u8 = 0;
+    while t < CONDITIONS {
+        if rests_on(s, t) {
+            let i = k as usize;
+            at[i] = t;
+            k = k + 1;
+        }
+        t = t + 1;
+    }
+    ConditionList { count: k, at: at }
 }
 
 // Is condition t among those of `on`?

@@ -19,7 +19,7 @@ put-rested-requires c κs = let a = c .before .before .before .before .before .b
 sub-put64 : tie.Need-sub-put64
 sub-put64 c = let a = c .before .before .before .before .before .before .before .before .before .before .args in
     let f = guard-fits (a .conditions .now) (wireIn (a .group .now) (a .wires .now)) (a .s) _ _ _ _
-    (c .before .before .before .before .before .before .before .before .rested .ensures)
+    (c .before .before .before .before .before .before .before .before .rested .ensures .0)
     (c .before .before .before .before .before .before .before .before .before .before .pre .0)
     (c .before .before .before .before .before .before .put-short .ensures) (c .before .before .put-rested .ensures) in
     omega (arith, f)
@@ -28,24 +28,24 @@ part-put64-start : tie.Need-part-put64-start
 part-put64-start c = let a = c .before .before .before .before .before .before .before .before .before .before .args in
     let e = c .before .before .before .before .before .before .put-short .last .0 in
     let f = guard-fits (a .conditions .now) (wireIn (a .group .now) (a .wires .now)) (a .s) _ _ _ _
-    (c .before .before .before .before .before .before .before .before .rested .ensures)
+    (c .before .before .before .before .before .before .before .before .rested .ensures .0)
     (c .before .before .before .before .before .before .before .before .before .before .pre .0)
     (c .before .before .before .before .before .before .put-short .ensures) (c .before .before .put-rested .ensures) in
-    let z : 2 + 2 * c .before .before .before .before .before .before .before .before .rested .result ≤ length
+    let z : 2 + 2 * c .before .before .before .before .before .before .before .before .rested .result .count ≤ length
     (putMid 2 (length e - 2) e (c .before .before .put-rested .last .0)) = omega (arith, f) in
     search needs
 
 put64-requires : tie.Need-put64-requires
 put64-requires c κs = let a = c .before .before .before .before .before .before .before .before .before .before .before .before .args in
     guard-last (a .conditions .now) (wireIn (a .group .now) (a .wires .now)) (a .s) _ _ _ _
-    (c .before .before .before .before .before .before .before .before .before .before .rested .ensures)
+    (c .before .before .before .before .before .before .before .before .before .before .rested .ensures .0)
     (c .before .before .before .before .before .before .before .before .before .before .before .before .pre .0)
     (c .before .before .before .before .before .before .before .before .put-short .ensures) (c .before .before .before .before .put-rested .ensures)
 
 returns : tie.Need-returns
 returns c = let a = c .before .before .before .before .before .before .before .before .before .before .before .before .before .before .before .args in
     guard-put (a .conditions .now) (wireIn (a .group .now) (a .wires .now)) (a .s) _ _ _ _ _ _ _
-    (c .before .before .before .before .before .before .before .before .before .before .before .before .before .rested .ensures) refl
+    (c .before .before .before .before .before .before .before .before .before .before .before .before .before .rested .ensures .0) refl
     (c .before .before .before .table .ensures)
     (c .before .before .before .before .before .before .before .before .before .before .before .before .before .before .before .pre .0)
     (c .before .before .before .before .before .before .before .before .before .before .before .put-short .ensures)

@@ -1,6 +1,7 @@
 use lib.ListN.{getD}
+use Rattle.settings.specs.PlaceLaws.{few-rests}
 use Rattle.emitting.specs.LoopLaws.{member-inside}
-use Rattle.emitting.specs.PieceLaws.{Summing, few-rests, summing-start, summing-step, summing-end}
+use Rattle.emitting.specs.PieceLaws.{Summing, summing-start, summing-step, summing-end}
 use Rattle.plan.specs.NumberLaws.{length-group}
 use Rattle.plan.specs.PlanFile.{groupAt}
 use native.Mathlib.Omega.{arith}
@@ -41,24 +42,24 @@ add-n : tie.Need-add-n Inv-loop μ-loop
 add-n c = record {
   fits = omega (
     arith,
-    c .before .before .before .before .before .loop .inv .few,
-    c .before .before .before .before .loop-test .taken,
-    c .rested .ensures,
-    few-rests
-        (getD (c .before .before .before .before .before .before .before .before .args .needs .now) (c .before .before .before .member .result .0) 0),
-    c .before .before .before .before .before .before .shared-slice-known2 .given (c .before .before .before .before .before .before .before .before .args .at),
+    c .before .before .before .before .before .before .loop .inv .few,
+    c .before .before .before .before .before .loop-test .taken,
+    c .before .rested .ensures .0,
+    few-rests 6
+        (getD (c .before .before .before .before .before .before .before .before .before .args .needs .now) (c .before .before .before .before .member .result .0) 0),
+    c .before .before .before .before .before .before .before .shared-slice-known2 .given (c .before .before .before .before .before .before .before .before .before .args .at),
   );
 }
 
 loop-again : tie.Need-loop-again Inv-loop μ-loop
-loop-again c = summing-step _ _ _ _ _ _ (c .before .before .before .before .before .loop .inv)
+loop-again c = summing-step _ _ _ _ _ _ (c .before .before .before .before .before .before .loop .inv)
     (omega (
       arith,
-      length-group (c .before .before .before .before .before .before .before .before .args .plan .now)
-          (c .before .before .before .before .before .before .before .before .args .at),
-      c .before .before .before .before .loop-test .taken,
+      length-group (c .before .before .before .before .before .before .before .before .before .args .plan .now)
+          (c .before .before .before .before .before .before .before .before .before .args .at),
+      c .before .before .before .before .before .loop-test .taken,
     ))
-    (c .before .before .before .member .ensures) (c .rested .ensures)
+    (c .before .before .before .before .member .ensures) (c .before .rested .ensures .0)
 
 returns : tie.Need-returns Inv-loop μ-loop
 returns c = summing-end _ _ _ _ (c .before .loop .inv)

@@ -1,13 +1,15 @@
 use borrow.Author.Needs.{needs}
 use native.Mathlib.Omega.{arith}
 use Prim.Native.Nat.{_-_, _*_}
-use mathlib.Core.Path.{refl}
-use Rattle.ordering.specs.ArgumentLaws.{Arguing, arguing-start, arguing-place, arguing-into, arguing-step, arguing-end}
+use mathlib.Core.Path.{_∙_}
+use Rattle.ordering.specs.Reads.{argumentsAt}
+use Rattle.ordering.specs.ReadLaws.{arguments-length}
+use Rattle.ordering.specs.ArgumentLaws.{Putting, putting-start, putting-into, putting-step, putting-end, argument-of}
 use Rattle.ordering.proofs.wait_arguments.Statement.{statement}
 use Rattle.ordering.proofs.wait_arguments.Tie as tie
 
 abbrev Inv-loop : tie.InvT-loop
-Inv-loop quads group p waits₀ i n k₀ waits k = Arguing quads group waits₀ i (4 * p .0) n waits k
+Inv-loop quads group p waits₀ i n k₀ waits k = Putting group (argumentsAt quads i) waits₀ (4 * p .0) waits k
 
 abbrev μ-loop : tie.MeasureT-loop
 μ-loop quads group p waits₀ i n k₀ waits k = n - k
@@ -15,40 +17,40 @@ abbrev μ-loop : tie.MeasureT-loop
 loop-holds : tie.Need-loop-holds Inv-loop μ-loop
 loop-holds c =
     let c4 = c .before .before .before .before in
-    arguing-start _ _ _ _ _ _ (c4 .pre .0 .0) (omega (arith, c4 .pre .0 .1)) (c .arity-of .ensures) (c4 .pre .1 .0) (c4 .pre .1 .1)
+    putting-start _ _ _ _ (omega (arith, c4 .pre .0 .1)) (c4 .pre .1 .0) (c4 .pre .1 .1)
 
 add-argument-2 : tie.Need-add-argument-2 Inv-loop μ-loop
-add-argument-2 c = record { fits = omega (arith, arguing-place _ _ _ _ _ _ _ _ (c .before .loop .inv) (c .loop-test .taken), c .before .loop .inv .gate) }
+add-argument-2 c =
+    let c6 = c .before .before .before .before .before .before in
+    record { fits = omega (arith, argument-of (c6 .args .quads .now) (c6 .args .m .0) _ _ (c .before .before .arity-of .ensures) (c .loop-test .taken) .0, c6 .pre .0 .0) }
 
 argument-requires : tie.Need-argument-requires Inv-loop μ-loop
-argument-requires c κs = (
-  omega (arith, arguing-place _ _ _ _ _ _ _ _ (c .before .loop .inv) (c .loop-test .taken), c .before .loop .inv .gate),
-  arguing-into _ _ _ _ _ _ _ _ _ (c .before .loop .inv) (c .loop-test .taken) refl .0,
-)
+argument-requires c κs =
+    let a = argument-of _ _ _ _ (c .before .before .arity-of .ensures) (c .loop-test .taken) in
+    (omega (arith, a .0, c .before .before .before .before .before .before .pre .0 .0), putting-into _ _ _ _ _ _ _ (c .before .loop .inv) (a .1 .0) (a .1 .1) .0)
 
 group-of-requires : tie.Need-group-of-requires Inv-loop μ-loop
-group-of-requires c κs = arguing-into _ _ _ _ _ _ _ _ _ (c .before .before .before .loop .inv) (c .before .before .loop-test .taken) (c .before .argument .ensures) .0
+group-of-requires c κs =
+    let a = argument-of _ _ _ _ (c .before .before .before .before .arity-of .ensures) (c .before .before .loop-test .taken) in
+    putting-into _ _ _ _ _ _ _ (c .before .before .before .loop .inv) (a .1 .0) (c .before .argument .ensures ∙ a .1 .1) .0
 
 wait-for-requires : tie.Need-wait-for-requires Inv-loop μ-loop
 wait-for-requires c κs =
-    let c4 = c .before .before .before .before in (
-      c4 .loop .inv .size,
-      (
-        omega (arith, c4 .loop .inv .room),
-        rw (c .group-of .ensures)
-            (arguing-into _ _ _ _ _ _ _ _ _ (c4 .loop .inv) (c .before .before .before .loop-test .taken) (c .before .before .argument .ensures) .1),
-      ),
-    )
+    let a = argument-of _ _ _ _ (c .before .before .before .before .before .arity-of .ensures) (c .before .before .before .loop-test .taken) in
+    let i = c .before .before .before .before .loop .inv in
+    (i .size, (omega (arith, i .room), rw (c .group-of .ensures) (putting-into _ _ _ _ _ _ _ i (a .1 .0) (c .before .before .argument .ensures ∙ a .1 .1) .1)))
 
 loop-again : tie.Need-loop-again Inv-loop μ-loop
 loop-again c =
     let c6 = c .before .before .before .before .before .before in
-    let c7 = c6 .before in
-    arguing-step _ _ _ _ _ _ _ _ _ _ _ (c7 .loop .inv) (c6 .loop-test .taken) (c .before .before .before .before .before .argument .ensures)
+    let a = argument-of _ _ _ _ (c6 .before .before .arity-of .ensures) (c6 .loop-test .taken) in
+    putting-step _ _ _ _ _ _ _ _ _ (c6 .before .loop .inv) (a .1 .0) (c .before .before .before .before .before .argument .ensures ∙ a .1 .1)
     (c .before .before .before .group-of .ensures) (c .before .before .wait-for .ensures)
 
 returns : tie.Need-returns Inv-loop μ-loop
-returns c = arguing-end _ _ _ _ _ _ _ _ (c .before .loop .inv) (c .loop-test .left)
+returns c =
+    let a = c .before .before .before .before .before .before .args in
+    putting-end _ _ _ _ _ _ (c .before .loop .inv) (omega (arith, arguments-length (a .quads .now) (a .m .0), c .before .before .arity-of .ensures, c .loop-test .left))
 
 pub wait-arguments-spec : {M : Type 1} → statement M
 wait-arguments-spec =

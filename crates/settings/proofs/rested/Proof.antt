@@ -1,0 +1,56 @@
+use mathlib.Core.Path.{sym, _∙_}
+use mathlib.Core.Logic.{⊎-elim}
+use Prim.Native.Nat.{_-_}
+use native.Mathlib.Omega.{arith}
+use borrow.Author.Needs.{needs}
+use Rattle.settings.specs.Sets.{restsOn}
+use Rattle.settings.proofs.Laws.{Listing, listing-start, listing-room, listing-in, listing-out, listing-end}
+use Rattle.settings.proofs.rested.Statement.{statement}
+use Rattle.settings.proofs.rested.Tie as tie
+
+abbrev Inv-loop : tie.InvT-loop
+Inv-loop s at₀ k₀ t₀ at k t = Listing 6 (restsOn 6 s) at k t
+
+abbrev μ-loop : tie.MeasureT-loop
+μ-loop s at₀ k₀ t₀ at k t = 6 - t
+
+loop-holds : tie.Need-loop-holds Inv-loop μ-loop
+loop-holds c = listing-start _
+
+array-write-at : tie.Need-array-write-at Inv-loop μ-loop
+array-write-at c = listing-room _ _ _ _ _ (c .before .before .before .loop .inv) (c .before .before .loop-test .taken)
+
+cast-i : tie.Need-cast-i Inv-loop μ-loop
+cast-i c = record { fits = omega (arith, array-write-at c) }
+
+add-k : tie.Need-add-k Inv-loop μ-loop
+add-k c = record { fits = omega (arith, array-write-at c) }
+
+loop-again : tie.Need-loop-again Inv-loop μ-loop
+loop-again c =
+    let z = c .before .before .before .loop .inv in
+    let h = c .before .before .loop-test .taken in
+    let e = sym (c .before .rests-on .ensures) in
+    ⊎-elim
+    (λ w. listing-in _ _ _ _ _ _ _ z h (e ∙ w .0 .taken) (w .1) (w .2))
+    (λ w. listing-out _ _ _ _ _ _ _ z h (e ∙ w .0 .left) (w .1) (w .2))
+    (c .if1 .came)
+
+returns : tie.Need-returns Inv-loop μ-loop
+returns c = listing-end _ _ _ _ _ (c .before .loop .inv) (c .loop-test .left)
+
+pub rested-spec : {M : Type 1} → statement M
+rested-spec =
+    tie.close
+    (tie.spec
+    Inv-loop
+    μ-loop
+    loop-holds
+    (λ c κs. search needs)
+    cast-i
+    array-write-at
+    add-k
+    (λ c. search needs)
+    (λ c. search needs)
+    loop-again
+    returns)
