@@ -15,7 +15,7 @@ use Rattle.circuit.specs.Whole.{ruleAnswer}
 use Rattle.circuit.specs.WholeLaws.{RuleCases, rule-cases}
 use Rattle.direct.specs.Inputs.{inputRow}
 use Rattle.direct.specs.RangeLaws.{input-range}
-use Rattle.direct.specs.Direct.{runAnswer, runResults}
+use Rattle.direct.specs.Direct.{runAnswer}
 use Rattle.direct.specs.DirectLaws.{rule-answer, inputs-answer, run-answer}
 use Rattle.plan.specs.Rows.{planRow, planAnswer}
 use Rattle.plan.specs.AcceptedLaws.{answer-rule, answer-row, answer-accepted}
@@ -95,11 +95,6 @@ write-answered s p room =
     (λ t. same-answered (length s) (write-refused s p room (eqb-false _ _ t)) (plan-answered s p))
 
 -- a refusal writes to no buffer
-pub run-untouched : (before : Answer) (s inputs results : List ℕ) → (runAnswer before s inputs (length results) .number ≡ 0 → ⊥)
-    → runResults before s inputs results ≡ results
-unfolding runResults
-run-untouched before s inputs results h = rw (ne-eqb _ _ h)
-
 pub write-untouched : (s p buffer : List ℕ) → (writeAnswer s p (length buffer) .number ≡ 0 → ⊥) → writtenOver s p buffer ≡ buffer
 unfolding writtenOver
 write-untouched s p buffer h = rw (ne-eqb _ _ h)

@@ -25,6 +25,7 @@ use Rattle.gates.specs.Gates.{operation, gateAt, figureAt}
 use Rattle.gates.specs.PlainCircuit.{gatesOf, outputsOf}
 use Rattle.circuit.specs.Whole.{ruleAnswer}
 use Rattle.direct.specs.Direct.{runAnswer, runResults}
+use Rattle.direct.specs.DirectLaws as direct
 use Rattle.plan.specs.Rows.{planAnswer}
 use Rattle.plan.specs.Accepted.{Acceptable}
 use Rattle.plan.specs.AcceptedLaws as laws
@@ -66,7 +67,7 @@ fused-run-answered s p inputs results = answers.run-answered (length s) (fusedAn
 -- "a refusal writes no byte of a lent buffer."
 pub run-untouched : (s inputs results : List ℕ) → (runAnswer (ruleAnswer s) s inputs (length results) .number ≡ 0 → ⊥)
     → runResults (ruleAnswer s) s inputs results ≡ results
-run-untouched s = answers.run-untouched (ruleAnswer s) s
+run-untouched s = direct.refused-results (ruleAnswer s) s
 
 pub write-untouched : (s p buffer : List ℕ) → (writeAnswer s p (length buffer) .number ≡ 0 → ⊥) → writtenOver s p buffer ≡ buffer
 write-untouched = answers.write-untouched

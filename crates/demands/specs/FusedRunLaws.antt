@@ -23,7 +23,7 @@ use Rattle.gates.specs.StartLaws.{read-run}
 use Rattle.circuit.specs.Whole.{ruleAnswer}
 use Rattle.direct.specs.Inputs.{inputRow}
 use Rattle.direct.specs.Direct.{runAnswer, runResults}
-use Rattle.direct.specs.DirectLaws.{rule-answer, inputs-answer, run-answer}
+use Rattle.direct.specs.DirectLaws.{rule-answer, inputs-answer, run-answer, answered-results, refused-results}
 use Rattle.plan.specs.Rows.{planAnswer}
 use Rattle.plan.specs.AcceptedLaws.{plan-accepted}
 use Rattle.fused.specs.CircuitFile.{fusedFile}
@@ -53,8 +53,11 @@ module _ (a b : Answer) (x : a .number ≡ 0) (y : b .number ≡ 0) (s inputs : 
       ap (λ (c : Answer). c .number) (inputs-answer a s inputs x room n ∙ sym (inputs-answer b s inputs y room n)))
 
   pub results-same : (results : List ℕ) → runResults a s inputs results ≡ runResults b s inputs results
-  unfolding runResults
-  results-same results = rw (numbers-same (length results))
+  results-same results =
+      let e = numbers-same (length results) in
+      split (eqb (runAnswer b s inputs (length results) .number) 0)
+      (λ t. let z = eqb-true _ _ t in answered-results a s inputs results (e ∙ z) ∙ sym (answered-results b s inputs results z))
+      (λ t. let n = eqb-false _ _ t in refused-results a s inputs results (λ z. n (sym e ∙ z)) ∙ sym (refused-results b s inputs results n))
 
 module _ (s p : List ℕ) where
   -- a plan that is accepted: the rule is, and so is the fused circuit
