@@ -12,7 +12,8 @@
  *
  * Refusals. An operation either succeeds, with number 0 and place 0, or refuses, with a number, a
  * place and every count 0. A refusal writes to no array. Rule comes before plan, plan before inputs
- * or buffer.
+ * or buffer. docs/GUIDE.md, "The refusals", has for each number what it means, the smallest file that
+ * gets it and what to do; `./shelf explain NUMBER` prints that. In its short words:
  *
  *   rule     1 size (6 to 4,096 bytes)        2 mark or version        3 variables or a kind byte
  *            4 a byte is wanted past the end  5 unknown code           6 no such variable
