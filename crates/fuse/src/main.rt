@@ -3,9 +3,6 @@ use answers::Answer;
 use libc::STDOUT_FILENO;
 ghost use Rattle.io.specs.Counts.{Counts};
 
-// The last row of refusals whose place is printed.
-const LAST_PLACED: u8 = 11;
-
 // Nothing is left to read: a read answers 0, neither a byte nor a failure.
 fn at_end(fd: i32) -> bool {
     let mut next = [0u8; 1];
@@ -62,43 +59,23 @@ fn save(bytes: &[u8]) -> bool {
     false
 }
 
-fn print(text: &[u8]) -> bool {
-    io::write_all(STDOUT_FILENO, text)
-}
-
-fn number(n: usize) -> bool {
-    print(b" ") && io::print_decimal(STDOUT_FILENO, n as u64)
-}
-
-// `accepted`, gates, wires, cost before, cost after.
-fn accepted(a: Answer) -> bool {
-    print(b"accepted")
-        && number(a.gates)
-        && number(a.wires)
-        && number(a.before)
-        && number(a.after)
-        && print(b"\n")
-}
-
-// `refused` and the number, and the place for a row of the rule.
-fn refused(a: Answer) -> bool {
-    let said = print(b"refused") && number(a.number as usize);
-    if a.number <= LAST_PLACED {
-        return said && number(a.place) && print(b"\n");
-    }
-    said && print(b"\n")
+// The line is whole before any of it is printed, and is printed in one write.
+fn print_line(a: Answer) -> bool {
+    let mut line = [0u8; lines::LONGEST];
+    let n = lines::write_line(a, &mut line);
+    io::write_all(STDOUT_FILENO, &line[0..n])
 }
 
 // Saves the file of an accepted plan and prints the line; there is no line where the file could not be saved.
 // The writer's promise keeps the count of bytes within the buffer; asking it again spares a proof.
 fn finish(a: Answer, out: &[u8]) -> bool {
     if a.number != 0 {
-        return refused(a);
+        return print_line(a);
     }
     let n = a.bytes;
     if n <= out.len() {
         if save(&out[0..n]) {
-            return accepted(a);
+            return print_line(a);
         }
     }
     true

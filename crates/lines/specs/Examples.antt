@@ -1,0 +1,38 @@
+-- Examples of the line, from the definitions.
+use mathlib.Core.Path.{_≡_, refl}
+use mathlib.Core.List.{[], _∷_, _++_}
+use Rattle.answers.specs.Answers.{success, refusal}
+use Rattle.lines.specs.Line.{digits, decimal, spaced, line, accepted, refused, placed, lineOf}
+
+-- 0 and 10
+nought : decimal 0 ≡ 48 ∷ []
+unfolding decimal digits
+nought = refl
+
+ten : decimal 10 ≡ 49 ∷ 48 ∷ []
+unfolding decimal digits
+ten = refl
+
+-- R1 with P1: `accepted 6 9 33 28`
+r1-p1 : lineOf (success 6 9 76 33 28) ≡ accepted ++ (32 ∷ 54 ∷ 32 ∷ 57 ∷ 32 ∷ 51 ∷ 51 ∷ 32 ∷ 50 ∷ 56 ∷ 10 ∷ [])
+unfolding lineOf line spaced decimal digits
+r1-p1 = refl
+
+-- one 00 more: `refused 9 29`
+byte-left : lineOf (refusal 9 29) ≡ refused ++ (32 ∷ 57 ∷ 32 ∷ 50 ∷ 57 ∷ 10 ∷ [])
+unfolding lineOf placed line spaced decimal digits
+byte-left = refl
+
+-- the last row that has a place, and the first that has none: `refused 11 4096`, `refused 20`
+last-placed : lineOf (refusal 11 4096) ≡ refused ++ (32 ∷ 49 ∷ 49 ∷ 32 ∷ 52 ∷ 48 ∷ 57 ∷ 54 ∷ 10 ∷ [])
+unfolding lineOf placed line spaced decimal digits
+last-placed = refl
+
+first-unplaced : lineOf (refusal 20 0) ≡ refused ++ (32 ∷ 50 ∷ 48 ∷ 10 ∷ [])
+unfolding lineOf placed line spaced decimal digits
+first-unplaced = refl
+
+-- a circle: `refused 30`
+circle : lineOf (refusal 30 0) ≡ refused ++ (32 ∷ 51 ∷ 48 ∷ 10 ∷ [])
+unfolding lineOf placed line spaced decimal digits
+circle = refl

@@ -1,0 +1,114 @@
+// The line that a program prints for an answer.
+use answers::Answer;
+ghost use mathlib.Core.Path.{_≡_};
+ghost use Prim.Native.Nat.{_≤_};
+ghost use lib.ListN.{length};
+ghost use Rattle.words.specs.Buffers.{over};
+ghost use Rattle.words.specs.Lists.{flat};
+ghost use Rattle.lines.specs.Line.{decimal, spaced, line, lineOf, putOver, putCount};
+
+// The last refusal that is printed with its place.
+const LAST_PLACED: u8 = 11;
+
+// No line has more bytes: `accepted`, four numbers of 20 digits behind spaces, a line feed.
+pub const LONGEST: usize = 93;
+
+// The digits of n, the highest first: those of n / 10 and then the last. At most 20 calls deep.
+fn put_decimal(n: usize, out: &mut [u8]) -> usize
+    requires { ⌜ length (decimal n) ≤ length (now out) ⌝ }
+    ensures counted { λ r. ⌜ r ≡ length (decimal n) ⌝ }
+    ensures written { λ _. ⌜ now (out .exit) ≡ over (decimal n) (now (out .entry)) ⌝ }
+{
+    if n < 10 {
+        out[0] = 48 + (n as u8);
+        return 1;
+    }
+    let at = put_decimal(n / 10, out);
+    out[at] = 48 + ((n % 10) as u8);
+    at + 1
+}
+
+fn put_spaced(n: usize, out: &mut [u8]) -> usize
+    requires { ⌜ length (spaced n) ≤ length (now out) ⌝ }
+    ensures counted { λ r. ⌜ r ≡ length (spaced n) ⌝ }
+    ensures written { λ _. ⌜ now (out .exit) ≡ over (spaced n) (now (out .entry)) ⌝ }
+{
+    out[0] = b' ';
+    put_decimal(n, &mut out[1..]) + 1
+}
+
+// Each number in the rest behind those written.
+fn put_numbers(numbers: &[usize], out: &mut [u8]) -> usize
+    requires { ⌜ length (flat spaced (now numbers)) ≤ length (now out) ⌝ }
+    ensures counted { λ r. ⌜ r ≡ length (flat spaced (now (numbers .entry))) ⌝ }
+    ensures written { λ _. ⌜ now (out .exit) ≡ over (flat spaced (now (numbers .entry))) (now (out .entry)) ⌝ }
+{
+    let mut at: usize = 0;
+    let mut i: usize = 0;
+    while i < numbers.len() {
+        let k = put_spaced(numbers[i], &mut out[at..]);
+        at = at + k;
+        i = i + 1;
+    }
+    at
+}
+
+fn put_words(word: &[u8], numbers: &[usize], out: &mut [u8]) -> usize
+    requires { ⌜ length (line (now word) (now numbers)) ≤ length (now out) ⌝ }
+    ensures counted { λ r. ⌜ r ≡ length (line (now (word .entry)) (now (numbers .entry))) ⌝ }
+    ensures written { λ _. ⌜ now (out .exit) ≡ over (line (now (word .entry)) (now (numbers .entry))) (now (out .entry)) ⌝ }
+{
+    let n = bytes::copy(word, out);
+    let k = put_numbers(numbers, &mut out[n..]);
+    out[n + k] = b'\n';
+    n + k + 1
+}
+
+fn put_answer(answer: Answer, out: &mut [u8]) -> usize
+    requires { ⌜ length (lineOf answer) ≤ length (now out) ⌝ }
+    ensures counted { λ r. ⌜ r ≡ length (lineOf answer) ⌝ }
+    ensures written { λ _. ⌜ now (out .exit) ≡ over (lineOf answer) (now (out .entry)) ⌝ }
+{
+    if answer.number == 0 {
+        let counts = [answer.gates, answer.wires, answer.before, answer.after];
+        return put_words(b"accepted", &counts, out);
+    }
+    let number = words::wide8(answer.number);
+    if answer.number <= LAST_PLACED {
+        let refusal = [number, answer.place];
+        return put_words(b"refused", &refusal, out);
+    }
+    let refusal = [number];
+    put_words(b"refused", &refusal, out)
+}
+
+// All of the text or nothing: a buffer that is shorter than it is not touched.
+fn put_whole(text: &[u8], out: &mut [u8]) -> usize
+    ensures counted { λ r. ⌜ r ≡ putCount (now (text .entry)) (now (out .entry)) ⌝ }
+    ensures written { λ _. ⌜ now (out .exit) ≡ putOver (now (text .entry)) (now (out .entry)) ⌝ }
+{
+    if out.len() < text.len() {
+        return 0;
+    }
+    bytes::copy(text, out)
+}
+
+// Writes n in decimal digits; no number has more than 20. Answers how many bytes it wrote.
+pub fn write_decimal(n: usize, out: &mut [u8]) -> usize
+    ensures counted { λ r. ⌜ r ≡ putCount (decimal n) (now (out .entry)) ⌝ }
+    ensures written { λ _. ⌜ now (out .exit) ≡ putOver (decimal n) (now (out .entry)) ⌝ }
+{
+    let mut text = [0u8; 20];
+    let k = put_decimal(n, &mut text);
+    put_whole(&text[0..k], out)
+}
+
+// Writes the line of an answer. Answers how many bytes it wrote.
+pub fn write_line(answer: Answer, out: &mut [u8]) -> usize
+    ensures counted { λ r. ⌜ r ≡ putCount (lineOf answer) (now (out .entry)) ⌝ }
+    ensures written { λ _. ⌜ now (out .exit) ≡ putOver (lineOf answer) (now (out .entry)) ⌝ }
+{
+    let mut text = [0u8; LONGEST];
+    let n = put_answer(answer, &mut text);
+    put_whole(&text[0..n], out)
+}
