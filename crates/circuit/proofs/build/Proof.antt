@@ -1,4 +1,4 @@
-use mathlib.Core.Path.{ap, sym, _∙_}
+use mathlib.Core.Path.{refl, ap, sym, _∙_}
 use denote.Ref.{now}
 use Rattle.answers.specs.declared.Answer.{Answer}
 use Rattle.circuit.specs.WholeLaws.{answer-refused, answer-read, answer-whole, accepted}
@@ -17,8 +17,10 @@ returns c =
 
 make-rule-requires : tie.Need-make-rule-requires
 make-rule-requires c κs =
-    let s = now (c .before .before .before .before .before .before .args .rule) in
-    answer-read s (c .before .before .before .before .read-rule .result) (c .before .before .before .before .read-rule .ensures) (c .before .before .if1 .left)
+    let s = now (c .before .before .before .before .before .before .args .rule) in (
+      answer-read s (c .before .before .before .before .read-rule .result) (c .before .before .before .before .read-rule .ensures) (c .before .before .if1 .left),
+      (refl, refl),
+    )
 
 whole-requires : tie.Need-whole-requires
 whole-requires c κs =

@@ -1,4 +1,4 @@
-use mathlib.Core.Path.{sym, _∙_}
+use mathlib.Core.Path.{refl, sym, _∙_}
 use denote.Ref.{now}
 use Rattle.circuit.specs.WholeLaws.{answer-refused, answer-read, answer-whole}
 use Rattle.circuit.specs.MakingLaws.{made-earlier, made-whole}
@@ -11,8 +11,11 @@ returns c = answer-refused (now (c .before .before .before .before .args .rule))
     (c .if1 .taken)
 
 make-rule-requires : tie.Need-make-rule-requires
-make-rule-requires c κs = answer-read (now (c .before .before .before .before .before .before .args .rule)) (c .before .before .before .before .read-rule .result)
-    (c .before .before .before .before .read-rule .ensures) (c .before .before .if1 .left)
+make-rule-requires c κs = (
+  answer-read (now (c .before .before .before .before .before .before .args .rule)) (c .before .before .before .before .read-rule .result)
+      (c .before .before .before .before .read-rule .ensures) (c .before .before .if1 .left),
+  (refl, refl),
+)
 
 whole-requires : tie.Need-whole-requires
 whole-requires c κs =
