@@ -26,7 +26,7 @@ pub extern "C" fn linnet_run_rule(rule: &[u8], inputs: &[u32], results: &mut [u3
     direct::run(rule, inputs, results)
 }
 
-// A plain circuit shown, laid out as C lays it out: the first fields of `circuit::Built`; the quads of the gates are its rows.
+// A plain circuit shown, laid out as C lays it out; the quads of the gates are its rows.
 #[repr(C)]
 pub struct Shown {
     pub answer: Answer,
@@ -41,10 +41,11 @@ pub extern "C" fn linnet_show_plain(rule: &[u8]) -> Shown
     ensures rows { λ r. ⌜ r .rows ≡ builtQuads (now (rule .entry)) ⌝ }
     ensures needs { λ r. ⌜ r .needs ≡ builtNeeds (now (rule .entry)) ⌝ }
 {
-    let built = circuit::build(rule);
-    let answer = built.answer;
-    let rows = built.quads;
-    let needs = built.needs;
+    let mut rows = [0u32; 1024];
+    let mut needs = [0u64; 256];
+    let mut outputs = [0u16; 32];
+    let mut conditions = [0u16; 6];
+    let answer = circuit::build(rule, &mut rows, &mut needs, &mut outputs, &mut conditions);
     Shown {
         answer,
         rows,
