@@ -19,7 +19,7 @@ use Rattle.plan.specs.Groups.{groupOf}
 use Rattle.plan.specs.Rows.{Row, layoutRows, joinRows, orderRows, firstFailing, placed, planRow, planAnswer}
 use Rattle.plan.specs.AcceptedLaws.{failing-first, failing-second, answer-rule, answer-row, answer-accepted}
 use Rattle.plan.specs.SameLaws.{joins-same}
-use Rattle.checking.specs.Refused.{IsBuilt}
+use Rattle.checking.specs.InHand.{IsBuilt}
 
 module _ (s p : List ℕ) (a : Answer) (quads needs outputs conds : List ℕ) (sh : IsBuilt s a quads needs outputs conds) where
   -- the rule's refusal is taken over whole

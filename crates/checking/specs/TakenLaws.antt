@@ -33,7 +33,7 @@ use Rattle.ordering.specs.declared.Order.the-variants.{Placed, Circle}
 use Rattle.checking.specs.Checked.{ifChecked, writingOrder, checkedGroups, checkedPlaces, checkedOrder}
 use Rattle.checking.specs.Handed.{Handed}
 use Rattle.checking.specs.CheckedLaws.{accepted-lists}
-use Rattle.checking.specs.Refused.{IsBuilt}
+use Rattle.checking.specs.InHand.{IsBuilt}
 use Rattle.checking.specs.AnswerLaws.{accepted-rule, gates-are, gates-room, gates-in, needs-in, circle-refused, plan-taken}
 use Rattle.checking.specs.HandedLaws.{row-handed, table-named, table-many}
 

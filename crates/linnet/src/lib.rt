@@ -41,16 +41,24 @@ pub extern "C" fn linnet_show_plain(rule: &[u8]) -> Shown
     ensures rows { λ r. ⌜ r .rows ≡ builtQuads (now (rule .entry)) ⌝ }
     ensures needs { λ r. ⌜ r .needs ≡ builtNeeds (now (rule .entry)) ⌝ }
 {
-    let mut rows = [0u32; 1024];
+    let mut shown = Shown {
+        answer: answers::refused(0, 0),
+        rows: [0u32; 1024],
+        needs: [0u64; 256],
+    };
+    // One call cannot be lent two fields of a struct to fill: the smaller is copied in.
     let mut needs = [0u64; 256];
     let mut outputs = [0u16; 32];
     let mut conditions = [0u16; 6];
-    let answer = circuit::build(rule, &mut rows, &mut needs, &mut outputs, &mut conditions);
-    Shown {
-        answer,
-        rows,
-        needs,
-    }
+    shown.answer = circuit::build(
+        rule,
+        &mut shown.rows,
+        &mut needs,
+        &mut outputs,
+        &mut conditions,
+    );
+    shown.needs = needs;
+    shown
 }
 
 // Operation 03: checks a plan for a rule.
