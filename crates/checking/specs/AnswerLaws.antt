@@ -14,34 +14,33 @@ use Rattle.needed.specs.Pass.{rulePreconditions}
 use Rattle.circuit.specs.Whole.{ruleAnswer}
 use Rattle.circuit.specs.Built.{builtQuads}
 use Rattle.circuit.specs.BuiltParts.{built-count, built-room, built-gates, built-need}
-use Rattle.circuit.specs.declared.Built.{Built}
 use Rattle.plan.specs.PlanFile.{groupsIn}
 use Rattle.plan.specs.Groups.{groupOf}
 use Rattle.plan.specs.Rows.{Row, layoutRows, joinRows, orderRows, firstFailing, placed, planRow, planAnswer}
 use Rattle.plan.specs.AcceptedLaws.{failing-first, failing-second, answer-rule, answer-row, answer-accepted}
 use Rattle.plan.specs.SameLaws.{joins-same}
-use Rattle.checking.specs.Refused.{IsBuilt}
+use Rattle.checking.specs.InHand.{IsBuilt}
 
-module _ (s p : List ℕ) (c : Built) (sh : IsBuilt s c) where
+module _ (s p : List ℕ) (a : Answer) (quads needs outputs conds : List ℕ) (sh : IsBuilt s a quads needs outputs conds) where
   -- the rule's refusal is taken over whole
-  pub rule-refused : (c .answer .number ≡ 0 → ⊥) → c .answer ≡ planAnswer s p
+  pub rule-refused : (a .number ≡ 0 → ⊥) → a ≡ planAnswer s p
   rule-refused h = sh .0 ∙ sym (answer-rule s p (λ z. h (ap (λ (a : Answer). a .number) (sh .0) ∙ z)))
 
-  module _ (zero : c .answer .number ≡ 0) where
+  module _ (zero : a .number ≡ 0) where
     pub accepted-rule : ruleAnswer s .number ≡ 0
     accepted-rule = ap (λ (a : Answer). a .number) (sym (sh .0)) ∙ zero
 
-    pub gates-are : c .answer .gates ≡ gateCount s
+    pub gates-are : a .gates ≡ gateCount s
     gates-are = ap (λ (a : Answer). a .gates) (sh .0) ∙ built-count s accepted-rule
 
-    pub gates-room : c .answer .gates ≤ mostGates
+    pub gates-room : a .gates ≤ mostGates
     gates-room = subst (λ (n : ℕ). n ≤ mostGates) (sym gates-are) (built-room s accepted-rule)
 
     -- the gates in the quads are the rule's
-    pub gates-in : gatesIn (c .quads) (c .answer .gates) ≡ gatesOf s
-    gates-in = ap (λ (r : List ℕ). gatesIn r (c .answer .gates)) (sh .1 .0) ∙ ap (gatesIn (builtQuads s)) gates-are ∙ built-gates s accepted-rule
+    pub gates-in : gatesIn quads (a .gates) ≡ gatesOf s
+    gates-in = ap (λ (r : List ℕ). gatesIn r (a .gates)) (sh .1 .0) ∙ ap (gatesIn (builtQuads s)) gates-are ∙ built-gates s accepted-rule
 
-    pub needs-in : (g : ℕ) → getD (c .needs) g 0 ≡ getD (rulePreconditions s) g 0
+    pub needs-in : (g : ℕ) → getD needs g 0 ≡ getD (rulePreconditions s) g 0
     needs-in g = ap (λ (l : List ℕ). getD l g 0) (sh .1 .1 .0) ∙ built-need s accepted-rule g
 
     abbrev layout : List Row
@@ -58,7 +57,7 @@ module _ (s p : List ℕ) (c : Built) (sh : IsBuilt s c) where
     row-refused r e h = ap (λ (k : ℕ). refusal k 0) e ∙ sym (answer-row s p accepted-rule (λ z. h (e ∙ z)))
 
     -- 20 to 26
-    module _ (laid : ℕ) (e : laid ≡ firstFailing (layoutRows (c .answer .gates) p)) where
+    module _ (laid : ℕ) (e : laid ≡ firstFailing (layoutRows (a .gates) p)) where
       laid-is : laid ≡ firstFailing layout
       laid-is = e ∙ ap (λ (n : ℕ). firstFailing (layoutRows n p)) gates-are
 
@@ -67,10 +66,10 @@ module _ (s p : List ℕ) (c : Built) (sh : IsBuilt s c) where
       layout-refused h = row-refused laid (laid-is ∙ sym (failing-first layout (joins ++ last) (λ z. h (laid-is ∙ z)))) h
 
       -- 27 to 29
-      module _ (none : laid ≡ 0) (join : ℕ) (f : join ≡ firstFailing (joinRows (gatesIn (c .quads) (c .answer .gates)) (c .needs) p)) where
+      module _ (none : laid ≡ 0) (join : ℕ) (f : join ≡ firstFailing (joinRows (gatesIn quads (a .gates)) needs p)) where
         join-is : join ≡ firstFailing joins
         join-is =
-            f ∙ ap (λ (C : Gates). firstFailing (joinRows C (c .needs) p)) gates-in ∙ joins-same (gatesOf s) (c .needs) (rulePreconditions s) p needs-in
+            f ∙ ap (λ (C : Gates). firstFailing (joinRows C needs p)) gates-in ∙ joins-same (gatesOf s) needs (rulePreconditions s) p needs-in
 
         later : planRow s p ≡ firstFailing (joins ++ last)
         unfolding planRow
@@ -88,5 +87,5 @@ module _ (s p : List ℕ) (c : Built) (sh : IsBuilt s c) where
               → refusal row 0 ≡ planAnswer s p
           circle-refused row d h = row-refused row (d ∙ sym only) h
 
-          pub plan-taken : placed (gatesOf s) (rulePreconditions s) (groupOf (groupsIn p)) ≡ true → c .answer ≡ planAnswer s p
+          pub plan-taken : placed (gatesOf s) (rulePreconditions s) (groupOf (groupsIn p)) ≡ true → a ≡ planAnswer s p
           plan-taken h = sh .0 ∙ sym (answer-accepted s p accepted-rule (only ∙ rw h))

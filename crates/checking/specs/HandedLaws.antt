@@ -6,7 +6,7 @@ use mathlib.Core.List.{List}
 use mathlib.Core.Logic.{_⊎_, inl, inr}
 use mathlib.Core.Bool.{not}
 use lib.Dec.{eqb, leb}
-use lib.ListN.{length, getD}
+use lib.ListN.{length, getD, replicate}
 use borrow.Author.Tests.{eq-eqb, ne-eqb, le-leb}
 use Rattle.words.specs.TestLaws.{same?}
 use Rattle.answers.specs.Answers.{refusal}
@@ -14,7 +14,7 @@ use Rattle.answers.specs.declared.Answer.{Answer}
 use Rattle.gates.specs.Gates.{conditions}
 use Rattle.gates.specs.Limits.{mostGates}
 use Rattle.words.specs.Buffers.{padded}
-use Rattle.circuit.specs.declared.Built.{Built}
+use Rattle.circuit.specs.Built.{builtQuads, builtNeeds, builtOutputs, builtConditions}
 use Rattle.plan.specs.PlanFile.{groupsIn, Apart}
 use Rattle.plan.specs.Groups.{groupOf, Named, groups, members}
 use Rattle.plan.specs.Order.{order}
@@ -31,31 +31,34 @@ use Rattle.grouping.specs.Tables.{groupTable, placeTable}
 use Rattle.grouping.specs.TableLaws.{group-at, place-at}
 use Rattle.grouping.specs.RowLaws.{layout-readable}
 use Rattle.checking.specs.CheckedLaws.{refused-lists}
-use Rattle.checking.specs.Refused.{IsBuilt, Ungrouped}
 use Rattle.checking.specs.Handed.{Handed}
-use Rattle.checking.specs.declared.Checked.{Checked}
 
--- a refused plan hands up no groups
-pub refused-handed : (s p : List ℕ) (c : Built) → IsBuilt s c → (a : Answer) (r : Checked) → Ungrouped c a r → a ≡ planAnswer s p → (a .number ≡ 0 → ⊥) → Handed s p r
-refused-handed s p c sh a r u e h =
-    let n : planAnswer s p .number ≡ 0 → ⊥ = λ z. h (ap (λ (b : Answer). b .number) e ∙ z) in
-    let none = refused-lists s p n in
-    record {
-      answered = u .answered ∙ e;
-      quads = u .quads ∙ sh .1 .0;
-      needs = u .needs ∙ sh .1 .1 .0;
-      outputs = u .outputs ∙ sh .1 .1 .1 .0;
-      conditions = u .conditions ∙ sh .1 .1 .1 .1;
-      group = u .group ∙ ap (padded mostGates) (sym (none _));
-      places = u .places ∙ ap (padded mostGates) (sym (none _));
-      order = u .order ∙ ap (padded mostGates) (sym (none _));
-      groups = u .groups ∙ ap length (sym (none _));
-    }
+-- a refused plan hands up the circuit, and no groups
+module _ (s p quads needs outputs conds : List ℕ)
+    (b : (quads ≡ builtQuads s) × ((needs ≡ builtNeeds s) × ((outputs ≡ builtOutputs s) × (conds ≡ builtConditions s)))) (group places order : List ℕ)
+    (clear : (group ≡ replicate 256 0) × ((places ≡ replicate 256 0) × (order ≡ replicate 256 0))) (groups : ℕ) (zero : groups ≡ 0) where
+  pub refused-handed : (a : Answer) → a ≡ planAnswer s p → (a .number ≡ 0 → ⊥)
+      → (a ≡ planAnswer s p) × Handed s p quads needs outputs conds group places order groups
+  refused-handed a e h =
+      let n : planAnswer s p .number ≡ 0 → ⊥ = λ z. h (ap (λ (b : Answer). b .number) e ∙ z) in
+      let none = refused-lists s p n in (
+        e,
+        record {
+          quads-are = b .0;
+          needs-are = b .1 .0;
+          outputs-are = b .1 .1 .0;
+          conditions-are = b .1 .1 .1;
+          group-is = clear .0 ∙ ap (padded mostGates) (sym (none _));
+          places-are = clear .1 .0 ∙ ap (padded mostGates) (sym (none _));
+          order-is = clear .1 .1 ∙ ap (padded mostGates) (sym (none _));
+          groups-are = zero ∙ ap length (sym (none _));
+        },
+      )
 
--- nor does one that a row refuses
-pub row-handed : (s p : List ℕ) (c : Built) → IsBuilt s c → (n : ℕ) → refusal n 0 ≡ planAnswer s p → (n ≡ 0 → ⊥)
-    → (a : Answer) (r : Checked) → Ungrouped c a r → a ≡ refusal n 0 → Handed s p r
-row-handed s p c sh n e h a r u q = refused-handed s p c sh a r u (q ∙ e) (λ z. h (ap (λ (b : Answer). b .number) (sym q) ∙ z))
+  -- so does one that a row refuses
+  pub row-handed : (n : ℕ) → refusal n 0 ≡ planAnswer s p → (n ≡ 0 → ⊥) → (a : Answer) → a ≡ refusal n 0
+      → (a ≡ planAnswer s p) × Handed s p quads needs outputs conds group places order groups
+  row-handed n e h a q = refused-handed a (q ∙ e) (λ z. h (ap (λ (b : Answer). b .number) (sym q) ∙ z))
 
 -- the tables of a plan that is laid out, of n gates
 module _ (n : ℕ) (p : List ℕ) (room : n ≤ mostGates) (none : firstFailing (layoutRows n p) ≡ 0) where

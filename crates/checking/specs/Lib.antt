@@ -1,5 +1,5 @@
 pub mod Checked
-pub mod Refused
+pub mod InHand
 pub mod Handed
 pub mod CheckedLaws
 pub mod AnswerLaws

@@ -1,92 +1,78 @@
 // Checking a plan for a rule, rows 20 to 30 after the rule's own, and what the layers above need of an accepted plan.
 use answers::Answer;
-use circuit::Built;
 use ordering::Order;
 ghost use mathlib.Core.Path.{_≡_};
+ghost use lib.ListN.{replicate};
+ghost use Rattle.answers.specs.Answers.{refusal};
 ghost use Rattle.plan.specs.Rows.{planAnswer};
 ghost use Rattle.checking.specs.Handed.{Handed};
-ghost use Rattle.checking.specs.Refused.{Ungrouped};
 
-// A plan checked: its answer; the plain circuit of its rule, as `circuit::build` gives it; each gate's group, the place in the plan of each
-// gate's group (0 for a group alone), and the groups in the order of writing, so many of them; zeros after them, and where the plan is refused.
+// A plan checked: its answer, and how many groups it has, none where it is refused.
 pub struct Checked {
     pub answer: Answer,
-    pub quads: [u32; 1024],
-    pub needs: [u64; 256],
-    pub outputs: [u16; 32],
-    pub conditions: [u16; 6],
-    pub group: [u16; 256],
-    pub places: [u16; 256],
-    pub order: [u16; 256],
     pub groups: usize,
 }
 
-// A refused plan has no groups.
-fn refused(circuit: Built, answer: Answer) -> Checked
-    ensures { λ r. ⌜ Ungrouped circuit answer r ⌝ }
+// A plan that a row refuses after its gates were grouped: the groups are cleared again.
+fn ungrouped(row: u8, group: &mut [u16; 256], places: &mut [u16; 256]) -> Checked
+    ensures answer { λ r. ⌜ (r .answer ≡ refusal row 0) × (r .groups ≡ 0) ⌝ }
+    ensures clear { λ _. ⌜ (now (group .exit) ≡ replicate 256 0) × (now (places .exit) ≡ replicate 256 0) ⌝ }
 {
-    let quads = circuit.quads;
-    let needs = circuit.needs;
-    let outputs = circuit.outputs;
-    let conditions = circuit.conditions;
+    *group = [0u16; 256];
+    *places = [0u16; 256];
     Checked {
-        answer,
-        quads,
-        needs,
-        outputs,
-        conditions,
-        group: [0u16; 256],
-        places: [0u16; 256],
-        order: [0u16; 256],
+        answer: answers::refused(row, 0),
         groups: 0,
     }
 }
 
-// Checks a plan for a rule: the rule's refusal first, then the lowest of the rows 20 to 30.
-pub fn check(rule: &[u8], plan: &[u8]) -> Checked
-    ensures { λ r. ⌜ Handed (now (rule .entry)) (now (plan .entry)) r ⌝ }
+// Checks a plan for a rule: the rule's refusal first, then the lowest of the rows 20 to 30. Into arrays that are lent clear go the plain circuit of
+// the rule, as `circuit::build` gives it; each gate's group, the place in the plan of each gate's group (0 for a group alone), and the groups in
+// the order of writing; zeros after them, and where the plan is refused.
+pub fn check(
+    rule: &[u8],
+    plan: &[u8],
+    quads: &mut [u32; 1024],
+    needs: &mut [u64; 256],
+    outputs: &mut [u16; 32],
+    conditions: &mut [u16; 6],
+    group: &mut [u16; 256],
+    places: &mut [u16; 256],
+    order: &mut [u16; 256],
+) -> Checked
+    requires { ⌜ ((now quads ≡ replicate 1024 0) × ((now needs ≡ replicate 256 0) × ((now outputs ≡ replicate 32 0) × (now conditions ≡ replicate 6 0))))
+        × ((now group ≡ replicate 256 0) × ((now places ≡ replicate 256 0) × (now order ≡ replicate 256 0))) ⌝ }
+    ensures answer { λ r. ⌜ r .answer ≡ planAnswer (now (rule .entry)) (now (plan .entry)) ⌝ }
+    ensures handed { λ r. ⌜ Handed (now (rule .entry)) (now (plan .entry)) (now (quads .exit)) (now (needs .exit)) (now (outputs .exit)) (now (conditions .exit))
+        (now (group .exit)) (now (places .exit)) (now (order .exit)) (r .groups) ⌝ }
 {
-    let circuit = circuit::build(rule);
-    let read = circuit.answer;
+    let read = circuit::build(rule, quads, needs, outputs, conditions);
     if read.number != 0 {
-        return refused(circuit, read);
+        return Checked {
+            answer: read,
+            groups: 0,
+        };
     }
     let n = read.gates;
-    let quads = circuit.quads;
-    let needs = circuit.needs;
-    let conditions = circuit.conditions;
-    let mut group = [0u16; 256];
-    let mut places = [0u16; 256];
-    let laid = grouping::group_gates(plan, n, &mut group, &mut places);
+    let laid = grouping::group_gates(plan, n, group, places);
     if laid != 0 {
-        return refused(circuit, answers::refused(laid, 0));
+        return Checked {
+            answer: answers::refused(laid, 0),
+            groups: 0,
+        };
     }
-    let joins = grouping::check_groups(plan, &quads, n, &needs);
+    let joins = grouping::check_groups(plan, quads, n, needs);
     if joins != 0 {
-        return refused(circuit, answers::refused(joins, 0));
+        return ungrouped(joins, group, places);
     }
-    let mut order = [0u16; 256];
-    let placed = ordering::order_groups(
-        &quads,
-        n,
-        &needs,
-        &conditions,
-        &group,
-        &places,
-        &mut order,
-    );
-    let outputs = circuit.outputs;
+    let placed = ordering::order_groups(quads, n, needs, conditions, group, places, order);
     match placed {
-        Order::Circle => refused(circuit, answers::refused(ordering::refusal_row(placed), 0)),
+        Order::Circle => {
+            *order = [0u16; 256];
+            ungrouped(ordering::refusal_row(placed), group, places)
+        }
         Order::Placed(groups) => Checked {
             answer: read,
-            quads,
-            needs,
-            outputs,
-            conditions,
-            group,
-            places,
-            order,
             groups,
         },
     }
@@ -96,5 +82,23 @@ pub fn check(rule: &[u8], plan: &[u8]) -> Checked
 pub fn check_plan(rule: &[u8], plan: &[u8]) -> Answer
     ensures { λ r. ⌜ r ≡ planAnswer (now (rule .entry)) (now (plan .entry)) ⌝ }
 {
-    check(rule, plan).answer
+    let mut quads = [0u32; 1024];
+    let mut needs = [0u64; 256];
+    let mut outputs = [0u16; 32];
+    let mut conditions = [0u16; 6];
+    let mut group = [0u16; 256];
+    let mut places = [0u16; 256];
+    let mut order = [0u16; 256];
+    let checked = check(
+        rule,
+        plan,
+        &mut quads,
+        &mut needs,
+        &mut outputs,
+        &mut conditions,
+        &mut group,
+        &mut places,
+        &mut order,
+    );
+    checked.answer
 }

@@ -41,12 +41,13 @@ pub accepted-builds : (s : List ℕ) → ruleAnswer s .number ≡ 0 → (l : Lis
 unfolding ifAccepted
 accepted-builds s h l = rw (eq-eqb (ruleAnswer s .number) 0 h)
 
-pub built-nothing : (s : List ℕ) (a answer : Answer) (quads needs outputs conds : List ℕ) → a ≡ ruleAnswer s → (a .number ≡ 0 → ⊥)
-    → (answer ≡ a) × ((quads ≡ replicate 1024 0) × ((needs ≡ replicate 256 0) × ((outputs ≡ replicate 32 0) × (conds ≡ replicate 6 0))))
-    → (answer ≡ ruleAnswer s) × ((quads ≡ builtQuads s) × ((needs ≡ builtNeeds s) × ((outputs ≡ builtOutputs s) × (conds ≡ builtConditions s))))
-built-nothing s a answer quads needs outputs conds e h r =
+-- so arrays that are clear are what is built of a refused one
+pub built-nothing : (s : List ℕ) (a : Answer) (quads needs outputs conds : List ℕ) → a ≡ ruleAnswer s → (a .number ≡ 0 → ⊥)
+    → (quads ≡ replicate 1024 0) × ((needs ≡ replicate 256 0) × ((outputs ≡ replicate 32 0) × (conds ≡ replicate 6 0)))
+    → (a ≡ ruleAnswer s) × ((quads ≡ builtQuads s) × ((needs ≡ builtNeeds s) × ((outputs ≡ builtOutputs s) × (conds ≡ builtConditions s))))
+built-nothing s a quads needs outputs conds e h r =
     let n = refused-shows s (λ z. h (ap (λ (b : Answer). b .number) e ∙ z)) in
-    (r .0 ∙ e, (r .1 .0 ∙ rw n, (r .1 .1 .0 ∙ rw n, (r .1 .1 .1 .0 ∙ rw n, r .1 .1 .1 .1 ∙ rw n))))
+    (e, (r .0 ∙ rw n, (r .1 .0 ∙ rw n, (r .1 .1 .0 ∙ rw n, r .1 .1 .1 ∙ rw n))))
 
 drop-same : (z k n : ℕ) → drop k (replicate n z) ≡ replicate (n - k) z
 drop-same z zero n = let e : n ≡ n - 0 = omega arith in ap (λ (m : ℕ). replicate m z) e

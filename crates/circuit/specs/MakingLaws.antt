@@ -8,9 +8,10 @@ use lib.Seq.{take-at}
 use lib.Dec.{leb}
 use borrow.Author.Tests.{le-leb, lt-leb, leb-true, leb-false}
 use Rattle.words.specs.TestLaws.{split}
-use Rattle.answers.specs.Answers.{success, refusal}
+use Rattle.answers.specs.Answers.{success, refusal, answerOf}
 use Rattle.answers.specs.ParsingLaws.{is-read}
-use Rattle.answers.specs.Parsing.{IsRead}
+use Rattle.answers.specs.Parsing.{IsRead, stepOf}
+use Rattle.answers.specs.declared.Answer.{Answer}
 use Rattle.reading.specs.Header.{variables}
 use Rattle.reading.specs.Rule.{readRule}
 use Rattle.gates.specs.Limits.{mostGates, mostConditions}
@@ -21,11 +22,12 @@ use Rattle.gates.specs.QuadLaws.{quads-length}
 use Rattle.gates.specs.StartLaws.{plain-sound}
 use Rattle.making.specs.RuleMade.{RuleMade}
 use Rattle.needed.specs.Held.{gatesIn}
+use Rattle.needed.specs.Ranks.{ranksOf}
 use Rattle.needed.specs.HeldLaws.{gates-length}
 use Rattle.needed.specs.HeldQuads.{rule-held}
-use Rattle.circuit.specs.Whole.{wholeWithin}
-use Rattle.circuit.specs.WholeLaws.{whole-gates, whole-conditions, whole-success}
-use Rattle.circuit.specs.Making.{wholeIn}
+use Rattle.circuit.specs.Whole.{wholeWithin, ruleAnswer}
+use Rattle.circuit.specs.WholeLaws.{whole-gates, whole-conditions, whole-success, answer-read, answer-whole, accepted}
+use Rattle.circuit.specs.Making.{wholeIn, MadeWhole}
 
 -- rows 10 by the count alone
 pub whole-over : (quads : List ℕ) (count size : ℕ) → mostGates < count → wholeIn quads count size ≡ refusal 10 size
@@ -89,3 +91,12 @@ module _ (s quads present : List ℕ) (count : ℕ) (read : IsRead (readRule s))
       let many : mostGates < length (gatesOf s) = split (leb (length (gatesOf s)) mostGates)
       (λ u. let l : length (gatesOf s) ≤ mostGates = leb-true _ _ u in absurd (omega (arith, made .counted l))) (λ u. leb-false _ _ u) in
       whole-over quads count size over ∙ sym (whole-gates mostGates mostConditions (gatesOf s) size many))
+
+-- what the code has of a rule that it read and made, once it is looked at whole
+module _ (s : List ℕ) (a : Answer) (e : a ≡ answerOf (stepOf (readRule s))) (zero : a .number ≡ 0)
+    (quads present : List ℕ) (count : ℕ) (made : RuleMade s quads present count) (b : Answer) (w : b ≡ wholeIn quads count (length s)) where
+  pub whole-answer : b ≡ ruleAnswer s
+  whole-answer = let read = answer-read s a e zero in w ∙ made-whole s quads present count read made (length s) ∙ sym (answer-whole s read)
+
+  pub whole-ready : (ranks : List ℕ) → b .number ≡ 0 → (count ≤ mostGates → ranks ≡ ranksOf (gatesIn quads count) mostGates) → MadeWhole s quads present ranks count
+  whole-ready ranks h p = record { accepted = accepted s (ap (λ (x : Answer). x .number) (sym whole-answer) ∙ h); made = made; placed = p }

@@ -239,10 +239,11 @@ fn write_line(rule: &[u8], plan: &[u8], out: &mut [u8]) {
 }
 
 fn circuit_line(rule: &[u8]) {
-    let shown = circuit::build(rule);
-    let a = shown.answer;
-    let quads = shown.quads;
-    let needs = shown.needs;
+    let mut quads = [0u32; 1024];
+    let mut needs = [0u64; 256];
+    let mut outputs = [0u16; 32];
+    let mut conditions = [0u16; 6];
+    let a = circuit::build(rule, &mut quads, &mut needs, &mut outputs, &mut conditions);
     print_answer(a);
     print_gates(&quads, &needs, a.gates);
 }

@@ -182,18 +182,11 @@ fn layout_row(plan: &[u8], count: usize) -> u8
     0
 }
 
-fn clear(table: &mut [u16; 256])
-    ensures { λ r. ⌜ now (table .exit) ≡ replicate 256 0 ⌝ }
-{
-    *table = [0u16; 256];
-}
-
-// Each gate alone: a group that its own number names.
+// Each gate alone, in a table that is lent clear: a group that its own number names.
 fn number_gates(count: usize, group: &mut [u16; 256])
-    requires { ⌜ count ≤ mostGates ⌝ }
+    requires { ⌜ (count ≤ mostGates) × (now group ≡ replicate 256 0) ⌝ }
     ensures { λ r. ⌜ now (group .exit) ≡ eachAlone count ⌝ }
 {
-    clear(group);
     let mut g: usize = 0;
     while g < count {
         group[g] = g as u16;
@@ -230,15 +223,14 @@ fn join_members(
     true
 }
 
-// 26: no gate is in two groups. Every gate's group, and the place of its group in the plan.
+// 26: no gate is in two groups. Every gate's group, and the place of its group in the plan, in tables that are lent clear.
 fn join_groups(plan: &[u8], count: usize, group: &mut [u16; 256], places: &mut [u16; 256]) -> bool
-    requires { ⌜ Readable count (now plan) ⌝ }
+    requires { ⌜ Readable count (now plan) × ((now group ≡ replicate 256 0) × (now places ≡ replicate 256 0)) ⌝ }
     ensures once { λ r. ⌜ r ≡ checks.apart (file.groupsIn (now (plan .entry))) ⌝ }
     ensures groups { λ r. ⌜ (r ≡ true → now (group .exit) ≡ groupTable count (file.groupsIn (now (plan .entry)))) ⌝ }
     ensures places { λ r. ⌜ (r ≡ true → now (places .exit) ≡ placeTable count (now (plan .entry))) ⌝ }
 {
     number_gates(count, group);
-    clear(places);
     let mut left = groups_counted(plan);
     let mut at = LEAST_BYTES;
     while 0 < left {
@@ -252,22 +244,24 @@ fn join_groups(plan: &[u8], count: usize, group: &mut [u16; 256], places: &mut [
 }
 
 // Rows 20 to 26 of the plan for a circuit of `count` gates: the lowest that refuses it, or 0. With 0 each gate's group, by its smallest member, is in
-// `group`, and the place of that group in the plan, 0 for a gate that no group lists, in `places`.
+// `group`, and the place of that group in the plan, 0 for a gate that no group lists, in `places`. Both are lent clear, and clear after a refusal.
 pub fn group_gates(plan: &[u8], count: usize, group: &mut [u16; 256], places: &mut [u16; 256]) -> u8
-    requires { ⌜ count ≤ mostGates ⌝ }
+    requires { ⌜ (count ≤ mostGates) × ((now group ≡ replicate 256 0) × (now places ≡ replicate 256 0)) ⌝ }
     ensures number { λ r. ⌜ r ≡ checks.firstFailing (checks.layoutRows count (now (plan .entry))) ⌝ }
     ensures groups { λ r. ⌜ (r ≡ 0 → now (group .exit) ≡ groupTable count (file.groupsIn (now (plan .entry)))) ⌝ }
     ensures places { λ r. ⌜ (r ≡ 0 → now (places .exit) ≡ placeTable count (now (plan .entry))) ⌝ }
+    ensures refused { λ r. ⌜ ((r ≡ 0 → ⊥) → (now (group .exit) ≡ replicate 256 0) × (now (places .exit) ≡ replicate 256 0)) ⌝ }
 {
     let row = layout_row(plan, count);
     if row != 0 {
         return row;
     }
     if join_groups(plan, count, group, places) {
-        0
-    } else {
-        26
+        return 0;
     }
+    *group = [0u16; 256];
+    *places = [0u16; 256];
+    26
 }
 
 // A costly operation, by a gate's code; a choice is none.

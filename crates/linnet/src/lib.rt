@@ -26,7 +26,7 @@ pub extern "C" fn linnet_run_rule(rule: &[u8], inputs: &[u32], results: &mut [u3
     direct::run(rule, inputs, results)
 }
 
-// A plain circuit shown, laid out as C lays it out: the first fields of `circuit::Built`; the quads of the gates are its rows.
+// A plain circuit shown, laid out as C lays it out; the quads of the gates are its rows.
 #[repr(C)]
 pub struct Shown {
     pub answer: Answer,
@@ -41,15 +41,24 @@ pub extern "C" fn linnet_show_plain(rule: &[u8]) -> Shown
     ensures rows { λ r. ⌜ r .rows ≡ builtQuads (now (rule .entry)) ⌝ }
     ensures needs { λ r. ⌜ r .needs ≡ builtNeeds (now (rule .entry)) ⌝ }
 {
-    let built = circuit::build(rule);
-    let answer = built.answer;
-    let rows = built.quads;
-    let needs = built.needs;
-    Shown {
-        answer,
-        rows,
-        needs,
-    }
+    let mut shown = Shown {
+        answer: answers::refused(0, 0),
+        rows: [0u32; 1024],
+        needs: [0u64; 256],
+    };
+    // One call cannot be lent two fields of a struct to fill: the smaller is copied in.
+    let mut needs = [0u64; 256];
+    let mut outputs = [0u16; 32];
+    let mut conditions = [0u16; 6];
+    shown.answer = circuit::build(
+        rule,
+        &mut shown.rows,
+        &mut needs,
+        &mut outputs,
+        &mut conditions,
+    );
+    shown.needs = needs;
+    shown
 }
 
 // Operation 03: checks a plan for a rule.

@@ -397,13 +397,12 @@ fn make_block(
     }
 }
 
-// The plain circuit of an accepted rule: its gates' quads, the variables' last gates, and the count of its gates, 257 for any above 256.
+// The plain circuit of an accepted rule, into arrays that are lent clear: its gates' quads, the variables' last gates, and the count of its gates,
+// 257 for any above 256.
 pub fn make_rule(s: &[u8], quads: &mut [u32; 1024], present: &mut [u16; 32]) -> u16
-    requires { ⌜ IsRead (readRule (now s)) ⌝ }
+    requires { ⌜ IsRead (readRule (now s)) × ((now quads ≡ replicate 1024 0) × (now present ≡ replicate 32 0)) ⌝ }
     ensures { λ r. ⌜ RuleMade (now (s .entry)) (now (quads .exit)) (now (present .exit)) r ⌝ }
 {
-    *quads = [0; 1024];
-    *present = [0; 32];
     let v = s[5] as usize;
     let count = make_starts(s, present, quads);
     let made = make_block(s, 6 + v, reading::NESTED, present, quads, count);

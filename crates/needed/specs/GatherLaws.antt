@@ -52,10 +52,11 @@ pub record GatheringConditions (ranks gates : List ℕ) (count g t : ℕ) : Type
   pub so-far : t ≡ length (markedIn ranks g)
   pub gathered : gates ≡ over (markedIn ranks g) (replicate mostConditions 0)
 
-pub gathering-start : (ranks : List ℕ) (count : ℕ) → (count ≤ mostGates) × (length (markedIn ranks count) ≤ mostConditions) → GatheringConditions ranks
-    (replicate mostConditions 0) count 0 0
+pub gathering-start : (ranks gates : List ℕ) (count : ℕ) → ((count ≤ mostGates) × (length (markedIn ranks count) ≤ mostConditions)) × (gates ≡ replicate mostConditions 0)
+    → GatheringConditions ranks gates count 0 0
 unfolding markedIn
-gathering-start ranks count p = record { low = omega arith; room = p .0; few = p .1; so-far = refl; gathered = sym (over-nil (replicate mostConditions 0)) }
+gathering-start ranks gates count p =
+    record { low = omega arith; room = p .0 .0; few = p .0 .1; so-far = refl; gathered = p .1 ∙ sym (over-nil (replicate mostConditions 0)) }
 
 marked-next : (ranks : List ℕ) (g : ℕ) → length (markedIn ranks g) ≤ length (markedIn ranks (suc g))
 marked-next ranks g =

@@ -64,18 +64,11 @@ pub fn cost(quads: &[u32; 1024], count: usize) -> usize
     sum
 }
 
-fn clear_ranks(ranks: &mut [u16; 256])
-    ensures { λ r. ⌜ now (ranks .exit) ≡ replicate 256 0 ⌝ }
-{
-    *ranks = [0u16; 256];
-}
-
-// Marks the gates that stand first in a choice gate, the others are 0.
+// Marks the gates that stand first in a choice gate, in ranks that are lent clear: the others are 0.
 fn mark(quads: &[u32; 1024], count: usize, ranks: &mut [u16; 256])
-    requires { ⌜ (count ≤ mostGates) × Earlier (gatesIn (now quads) count) ⌝ }
+    requires { ⌜ (count ≤ mostGates) × (Earlier (gatesIn (now quads) count) × (now ranks ≡ replicate 256 0)) ⌝ }
     ensures { λ r. ⌜ Marked (gatesIn (now (quads .entry)) count) (now (ranks .exit)) ⌝ }
 {
-    clear_ranks(ranks);
     let mut i: usize = 0;
     while i < count {
         if quads[4 * i] == gates::CHOICE {
@@ -104,9 +97,9 @@ fn number_marked(count: usize, ranks: &mut [u16; 256]) -> usize
     words::wide16(t)
 }
 
-// Numbers the conditions: t + 1 for the gate that is condition t, 0 for every other; gives how many they are.
+// Numbers the conditions, in ranks that are lent clear: t + 1 for the gate that is condition t, 0 for every other; gives how many they are.
 pub fn number_conditions(quads: &[u32; 1024], count: usize, ranks: &mut [u16; 256]) -> usize
-    requires { ⌜ (count ≤ mostGates) × Earlier (gatesIn (now quads) count) ⌝ }
+    requires { ⌜ (count ≤ mostGates) × (Earlier (gatesIn (now quads) count) × (now ranks ≡ replicate 256 0)) ⌝ }
     ensures counted { λ r. ⌜ r ≡ length (conditions (gatesIn (now (quads .entry)) count)) ⌝ }
     ensures placed { λ r. ⌜ now (ranks .exit) ≡ ranksOf (gatesIn (now (quads .entry)) count) mostGates ⌝ }
 {
@@ -114,12 +107,11 @@ pub fn number_conditions(quads: &[u32; 1024], count: usize, ranks: &mut [u16; 25
     number_marked(count, ranks)
 }
 
-// The gates that have a number, in rising order: of ranks that number the conditions, condition t is element t; zeros after them.
-pub fn condition_gates(ranks: &[u16; 256], count: usize) -> [u16; 6]
-    requires { ⌜ (count ≤ mostGates) × (length (markedIn (now ranks) count) ≤ mostConditions) ⌝ }
-    ensures { λ r. ⌜ r ≡ over (markedIn (now (ranks .entry)) count) (replicate mostConditions 0) ⌝ }
+// The gates that have a number, in rising order, in an array that is lent clear: of ranks that number the conditions, condition t is element t.
+pub fn condition_gates(ranks: &[u16; 256], count: usize, gates: &mut [u16; 6])
+    requires { ⌜ ((count ≤ mostGates) × (length (markedIn (now ranks) count) ≤ mostConditions)) × (now gates ≡ replicate mostConditions 0) ⌝ }
+    ensures { λ r. ⌜ now (gates .exit) ≡ over (markedIn (now (ranks .entry)) count) (replicate mostConditions 0) ⌝ }
 {
-    let mut gates = [0u16; 6];
     let mut t: usize = 0;
     let mut g: usize = 0;
     while g < count {
@@ -129,7 +121,6 @@ pub fn condition_gates(ranks: &[u16; 256], count: usize) -> [u16; 6]
         }
         g = g + 1;
     }
-    gates
 }
 
 // The set s is put to that of gate g.
@@ -221,13 +212,7 @@ fn pass(quads: &[u32; 1024], count: usize, ranks: &[u16; 256], sets: &mut [u64; 
     }
 }
 
-fn clear_sets(sets: &mut [u64; 256])
-    ensures { λ r. ⌜ now (sets .exit) ≡ replicate 256 0 ⌝ }
-{
-    *sets = [0u64; 256];
-}
-
-// Every gate's precondition, whatever the sets held before.
+// Every gate's precondition, in sets that are lent clear.
 pub fn find_needed(
     quads: &[u32; 1024],
     count: usize,
@@ -236,10 +221,9 @@ pub fn find_needed(
     v: usize,
     sets: &mut [u64; 256],
 )
-    requires { ⌜ Passable (now quads) (now ranks) count × ((v ≤ 32) × Inside count (take v (now outputs))) ⌝ }
+    requires { ⌜ (Passable (now quads) (now ranks) count × ((v ≤ 32) × Inside count (take v (now outputs)))) × (now sets ≡ replicate 256 0) ⌝ }
     ensures { λ r. ⌜ now (sets .exit) ≡ preconditionSets mostConditions (gatesIn (now (quads .entry)) count) (take v (now (outputs .entry))) ++ replicate (mostGates - count) 0 ⌝ }
 {
-    clear_sets(sets);
     let all = &outputs[..];
     want_all(&all[0..v], sets);
     pass(quads, count, ranks, sets);

@@ -17,9 +17,9 @@ use Rattle.plan.specs.Rows.{planAnswer}
 use Rattle.plan.specs.AcceptedLaws.{plan-accepted}
 use Rattle.fused.specs.CircuitFile.{fusedFile}
 use Rattle.fused.specs.FileFigures.{fileVariables, fileFigures}
-use Rattle.fused.specs.Answers.{fusedAnswer, writeAnswer, writtenOver}
-use Rattle.fused.specs.SizeBounds.{bytes-bound}
-use Rattle.fused.specs.AnswerLaws.{fused-plan, answer-bytes, room-enough}
+use Rattle.fused.specs.Answers.{fusedAnswer}
+use Rattle.fused.specs.SizeBounds.{plan-most, outputs-count, fused-size}
+use Rattle.fused.specs.AnswerLaws.{fused-plan, answer-bytes}
 use Rattle.fused.specs.FitPlan.{fused-found}
 use Rattle.fused.specs.FusedFigures.{reads-earlier, output-earlier}
 use Rattle.direct.specs.Inputs.{inputRow}
@@ -27,15 +27,11 @@ use Rattle.direct.specs.InputLaws.{inputs-count, inputs-room}
 use Rattle.direct.specs.Direct.{runAnswer}
 use Rattle.direct.specs.DirectLaws.{rule-answer, inputs-answer, run-answer}
 use Rattle.figures.specs.Runnable.{Runnable}
-use Rattle.writing.specs.WriteLaws.{file-kept}
 use Rattle.running.specs.FusedRun.{fusedResults}
 use Rattle.running.specs.RunnableLaws.{fused-runnable}
 
--- z: the bytes of the circuit before it is written
-module _ (s p : List ℕ) (a : Answer) (z : List ℕ) (room : length z ≡ 16384) (e : a ≡ writeAnswer s p (length z)) where
-  answer-is : a ≡ fusedAnswer s p
-  answer-is = e ∙ ap (writeAnswer s p) room ∙ room-enough s p
-
+-- a: the answer of preparing the circuit
+module _ (s p : List ℕ) (a : Answer) (answer-is : a ≡ fusedAnswer s p) where
   -- a refused rule or plan
   pub refused-run : (a .number ≡ 0 → ⊥) → (inputs d : List ℕ) → (a ≡ runAnswer (fusedAnswer s p) s inputs (length d)) × (d ≡ fusedResults s p inputs d)
   unfolding fusedResults
@@ -63,33 +59,34 @@ module _ (s p : List ℕ) (a : Answer) (z : List ℕ) (room : length z ≡ 16384
         let r = inputs-answer (fusedAnswer s p) s inputs fused-zero (length d) n in
         (f ∙ ap (λ (k : ℕ). refusal k 0) q ∙ sym r, rw (r, ne-eqb _ _ n))
 
-    -- the file that was written
+    -- inputs that no row refuses, run as they are to be
+    pub run-done : (inputs d : List ℕ) (row : ℕ) → row ≡ inputRow s inputs (length d) → row ≡ 0
+        → (new : List ℕ) → new ≡ over (fileFigures (fusedFile s p) inputs) d
+        → (a ≡ runAnswer (fusedAnswer s p) s inputs (length d)) × (new ≡ fusedResults s p inputs d)
+    unfolding fusedResults
+    run-done inputs d row q none new f =
+        let r = run-answer (fusedAnswer s p) s inputs fused-zero (length d) (sym q ∙ none) in
+        (answer-is ∙ sym r, f ∙ rw (r, eq-eqb _ _ fused-zero))
+
+    -- the file's bytes
     size-is : a .bytes ≡ length (fusedFile s p)
     size-is = ap (λ (b : Answer). b .bytes) answer-is ∙ answer-bytes s p taken
 
-    pub size-inside : a .bytes ≤ 16384
-    size-inside = omega (arith, size-is, bytes-bound s p taken)
+    pub size-inside : a .bytes ≤ 8904
+    size-inside = omega (arith, size-is, plan-most s p taken .1, fused-size s p taken, outputs-count s p taken .1)
 
-    module _ (file : List ℕ) (w : file ≡ writtenOver s p z) where
+    -- file: the bytes z once it is written into them
+    module _ (z : List ℕ) (file : List ℕ) (w : file ≡ over (fusedFile s p) z) where
       pub part-is : take (a .bytes - 0) (drop 0 file) ≡ fusedFile s p
       part-is =
           let n : a .bytes - 0 ≡ length (fusedFile s p) = omega (arith, size-is) in
-          let l : length (fusedFile s p) ≤ length z = omega (arith, room, bytes-bound s p taken) in
-          ap (λ (k : ℕ). take k file) n ∙ ap (take (length (fusedFile s p))) (w ∙ file-kept s p taken z l) ∙ take-over (fusedFile s p) z
+          ap (λ (k : ℕ). take k file) n ∙ ap (take (length (fusedFile s p))) w ∙ take-over (fusedFile s p) z
 
-      -- inputs that no row refuses
-      module _ (bytes : Bytes s) (inputs d : List ℕ) (row : ℕ) (q : row ≡ inputRow s inputs (length d)) (none : row ≡ 0) where
-        inputs-taken : (length inputs ≡ variables s) × (variables s ≤ length d)
-        inputs-taken = (inputs-count s inputs (length d) (sym q ∙ none), inputs-room s inputs (length d) (sym q ∙ none))
+      pub part-runnable : Bytes s → (inputs d : List ℕ) → inputRow s inputs (length d) ≡ 0
+          → Runnable (take (a .bytes - 0) (drop 0 file)) (length inputs) × (fileVariables (take (a .bytes - 0) (drop 0 file)) ≤ length d)
+      part-runnable bytes inputs d none =
+          let v : fileVariables (fusedFile s p) ≡ variables s = fused-found s p taken bytes (reads-earlier s p taken) (output-earlier s p taken) .2 in
+          rw (part-is, inputs-count s inputs (length d) none) (fused-runnable s p taken bytes, rw v (inputs-room s inputs (length d) none))
 
-        pub part-runnable : Runnable (take (a .bytes - 0) (drop 0 file)) (length inputs) × (fileVariables (take (a .bytes - 0) (drop 0 file)) ≤ length d)
-        part-runnable =
-            let v : fileVariables (fusedFile s p) ≡ variables s = fused-found s p taken bytes (reads-earlier s p taken) (output-earlier s p taken) .2 in
-            rw (part-is, inputs-taken .0) (fused-runnable s p taken bytes, rw v (inputs-taken .1))
-
-        pub run-done : (new : List ℕ) → new ≡ over (fileFigures (take (a .bytes - 0) (drop 0 file)) inputs) d
-            → (a ≡ runAnswer (fusedAnswer s p) s inputs (length d)) × (new ≡ fusedResults s p inputs d)
-        unfolding fusedResults
-        run-done new f =
-            let r = run-answer (fusedAnswer s p) s inputs fused-zero (length d) (sym q ∙ none) in
-            (answer-is ∙ sym r, f ∙ ap (λ (x : List ℕ). over (fileFigures x inputs) d) part-is ∙ rw (r, eq-eqb _ _ fused-zero))
+      pub part-run : (inputs d new : List ℕ) → new ≡ over (fileFigures (take (a .bytes - 0) (drop 0 file)) inputs) d → new ≡ over (fileFigures (fusedFile s p) inputs) d
+      part-run inputs d new f = f ∙ ap (λ (x : List ℕ). over (fileFigures x inputs) d) part-is

@@ -1,13 +1,77 @@
 // Runs the fused circuit of a rule and a plan: writes it, then works its figures out from its own bytes.
 use answers::Answer;
+use writing::Prepared;
 ghost use mathlib.Core.Path.{_≡_};
 ghost use lib.ListN.{length};
+ghost use Rattle.words.specs.Buffers.{over};
+ghost use Rattle.direct.specs.Inputs.{inputRow};
 ghost use Rattle.direct.specs.Direct.{runAnswer};
+ghost use Rattle.fused.specs.CircuitFile.{fusedFile};
+ghost use Rattle.fused.specs.FileFigures.{fileFigures};
 ghost use Rattle.fused.specs.Answers.{fusedAnswer};
+ghost use Rattle.writing.specs.Ready.{Ready};
 ghost use Rattle.running.specs.FusedRun.{fusedResults};
 
-// The bytes that suffice for every fused circuit.
-const MOST_BYTES: usize = 16384;
+// The bytes that suffice for every fused circuit; and those that a small one is given, so that less is cleared for it.
+const MOST_BYTES: usize = 8904;
+
+const FEW_BYTES: usize = 1024;
+
+// Writes a fused circuit that is prepared, and works its figures out from its own bytes, on inputs that no row refuses.
+fn run_prepared(
+    rule: &[u8],
+    plan: &[u8],
+    prepared: Prepared,
+    quads: &[u32; 1024],
+    needs: &[u64; 256],
+    outputs: &[u16; 32],
+    conditions: &[u16; 6],
+    group: &[u16; 256],
+    places: &[u16; 256],
+    order: &[u16; 256],
+    inputs: &[u32],
+    results: &mut [u32],
+)
+    requires { ⌜ ((prepared .answer .number ≡ 0) × (inputRow (now rule) (now inputs) (length (now results)) ≡ 0))
+        × Ready (now rule) (now plan) prepared (now quads) (now needs) (now outputs) (now conditions) (now group) (now places) (now order) ⌝ }
+    ensures { λ _. ⌜ now (results .exit) ≡ over (fileFigures (fusedFile (now (rule .entry)) (now (plan .entry))) (now (inputs .entry))) (now (results .entry)) ⌝ }
+{
+    let answer = prepared.answer;
+    let bytes = answer.bytes;
+    if bytes <= FEW_BYTES {
+        let mut file = [0u8; FEW_BYTES];
+        writing::put(
+            &mut file,
+            rule,
+            plan,
+            prepared,
+            quads,
+            needs,
+            outputs,
+            conditions,
+            group,
+            places,
+            order,
+        );
+        figures::run_file(&file[0..bytes], inputs, results);
+    } else {
+        let mut file = [0u8; MOST_BYTES];
+        writing::put(
+            &mut file,
+            rule,
+            plan,
+            prepared,
+            quads,
+            needs,
+            outputs,
+            conditions,
+            group,
+            places,
+            order,
+        );
+        figures::run_file(&file[0..bytes], inputs, results);
+    }
+}
 
 // Runs the fused circuit of a rule and a plan on inputs: the answer with all five counts, and every variable's figure in the first V results.
 // A refusal of rule, plan or inputs writes nothing.
@@ -15,16 +79,45 @@ pub fn run(rule: &[u8], plan: &[u8], inputs: &[u32], results: &mut [u32]) -> Ans
     ensures answer { λ r. ⌜ r ≡ runAnswer (fusedAnswer (now (rule .entry)) (now (plan .entry))) (now (rule .entry)) (now (inputs .entry)) (length (now (results .entry))) ⌝ }
     ensures results { λ _. ⌜ now (results .exit) ≡ fusedResults (now (rule .entry)) (now (plan .entry)) (now (inputs .entry)) (now (results .entry)) ⌝ }
 {
-    let mut file = [0u8; MOST_BYTES];
-    let a = writing::write(rule, plan, &mut file);
-    if a.number != 0 {
-        return a;
+    let mut quads = [0u32; 1024];
+    let mut needs = [0u64; 256];
+    let mut outputs = [0u16; 32];
+    let mut conditions = [0u16; 6];
+    let mut group = [0u16; 256];
+    let mut places = [0u16; 256];
+    let mut order = [0u16; 256];
+    let prepared = writing::prepare(
+        rule,
+        plan,
+        &mut quads,
+        &mut needs,
+        &mut outputs,
+        &mut conditions,
+        &mut group,
+        &mut places,
+        &mut order,
+    );
+    let answer = prepared.answer;
+    if answer.number != 0 {
+        return answer;
     }
     let row = direct::inputs_refusal(rule, inputs, results.len());
     if row != 0 {
         return answers::refused(row, 0);
     }
-    let bytes = a.bytes;
-    figures::run_file(&file[0..bytes], inputs, results);
-    a
+    run_prepared(
+        rule,
+        plan,
+        prepared,
+        &quads,
+        &needs,
+        &outputs,
+        &conditions,
+        &group,
+        &places,
+        &order,
+        inputs,
+        results,
+    );
+    answer
 }

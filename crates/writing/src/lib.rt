@@ -11,9 +11,10 @@ ghost use Rattle.words.specs.Numbers.{bytesOf};
 ghost use Rattle.words.specs.Buffers.{over};
 ghost use Rattle.gates.specs.Limits.{mostGates};
 ghost use Rattle.answers.specs.Answers.{success};
-ghost use Rattle.fused.specs.CircuitFile.{mark, wiresBytes, recordsBytes};
+ghost use Rattle.fused.specs.CircuitFile.{mark, wiresBytes, recordsBytes, fusedFile};
 ghost use Rattle.fused.specs.Answers.{writeAnswer, writtenOver};
 ghost use Rattle.emitting.specs.Emitted.{wireIn, emitIn, Measured};
+ghost use Rattle.writing.specs.Ready.{Ready};
 ghost use Rattle.writing.specs.Staged.{membersOf, stage, Turnable};
 ghost use Rattle.writing.specs.Turns.{wiresOf, Measurable, Puttable, Measures, Sum, OutputsPlaced, fileIn};
 
@@ -245,45 +246,133 @@ fn counted(read: Answer, size: Size, bytes: usize) -> Answer
     }
 }
 
+// A fused circuit that is checked and measured, and not written: the answer with all five counts, and how many groups it has.
+pub struct Prepared {
+    pub answer: Answer,
+    pub groups: usize,
+}
+
+// Checks a plan for a rule and measures its fused circuit; the arrays are lent clear and filled as `checking::check` fills them.
+pub fn prepare(
+    rule: &[u8],
+    plan: &[u8],
+    quads: &mut [u32; 1024],
+    needs: &mut [u64; 256],
+    outputs: &mut [u16; 32],
+    conditions: &mut [u16; 6],
+    group: &mut [u16; 256],
+    places: &mut [u16; 256],
+    order: &mut [u16; 256],
+) -> Prepared
+    requires { ⌜ ((now quads ≡ replicate 1024 0) × ((now needs ≡ replicate 256 0) × ((now outputs ≡ replicate 32 0) × (now conditions ≡ replicate 6 0))))
+        × ((now group ≡ replicate 256 0) × ((now places ≡ replicate 256 0) × (now order ≡ replicate 256 0))) ⌝ }
+    ensures { λ r. ⌜ Ready (now (rule .entry)) (now (plan .entry)) r (now (quads .exit)) (now (needs .exit)) (now (outputs .exit)) (now (conditions .exit))
+        (now (group .exit)) (now (places .exit)) (now (order .exit)) ⌝ }
+{
+    let checked = checking::check(
+        rule,
+        plan,
+        quads,
+        needs,
+        outputs,
+        conditions,
+        group,
+        places,
+        order,
+    );
+    let answer = checked.answer;
+    let groups = checked.groups;
+    if answer.number != 0 {
+        return Prepared { answer, groups };
+    }
+    let v = rule[5];
+    let size = measure(plan, quads, needs, places, order, groups);
+    let bytes = HEAD + size.bytes + 2 * (v as usize);
+    Prepared {
+        answer: counted(answer, size, bytes),
+        groups,
+    }
+}
+
+// Writes a fused circuit that is prepared and accepted into a buffer that holds it: the file and nothing after it.
+pub fn put(
+    out: &mut [u8],
+    rule: &[u8],
+    plan: &[u8],
+    prepared: Prepared,
+    quads: &[u32; 1024],
+    needs: &[u64; 256],
+    outputs: &[u16; 32],
+    conditions: &[u16; 6],
+    group: &[u16; 256],
+    places: &[u16; 256],
+    order: &[u16; 256],
+)
+    requires { ⌜ ((prepared .answer .number ≡ 0) × (prepared .answer .bytes ≤ length (now out)))
+        × Ready (now rule) (now plan) prepared (now quads) (now needs) (now outputs) (now conditions) (now group) (now places) (now order) ⌝ }
+    ensures { λ _. ⌜ now (out .exit) ≡ over (fusedFile (now (rule .entry)) (now (plan .entry))) (now (out .entry)) ⌝ }
+{
+    let answer = prepared.answer;
+    put_file(
+        out,
+        rule[5],
+        answer.wires as u16,
+        plan,
+        quads,
+        answer.gates,
+        needs,
+        conditions,
+        outputs,
+        group,
+        places,
+        order,
+        prepared.groups,
+    );
+}
+
 // Writes the fused circuit of a rule and a plan into the buffer: the file and nothing after it. A refused plan, or a buffer that is
 // shorter than the file, leaves every byte as it was.
 pub fn write(rule: &[u8], plan: &[u8], out: &mut [u8]) -> Answer
     ensures answer { λ r. ⌜ r ≡ writeAnswer (now (rule .entry)) (now (plan .entry)) (length (now (out .entry))) ⌝ }
     ensures file { λ _. ⌜ now (out .exit) ≡ writtenOver (now (rule .entry)) (now (plan .entry)) (now (out .entry)) ⌝ }
 {
-    let checked = checking::check(rule, plan);
-    let answer = checked.answer;
+    let mut quads = [0u32; 1024];
+    let mut needs = [0u64; 256];
+    let mut outputs = [0u16; 32];
+    let mut conditions = [0u16; 6];
+    let mut group = [0u16; 256];
+    let mut places = [0u16; 256];
+    let mut order = [0u16; 256];
+    let prepared = prepare(
+        rule,
+        plan,
+        &mut quads,
+        &mut needs,
+        &mut outputs,
+        &mut conditions,
+        &mut group,
+        &mut places,
+        &mut order,
+    );
+    let answer = prepared.answer;
     if answer.number != 0 {
         return answer;
     }
-    let quads = checked.quads;
-    let needs = checked.needs;
-    let outputs = checked.outputs;
-    let conditions = checked.conditions;
-    let group = checked.group;
-    let places = checked.places;
-    let order = checked.order;
-    let groups = checked.groups;
-    let v = rule[5];
-    let size = measure(plan, &quads, &needs, &places, &order, groups);
-    let bytes = HEAD + size.bytes + 2 * (v as usize);
-    if out.len() < bytes {
+    if out.len() < answer.bytes {
         return answers::refused(50, 0);
     }
-    put_file(
+    put(
         out,
-        v,
-        size.wires as u16,
+        rule,
         plan,
+        prepared,
         &quads,
-        answer.gates,
         &needs,
-        &conditions,
         &outputs,
+        &conditions,
         &group,
         &places,
         &order,
-        groups,
     );
-    counted(answer, size, bytes)
+    answer
 }

@@ -1,79 +1,89 @@
-use mathlib.Core.Path.{ap, sym, _∙_}
-use denote.Ref.{now}
-use Rattle.answers.specs.declared.Answer.{Answer}
-use Rattle.circuit.specs.WholeLaws.{answer-refused, answer-read, answer-whole, accepted}
-use Rattle.circuit.specs.MakingLaws.{made-earlier, made-whole}
-use Rattle.circuit.specs.BuiltLaws.{built-nothing}
 use borrow.Author.Needs.{needs}
+use native.Mathlib.Omega.{arith}
+use mathlib.Core.Path.{refl}
+use denote.Ref.{now}
+use Rattle.reading.specs.FirstStatement.{rule-read}
+use Rattle.circuit.specs.WholeLaws.{answer-refused, answer-read}
+use Rattle.circuit.specs.MakingLaws.{made-earlier, whole-answer, whole-ready}
+use Rattle.circuit.specs.BuiltLaws.{built-nothing, ready-variables, ready-passable, ready-wanted, ready-few, ready-quads, ready-needs, ready-outputs, ready-conditions}
 use Rattle.circuit.proofs.build.Statement.{statement}
 use Rattle.circuit.proofs.build.Tie as tie
 
 returns : tie.Need-returns
 returns c =
-    let s = now (c .before .before .before .before .before .args .rule) in
-    built-nothing s (c .before .before .before .read-rule .result) _ _ _ _ _
-    (answer-refused s (c .before .before .before .read-rule .result) (c .before .before .before .read-rule .ensures) (c .before .if1 .taken)) (c .before .if1 .taken)
-    (c .nothing .ensures)
+    let s = now (c .before .before .before .before .args .rule) in
+    built-nothing s _ _ _ _ _ (answer-refused s _ (c .before .before .read-rule .ensures) (c .if1 .taken)) (c .if1 .taken) (c .before .before .before .before .pre)
 
 make-rule-requires : tie.Need-make-rule-requires
 make-rule-requires c κs =
-    let s = now (c .before .before .before .before .before .before .args .rule) in
-    answer-read s (c .before .before .before .before .read-rule .result) (c .before .before .before .before .read-rule .ensures) (c .before .before .if1 .left)
+    let p = c .before .before .before .before .before .before .pre in
+    (answer-read (now (c .before .before .before .before .before .before .args .rule)) _ (c .before .before .before .before .read-rule .ensures) (c .before .before .if1 .left), (p .0, p .1 .1 .0))
 
 whole-requires : tie.Need-whole-requires
 whole-requires c κs =
     let s = now (c .before .before .before .before .before .before .before .before .before .args .rule) in
-    let read = answer-read s (c .before .before .before .before .before .before .before .read-rule .result)
-    (c .before .before .before .before .before .before .before .read-rule .ensures) (c .before .before .before .before .before .if1 .left) in
-    made-earlier s _ _ _ read (c .before .before .make-rule .ensures)
+    (made-earlier s _ _ _ (answer-read s _ (c .before .before .before .before .before .before .before .read-rule .ensures) (c .before .before .before .before .before .if1 .left)) (c .before .before .make-rule .ensures), refl)
 
+-- more gates or conditions than the limits: what was made is cleared
 returns-2 : tie.Need-returns-2
 returns-2 c =
-    let s = now (c .before .before .before .before .before .before .before .before .before .before .before .before .before .args .rule) in
-    let read = answer-read s (c .before .before .before .before .before .before .before .before .before .before .before .read-rule .result)
-    (c .before .before .before .before .before .before .before .before .before .before .before .read-rule .ensures)
-    (c .before .before .before .before .before .before .before .before .before .if1 .left) in
-    built-nothing s (c .before .before .before .whole .result) _ _ _ _ _
-    (c .before .before .before .whole .ensures .0 ∙ made-whole s _ _ _ read (c .before .before .before .before .before .before .make-rule .ensures) _ ∙ sym
-    (answer-whole s read)) (c .before .if2 .taken) (c .nothing2 .ensures)
+    let x = c .before .before in
+    let s = now (x .before .before .before .before .before .before .before .before .before .before .before .before .args .rule) in
+    let p = x .before .before .before .before .before .before .before .before .before .before .before .before .pre in
+    built-nothing s _ _ _ _ _ (whole-answer s _ (x .before .before .before .before .before .before .before .before .before .before .read-rule .ensures) (x .before .before .before .before .before .before .before .before .if1 .left) _ _ _ (x .before .before .before .before .before .make-rule .ensures) _ (x .before .before .whole .ensures .0)) (x .if2 .taken)
+    (refl, (p .1 .0, (refl, p .1 .1 .1)))
 
-filled-requires : tie.Need-filled-requires
-filled-requires c κs =
-    let s = now (c .before .before .before .before .before .before .before .before .before .before .before .before .before .args .rule) in
-    let read = answer-read s (c .before .before .before .before .before .before .before .before .before .before .before .read-rule .result)
-    (c .before .before .before .before .before .before .before .before .before .before .before .read-rule .ensures)
-    (c .before .before .before .before .before .before .before .before .before .if1 .left) in
-    let e = c .before .before .before .whole .ensures .0 ∙ made-whole s _ _ _ read (c .before .before .before .before .before .before .make-rule .ensures) _ ∙ sym
-    (answer-whole s read) in
-    record {
-      accepted = accepted s
-          (ap (λ (b : Answer). b .number) (sym e) ∙ c .before .if2 .left);
-      made = c .before .before .before .before .before .before .make-rule .ensures;
-      placed =
-          c .before .before .before .whole .ensures .1;
-    }
+shared-slice-read-v : tie.Need-shared-slice-read-v
+shared-slice-read-v c =
+    let x = c .before in
+    let s = now (x .before .before .before .before .before .before .before .before .before .before .before .before .args .rule) in
+    omega (arith, rule-read s (answer-read s _ (x .before .before .before .before .before .before .before .before .before .before .read-rule .ensures) (x .before .before .before .before .before .before .before .before .if1 .left)) .header .kinds)
+
+cast-v : tie.Need-cast-v
+cast-v c =
+    let x = c .before in
+    let s = now (x .before .before .before .before .before .before .before .before .before .before .before .before .args .rule) in
+    record { fits = omega (arith, rule-read s (answer-read s _ (x .before .before .before .before .before .before .before .before .before .before .read-rule .ensures) (x .before .before .before .before .before .before .before .before .if1 .left)) .header .few) }
+
+find-needed-requires : tie.Need-find-needed-requires
+find-needed-requires c κs =
+    let x = c .before .before .before .before .before in
+    let s = now (x .before .before .before .before .before .before .before .before .before .before .before .before .args .rule) in
+    let r = whole-ready s _ (x .before .before .before .before .before .before .before .before .before .before .read-rule .ensures) (x .before .before .before .before .before .before .before .before .if1 .left) _ _ _ (x .before .before .before .before .before .make-rule .ensures) _ (x .before .before .whole .ensures .0) _ (x .if2 .left) (x .before .before .whole .ensures .1) in
+    ((ready-passable _ _ _ _ _ r, (ready-variables _ _ _ _ _ r, ready-wanted _ _ _ _ _ r)), x .before .before .before .before .before .before .before .before .before .before .before .before .pre .1 .0)
+
+condition-gates-requires : tie.Need-condition-gates-requires
+condition-gates-requires c κs =
+    let x = c .before .before .before .before .before .before .before .before in
+    let s = now (x .before .before .before .before .before .before .before .before .before .before .before .before .args .rule) in
+    let r = whole-ready s _ (x .before .before .before .before .before .before .before .before .before .before .read-rule .ensures) (x .before .before .before .before .before .before .before .before .if1 .left) _ _ _ (x .before .before .before .before .before .make-rule .ensures) _ (x .before .before .whole .ensures .0) _ (x .if2 .left) (x .before .before .whole .ensures .1) in
+    (ready-few _ _ _ _ _ r, x .before .before .before .before .before .before .before .before .before .before .before .before .pre .1 .1 .1)
 
 returns-3 : tie.Need-returns-3
 returns-3 c =
-    let s = now (c .before .before .before .before .before .before .before .before .before .before .before .before .before .before .args .rule) in
-    let read = answer-read s (c .before .before .before .before .before .before .before .before .before .before .before .before .read-rule .result)
-    (c .before .before .before .before .before .before .before .before .before .before .before .before .read-rule .ensures)
-    (c .before .before .before .before .before .before .before .before .before .before .if1 .left) in
-    let e = c .before .before .before .before .whole .ensures .0 ∙ made-whole s _ _ _ read
-    (c .before .before .before .before .before .before .before .make-rule .ensures) _ ∙ sym (answer-whole s read) in
-    (c .filled .ensures .0 ∙ e, c .filled .ensures .1)
+    let x = c .before .before .before .before .before .before .before .before .before in
+    let s = now (x .before .before .before .before .before .before .before .before .before .before .before .before .args .rule) in
+    let m = x .before .before .before .before .before .make-rule .ensures in
+    let r = whole-ready s _ (x .before .before .before .before .before .before .before .before .before .before .read-rule .ensures) (x .before .before .before .before .before .before .before .before .if1 .left) _ _ _ m _ (x .before .before .whole .ensures .0) _ (x .if2 .left) (x .before .before .whole .ensures .1) in (
+      whole-answer s _ (x .before .before .before .before .before .before .before .before .before .before .read-rule .ensures) (x .before .before .before .before .before .before .before .before .if1 .left) _ _ _ m _ (x .before .before .whole .ensures .0),
+      (
+        ready-quads _ _ _ _ _ r,
+        (ready-needs _ _ _ _ _ r _ (c .before .before .before .find-needed .ensures), (ready-outputs _ _ _ _ _ r, ready-conditions _ _ _ _ _ r _ (c .condition-gates .ensures))),
+      ),
+    )
 
 pub build-spec : {M : Type 1} → statement M
 build-spec =
     tie.close
     (tie.spec
     (λ c κs. search needs)
-    (λ c κs. search needs)
     returns
     make-rule-requires
     whole-requires
-    (λ c κs. search needs)
     returns-2
     (λ c. search needs)
-    filled-requires
+    shared-slice-read-v
+    cast-v
+    find-needed-requires
+    condition-gates-requires
     returns-3)

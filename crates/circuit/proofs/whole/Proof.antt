@@ -9,7 +9,9 @@ returns : tie.Need-returns
 returns c = (c .refused .ensures ∙ sym (whole-over _ _ _ (c .before .if1 .taken)), λ h. absurd (omega arith))
 
 number-conditions-requires : tie.Need-number-conditions-requires
-number-conditions-requires c κs = (c .before .if1 .left, c .before .before .pre (c .before .if1 .left))
+number-conditions-requires c κs =
+    let p = c .before .before .pre in
+    (c .before .if1 .left, (p .0 (c .before .if1 .left), p .1))
 
 returns-2 : tie.Need-returns-2
 returns-2 c = (

@@ -13,15 +13,15 @@ abbrev μ-loop : tie.MeasureT-loop
 μ-loop plan count group₀ places₀ left₀ at₀ group places left at = left
 
 number-gates-requires : tie.Need-number-gates-requires Inv-loop μ-loop
-number-gates-requires c κs = c .before .before .pre .room
+number-gates-requires c κs = (c .before .before .pre .0 .room, c .before .before .pre .1 .0)
 
 groups-counted-requires : tie.Need-groups-counted-requires Inv-loop μ-loop
-groups-counted-requires c κs = c .before .before .before .before .before .pre .least
+groups-counted-requires c κs = c .before .before .before .pre .0 .least
 
 loop-holds : tie.Need-loop-holds Inv-loop μ-loop
 loop-holds c =
-    let c6 = c .before .before .before .before .before .before in
-    joining-start _ _ _ _ _ (c6 .pre) (c .groups-counted .ensures) (c .before .before .before .number-gates .ensures) (c .before .clear .ensures)
+    let c4 = c .before .before .before .before in
+    joining-start _ _ _ _ _ (c4 .pre .0) (c .groups-counted .ensures) (c .before .number-gates .ensures) (c4 .pre .1 .1)
 
 join-members-requires : tie.Need-join-members-requires Inv-loop μ-loop
 join-members-requires c κs = ahead-fits _ _ _ _ (c .before .before .before .loop .inv .ahead) (c .before .before .loop-test .taken)
@@ -53,7 +53,6 @@ join-groups-spec =
     Inv-loop
     μ-loop
     number-gates-requires
-    (λ c κs. search needs)
     groups-counted-requires
     loop-holds
     join-members-requires

@@ -13,7 +13,7 @@ abbrev μ-loop : tie.MeasureT-loop
 μ-loop count group₀ g₀ group g = count - g
 
 loop-holds : tie.Need-loop-holds Inv-loop μ-loop
-loop-holds c = counting-start _ _ (c .before .before .pre) (c .clear .ensures)
+loop-holds c = counting-start _ _ (c .pre .0) (c .pre .1)
 
 cast-group : tie.Need-cast-group Inv-loop μ-loop
 cast-group c = record { fits = omega (arith, c .before .loop .inv .room, c .loop-test .taken) }
@@ -36,7 +36,6 @@ number-gates-spec =
     (tie.spec
     Inv-loop
     μ-loop
-    (λ c κs. search needs)
     loop-holds
     cast-group
     mul-group

@@ -13,19 +13,19 @@ abbrev μ-loop : tie.MeasureT-loop
 μ-loop ranks count gates₀ t₀ g₀ gates t g = count - g
 
 loop-holds : tie.Need-loop-holds Inv-loop μ-loop
-loop-holds c = gathering-start _ _ (c .pre)
+loop-holds c = gathering-start _ _ _ (c .pre)
 
 cast-gates : tie.Need-cast-gates Inv-loop μ-loop
 cast-gates c = let i = c .before .before .before .loop .inv in record { fits = omega (arith, i .room, c .before .before .loop-test .taken) }
 
-array-write-gates : tie.Need-array-write-gates Inv-loop μ-loop
-array-write-gates c = gathering-fits _ _ _ _ _ (c .before .before .before .loop .inv) (c .before .before .loop-test .taken) (c .if1 .taken)
+element-write-gates : tie.Need-element-write-gates Inv-loop μ-loop
+element-write-gates c = gathering-fits _ _ _ _ _ (c .before .before .before .loop .inv) (c .before .before .loop-test .taken) (c .if1 .taken)
 
 mul-gates : tie.Need-mul-gates Inv-loop μ-loop
-mul-gates c = record { fits = omega (arith, array-write-gates c) }
+mul-gates c = record { fits = omega (arith, element-write-gates c) }
 
 add-t : tie.Need-add-t Inv-loop μ-loop
-add-t c = record { fits = omega (arith, array-write-gates c) }
+add-t c = record { fits = omega (arith, element-write-gates c) }
 
 loop-again : tie.Need-loop-again Inv-loop μ-loop
 loop-again c =
@@ -50,7 +50,7 @@ condition-gates-spec =
     (λ c. search needs)
     cast-gates
     mul-gates
-    array-write-gates
+    element-write-gates
     add-t
     (λ c. search needs)
     (λ c. search needs)

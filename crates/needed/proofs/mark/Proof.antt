@@ -14,7 +14,7 @@ abbrev μ-loop : tie.MeasureT-loop
 μ-loop quads count ranks₀ i₀ ranks i = count - i
 
 loop-holds : tie.Need-loop-holds Inv-loop μ-loop
-loop-holds c = marking-start _ _ _ (c .before .before .pre) (c .clear-ranks .ensures)
+loop-holds c = let p = c .pre in marking-start _ _ _ (p .0, p .1 .0) (p .1 .1)
 
 argument-requires : tie.Need-argument-requires Inv-loop μ-loop
 argument-requires c κs = (search needs, marking-inside _ _ _ _ _ (c .before .before .before .loop .inv) (c .before .before .loop-test .taken) (c .if1 .taken) refl)
@@ -52,7 +52,6 @@ mark-spec =
     (tie.spec
     Inv-loop
     μ-loop
-    (λ c κs. search needs)
     loop-holds
     (λ c. search needs)
     (λ c. search needs)
