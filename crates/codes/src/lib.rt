@@ -37,6 +37,9 @@ pub enum Form {
     Unknown,
 }
 
+// The code of a variable, for readers that test for it before they ask for the whole code.
+pub const VARIABLE: u8 = 0x10;
+
 // A code byte read: its form, the kind of its arguments and of its result, their count and its cost.
 pub struct Code {
     pub form: Form,
