@@ -192,3 +192,8 @@ code-opens b =
     (opens-plain b 0x11 Word kind.Word _ (λ e. e)
     (opens-plain b 0x12 Bit kind.Bit _ (λ e. e)
     (opens-table b)))))))
+
+-- and the byte of a variable its form
+pub code-variable : (b : ℕ) → b ≡ 0x10 → codeOf b .form ≡ Variable
+unfolding codeOf
+code-variable b e = rw e

@@ -4,7 +4,7 @@ ghost use mathlib.Core.Bool.{_&&_, _||_};
 ghost use Prim.Native.Nat.{_≤_};
 ghost use lib.Dec.{eqb};
 ghost use Rattle.codes.specs.Results.{bitOf, resultOf};
-ghost use Rattle.codes.specs.Codes.{kindOf, sameKind, plain, tableEntry, entryOf, commutes, operationOf, byteOf, codeOf};
+ghost use Rattle.codes.specs.Codes.{kindOf, sameKind, plain, entryOf, commutes, operationOf, byteOf, codeOf};
 
 // What a figure is: a word of 32 bits or a bit.
 pub enum Kind {
@@ -36,6 +36,9 @@ pub enum Form {
     Apply(Operation),
     Unknown,
 }
+
+// The code of a variable, for readers that test for it before they ask for the whole code.
+pub const VARIABLE: u8 = 0x10;
 
 // A code byte read: its form, the kind of its arguments and of its result, their count and its cost.
 pub struct Code {
@@ -81,16 +84,64 @@ fn plain_code(form: Form, gives: Kind) -> Code
     }
 }
 
-// An entry of the operation table.
-fn table_entry(op: Operation, takes: Kind, gives: Kind, arity: u8, cost: u8) -> Code
-    ensures { λ r. ⌜ r ≡ tableEntry op takes gives arity cost ⌝ }
+// The operation table, column by column: a compiler makes a comparison of each, and a jump for each row of a table by rows.
+fn takes_of(op: Operation) -> Kind
+    ensures { λ r. ⌜ r ≡ entryOf op .takes ⌝ }
 {
-    Code {
-        form: Form::Apply(op),
-        takes,
-        gives,
-        arity,
-        cost,
+    match op {
+        Operation::Sum => Kind::Word,
+        Operation::Difference => Kind::Word,
+        Operation::Product => Kind::Word,
+        Operation::LessThan => Kind::Word,
+        Operation::Equal => Kind::Word,
+        Operation::And => Kind::Bit,
+        Operation::Or => Kind::Bit,
+        Operation::Not => Kind::Bit,
+    }
+}
+
+fn gives_of(op: Operation) -> Kind
+    ensures { λ r. ⌜ r ≡ entryOf op .gives ⌝ }
+{
+    match op {
+        Operation::Sum => Kind::Word,
+        Operation::Difference => Kind::Word,
+        Operation::Product => Kind::Word,
+        Operation::LessThan => Kind::Bit,
+        Operation::Equal => Kind::Bit,
+        Operation::And => Kind::Bit,
+        Operation::Or => Kind::Bit,
+        Operation::Not => Kind::Bit,
+    }
+}
+
+fn arity_of(op: Operation) -> u8
+    ensures { λ r. ⌜ r ≡ entryOf op .arity ⌝ }
+{
+    match op {
+        Operation::Sum => 2,
+        Operation::Difference => 2,
+        Operation::Product => 2,
+        Operation::LessThan => 2,
+        Operation::Equal => 2,
+        Operation::And => 2,
+        Operation::Or => 2,
+        Operation::Not => 1,
+    }
+}
+
+fn cost_of(op: Operation) -> u8
+    ensures { λ r. ⌜ r ≡ entryOf op .cost ⌝ }
+{
+    match op {
+        Operation::Sum => 0,
+        Operation::Difference => 0,
+        Operation::Product => 15,
+        Operation::LessThan => 40,
+        Operation::Equal => 20,
+        Operation::And => 1,
+        Operation::Or => 1,
+        Operation::Not => 0,
     }
 }
 
@@ -98,15 +149,12 @@ fn table_entry(op: Operation, takes: Kind, gives: Kind, arity: u8, cost: u8) -> 
 pub fn entry_of(op: Operation) -> Code
     ensures { λ r. ⌜ r ≡ entryOf op ⌝ }
 {
-    match op {
-        Operation::Sum => table_entry(Operation::Sum, Kind::Word, Kind::Word, 2, 0),
-        Operation::Difference => table_entry(Operation::Difference, Kind::Word, Kind::Word, 2, 0),
-        Operation::Product => table_entry(Operation::Product, Kind::Word, Kind::Word, 2, 15),
-        Operation::LessThan => table_entry(Operation::LessThan, Kind::Word, Kind::Bit, 2, 40),
-        Operation::Equal => table_entry(Operation::Equal, Kind::Word, Kind::Bit, 2, 20),
-        Operation::And => table_entry(Operation::And, Kind::Bit, Kind::Bit, 2, 1),
-        Operation::Or => table_entry(Operation::Or, Kind::Bit, Kind::Bit, 2, 1),
-        Operation::Not => table_entry(Operation::Not, Kind::Bit, Kind::Bit, 1, 0),
+    Code {
+        form: Form::Apply(op),
+        takes: takes_of(op),
+        gives: gives_of(op),
+        arity: arity_of(op),
+        cost: cost_of(op),
     }
 }
 

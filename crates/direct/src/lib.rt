@@ -4,8 +4,8 @@ use answers::Step;
 use codes::Form;
 use codes::Kind;
 ghost use mathlib.Core.Path.{_≡_};
-ghost use Prim.Native.Nat.{_≤_, _<_};
-ghost use lib.ListN.{length};
+ghost use Prim.Native.Nat.{_+_, _≤_, _<_};
+ghost use lib.ListN.{length, getD};
 ghost use Rattle.words.specs.Buffers.{over};
 ghost use Rattle.answers.specs.Parsing.{IsRead};
 ghost use Rattle.reading.specs.Header.{variables, HasKinds};
@@ -24,6 +24,18 @@ struct Value {
     pub next: usize,
 }
 
+// The figure of the variable at `at`.
+fn run_variable(s: &[u8], at: usize, figures: &[u32; 32]) -> Value
+    requires { ⌜ (at + 1 < length (now s)) × (getD (now s) (at + 1) 0 < 32) ⌝ }
+    ensures { λ r. ⌜ r ≡ record { figure = getD (now (figures .entry)) (getD (now (s .entry)) (at + 1) 0) 0; next = at + 2 } ⌝ }
+{
+    let x = s[at + 1] as usize;
+    Value {
+        figure: figures[x],
+        next: at + 2,
+    }
+}
+
 // The figure of the expression at `at`, of the kind wanted, worked out from the variables' figures.
 fn run_expr(s: &[u8], at: usize, want: Kind, deep: u8, figures: &[u32; 32]) -> Value
     requires { ⌜ VariablesFit (now s) × IsRead (readExpr deep (now s) want at) ⌝ }
@@ -32,13 +44,7 @@ fn run_expr(s: &[u8], at: usize, want: Kind, deep: u8, figures: &[u32; 32]) -> V
     let c = codes::code_of(s[at]);
     let form = c.form;
     match form {
-        Form::Variable => {
-            let x = s[at + 1] as usize;
-            Value {
-                figure: figures[x],
-                next: at + 2,
-            }
-        }
+        Form::Variable => run_variable(s, at, figures),
         Form::Word => Value {
             figure: words::read32(s, at + 1),
             next: at + 5,
@@ -49,14 +55,14 @@ fn run_expr(s: &[u8], at: usize, want: Kind, deep: u8, figures: &[u32; 32]) -> V
         },
         Form::Apply(op) => {
             let takes = c.takes;
-            let x = run_expr(s, at + 1, takes, deep - 1, figures);
+            let x = run_argument(s, at + 1, takes, deep - 1, figures);
             if c.arity == 1 {
                 Value {
                     figure: codes::apply(op, x.figure, 0),
                     next: x.next,
                 }
             } else {
-                let y = run_expr(s, x.next, takes, deep - 1, figures);
+                let y = run_argument(s, x.next, takes, deep - 1, figures);
                 Value {
                     figure: codes::apply(op, x.figure, y.figure),
                     next: y.next,
@@ -86,6 +92,17 @@ fn run_expr(s: &[u8], at: usize, want: Kind, deep: u8, figures: &[u32; 32]) -> V
     }
 }
 
+// The same for an argument or a value, most of which are variables: no further call for one.
+fn run_argument(s: &[u8], at: usize, want: Kind, deep: u8, figures: &[u32; 32]) -> Value
+    requires { ⌜ VariablesFit (now s) × IsRead (readExpr deep (now s) want at) ⌝ }
+    ensures { λ r. ⌜ WorkedOut (now (figures .entry)) (readExpr deep (now (s .entry)) want at) r ⌝ }
+{
+    if s[at] == codes::VARIABLE {
+        return run_variable(s, at, figures);
+    }
+    run_expr(s, at, want, deep, figures)
+}
+
 // 01 variable expression, its code at `at`: works out, then stores.
 fn run_assign(s: &[u8], at: usize, figures: &mut [u32; 32]) -> usize
     requires { ⌜ VariablesFit (now s) × IsRead (readAssign (now s) at) ⌝ }
@@ -93,7 +110,7 @@ fn run_assign(s: &[u8], at: usize, figures: &mut [u32; 32]) -> usize
 {
     let x = s[at + 1];
     let want = reading::kind_at(s, x);
-    let value = run_expr(s, at + 2, want, reading::DEEPEST, figures);
+    let value = run_argument(s, at + 2, want, reading::DEEPEST, figures);
     figures[x as usize] = value.figure;
     value.next
 }

@@ -6,7 +6,7 @@ use gates::GateId;
 ghost use mathlib.Core.Path.{_≡_};
 ghost use mathlib.Core.List.{[], _∷_};
 ghost use Prim.Native.Nat.{_+_, _*_, _^_, _≤_, _<_};
-ghost use lib.ListN.{length, replicate};
+ghost use lib.ListN.{length, getD, replicate};
 ghost use Rattle.answers.specs.Parsing.{IsRead};
 ghost use Rattle.reading.specs.Header.{variables};
 ghost use Rattle.reading.specs.RuleLaws.{Headed};
@@ -24,10 +24,11 @@ ghost use Rattle.making.specs.Holding.{Held, Pushed, Applied, ExprMade, 
 // The gates that are stored, at most; one more says that there are more.
 pub const MOST_GATES: u16 = 256;
 
-// What an expression was made into: the place after it, the gates then, and the gate that it stands for.
+// What an expression was made into: the gates then, the place after it, and the gate that it stands for.
+// The place stands between the two halves of words: side by side they would be stored one by one and loaded as one, which stalls.
 struct MadeExpr {
-    pub next: usize,
     pub count: u16,
+    pub next: usize,
     pub gate: GateId,
 }
 
@@ -93,6 +94,19 @@ fn apply_gate(quads: &mut [u32; 1024], count: u16, op: Operation, a: GateId, b: 
     }
 }
 
+// 10 variable, its code at `at`: it makes no gate and stands for its present one.
+fn make_variable(s: &[u8], at: usize, present: &[u16; 32], count: u16) -> MadeExpr
+    requires { ⌜ (at + 1 < length (now s)) × (getD (now s) (at + 1) 0 < 32) ⌝ }
+    ensures { λ r. ⌜ r ≡ record { count = count; next = at + 2; gate = record { 0 = getD (now (present .entry)) (getD (now (s .entry)) (at + 1) 0) 0 } } ⌝ }
+{
+    let x = s[at + 1] as usize;
+    MadeExpr {
+        count,
+        next: at + 2,
+        gate: GateId(present[x]),
+    }
+}
+
 // The expression at `at`, which reading took, from the variables' present gates.
 fn make_expr(
     s: &[u8],
@@ -109,14 +123,7 @@ fn make_expr(
     let c = codes::code_of(s[at]);
     let form = c.form;
     match form {
-        Form::Variable => {
-            let x = s[at + 1] as usize;
-            MadeExpr {
-                next: at + 2,
-                count,
-                gate: GateId(present[x]),
-            }
-        }
+        Form::Variable => make_variable(s, at, present, count),
         Form::Word => {
             let n = words::read32(s, at + 1);
             MadeExpr {
@@ -135,7 +142,7 @@ fn make_expr(
         }
         Form::Apply(op) => {
             let takes = c.takes;
-            let x = make_expr(s, at + 1, takes, deep - 1, present, quads, count);
+            let x = make_argument(s, at + 1, takes, deep - 1, present, quads, count);
             if c.arity == 1 {
                 MadeExpr {
                     next: x.next,
@@ -143,7 +150,7 @@ fn make_expr(
                     gate: GateId(x.count),
                 }
             } else {
-                let y = make_expr(s, x.next, takes, deep - 1, present, quads, x.count);
+                let y = make_argument(s, x.next, takes, deep - 1, present, quads, x.count);
                 MadeExpr {
                     next: y.next,
                     count: apply_gate(quads, y.count, op, x.gate, y.gate),
@@ -159,11 +166,30 @@ fn make_expr(
     }
 }
 
+// The same for an argument or a value, most of which are variables: no further call for one.
+fn make_argument(
+    s: &[u8],
+    at: usize,
+    want: Kind,
+    deep: u8,
+    present: &[u16; 32],
+    quads: &mut [u32; 1024],
+    count: u16,
+) -> MadeExpr
+    requires { ⌜ Headed (now s) (6 + variables (now s)) × IsRead (readExpr deep (now s) want at) ⌝ }
+    ensures { λ r. ⌜ ExprMade (now (s .entry)) (readExpr deep (now (s .entry)) want at) (now (present .entry)) (now (quads .entry)) count (r .next) (r .gate .0) (r .count) (now (quads .exit)) ⌝ }
+{
+    if s[at] == codes::VARIABLE {
+        return make_variable(s, at, present, count);
+    }
+    make_expr(s, at, want, deep, present, quads, count)
+}
+
 // No code of an expression: reading took none such.
 fn nothing(at: usize, count: u16) -> MadeExpr {
     MadeExpr {
-        next: at,
         count,
+        next: at,
         gate: GateId(0),
     }
 }
@@ -268,7 +294,7 @@ fn make_assign(
     ensures { λ r. ⌜ Done makeStatement assignsIn (now (s .entry)) (readAssign (now (s .entry)) at) (now (quads .entry)) (now (present .entry)) count (r .next) (r .count) (r .assigned) (now (quads .exit)) (now (present .exit)) ⌝ }
 {
     let x = s[at + 1];
-    let value = make_expr(
+    let value = make_argument(
         s,
         at + 2,
         reading::kind_at(s, x),

@@ -9,7 +9,7 @@ use lib.ListN.{length, getD}
 use lib.Dec.{ltb, leb, eqb}
 use borrow.Author.Tests.{le-ltb, lt-ltb, eq-eqb, ne-eqb}
 use Rattle.codes.specs.Codes.{codeOf, entryOf, sameKind}
-use Rattle.codes.specs.CodeLaws.{code-entry}
+use Rattle.codes.specs.CodeLaws.{code-entry, code-variable}
 use Rattle.codes.specs.declared.Kind.{Kind}
 use Rattle.codes.specs.declared.Kind.the-variants as kind
 use Rattle.codes.specs.declared.Operation.{Operation}
@@ -105,6 +105,10 @@ module _ (deep : ℕ) (s : List ℕ) (want : Kind) (at : ℕ) where
               arguments-two (readExpr (deep - 1) s) op (at + 1) (first h) (λ q. a (ap (λ (x : Code). x .arity) is-entry ∙ q))
               (g ∙ ap (λ (x : Code). stepOf (readExpr (deep - 1) s (x .takes) n)) is-entry)
               ∙ ap stepOf (sym expr-arguments)
+
+  -- a variable is known by its byte, before its code is asked for
+  pub expr-variable : at < length s → getD s at 0 ≡ 0x10 → readExpr deep s want at ≡ readVariable s want deep at
+  expr-variable inside b = expr-as (codeOf (getD s at 0)) inside refl Variable (code-variable (getD s at 0) b)
 
 -- Reading goes forward.
 

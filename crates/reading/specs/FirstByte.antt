@@ -1,14 +1,14 @@
 -- What was read, by its first byte: for the passes that walk the bytes of an accepted rule again. Assumes nothing.
 use Prim.Native.Nat.{ℕ, _+_, _-_, _<_, _≤_}
 use native.Mathlib.Omega.{arith}
-use mathlib.Core.Path.{_≡_, ap, subst, _∙_}
+use mathlib.Core.Path.{_≡_, refl, ap, subst, _∙_}
 use mathlib.Core.List.{List}
 use lib.ListN.{length, getD}
 use lib.Dec.{ltb, leb, eqb}
 use borrow.Author.Tests.{eq-eqb, ne-eqb, ltb-true, leb-true}
 use Rattle.words.specs.Numbers.{numberAt}
 use Rattle.codes.specs.Codes.{codeOf, entryOf, sameKind}
-use Rattle.codes.specs.CodeLaws.{same-kind}
+use Rattle.codes.specs.CodeLaws.{same-kind, code-variable}
 use Rattle.codes.specs.declared.Kind.{Kind}
 use Rattle.codes.specs.declared.Kind.the-variants as kind
 use Rattle.codes.specs.declared.Operation.{Operation}
@@ -135,6 +135,11 @@ module _ (deep : ℕ) (s : List ℕ) (want : Kind) (at : ℕ) (h : IsRead (readE
   as-operation op q =
       let r = operation-read s op want deep at (expr-taken (Apply op) q) in
       record { level = r .level; kind = r .kind; is = formed (Apply op) q ∙ r .is }
+
+-- by its byte: a variable is known before its code is asked for
+pub byte-variable : (deep : ℕ) (s : List ℕ) (want : Kind) (at : ℕ) → IsRead (readExpr deep s want at) → getD s at 0 ≡ 0x10 → VariableRead s want at
+    (readExpr deep s want at)
+byte-variable deep s want at h b = as-variable deep s want at h (codeOf (getD s at 0)) refl (code-variable (getD s at 0) b)
 
 -- the arguments of an operation that was read
 module _ (argument : Kind → ℕ → Parsed Expr) (op : Operation) (at : ℕ) where

@@ -4,10 +4,12 @@ use answers::Step;
 use codes::Form;
 use codes::Kind;
 ghost use mathlib.Core.Path.{_≡_};
+ghost use mathlib.Core.Bool.{true};
 ghost use Prim.Native.Nat.{_+_, _≤_, _<_};
 ghost use lib.ListN.{length};
 ghost use Rattle.answers.specs.Answers.{answerOf};
 ghost use Rattle.answers.specs.Parsing.{stepOf};
+ghost use Rattle.answers.specs.declared.Step.the-variants.{Past};
 ghost use Rattle.reading.specs.Header.{HasKinds, kindAt, readKinds, readHeader};
 ghost use Rattle.reading.specs.Expressions.{readVariable, readWord, readBit, readExpr};
 ghost use Rattle.reading.specs.Blocks.{readAssign, readStatement, readBlock};
@@ -92,6 +94,30 @@ fn read_bit(s: &[u8], at: usize, want: Kind, deep: u8) -> Step
     Step::Past(at + 2)
 }
 
+// Is a variable of the kind wanted read at `at`? Most arguments are one, and take no further call.
+fn is_variable(s: &[u8], at: usize, want: Kind, deep: u8) -> bool
+    requires { ⌜ HasKinds (now s) ⌝ }
+    ensures { λ r. ⌜ (r ≡ true → (at + 1 < length (now (s .entry))) × (Past (at + 2) ≡ stepOf (readExpr deep (now (s .entry)) want at))) ⌝ }
+{
+    if deep == 0 {
+        return false;
+    }
+    if s.len() <= at {
+        return false;
+    }
+    if s[at] != codes::VARIABLE {
+        return false;
+    }
+    if s.len() <= at + 1 {
+        return false;
+    }
+    let x = s[at + 1];
+    if s[5] <= x {
+        return false;
+    }
+    codes::same_kind(kind_at(s, x), want)
+}
+
 // An expression of the kind wanted, at most `deep` levels deep.
 fn read_expr(s: &[u8], at: usize, want: Kind, deep: u8) -> Step
     requires { ⌜ HasKinds (now s) ⌝ }
@@ -115,12 +141,20 @@ fn read_expr(s: &[u8], at: usize, want: Kind, deep: u8) -> Step
             if deep == 0 {
                 return Step::Refused(8, at);
             }
-            match read_expr(s, at + 1, takes, deep - 1) {
+            let rest = s;
+            let first = if is_variable(s, at + 1, takes, deep - 1) {
+                Step::Past(at + 3)
+            } else {
+                read_expr(rest, at + 1, takes, deep - 1)
+            };
+            match first {
                 Step::Past(next) => {
                     if c.arity == 1 {
                         Step::Past(next)
+                    } else if is_variable(s, next, takes, deep - 1) {
+                        Step::Past(next + 2)
                     } else {
-                        read_expr(s, next, takes, deep - 1)
+                        read_expr(rest, next, takes, deep - 1)
                     }
                 }
                 Step::Refused(number, place) => Step::Refused(number, place),
@@ -142,7 +176,11 @@ fn read_assign(s: &[u8], at: usize) -> Step
     if s[5] <= x {
         return Step::Refused(6, at + 1);
     }
-    read_expr(s, at + 2, kind_at(s, x), DEEPEST)
+    let want = kind_at(s, x);
+    if is_variable(s, at + 2, want, DEEPEST) {
+        return Step::Past(at + 4);
+    }
+    read_expr(s, at + 2, want, DEEPEST)
 }
 
 // A statement, its code at `at`. `nest` is how many ifs may still nest.

@@ -1,58 +1,19 @@
-use mathlib.Core.Path.{ap, sym, _∙_}
-use Rattle.codes.specs.Codes.{entryOf}
+use mathlib.Core.Path.{sym, ap}
 use borrow.Author.Needs.{needs}
+use Rattle.codes.specs.Codes.{entryOf}
+use Rattle.codes.specs.CodeLaws.{entry-form}
+use Rattle.codes.specs.declared.Code.{Code}
+use Rattle.codes.specs.declared.Form.{Form}
 use Rattle.codes.proofs.entry_of.Statement.{statement}
 use Rattle.codes.proofs.entry_of.Tie as tie
 
 returns : tie.Need-returns
-returns c = c .table-entry .ensures ∙ ap entryOf (sym (c .before .enum-told .given .1))
-
-returns-2 : tie.Need-returns-2
-returns-2 c = c .table-entry2 .ensures ∙ ap entryOf (sym (c .before .enum-told2 .given .1))
-
-returns-3 : tie.Need-returns-3
-returns-3 c = c .table-entry3 .ensures ∙ ap entryOf (sym (c .before .enum-told3 .given .1))
-
-returns-4 : tie.Need-returns-4
-returns-4 c = c .table-entry4 .ensures ∙ ap entryOf (sym (c .before .enum-told4 .given .1))
-
-returns-5 : tie.Need-returns-5
-returns-5 c = c .table-entry5 .ensures ∙ ap entryOf (sym (c .before .enum-told5 .given .1))
-
-returns-6 : tie.Need-returns-6
-returns-6 c = c .table-entry6 .ensures ∙ ap entryOf (sym (c .before .enum-told6 .given .1))
-
-returns-7 : tie.Need-returns-7
-returns-7 c = c .table-entry7 .ensures ∙ ap entryOf (sym (c .before .enum-told7 .given .1))
-
-returns-8 : tie.Need-returns-8
-returns-8 c = c .table-entry8 .ensures ∙ ap entryOf (sym (c .before .enum-told8 .given .1))
+returns c =
+    let e = entryOf (c .before .before .before .before .args .op) in
+    rw (c .before .before .before .takes-of .ensures, c .before .before .gives-of .ensures, c .before .arity-of .ensures, c .cost-of .ensures)
+    (ap (λ (f : Form). record { form = f; takes = e .takes; gives = e .gives; arity = e .arity; cost = e .cost }) (sym (entry-form (c .before .before .before .before .args .op))))
 
 pub entry-of-spec : {M : Type 1} → statement M
 entry-of-spec =
     tie.close
-    (tie.spec
-    (λ c. search needs)
-    (λ c κs. search needs)
-    (λ c. search needs)
-    (λ c κs. search needs)
-    (λ c. search needs)
-    (λ c κs. search needs)
-    (λ c. search needs)
-    (λ c κs. search needs)
-    (λ c. search needs)
-    (λ c κs. search needs)
-    (λ c. search needs)
-    (λ c κs. search needs)
-    (λ c. search needs)
-    (λ c κs. search needs)
-    (λ c. search needs)
-    (λ c κs. search needs)
-    returns
-    returns-2
-    returns-3
-    returns-4
-    returns-5
-    returns-6
-    returns-7
-    returns-8)
+    (tie.spec (λ c κs. search needs) (λ c κs. search needs) (λ c κs. search needs) (λ c κs. search needs) returns)

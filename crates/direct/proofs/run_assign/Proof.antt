@@ -14,11 +14,11 @@ shared-slice-read-x c = let d = c .before .before in let a = d .args in assign-r
 kind-at-requires : tie.Need-kind-at-requires
 kind-at-requires c κs = let d = c .before .before in let a = d .args in omega (arith, assign-read (now (a .s)) (a .at) (d .pre .1) .range, d .pre .0 .0)
 
-add-run-expr : tie.Need-add-run-expr
-add-run-expr c = let d = c .before .before .before in let a = d .args in omega (arith, assign-read (now (a .s)) (a .at) (d .pre .1) .inside)
+add-run-argument : tie.Need-add-run-argument
+add-run-argument c = let d = c .before .before .before in let a = d .args in omega (arith, assign-read (now (a .s)) (a .at) (d .pre .1) .inside)
 
-run-expr-requires : tie.Need-run-expr-requires
-run-expr-requires c κs =
+run-argument-requires : tie.Need-run-argument-requires
+run-argument-requires c κs =
     let d = c .before .before .before .before in
     let a = d .args in
     (d .pre .0, assign-taken (now (a .s)) (a .at) (d .pre .1) (c .before .kind-at .result) (c .before .kind-at .ensures))
@@ -40,7 +40,7 @@ returns c =
     let d = c .before .before .before .before .before in
     let a = d .args in
     assign-ran (now (a .s)) (a .at) (d .pre .1) (c .before .before .kind-at .result) (c .before .before .kind-at .ensures) (now (a .figures))
-    (c .run-expr .result) (c .run-expr .ensures)
+    (c .run-argument .result) (c .run-argument .ensures)
 
 pub run-assign-spec : {M : Type 1} → statement M
 run-assign-spec =
@@ -49,8 +49,8 @@ run-assign-spec =
     add-x
     shared-slice-read-x
     kind-at-requires
-    add-run-expr
-    run-expr-requires
+    add-run-argument
+    run-argument-requires
     cast-figures
     mul-figures
     element-write-figures

@@ -20,8 +20,8 @@ add-x c = let a = c .before .args in let r = assign-read (now (a .s)) (a .at) (c
 shared-slice-read-x : tie.Need-shared-slice-read-x
 shared-slice-read-x c = let a = c .before .before .args in let r = assign-read (now (a .s)) (a .at) (c .before .before .pre .1) in r .inside
 
-add-make-expr : tie.Need-add-make-expr
-add-make-expr c = let a = c .before .before .args in let r = assign-read (now (a .s)) (a .at) (c .before .before .pre .1) in omega (arith, r .inside)
+add-make-argument : tie.Need-add-make-argument
+add-make-argument c = let a = c .before .before .args in let r = assign-read (now (a .s)) (a .at) (c .before .before .pre .1) in omega (arith, r .inside)
 
 kind-at-requires : tie.Need-kind-at-requires
 kind-at-requires c κs =
@@ -29,8 +29,8 @@ kind-at-requires c κs =
     let r = assign-read (now (a .s)) (a .at) (c .before .before .pre .1) in
     omega (arith, r .range, c .before .before .pre .0 .kinds)
 
-make-expr-requires : tie.Need-make-expr-requires
-make-expr-requires c κs =
+make-argument-requires : tie.Need-make-argument-requires
+make-argument-requires c κs =
     let a = c .before .before .before .before .before .args in
     let r = assign-read (now (a .s)) (a .at) (c .before .before .before .before .before .pre .1) in (
       c .before .before .before .before .before .pre .0,
@@ -66,9 +66,9 @@ returns : tie.Need-returns
 returns c =
     let a = c .before .before .before .before .before .before .before .args in
     made-assign (now (a .s)) (a .at) (c .before .before .before .before .before .before .before .pre .1)
-    (c .before .before .before .before .before .before .before .pre .0 .few) (now (a .present)) (now (a .quads)) (a .count) (c .before .make-expr .result .next)
-    (c .before .make-expr .result .gate .0) (c .before .make-expr .result .count) (c .only .result) _ (c .before .before .before .before .kind-at .result)
-    (c .before .before .before .before .kind-at .ensures) (c .before .make-expr .ensures)
+    (c .before .before .before .before .before .before .before .pre .0 .few) (now (a .present)) (now (a .quads)) (a .count) (c .before .make-argument .result .next)
+    (c .before .make-argument .result .gate .0) (c .before .make-argument .result .count) (c .only .result) _ (c .before .before .before .before .kind-at .result)
+    (c .before .before .before .before .kind-at .ensures) (c .before .make-argument .ensures)
     (λ x. ap (λ (k : ℕ). has k x) (c .only .ensures) ∙ only-bit (getD (now (a .s)) (a .at + 1) 0) x)
 
 pub make-assign-spec : {M : Type 1} → statement M
@@ -77,9 +77,9 @@ make-assign-spec =
     (tie.spec
     add-x
     shared-slice-read-x
-    add-make-expr
+    add-make-argument
     kind-at-requires
-    make-expr-requires
+    make-argument-requires
     cast-i
     mul-present
     element-write-present

@@ -1,12 +1,16 @@
-use mathlib.Core.Path.{refl, sym, ap, _∙_}
+use mathlib.Core.Path.{_≡_, refl, sym, ap, _∙_}
+use mathlib.Core.Logic.{⊎-elim}
+use native.Mathlib.Omega.{arith}
 use borrow.Author.Tests.{not-true, not-false}
 use denote.Ref.{now}
 use Rattle.codes.specs.declared.Form.the-variants.{Variable, Word, Bit}
 use Rattle.answers.specs.Parsing.{stepOf}
+use Rattle.answers.specs.declared.Step.the-variants.{Past}
 use Rattle.reading.proofs.Arms.{no-expression}
+use Rattle.reading.specs.Expressions.{readExpr}
 use Rattle.reading.specs.ExpressionLaws.{below, expr-short, expr-as, expr-kind, expr-deep, expr-refused, expr-one, expr-two}
 use borrow.Author.Needs.{needs}
-use Prim.Native.Nat.{ℕ, _<_}
+use Prim.Native.Nat.{ℕ, _+_, _-_, _<_}
 use borrow.Fn.Kinds.{In}
 use borrow.Fn.PlainCycle.{Measures, is, falls, and}
 use Rattle.reading.proofs.read_expr.Reads as read-expr
@@ -14,6 +18,7 @@ use Rattle.reading.proofs.read_expr.Kinds as read-expr-kinds
 use Rattle.reading.proofs.+read_expr.Lts-read_expr as read-expr-lts
 use Rattle.codes.proofs.code_of.Reads as code-of-reads
 use Rattle.codes.proofs.same_kind.Reads as same-kind-reads
+use Rattle.reading.proofs.is_variable.Reads as is-variable-reads
 use Rattle.reading.proofs.read_bit.Reads as read-bit-reads
 use Rattle.reading.proofs.read_variable.Reads as read-variable-reads
 use Rattle.reading.proofs.read_word.Reads as read-word-reads
@@ -42,6 +47,8 @@ read-expr-claims t = (
   read-bit-reads.Learnt,
   same-kind-reads.Asked,
   same-kind-reads.Learnt,
+  is-variable-reads.Asked,
+  is-variable-reads.Learnt,
   read-expr-below t,
   read-expr.Post,
 )
@@ -85,46 +92,49 @@ read-expr-returns-6 t c =
     (sym (expr-as (a .deep) (now (a .s)) (a .want) (a .at) (c .before .before .before .code-of .result) (c .before .before .before .before .before .if1 .left)
     (c .before .before .before .code-of .ensures) Bit (c .before .enum-told3 .given .1)))
 
+abbrev Joined : ℕ → Type 0
+Joined t = read-expr-lts.Joined4 (read-expr-claims t) (read-expr-at t) read-expr.Post
+
+-- the first argument was read, as a variable or by a call
+first-read : (t : ℕ) (c : Joined t) → let a = c .before .before .before .before .before .before .before .before .before .before .before .args in
+    c .if4 .first ≡ stepOf (readExpr (a .deep - 1) (now (a .s)) (c .before .before .before .before .before .before .before .code-of .result .takes) (a .at + 1))
+first-read t c =
+    ⊎-elim (λ w. w .1 ∙ (ap Past (omega arith) ∙ c .before .is-variable .ensures (w .0 .taken) .1)) (λ w. w .2 ∙ w .1 .ensures) (c .if4 .came)
+
 read-expr-returns-7 : (t : ℕ) → read-expr-lts.Need-returns-7 (read-expr-claims t) (read-expr-at t) read-expr.Post
 read-expr-returns-7 t c =
-    let a = c .before .before .before .before .before .before .before .before .before .before .before .before .before .before .before .args in
-    expr-one (a .deep) (now (a .s)) (a .want) (a .at) (c .before .before .before .before .before .before .before .before .before .before .before .code-of .result)
-    (c .before .before .before .before .before .before .before .before .before .before .before .before .before .if1 .left)
-    (c .before .before .before .before .before .before .before .before .before .before .before .code-of .ensures)
-    (c .before .before .before .before .before .before .before .before .before .enum-told4 .given .0 .0)
-    (c .before .before .before .before .before .before .before .before .before .enum-told4 .given .1)
-    (sym (c .before .before .before .before .before .before .before .before .same-kind .ensures) ∙ not-false _
-    (c .before .before .before .before .before .before .before .if2 .left)) (c .before .before .before .before .before .before .if3 .left)
-    (sym (c .before .before .before .next .given .1) ∙ c .before .before .before .before .before .read-expr .ensures) (c .if4 .taken)
+    let j = c .before .before .before .before .before in
+    let a = j .before .before .before .before .before .before .before .before .before .before .before .args in
+    expr-one (a .deep) (now (a .s)) (a .want) (a .at) (j .before .before .before .before .before .before .before .code-of .result) (j .before .before .before .before .before .before .before .before .before .if1 .left) (j .before .before .before .before .before .before .before .code-of .ensures)
+    (j .before .before .before .before .before .enum-told4 .given .0 .0) (j .before .before .before .before .before .enum-told4 .given .1) (sym (j .before .before .before .before .same-kind .ensures) ∙ not-false _ (j .before .before .before .if2 .left)) (j .before .before .if3 .left)
+    (sym (c .before .before .before .first .given .1) ∙ first-read t j) (c .if5 .taken)
 
 read-expr-returns-8 : (t : ℕ) → read-expr-lts.Need-returns-8 (read-expr-claims t) (read-expr-at t) read-expr.Post
 read-expr-returns-8 t c =
-    let a = c .before .before .before .before .before .before .before .before .before .before .before .before .before .before .before .before .args in
-    expr-two (a .deep) (now (a .s)) (a .want) (a .at)
-    (c .before .before .before .before .before .before .before .before .before .before .before .before .code-of .result)
-    (c .before .before .before .before .before .before .before .before .before .before .before .before .before .before .if1 .left)
-    (c .before .before .before .before .before .before .before .before .before .before .before .before .code-of .ensures)
-    (c .before .before .before .before .before .before .before .before .before .before .enum-told4 .given .0 .0)
-    (c .before .before .before .before .before .before .before .before .before .before .enum-told4 .given .1)
-    (sym (c .before .before .before .before .before .before .before .before .before .same-kind .ensures) ∙ not-false _
-    (c .before .before .before .before .before .before .before .before .if2 .left)) (c .before .before .before .before .before .before .before .if3 .left)
-    (sym (c .before .before .before .before .next .given .1) ∙ c .before .before .before .before .before .before .read-expr .ensures) (c .before .if4 .left)
-    (c .read-expr2 .ensures)
+    let j = c .before .before .before .before .before .before .before in
+    let a = j .before .before .before .before .before .before .before .before .before .before .before .args in
+    expr-two (a .deep) (now (a .s)) (a .want) (a .at) (j .before .before .before .before .before .before .before .code-of .result) (j .before .before .before .before .before .before .before .before .before .if1 .left) (j .before .before .before .before .before .before .before .code-of .ensures)
+    (j .before .before .before .before .before .enum-told4 .given .0 .0) (j .before .before .before .before .before .enum-told4 .given .1) (sym (j .before .before .before .before .same-kind .ensures) ∙ not-false _ (j .before .before .before .if2 .left)) (j .before .before .if3 .left)
+    (sym (c .before .before .before .before .before .first .given .1) ∙ first-read t j) (c .before .before .if5 .left) (c .before .is-variable2 .ensures (c .if6 .taken) .1)
 
 read-expr-returns-9 : (t : ℕ) → read-expr-lts.Need-returns-9 (read-expr-claims t) (read-expr-at t) read-expr.Post
 read-expr-returns-9 t c =
-    let a = c .before .before .before .before .before .before .before .before .before .before .before .before .before .args in
-    expr-refused (a .deep) (now (a .s)) (a .want) (a .at) (c .before .before .before .before .before .before .before .before .before .code-of .result)
-    (c .before .before .before .before .before .before .before .before .before .before .before .if1 .left)
-    (c .before .before .before .before .before .before .before .before .before .code-of .ensures)
-    (c .before .before .before .before .before .before .before .enum-told4 .given .0 .0)
-    (c .before .before .before .before .before .before .before .enum-told4 .given .1)
-    (sym (c .before .before .before .before .before .before .same-kind .ensures) ∙ not-false _ (c .before .before .before .before .before .if2 .left))
-    (c .before .before .before .before .if3 .left)
-    (sym (c .before .number .given .1) ∙ c .before .before .before .read-expr .ensures)
+    let j = c .before .before .before .before .before .before .before .before in
+    let a = j .before .before .before .before .before .before .before .before .before .before .before .args in
+    expr-two (a .deep) (now (a .s)) (a .want) (a .at) (j .before .before .before .before .before .before .before .code-of .result) (j .before .before .before .before .before .before .before .before .before .if1 .left) (j .before .before .before .before .before .before .before .code-of .ensures)
+    (j .before .before .before .before .before .enum-told4 .given .0 .0) (j .before .before .before .before .before .enum-told4 .given .1) (sym (j .before .before .before .before .same-kind .ensures) ∙ not-false _ (j .before .before .before .if2 .left)) (j .before .before .if3 .left)
+    (sym (c .before .before .before .before .before .before .first .given .1) ∙ first-read t j) (c .before .before .before .if5 .left) (c .read-expr2 .ensures)
 
 read-expr-returns-10 : (t : ℕ) → read-expr-lts.Need-returns-10 (read-expr-claims t) (read-expr-at t) read-expr.Post
 read-expr-returns-10 t c =
+    let j = c .before .before .before in
+    let a = j .before .before .before .before .before .before .before .before .before .before .before .args in
+    expr-refused (a .deep) (now (a .s)) (a .want) (a .at) (j .before .before .before .before .before .before .before .code-of .result) (j .before .before .before .before .before .before .before .before .before .if1 .left) (j .before .before .before .before .before .before .before .code-of .ensures)
+    (j .before .before .before .before .before .enum-told4 .given .0 .0) (j .before .before .before .before .before .enum-told4 .given .1) (sym (j .before .before .before .before .same-kind .ensures) ∙ not-false _ (j .before .before .before .if2 .left)) (j .before .before .if3 .left)
+    (sym (c .before .first2 .given .1) ∙ first-read t j)
+
+read-expr-returns-11 : (t : ℕ) → read-expr-lts.Need-returns-11 (read-expr-claims t) (read-expr-at t) read-expr.Post
+read-expr-returns-11 t c =
     let a = c .before .before .before .before .before .args in
     let code = c .before .code-of .result in
     ap stepOf (sym (expr-as (a .deep) (now (a .s)) (a .want) (a .at) code (c .before .before .before .if1 .left) (c .before .code-of .ensures) (code .form) refl
@@ -149,7 +159,14 @@ pub +read-expr-spec : {M : Type 1} → statement M
     (λ c. search needs)
     (λ c. search needs)
     (λ c κs. search needs)
+    (λ c. omega (arith, c .before .is-variable .ensures (c .if4 .taken) .0))
     (λ c. search needs)
+    (λ c. search needs)
+    (λ c κs. search needs)
+    (λ c. search needs)
+    (λ c. search needs)
+    (λ c κs. search needs)
+    (λ c. omega (arith, c .before .is-variable2 .ensures (c .if6 .taken) .0))
     (λ c. search needs)
     (λ c κs. search needs)
     (λ c. search needs)
@@ -160,3 +177,4 @@ pub +read-expr-spec : {M : Type 1} → statement M
     (read-expr-returns-8 t)
     (read-expr-returns-9 t)
     (read-expr-returns-10 t)
+    (read-expr-returns-11 t)

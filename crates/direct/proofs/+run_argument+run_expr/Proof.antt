@@ -1,36 +1,63 @@
 use native.Mathlib.Omega.{arith}
+use mathlib.Core.Path.{refl}
 use denote.Ref.{now}
 use lib.ListN.{length}
 use Rattle.codes.specs.declared.Form.the-variants.{End, Assign, Skip, Branch, Unknown}
+use Rattle.codes.specs.CodeLaws.{code-variable}
 use Rattle.reading.specs.Expressions.{readExpr}
-use Rattle.reading.specs.FirstByte.{VariableRead, WordRead, BitRead, expr-inside, as-variable, as-word, as-bit, expr-taken}
+use Rattle.reading.specs.FirstByte.{VariableRead, WordRead, BitRead, expr-inside, byte-variable, as-variable, as-word, as-bit, expr-taken}
 use Rattle.direct.specs.ExprLaws.{variable-out, word-out, bit-out, level, first-taken, one-out, second-taken, two-out}
 use borrow.Author.Needs.{needs}
-use Prim.Native.Nat.{ℕ, _<_}
+use Prim.Native.Nat.{ℕ, _+_, _*_, _<_}
 use borrow.Fn.Kinds.{In}
 use borrow.Fn.PlainCycle.{Measures, is, falls, and}
+use Rattle.direct.proofs.run_argument.Reads as run-argument
+use Rattle.direct.proofs.run_argument.Kinds as run-argument-kinds
+use Rattle.direct.proofs.+run_argument+run_expr.Lts-run_argument as run-argument-lts
 use Rattle.direct.proofs.run_expr.Reads as run-expr
 use Rattle.direct.proofs.run_expr.Kinds as run-expr-kinds
-use Rattle.direct.proofs.+run_expr.Lts-run_expr as run-expr-lts
+use Rattle.direct.proofs.+run_argument+run_expr.Lts-run_expr as run-expr-lts
 use Rattle.codes.proofs.apply.Reads as apply-reads
 use Rattle.codes.proofs.code_of.Reads as code-of-reads
+use Rattle.direct.proofs.run_variable.Reads as run-variable-reads
 use Rattle.words.proofs.read32.Reads as read32-reads
-use Rattle.direct.proofs.+run_expr.{statement}
-use Rattle.direct.proofs.+run_expr.Tie.{close}
+use Rattle.direct.proofs.+run_argument+run_expr.{statement}
+use Rattle.direct.proofs.+run_argument+run_expr.Tie.{close}
+
+abbrev μ-run-argument : Measures 2 run-argument-kinds.ps ℕ
+μ-run-argument κs a = 2 * a .1 .1 .1 .0 + 1
 
 abbrev μ-run-expr : Measures 2 run-expr-kinds.ps ℕ
-μ-run-expr κs a = a .1 .1 .1 .0
+μ-run-expr κs a = 2 * a .1 .1 .1 .0
+
+abbrev run-argument-at : ℕ → In 2 run-argument-kinds.ps
+run-argument-at t = and 2 run-argument-kinds.ps (is 2 run-argument-kinds.ps μ-run-argument t) run-argument.Pre
+
+abbrev run-argument-below : ℕ → In 2 run-argument-kinds.ps
+run-argument-below t = and 2 run-argument-kinds.ps (falls 2 run-argument-kinds.ps _<_ μ-run-argument t) run-argument.Pre
 
 abbrev run-expr-at : ℕ → In 2 run-expr-kinds.ps
 run-expr-at t = and 2 run-expr-kinds.ps (is 2 run-expr-kinds.ps μ-run-expr t) run-expr.Pre
 
 abbrev run-expr-below : ℕ → In 2 run-expr-kinds.ps
-run-expr-below t =
-    and 2 run-expr-kinds.ps (falls 2 run-expr-kinds.ps _<_ μ-run-expr t) run-expr.Pre
+run-expr-below t = and 2 run-expr-kinds.ps (falls 2 run-expr-kinds.ps _<_ μ-run-expr t) run-expr.Pre
+
+abbrev run-argument-claims : ℕ → run-argument-lts.Claims
+run-argument-claims t = (run-variable-reads.Asked, run-variable-reads.Learnt, run-expr-below t, run-expr.Post)
 
 abbrev run-expr-claims : ℕ → run-expr-lts.Claims
-run-expr-claims t =
-    (code-of-reads.Asked, code-of-reads.Learnt, read32-reads.Asked, read32-reads.Learnt, run-expr-below t, run-expr.Post, apply-reads.Asked, apply-reads.Learnt)
+run-expr-claims t = (
+  code-of-reads.Asked,
+  code-of-reads.Learnt,
+  run-variable-reads.Asked,
+  run-variable-reads.Learnt,
+  read32-reads.Asked,
+  read32-reads.Learnt,
+  run-argument-below t,
+  run-argument.Post,
+  apply-reads.Asked,
+  apply-reads.Learnt,
+)
 
 -- what was read, by the form of its code
 inside : (t : ℕ) (d : run-expr-lts.Start (run-expr-claims t) (run-expr-at t) run-expr.Post) → d .args .at < length (now (d .args .s))
@@ -48,42 +75,42 @@ the-bit : (t : ℕ) (c : run-expr-lts.After-enum-told3 (run-expr-claims t) (run-
     → let a = c .before .before .before .before .before .args in BitRead (now (a .s)) (a .want) (a .at) (readExpr (a .deep) (now (a .s)) (a .want) (a .at))
 the-bit t c = as-bit _ _ _ _ (c .before .before .before .before .before .pre .1 .1) _ (c .before .before .code-of .ensures) (c .enum-told3 .given .1)
 
-run-expr-sub-run-expr : (t : ℕ) → run-expr-lts.Need-sub-run-expr (run-expr-claims t) (run-expr-at t) run-expr.Post
-run-expr-sub-run-expr t c =
+run-expr-sub-run-argument : (t : ℕ) → run-expr-lts.Need-sub-run-argument (run-expr-claims t) (run-expr-at t) run-expr.Post
+run-expr-sub-run-argument t c =
     let d = c .before .before .before .before .before .before in
     let a = d .args in
     level (now (a .figures)) _ _ _ _ (d .pre .1 .1) _ (c .before .before .before .code-of .ensures) _ (c .before .form .given .1)
 
-run-expr-run-expr-requires : (t : ℕ) → run-expr-lts.Need-run-expr-requires (run-expr-claims t) (run-expr-at t) run-expr.Post
-run-expr-run-expr-requires t c κs =
+run-expr-run-argument-requires : (t : ℕ) → run-expr-lts.Need-run-argument-requires (run-expr-claims t) (run-expr-at t) run-expr.Post
+run-expr-run-argument-requires t c κs =
     let d = c .before .before .before .before .before .before in let a = d .args in (
       omega (arith, level (now (a .figures)) _ _ _ _ (d .pre .1 .1) _ (c .before .before .before .code-of .ensures) _ (c .before .form .given .1)),
       (d .pre .1 .0, first-taken (now (a .figures)) _ _ _ _ (d .pre .1 .1) _ (c .before .before .before .code-of .ensures) _ (c .before .form .given .1)),
     )
 
-run-expr-sub-run-expr-2 : (t : ℕ) → run-expr-lts.Need-sub-run-expr-2 (run-expr-claims t) (run-expr-at t) run-expr.Post
-run-expr-sub-run-expr-2 t c =
+run-expr-sub-run-argument-2 : (t : ℕ) → run-expr-lts.Need-sub-run-argument-2 (run-expr-claims t) (run-expr-at t) run-expr.Post
+run-expr-sub-run-argument-2 t c =
     let d = c .before .before .before .before .before .before .before .before .before in
     let a = d .args in
     level (now (a .figures)) _ _ _ _ (d .pre .1 .1) _ (c .before .before .before .before .before .before .code-of .ensures) _
     (c .before .before .before .before .form .given .1)
 
-run-expr-run-expr-requires-2 : (t : ℕ) → run-expr-lts.Need-run-expr-requires-2 (run-expr-claims t) (run-expr-at t) run-expr.Post
-run-expr-run-expr-requires-2 t c κs =
+run-expr-run-argument-requires-2 : (t : ℕ) → run-expr-lts.Need-run-argument-requires-2 (run-expr-claims t) (run-expr-at t) run-expr.Post
+run-expr-run-argument-requires-2 t c κs =
     let b = c .before .before .before .before .before .before in
     let d = c .before .before .before .before .before .before .before .before .before in let a = d .args in (
       omega (arith, level (now (a .figures)) _ _ _ _ (d .pre .1 .1) _ (b .code-of .ensures) _ (c .before .before .before .before .form .given .1)),
       (
         d .pre .1 .0,
         second-taken (now (a .figures)) _ _ _ _ (d .pre .1 .1) _ (b .code-of .ensures) _ (c .before .before .before .before .form .given .1) _
-            (c .before .before .run-expr .ensures) (c .if1 .left),
+            (c .before .before .run-argument .ensures) (c .if1 .left),
       ),
     )
 
 run-expr-returns : (t : ℕ) → run-expr-lts.Need-returns (run-expr-claims t) (run-expr-at t) run-expr.Post
 run-expr-returns t c =
-    let d = c .before .before .before .before .before .before .before in
-    variable-out _ _ _ _ _ (d .pre .1 .1) _ (c .before .before .before .before .code-of .ensures) (c .before .before .enum-told .given .1)
+    let d = c .before .before .before .before .before .before in
+    rw (c .run-variable .ensures) (variable-out _ _ _ _ _ (d .pre .1 .1) _ (c .before .before .before .code-of .ensures) (c .before .enum-told .given .1))
 
 run-expr-returns-2 : (t : ℕ) → run-expr-lts.Need-returns-2 (run-expr-claims t) (run-expr-at t) run-expr.Post
 run-expr-returns-2 t c =
@@ -98,47 +125,31 @@ run-expr-returns-4 : (t : ℕ) → run-expr-lts.Need-returns-4 (run-expr-claims 
 run-expr-returns-4 t c =
     let d = c .before .before .before .before .before .before .before .before .before .before in
     one-out _ _ _ _ _ (d .pre .1 .1) _ (c .before .before .before .before .before .before .before .code-of .ensures) _
-    (c .before .before .before .before .before .form .given .1) _ (c .before .before .before .run-expr .ensures) (c .before .if1 .taken) (c .apply .ensures)
+    (c .before .before .before .before .before .form .given .1) _ (c .before .before .before .run-argument .ensures) (c .before .if1 .taken) (c .apply .ensures)
 
 run-expr-returns-5 : (t : ℕ) → run-expr-lts.Need-returns-5 (run-expr-claims t) (run-expr-at t) run-expr.Post
 run-expr-returns-5 t c =
     let d = c .before .before .before .before .before .before .before .before .before .before .before in
     two-out _ _ _ _ _ (d .pre .1 .1) _ (c .before .before .before .before .before .before .before .before .code-of .ensures) _
-    (c .before .before .before .before .before .before .form .given .1) _ (c .before .before .before .before .run-expr .ensures) (c .before .before .if1 .left) _
-    (c .before .run-expr2 .ensures) (c .apply2 .ensures)
+    (c .before .before .before .before .before .before .form .given .1) _ (c .before .before .before .before .run-argument .ensures) (c .before .before .if1 .left) _
+    (c .before .run-argument2 .ensures) (c .apply2 .ensures)
 
-run-expr-returns-6 : (t : ℕ) → run-expr-lts.Need-returns-6 (run-expr-claims t) (run-expr-at t) run-expr.Post
-run-expr-returns-6 t c =
-    absurd (expr-taken _ _ _ _ (c .before .before .before .before .before .pre .1 .1) _ (c .before .before .code-of .ensures) End (c .enum-told4 .given .1))
-
-run-expr-returns-7 : (t : ℕ) → run-expr-lts.Need-returns-7 (run-expr-claims t) (run-expr-at t) run-expr.Post
-run-expr-returns-7 t c =
-    absurd (expr-taken _ _ _ _ (c .before .before .before .before .before .pre .1 .1) _ (c .before .before .code-of .ensures) Assign (c .enum-told5 .given .1))
-
-run-expr-returns-8 : (t : ℕ) → run-expr-lts.Need-returns-8 (run-expr-claims t) (run-expr-at t) run-expr.Post
-run-expr-returns-8 t c =
-    absurd (expr-taken _ _ _ _ (c .before .before .before .before .before .pre .1 .1) _ (c .before .before .code-of .ensures) Skip (c .enum-told6 .given .1))
-
-run-expr-returns-9 : (t : ℕ) → run-expr-lts.Need-returns-9 (run-expr-claims t) (run-expr-at t) run-expr.Post
-run-expr-returns-9 t c =
-    absurd (expr-taken _ _ _ _ (c .before .before .before .before .before .pre .1 .1) _ (c .before .before .code-of .ensures) Branch (c .enum-told7 .given .1))
-
-run-expr-returns-10 : (t : ℕ) → run-expr-lts.Need-returns-10 (run-expr-claims t) (run-expr-at t) run-expr.Post
-run-expr-returns-10 t c =
-    absurd (expr-taken _ _ _ _ (c .before .before .before .before .before .pre .1 .1) _ (c .before .before .code-of .ensures) Unknown (c .enum-told8 .given .1))
-
-pub +run-expr-spec : {M : Type 1} → statement M
-+run-expr-spec = close μ-run-expr λ t. run-expr-lts.spec (run-expr-claims t) (run-expr-at t)
+pub +run-argument+run-expr-spec : {M : Type 1} → statement M
++run-argument+run-expr-spec = close μ-run-argument μ-run-expr (λ t. run-argument-lts.spec (run-argument-claims t) (run-argument-at t)
+    run-argument.Post
+    (λ c. let d = c .before .before in expr-inside _ _ _ _ (d .pre .1 .1))
+    (λ c κs. let d = c .before .before .before in
+    let v = byte-variable _ _ _ _ (d .pre .1 .1) (c .if1 .taken) in (v .inside, omega (arith, v .range, d .pre .1 .0 .1)))
+    (λ c. let d = c .before .before .before .before in
+    rw (c .run-variable .ensures) (variable-out _ _ _ _ _ (d .pre .1 .1) _ refl (code-variable _ (c .before .if1 .taken))))
+    (λ c κs. (search needs, c .before .before .before .pre .1))
+    (λ c. c .run-expr .ensures))
+    λ t. run-expr-lts.spec (run-expr-claims t) (run-expr-at t)
     run-expr.Post
     (λ c. inside t (c .before .before))
     (λ c κs. search needs)
     (λ c. search needs)
-    (λ c. omega (arith, inside t (c .before .before .before .before .before)))
-    (λ c. the-variable t (c .before) .inside)
-    (λ c. omega (arith, the-variable t (c .before) .range, c .before .before .before .before .before .before .pre .1 .0 .1))
-    (λ c. omega (arith, the-variable t (c .before) .range, c .before .before .before .before .before .before .pre .1 .0 .1))
-    (λ c. omega (arith, the-variable t (c .before) .range, c .before .before .before .before .before .before .pre .1 .0 .1))
-    (λ c. omega (arith, the-variable t (c .before .before) .inside))
+    (λ c κs. let v = the-variable t c in (v .inside, omega (arith, v .range, c .before .before .before .before .before .pre .1 .0 .1)))
     (λ c. search needs)
     (λ c. omega (arith, inside t (c .before .before .before .before .before)))
     (λ c κs. omega (arith, the-word t c .inside))
@@ -150,11 +161,11 @@ pub +run-expr-spec : {M : Type 1} → statement M
     (λ c. omega (arith, the-bit t (c .before) .inside))
     (λ c. search needs)
     (λ c. omega (arith, inside t (c .before .before .before .before .before .before)))
-    (run-expr-sub-run-expr t)
-    (run-expr-run-expr-requires t)
+    (run-expr-sub-run-argument t)
+    (run-expr-run-argument-requires t)
     (λ c κs. search needs)
-    (run-expr-sub-run-expr-2 t)
-    (run-expr-run-expr-requires-2 t)
+    (run-expr-sub-run-argument-2 t)
+    (run-expr-run-argument-requires-2 t)
     (λ c κs. search needs)
     (λ c. search needs)
     (λ c. search needs)
@@ -166,8 +177,8 @@ pub +run-expr-spec : {M : Type 1} → statement M
     (run-expr-returns-3 t)
     (run-expr-returns-4 t)
     (run-expr-returns-5 t)
-    (run-expr-returns-6 t)
-    (run-expr-returns-7 t)
-    (run-expr-returns-8 t)
-    (run-expr-returns-9 t)
-    (run-expr-returns-10 t)
+    (λ c. let b = c .before .before in absurd (expr-taken _ _ _ _ (b .before .before .before .pre .1 .1) _ (b .code-of .ensures) End (c .enum-told4 .given .1)))
+    (λ c. let b = c .before .before in absurd (expr-taken _ _ _ _ (b .before .before .before .pre .1 .1) _ (b .code-of .ensures) Assign (c .enum-told5 .given .1)))
+    (λ c. let b = c .before .before in absurd (expr-taken _ _ _ _ (b .before .before .before .pre .1 .1) _ (b .code-of .ensures) Skip (c .enum-told6 .given .1)))
+    (λ c. let b = c .before .before in absurd (expr-taken _ _ _ _ (b .before .before .before .pre .1 .1) _ (b .code-of .ensures) Branch (c .enum-told7 .given .1)))
+    (λ c. let b = c .before .before in absurd (expr-taken _ _ _ _ (b .before .before .before .pre .1 .1) _ (b .code-of .ensures) Unknown (c .enum-told8 .given .1)))
