@@ -9,11 +9,19 @@ use compare::stream::FUSED;
 pub const SEED: u64 = 7;
 pub const COUNT: usize = 2000;
 
+pub fn mixed() -> Row {
+    Row {
+        name: "2,000 mixed rules".into(),
+        subjects: subjects(COUNT),
+        goal: Goal::Mixed,
+    }
+}
+
 /// The first accepted cases of operation 05 that the generator makes from the seed: rules of every sort that
 /// it knows, each with a plan and inputs that all operations take.
-pub fn mixed() -> Row {
+pub fn subjects(count: usize) -> Vec<Subject> {
     let mut random = Random::new(SEED);
-    let subjects = std::iter::repeat_with(|| cases::case(&mut random))
+    std::iter::repeat_with(|| cases::case(&mut random))
         .filter(|case| case.operation == FUSED)
         .map(|case| Subject {
             rule: case.first,
@@ -21,13 +29,8 @@ pub fn mixed() -> Row {
             inputs: case.inputs,
         })
         .filter(accepted)
-        .take(COUNT)
-        .collect();
-    Row {
-        name: "2,000 mixed rules".into(),
-        subjects,
-        goal: Goal::Mixed,
-    }
+        .take(count)
+        .collect()
 }
 
 fn accepted(subject: &Subject) -> bool {

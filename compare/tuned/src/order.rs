@@ -71,59 +71,52 @@ impl Taken for Order {
     }
 }
 
-/// Who watches whom, and who is to be looked at again.
+/// The groups that watch a group: the first of them, and the one after each; 0 for none, as gate 0 never waits.
 struct Watch {
-    /// The first of the groups that watch a group, and the one after each; 0 for none, as gate 0 never waits.
     first: Places<u8, GATES_MAX>,
     next: Places<u8, GATES_MAX>,
-    awake: [u64; 4],
-    awake_count: usize,
 }
 
 impl Watch {
-    #[inline(always)]
-    fn new(gates: usize) -> Watch {
-        let mut watch = Watch {
-            first: Places::new(),
-            next: Places::new(),
-            awake: [0; 4],
-            awake_count: 0,
-        };
-        watch.first.fill(0, gates, 0);
-        watch
-    }
-
     #[inline(always)]
     fn add(&mut self, group: usize, watched: u8) {
         self.next.set(group, self.first.get(watched));
         self.first.set(watched, group as u8);
     }
+}
 
+/// The groups that are to be looked at again.
+struct Awake {
+    groups: [u64; 4],
+    count: usize,
+}
+
+impl Awake {
     /// A group is written: those that watch it are to be looked at again.
     #[inline(always)]
-    fn wake(&mut self, group: usize) {
-        let mut watching = self.first.get(group);
+    fn add_watching(&mut self, watch: &Watch, group: usize) {
+        let mut watching = watch.first.get(group);
         while watching != 0 {
-            self.awake[usize::from(watching >> 6)] |= 1 << (watching & 63);
-            self.awake_count += 1;
-            watching = self.next.get(watching);
+            self.groups[usize::from(watching >> 6)] |= 1 << (watching & 63);
+            self.count += 1;
+            watching = watch.next.get(watching);
         }
     }
 
-    /// Takes the lowest group that is to be looked at again.
+    /// Takes the lowest.
     #[inline(always)]
     fn lowest(&mut self) -> Option<usize> {
-        if self.awake_count == 0 {
+        if self.count == 0 {
             return None;
         }
         let mut word = 0;
-        while self.awake[word & 3] == 0 {
+        while self.groups[word & 3] == 0 {
             word += 1;
         }
-        let set = &mut self.awake[word & 3];
+        let set = &mut self.groups[word & 3];
         let group = 64 * word + set.trailing_zeros() as usize;
         *set &= *set - 1;
-        self.awake_count -= 1;
+        self.count -= 1;
         Some(group)
     }
 }
@@ -137,11 +130,20 @@ pub fn order(circuit: &mut Planned, plan: &[u8], taken: &mut impl Taken) -> bool
         circuit.wires.set(variable, variable as u16);
     }
     circuit.wires.fill(variables, gates, UNWRITTEN as u8);
+    let mut watch = Watch {
+        first: Places::new(),
+        next: Places::new(),
+    };
+    watch.first.fill(0, gates, 0);
     let mut turn = Turn {
         circuit,
         plan,
         taken,
-        watch: Watch::new(gates),
+        watch: &mut watch,
+        awake: Awake {
+            groups: [0; 4],
+            count: 0,
+        },
         wire: variables,
     };
     let mut next = variables;
@@ -163,7 +165,8 @@ struct Turn<'a, T> {
     circuit: &'a mut Planned,
     plan: &'a [u8],
     taken: &'a mut T,
-    watch: Watch,
+    watch: &'a mut Watch,
+    awake: Awake,
     /// The next wire.
     wire: usize,
 }
@@ -180,7 +183,7 @@ impl<T: Taken> Turn<'_, T> {
             } else if marks & INNER == 0 {
                 self.look_joined(gate);
             }
-            match self.watch.lowest() {
+            match self.awake.lowest() {
                 Some(awoken) => gate = awoken,
                 None => return,
             }
@@ -198,7 +201,7 @@ impl<T: Taken> Turn<'_, T> {
         self.wire += 1;
         self.taken.alone(self.circuit, gate, row);
         if WATCHED {
-            self.watch.wake(gate);
+            self.awake.add_watching(self.watch, gate);
         }
     }
 
@@ -216,7 +219,7 @@ impl<T: Taken> Turn<'_, T> {
             self.circuit.wires.set(gate, (self.wire - 1) as u16);
         }
         self.taken.joined(self.circuit, self.plan, begins);
-        self.watch.wake(first);
+        self.awake.add_watching(self.watch, first);
     }
 
     #[inline(always)]
