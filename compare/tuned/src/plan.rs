@@ -76,14 +76,19 @@ impl Planned {
     #[inline(always)]
     pub fn check(&mut self, plan: &[u8]) -> u8 {
         if plan.len() < PLAN_BYTES_MIN || plan.len() > PLAN_BYTES_MAX {
-            return 20;
+            20
+        } else if plan[..5] != PLAN_MARK {
+            21
+        } else if usize::from(two(plan, 5)) != self.gates {
+            22
+        } else {
+            self.check_groups(plan)
         }
-        if plan[..5] != PLAN_MARK {
-            return 21;
-        }
-        if usize::from(two(plan, 5)) != self.gates {
-            return 22;
-        }
+    }
+
+    /// Rows 23 to 29, likewise.
+    #[inline(always)]
+    fn check_groups(&mut self, plan: &[u8]) -> u8 {
         self.marks.fill(0, self.gates, 0);
         self.group
             .copy_from(&const { rising::<GATES_MAX>() }, self.gates);

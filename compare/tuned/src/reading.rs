@@ -7,9 +7,12 @@
 //! variables, a variable) are each tested whole, the first two by one wide load; what does not fit such a
 //! test is read byte by byte, and only there refusals are told apart.
 
+mod gates;
+
 use crate::answer::Answer;
 use crate::law::*;
 use crate::places::{byte, eight, four, rising, Places};
+use gates::{Value, BIT_ADDS, START_ADDS, WORD_ADDS};
 use std::num::NonZeroUsize;
 
 /// Gates are only numbered: rows 10 and 11 ask for no more.
@@ -25,28 +28,6 @@ pub const RUN: u8 = 3;
 const NO_KIND: u8 = 0;
 const WORDS: u8 = 1;
 const BITS: u8 = 2;
-
-/// What a gate adds to the sums: one gate, its cost, and the bytes of its record when alone. They lie in one
-/// number, since one addition then serves for all three.
-const fn adds(cost: u8, bytes: u64) -> u64 {
-    1 | (cost as u64) << 20 | bytes << 42
-}
-
-const START_ADDS: u64 = adds(0, 2);
-const WORD_ADDS: u64 = adds(0, 5);
-const BIT_ADDS: u64 = adds(0, 2);
-const NOT_ADDS: u64 = adds(0, 3);
-const CHOICE_ADDS: u64 = adds(CHOICE_COST, 7);
-/// Of the operations on two arguments, by the lowest three bits of their codes.
-const ADDS: [u64; 8] = {
-    let mut all = [0; 8];
-    let mut code = 0;
-    while code < 8 {
-        all[code] = adds(COSTS[code], 5);
-        code += 1;
-    }
-    all
-};
 
 /// The kind that a code gives; none for a variable's and for what is no expression.
 const GIVES: [u8; 256] = {
@@ -71,27 +52,6 @@ const TAKES: [u8; 256] = {
     }
     all
 };
-
-/// An expression read: its gate in the high half and, when running, its figure in the low half.
-#[derive(Clone, Copy)]
-struct Value(u64);
-
-impl Value {
-    #[inline(always)]
-    fn new(gate: u8, figure: u32) -> Value {
-        Value(u64::from(gate) << 32 | u64::from(figure))
-    }
-
-    #[inline(always)]
-    fn gate(self) -> u8 {
-        (self.0 >> 32) as u8
-    }
-
-    #[inline(always)]
-    fn figure(self) -> u32 {
-        self.0 as u32
-    }
-}
 
 /// The place after what was read, and what it gives; none if it was refused. As a place after something is
 /// never 0, both come back in registers.
@@ -156,22 +116,6 @@ impl Reader {
     }
 
     #[inline(always)]
-    pub fn gates(&self) -> usize {
-        (self.sums & 0xF_FFFF) as usize
-    }
-
-    #[inline(always)]
-    pub fn cost(&self) -> usize {
-        (self.sums >> 20 & 0x3F_FFFF) as usize
-    }
-
-    /// The bytes of the records of all gates, each alone.
-    #[inline(always)]
-    pub fn bytes(&self) -> usize {
-        (self.sums >> 42) as usize
-    }
-
-    #[inline(always)]
     pub fn accepted(&self) -> Answer {
         Answer {
             gates: self.gates(),
@@ -199,94 +143,10 @@ impl Reader {
         }
     }
 
-    // Variables are handed on as they lie in a wide load, with other bytes above them.
-
+    /// A variable's kind. It is handed on as it lies in a wide load, with other bytes above it.
     #[inline(always)]
     fn kind(&self, variable: u64) -> u8 {
         self.kinds[(variable & 255) as usize]
-    }
-
-    #[inline(always)]
-    fn variable<const DO: u8>(&self, variable: u64) -> Value {
-        let variable = (variable & 31) as usize;
-        let figure = if DO == RUN {
-            self.figures.get(variable)
-        } else {
-            0
-        };
-        Value::new(self.present[variable], figure)
-    }
-
-    /// Gives a variable its value; the variable, as a set.
-    #[inline(always)]
-    fn assign<const DO: u8>(&mut self, variable: u64, value: Value) -> u32 {
-        let variable = (variable & 31) as usize;
-        self.present[variable] = value.gate();
-        if DO == RUN {
-            self.figures.set(variable, value.figure());
-        }
-        1 << variable
-    }
-
-    /// One gate more: its code and up to three arguments. A place that it does not have names gate 0.
-    #[inline(always)]
-    fn push<const DO: u8>(&mut self, adds: u64, code: u8, [x, y, z]: [u8; 3]) -> u8 {
-        let number = self.sums as u8;
-        self.sums += adds;
-        unsafe {
-            if DO == MAKE {
-                let row = u32::from_le_bytes([code, x, y, z]);
-                *self.rows.add(usize::from(number)) = row;
-            }
-            if DO == SHOW {
-                let row = [code, x, y, z].map(u32::from);
-                *self.rows.add(4 * usize::from(number)).cast() = row;
-            }
-        }
-        number
-    }
-
-    #[inline(always)]
-    fn push_constant<const DO: u8>(&mut self, adds: u64, code: u8, figure: u32) -> Value {
-        let number = self.push::<DO>(adds, code, [0; 3]);
-        unsafe {
-            if DO == MAKE {
-                *self.constants.add(usize::from(number)) = figure;
-            }
-            if DO == SHOW {
-                *self.rows.add(4 * usize::from(number) + 1) = figure;
-            }
-        }
-        Value::new(number, figure)
-    }
-
-    /// An operation on two arguments. It is written without branches: which argument is the lower one is not
-    /// foreseen.
-    #[inline(always)]
-    fn push_two<const DO: u8>(&mut self, code: u8, first: Value, second: Value) -> Value {
-        let (one, other) = (first.gate(), second.gate());
-        let (low, high) = (one.min(other), one.max(other));
-        let (x, y) = if lower_first(code) {
-            (low, high)
-        } else {
-            (one, other)
-        };
-        let number = self.push::<DO>(ADDS[usize::from(code & 7)], code, [x, y, 0]);
-        let figure = if DO == RUN {
-            work_out(code, first.figure(), second.figure())
-        } else {
-            0
-        };
-        Value::new(number, figure)
-    }
-
-    /// "Not". A packed row names its argument twice, so that rows of one and of two arguments are read alike.
-    #[inline(always)]
-    fn push_not<const DO: u8>(&mut self, first: Value) -> Value {
-        let x = first.gate();
-        let again = if DO == SHOW { 0 } else { x };
-        let number = self.push::<DO>(NOT_ADDS, NOT, [x, again, 0]);
-        Value::new(number, work_out(NOT, first.figure(), 0))
     }
 
     /// The size, the mark and version, V and the kinds. Starting values are gates 0 to V - 1.
@@ -418,22 +278,6 @@ impl Reader {
             self.choose::<DO>(test.gate(), assigned, &first);
         }
         Some((end, assigned))
-    }
-
-    /// A choice gate for each variable assigned in either block of an if.
-    #[inline(always)]
-    fn choose<const DO: u8>(&mut self, test: u8, assigned: u32, first: &[u8; VARIABLES_MAX]) {
-        let word = &mut self.marked[usize::from(test >> 6)];
-        let bit = 1 << (test & 63);
-        self.conditions += usize::from(*word & bit == 0);
-        *word |= bit;
-        let mut left = assigned;
-        while left != 0 {
-            let x = left.trailing_zeros() as usize;
-            left &= left - 1;
-            let arguments = [test, first[x], self.present[x]];
-            self.present[x] = self.push::<DO>(CHOICE_ADDS, CHOICE, arguments);
-        }
     }
 
     /// An expression in its place: a variable here, all else by a call. `depth` is how deep it may be.
