@@ -1,6 +1,6 @@
-//! Many random cases given to two tools, in blocks, each block by whichever thread is free.
+//! Many random cases given to several tools, in blocks, each block by whichever thread is free.
 
-use crate::differ::{difference, outcome};
+use crate::differ::differences;
 use crate::tool::Tool;
 use compare::generate::{cases, Random};
 use compare::stream::Case;
@@ -40,17 +40,17 @@ impl Tally {
     }
 }
 
-/// Gives both tools the cases of a block.
-fn block(one: &dyn Tool, other: &dyn Tool, seed: u64, block: u64, count: u64) -> Tally {
+/// Gives every tool the cases of a block.
+fn block(tools: &[&dyn Tool], seed: u64, block: u64, count: u64) -> Tally {
     let mut random = Random::new(seed.wrapping_mul(0x1_0000_0001).wrapping_add(block));
     let mut tally = Tally::default();
     for _ in 0..count {
         let case = cases::case(&mut random);
-        let (first, second) = (outcome(one, &case), outcome(other, &case));
-        let by = tally.counts.entry(second.answer.number).or_default();
+        let (answer, differs) = differences(tools, &case);
+        let by = tally.counts.entry(answer.number).or_default();
         by[usize::from(case.operation)] += 1;
         tally.cases += 1;
-        if let Some(text) = difference(&first, &second) {
+        if let Some(text) = differs {
             tally.differing += 1;
             if tally.kept.len() < KEPT {
                 tally.kept.push((block, case, text));
@@ -60,8 +60,8 @@ fn block(one: &dyn Tool, other: &dyn Tool, seed: u64, block: u64, count: u64) ->
     tally
 }
 
-/// Gives both tools so many cases of a seed. The tally does not rest on the number of threads.
-pub fn compare(one: &dyn Tool, other: &dyn Tool, seed: u64, cases: u64) -> Tally {
+/// Gives every tool so many cases of a seed. The tally does not rest on the number of threads.
+pub fn compare(tools: &[&dyn Tool], seed: u64, cases: u64) -> Tally {
     let blocks = cases.div_ceil(BLOCK);
     let next = AtomicU64::new(0);
     let whole = Mutex::new(Tally::default());
@@ -74,7 +74,7 @@ pub fn compare(one: &dyn Tool, other: &dyn Tool, seed: u64, cases: u64) -> Tally
                     return;
                 }
                 let count = BLOCK.min(cases - turn * BLOCK);
-                let tally = block(one, other, seed, turn, count);
+                let tally = block(tools, seed, turn, count);
                 whole.lock().expect("no thread panics").add(tally);
             });
         }

@@ -1,4 +1,4 @@
-//! One case given to two tools: the same answer, and every byte that was lent the same afterwards.
+//! One case given to several tools: the same answer, and every byte that was lent the same afterwards.
 
 use crate::tool::{Shown, Tool};
 use compare::answer::Answer;
@@ -69,6 +69,22 @@ fn with_bytes(case: &Case, call: impl Fn(&mut [u8]) -> Answer) -> Outcome {
         bytes,
         ..answered(answer)
     }
+}
+
+/// A case given to every tool: the first one's answer, and where others differ from it, in words, if any does.
+pub fn differences(tools: &[&dyn Tool], case: &Case) -> (Answer, Option<String>) {
+    let first = outcome(tools[0], case);
+    let mut text = String::new();
+    for other in &tools[1..] {
+        if let Some(more) = difference(&first, &outcome(*other, case)) {
+            text.push_str(&format!(
+                "{} and {}:\n{more}",
+                tools[0].name(),
+                other.name()
+            ));
+        }
+    }
+    (first.answer, (!text.is_empty()).then_some(text))
 }
 
 /// Where two outcomes differ, in words; none if they are the same.

@@ -1,42 +1,32 @@
-//! The rules and plans that are measured: R1, and ladders of nested ifs of just so many gates with
-//! costly operations in exclusive branches, a fifth of the gates joined by the plan.
+//! Rules and plans of just so many gates: ladders of nested ifs with costly operations in exclusive branches,
+//! a fifth of the gates joined, and two sorts of plan that are hard to order.
 
+use crate::subject::{Goal, Row, Subject};
 use compare::circuit::{accept, make, preconditions};
-use compare::examples::{P1, R1};
 use compare::generate::plans::{bytes_of as plan_bytes, Ground, Groups};
 use compare::law::*;
 use compare::rule::{bytes_of, Block, Expression, Rule, Statement};
 
-/// A rule, a plan that is accepted for it, and inputs.
-pub struct Subject {
-    pub name: String,
-    pub rule: Vec<u8>,
-    pub plan: Vec<u8>,
-    pub inputs: Vec<u32>,
-    pub conditions: usize,
-    /// Gates in groups of the plan.
-    pub joined: usize,
-}
-
 /// Gates and the ifs nested in each other, which are as many conditions.
 const LADDERS: [(usize, usize); 4] = [(32, 2), (64, 4), (128, 6), (256, 6)];
-/// Variables: v0 a bit, v1 to v4 words, v5 a bit.
+/// Variables of a ladder: v0 a bit, v1 to v4 words, v5 a bit.
 const WORDS: usize = 4;
 
-pub fn subjects() -> Vec<Subject> {
-    let mut all = vec![Subject {
-        name: "R1".into(),
-        rule: R1.to_vec(),
-        plan: P1.to_vec(),
-        inputs: vec![1, 6, 7],
-        conditions: 1,
-        joined: 2,
-    }];
-    for (gates, ifs) in LADDERS {
+pub fn ladders() -> Vec<Row> {
+    let row = |(gates, ifs)| {
         let rule = rule_of(gates, ifs);
-        all.push(subject(gates, &rule));
+        let subject = subject(&rule, &pairs(gates, &rule), vec![0, 5, 6, 7, 8, 1]);
+        Row::one(format!("{gates} gates"), subject, Goal::Ladder)
+    };
+    LADDERS.into_iter().map(row).collect()
+}
+
+fn subject(rule: &Rule, groups: &Groups, inputs: Vec<u32>) -> Subject {
+    Subject {
+        rule: bytes_of(rule),
+        plan: plan_bytes(make(rule).gates.len(), groups),
+        inputs,
     }
-    all
 }
 
 fn word(turn: usize) -> Expression {
@@ -100,10 +90,10 @@ fn rule_of(gates: usize, ifs: usize) -> Rule {
     rule
 }
 
-/// The rule with pairs of costly gates joined, the first that the check accepts, to a fifth of all.
-fn subject(gates: usize, rule: &Rule) -> Subject {
-    let bytes = bytes_of(rule);
-    let circuit = accept(&bytes).expect("a rule within the limits").circuit;
+/// Pairs of costly gates, the first that the check accepts, to a fifth of all.
+fn pairs(gates: usize, rule: &Rule) -> Groups {
+    let accepted = accept(&bytes_of(rule)).expect("a rule within the limits");
+    let circuit = accepted.circuit;
     let needs = preconditions(&circuit);
     let ground = Ground::new(&circuit, &needs);
     let pairs = (gates + 5) / 10;
@@ -127,12 +117,44 @@ fn subject(gates: usize, rule: &Rule) -> Subject {
         }
     }
     assert_eq!((circuit.gates.len(), groups.len()), (gates, pairs));
-    Subject {
-        name: format!("{gates} gates"),
-        plan: plan_bytes(gates, &groups),
-        rule: bytes,
-        inputs: vec![0, 5, 6, 7, 8, 1],
-        conditions: circuit.conditions.len(),
-        joined: 2 * pairs,
+    groups
+}
+
+fn if_v0(first: Block, second: Block, words: usize) -> Rule {
+    let mut kinds = vec![Kind::Word; 1 + words];
+    kinds[0] = Kind::Bit;
+    Rule {
+        kinds,
+        block: vec![Statement::If(Expression::Variable(0), first, second)],
     }
+}
+
+fn assign(variable: usize, code: u8, first: usize, second: usize) -> Statement {
+    let [first, second] = [first, second].map(Expression::Variable);
+    Statement::Assign(variable, two(code, first, second))
+}
+
+/// If v0 then so many times v1 := v2 × v2 else as often v1 := v1 × v1, the first product of the one block
+/// joined with the last of the other and so on: each group waits for the one after it.
+pub fn reversed(gates: usize) -> Row {
+    let products = (gates - 4) / 2;
+    let block = |argument| vec![assign(1, PRODUCT, argument, argument); products];
+    let groups = (0..products)
+        .map(|turn| vec![3 + turn, 3 + 2 * products - 1 - turn])
+        .collect();
+    let subject = subject(&if_v0(block(2), block(1), 2), &groups, vec![0, 3, 5]);
+    Row::one(format!("{gates} reversed"), subject, Goal::None)
+}
+
+/// If v0 then v1 := v2 × v2 and so many times v3 := v1 + v2, else as often v1 := v1 + v2 and at last
+/// v1 := v1 × v1, the two products joined: the first block's sums wait for all of the second's.
+pub fn held_up(gates: usize) -> Row {
+    let sums = (gates - 8) / 2;
+    let mut first = vec![assign(1, PRODUCT, 2, 2)];
+    first.extend(vec![assign(3, SUM, 1, 2); sums]);
+    let mut second = vec![assign(1, SUM, 1, 2); sums];
+    second.push(assign(1, PRODUCT, 1, 1));
+    let groups = vec![vec![4, 5 + 2 * sums]];
+    let subject = subject(&if_v0(first, second, 3), &groups, vec![0, 3, 5, 7]);
+    Row::one(format!("{gates} held up"), subject, Goal::None)
 }

@@ -1,7 +1,11 @@
-//! The proved tool and the second implementation side by side: cases compared, calls measured.
+//! The proved tool and its implementations in plain and in tuned Rust side by side: cases compared, calls measured.
 
+pub mod calls;
 pub mod cases;
 pub mod differ;
 pub mod ladder;
 pub mod measure;
+pub mod mixed;
+pub mod page;
+pub mod subject;
 pub mod tool;

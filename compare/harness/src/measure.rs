@@ -1,45 +1,75 @@
-//! Two calls measured in turns, so that other work of the machine falls on both.
+//! Several callers measured in turns, so that other work of the machine falls on all.
 
+use crate::subject::Subject;
+use std::hint::black_box;
 use std::time::{Duration, Instant};
 
-/// A turn makes as many calls as take about so long by the slower one.
+/// A turn makes as many calls on one subject as take about so long.
 const TURN: Duration = Duration::from_micros(100);
+/// Of many subjects in a row so many are timed together: a piece is short enough for one of its times to be
+/// free of other work.
+const PIECE: usize = 100;
 
-/// Nanoseconds a call: the median over the turns, of either.
-pub struct Medians {
-    pub one: f64,
-    pub other: f64,
+/// Calls one operation of one tool so many times on each subject: how long that took.
+pub type Caller = Box<dyn FnMut(&[Subject], u32) -> Duration>;
+
+/// The loop is made together with the call, so that nothing but the call lies between two of them.
+pub fn caller<T>(mut call: impl FnMut(&Subject) -> T + 'static) -> Caller {
+    Box::new(move |subjects, times| {
+        let start = Instant::now();
+        for _ in 0..times {
+            for subject in subjects {
+                black_box(call(black_box(subject)));
+            }
+        }
+        start.elapsed()
+    })
 }
 
-fn time(calls: u32, call: &mut dyn FnMut()) -> Duration {
-    let start = Instant::now();
-    for _ in 0..calls {
-        call();
-    }
-    start.elapsed()
+/// Nanoseconds a call; of several pieces, on average over these.
+#[derive(Clone, Copy, Debug, Default)]
+pub struct Times {
+    pub median: f64,
+    pub least: f64,
 }
 
-/// Turn by turn some calls of the one and some of the other, the order changing with every turn.
-pub fn measure(turns: usize, one: &mut dyn FnMut(), other: &mut dyn FnMut()) -> Medians {
-    let calls_of = |call: &mut dyn FnMut()| {
-        let once = time(100, call) / 100;
-        (TURN.as_nanos() / once.as_nanos().max(1)).clamp(1, 100_000) as u32
-    };
-    let calls = [calls_of(one), calls_of(other)];
-    let mut times = [Vec::new(), Vec::new()];
+/// Turn by turn each caller on all subjects in a row; who is first changes with every turn.
+pub fn measure(turns: usize, callers: &mut [Caller], subjects: &[Subject]) -> Vec<Times> {
+    let calls: Vec<u32> = callers
+        .iter_mut()
+        .map(|caller| calls_a_turn(caller, subjects))
+        .collect();
+    let pieces = subjects.len().div_ceil(PIECE);
+    let mut taken = vec![vec![Vec::new(); pieces]; callers.len()];
     for turn in 0..turns {
-        for half in 0..2 {
-            let which = (turn + half) % 2;
-            let call: &mut dyn FnMut() = if which == 0 { one } else { other };
-            let took = time(calls[which], call).as_nanos() as f64;
-            times[which].push(took / f64::from(calls[which]));
+        for place in 0..callers.len() {
+            let which = (turn + place) % callers.len();
+            for (piece, taken) in subjects.chunks(PIECE).zip(&mut taken[which]) {
+                let took = callers[which](piece, calls[which]).as_nanos() as f64;
+                taken.push(took / f64::from(calls[which]));
+            }
         }
     }
-    let [one, other] = times.map(median);
-    Medians { one, other }
+    let of_all = |taken: Vec<Vec<f64>>| sum(taken, subjects.len() as f64);
+    taken.into_iter().map(of_all).collect()
 }
 
-fn median(mut times: Vec<f64>) -> f64 {
-    times.sort_by(f64::total_cmp);
-    times[times.len() / 2]
+fn calls_a_turn(caller: &mut Caller, subjects: &[Subject]) -> u32 {
+    if subjects.len() > 1 {
+        return 1;
+    }
+    caller(subjects, 100);
+    let once = caller(subjects, 100) / 100;
+    (TURN.as_nanos() / once.as_nanos().max(1)).clamp(1, 100_000) as u32
+}
+
+/// The pieces' medians and least times, added up.
+fn sum(pieces: Vec<Vec<f64>>, subjects: f64) -> Times {
+    let mut sum = Times::default();
+    for mut taken in pieces {
+        taken.sort_by(f64::total_cmp);
+        sum.median += taken[taken.len() / 2] / subjects;
+        sum.least += taken[0] / subjects;
+    }
+    sum
 }

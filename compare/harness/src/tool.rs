@@ -1,8 +1,9 @@
-//! The six operations as the harness calls them, of either implementation.
+//! The six operations as the harness calls them, of each implementation.
 
 use compare::answer::Answer;
 use compare::circuit::{accept, preconditions, Circuit, Gate, Settings};
 use compare::law::{CONDITIONS_MAX, GATES_MAX};
+use std::mem::MaybeUninit;
 
 /// What operation 06 gives: the answer, four numbers a gate, and preconditions; zeros after them.
 #[derive(Clone, Debug, PartialEq, Eq)]
@@ -13,6 +14,8 @@ pub struct Shown {
 }
 
 pub trait Tool: Sync {
+    /// As the harness names it where it tells of a difference.
+    fn name(&self) -> &'static str;
     fn read_rule(&self, rule: &[u8]) -> Answer;
     fn run_rule(&self, rule: &[u8], inputs: &[u32], results: &mut [u32]) -> Answer;
     fn check_plan(&self, rule: &[u8], plan: &[u8]) -> Answer;
@@ -21,46 +24,57 @@ pub trait Tool: Sync {
     fn show_plain(&self, rule: &[u8]) -> Shown;
 }
 
+/// All that are compared; the others are held against the first.
+pub const TOOLS: [&dyn Tool; 4] = [&Proved, &Plain, &Tuned::Written, &Tuned::Unwritten];
+
+/// Each implementation has an answer of its own, of the same seven numbers.
+macro_rules! of {
+    ($answer:expr) => {{
+        let answer = $answer;
+        Answer {
+            number: answer.number,
+            place: answer.place,
+            gates: answer.gates,
+            wires: answer.wires,
+            bytes: answer.bytes,
+            before: answer.before,
+            after: answer.after,
+        }
+    }};
+}
+
 /// The proved tool, through the library that C and Rust programs link.
 pub struct Proved;
 
-fn of(answer: linnet::Answer) -> Answer {
-    Answer {
-        number: answer.number,
-        place: answer.place,
-        gates: answer.gates,
-        wires: answer.wires,
-        bytes: answer.bytes,
-        before: answer.before,
-        after: answer.after,
-    }
-}
-
 impl Tool for Proved {
+    fn name(&self) -> &'static str {
+        "proved"
+    }
+
     fn read_rule(&self, rule: &[u8]) -> Answer {
-        of(linnet::read_rule(rule))
+        of!(linnet::read_rule(rule))
     }
 
     fn run_rule(&self, rule: &[u8], inputs: &[u32], results: &mut [u32]) -> Answer {
-        of(linnet::run_rule(rule, inputs, results))
+        of!(linnet::run_rule(rule, inputs, results))
     }
 
     fn check_plan(&self, rule: &[u8], plan: &[u8]) -> Answer {
-        of(linnet::check_plan(rule, plan))
+        of!(linnet::check_plan(rule, plan))
     }
 
     fn write_fused(&self, rule: &[u8], plan: &[u8], out: &mut [u8]) -> Answer {
-        of(linnet::write_fused(rule, plan, out))
+        of!(linnet::write_fused(rule, plan, out))
     }
 
     fn run_fused(&self, rule: &[u8], plan: &[u8], inputs: &[u32], results: &mut [u32]) -> Answer {
-        of(linnet::run_fused(rule, plan, inputs, results))
+        of!(linnet::run_fused(rule, plan, inputs, results))
     }
 
     fn show_plain(&self, rule: &[u8]) -> Shown {
         let shown = linnet::show_plain(rule);
         Shown {
-            answer: of(shown.answer),
+            answer: of!(shown.answer),
             rows: shown.rows,
             needs: shown.needs,
         }
@@ -71,6 +85,10 @@ impl Tool for Proved {
 pub struct Plain;
 
 impl Tool for Plain {
+    fn name(&self) -> &'static str {
+        "plain"
+    }
+
     fn read_rule(&self, rule: &[u8]) -> Answer {
         compare::circuit::read_rule(rule)
     }
@@ -104,6 +122,56 @@ impl Tool for Plain {
             }
         }
         shown
+    }
+}
+
+/// The tuned implementation; it has two ways of running a fused circuit.
+pub enum Tuned {
+    /// From the bytes of the file, as the proved tool does.
+    Written,
+    /// Without a file.
+    Unwritten,
+}
+
+impl Tool for Tuned {
+    fn name(&self) -> &'static str {
+        match self {
+            Tuned::Written => "tuned",
+            Tuned::Unwritten => "tuned, without a file",
+        }
+    }
+
+    fn read_rule(&self, rule: &[u8]) -> Answer {
+        of!(tuned::read_rule(rule))
+    }
+
+    fn run_rule(&self, rule: &[u8], inputs: &[u32], results: &mut [u32]) -> Answer {
+        of!(tuned::run_rule(rule, inputs, results))
+    }
+
+    fn check_plan(&self, rule: &[u8], plan: &[u8]) -> Answer {
+        of!(tuned::check_plan(rule, plan))
+    }
+
+    fn write_fused(&self, rule: &[u8], plan: &[u8], out: &mut [u8]) -> Answer {
+        of!(tuned::write_fused(rule, plan, out))
+    }
+
+    fn run_fused(&self, rule: &[u8], plan: &[u8], inputs: &[u32], results: &mut [u32]) -> Answer {
+        of!(match self {
+            Tuned::Written => tuned::run_fused(rule, plan, inputs, results),
+            Tuned::Unwritten => tuned::run_fused_unwritten(rule, plan, inputs, results),
+        })
+    }
+
+    fn show_plain(&self, rule: &[u8]) -> Shown {
+        let mut room = MaybeUninit::uninit();
+        let shown = tuned::show_plain(rule, &mut room);
+        Shown {
+            answer: of!(shown.answer),
+            rows: shown.rows,
+            needs: shown.needs,
+        }
     }
 }
 

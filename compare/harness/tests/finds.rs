@@ -1,9 +1,12 @@
-//! The harness finds what differs, the two tools agree, and what is measured is what it is said to be.
+//! The harness finds what differs, the three tools agree, and what is measured is what it is said to be.
 
 use compare::answer::Answer;
+use compare::law::VARIABLES_MAX;
+use compare::plan::accept_both;
 use harness::cases::compare as compare_tools;
-use harness::ladder::subjects;
-use harness::tool::{plain_circuit, Plain, Proved, Shown, Tool};
+use harness::subject::{r1, Row, Subject};
+use harness::tool::{plain_circuit, Plain, Proved, Shown, Tool, Tuned, TOOLS};
+use harness::{ladder, mixed};
 
 /// What a wrong tool does wrong; the rest it does as the second implementation does.
 #[derive(Clone, Copy, Debug, PartialEq, Eq)]
@@ -34,6 +37,10 @@ impl Wrong {
 }
 
 impl Tool for Wrong {
+    fn name(&self) -> &'static str {
+        "wrong"
+    }
+
     fn read_rule(&self, rule: &[u8]) -> Answer {
         let mut answer = Plain.read_rule(rule);
         if self.0 == Fault::Place && answer.number == 7 {
@@ -72,6 +79,7 @@ impl Tool for Wrong {
     }
 }
 
+/// Whichever of the three tools has the fault, the others show it.
 #[test]
 fn every_fault_is_found() {
     for fault in [
@@ -81,24 +89,39 @@ fn every_fault_is_found() {
         Fault::Row,
         Fault::Precondition,
     ] {
-        let tally = compare_tools(&Wrong(fault), &Plain, 5, 1200);
-        assert_eq!(tally.cases, 1200);
-        assert!(tally.differing > 0, "{fault:?} is not found");
-        assert_eq!(
-            tally.kept.len() as u64,
-            tally.differing.min(10),
-            "{fault:?}"
-        );
+        let wrong = Wrong(fault);
+        let three: [[&dyn Tool; 3]; 3] = [
+            [&wrong, &Plain, &Tuned::Written],
+            [&Proved, &wrong, &Tuned::Written],
+            [&Proved, &Plain, &wrong],
+        ];
+        for (place, tools) in three.iter().enumerate() {
+            let tally = compare_tools(tools, 5, 600);
+            assert_eq!(tally.cases, 600);
+            assert!(tally.differing > 0, "{fault:?} is not found at {place}");
+            assert_eq!(tally.kept.len() as u64, tally.differing.min(10));
+            let named = |text: &String| text.contains("wrong");
+            assert!(tally.kept.iter().all(|(_, _, text)| named(text)));
+        }
     }
-    assert_eq!(
-        compare_tools(&Wrong(Fault::None), &Plain, 5, 1200).differing,
-        0
-    );
+    let right: [&dyn Tool; 3] = [&Proved, &Plain, &Wrong(Fault::None)];
+    assert_eq!(compare_tools(&right, 5, 600).differing, 0);
+}
+
+/// Where one of three is wrong, the other is not named.
+#[test]
+fn only_who_differs_is_named() {
+    let tools: [&dyn Tool; 3] = [&Proved, &Tuned::Written, &Wrong(Fault::Row)];
+    let tally = compare_tools(&tools, 5, 600);
+    assert!(tally.differing > 0);
+    let first = |text: &String| text.starts_with("proved and wrong:");
+    assert!(tally.kept.iter().all(|(_, _, text)| first(text)));
+    assert!(!tally.kept.iter().any(|(_, _, text)| text.contains("tuned")));
 }
 
 #[test]
-fn both_tools_agree() {
-    let tally = compare_tools(&Proved, &Plain, 1, 3000);
+fn all_tools_agree() {
+    let tally = compare_tools(&TOOLS, 1, 3000);
     for (_, case, text) in &tally.kept {
         println!("operation {:02X}: {text}", case.operation);
     }
@@ -108,30 +131,76 @@ fn both_tools_agree() {
 /// The same seed makes the same cases, whichever threads work on them.
 #[test]
 fn a_seed_decides() {
-    let [one, other] = [3, 3].map(|seed| compare_tools(&Wrong(Fault::Row), &Plain, seed, 1200));
+    let tools: [&dyn Tool; 2] = [&Wrong(Fault::Row), &Plain];
+    let [one, other] = [3, 3].map(|seed| compare_tools(&tools, seed, 1200));
     assert_eq!((one.counts, one.differing), (other.counts, other.differing));
     let cases = |kept: Vec<(u64, _, String)>| kept.into_iter().map(|(_, case, _)| case).collect();
     let [one, other]: [Vec<compare::stream::Case>; 2] = [cases(one.kept), cases(other.kept)];
     assert_eq!(one, other);
 }
 
-/// What is measured: so many gates, at most 6 conditions, each gate needed by some setting,
-/// a fifth of the gates joined, accepted.
+fn assert_accepted(subject: &Subject) {
+    let mut results = [0; VARIABLES_MAX];
+    let (rule, plan) = (&subject.rule, &subject.plan);
+    let answer = Plain.run_fused(rule, plan, &subject.inputs, &mut results);
+    assert_eq!((answer.number, answer.gates), (0, subject.gates()));
+    assert!(subject.conditions() <= 6);
+}
+
+/// One rule of just so many gates.
+fn only(row: &Row, gates: usize) -> &Subject {
+    let [subject] = &row.subjects[..] else {
+        panic!("{} is not one rule", row.name);
+    };
+    assert_accepted(subject);
+    assert_eq!(subject.gates(), gates);
+    subject
+}
+
+/// Every gate is needed by some setting, and a fifth is joined.
+
 #[test]
-fn subjects_are_what_they_are_said_to_be() {
-    let subjects = subjects();
-    assert_eq!(subjects.len(), 5);
-    for (subject, gates) in subjects.iter().zip([6, 32, 64, 128, 256]) {
-        let answer = compare::plan::check_plan(&subject.rule, &subject.plan);
-        assert_eq!((answer.number, answer.gates), (0, gates));
+fn ladders_are_what_they_are_said_to_be() {
+    assert_eq!(only(&r1(), 6).joined(), 2);
+    let ladders = ladder::ladders();
+    assert_eq!(ladders.len(), 4);
+    for (row, gates) in ladders.iter().zip([32, 64, 128, 256]) {
+        let subject = only(row, gates);
+        assert!(subject.joined().abs_diff(gates / 5) <= 1);
         let (_, needs) = plain_circuit(&subject.rule).expect("accepted");
         assert!(needs.iter().all(|needs| needs.0.contains(&true)));
-        assert!(subject.conditions <= 6);
-        if gates > 6 {
-            assert!(subject.joined.abs_diff(gates / 5) <= 1);
-        }
-        let mut results = vec![0; 32];
-        let run = Plain.run_rule(&subject.rule, &subject.inputs, &mut results);
-        assert_eq!(run.number, 0);
     }
+}
+
+/// Whether the group of one gate waits for that of another.
+fn waits(row: &Row, one: usize, other: usize) -> bool {
+    let subject = &row.subjects[0];
+    let accepted = accept_both(&subject.rule, &subject.plan);
+    let (_, plan) = accepted.expect("accepted");
+    plan.waits[plan.group_of[one]].contains(&plan.group_of[other])
+}
+
+/// Each of 126 pairs waits for the one after it.
+#[test]
+fn reversed_is_what_it_is_said_to_be() {
+    let row = ladder::reversed(256);
+    assert_eq!(only(&row, 256).joined(), 252);
+    assert!((3..128).all(|first| waits(&row, first, first + 1)));
+}
+
+/// The first block's sums, 5 to 128, wait for the pair, and this for a chain of the second's, 129 to 252.
+#[test]
+fn held_up_is_what_it_is_said_to_be() {
+    let row = ladder::held_up(256);
+    assert_eq!(only(&row, 256).joined(), 2);
+    assert!((5..129).all(|sum| waits(&row, sum, 4)));
+    assert!(waits(&row, 4, 252));
+    assert!((130..253).all(|sum| waits(&row, sum, sum - 1)));
+}
+
+#[test]
+fn mixed_rules_are_accepted() {
+    let row = mixed::mixed();
+    assert_eq!(row.subjects.len(), mixed::COUNT);
+    row.subjects.iter().for_each(assert_accepted);
 }

@@ -1,11 +1,11 @@
-//! `compare SEED CASES`: gives random cases to the proved tool and to the second implementation,
-//! and compares every answer, every byte written and all that was to stay untouched. Prints how many
-//! cases came to each number, by operation, then how many differ; the first differing ones go to
-//! `target/differing.cas`, a conformance stream. The exit status is 0 when none differs.
+//! `compare SEED CASES`: gives random cases to the proved tool and to the implementations in plain and
+//! in tuned Rust, and compares every answer, every byte written and all that was to stay untouched.
+//! Prints how many cases came to each number, by operation, then how many differ; the first differing
+//! ones go to `target/differing.cas`, a conformance stream. The exit status is 0 when none differs.
 
 use compare::stream::STREAM_MARK;
 use harness::cases::{compare, Tally};
-use harness::tool::{Plain, Proved};
+use harness::tool::TOOLS;
 use std::process::ExitCode;
 
 const STREAM: &str = "target/differing.cas";
@@ -17,8 +17,9 @@ fn main() -> ExitCode {
         eprintln!("compare SEED CASES");
         return ExitCode::from(2);
     };
-    let tally = compare(&Proved, &Plain, seed, cases);
+    let tally = compare(&TOOLS, seed, cases);
     print_counts(&tally);
+    println!("three tools: proved, plain Rust, tuned Rust (05 in both its ways)");
     println!("{} cases, {} differing", tally.cases, tally.differing);
     if tally.differing == 0 {
         return ExitCode::SUCCESS;
@@ -32,7 +33,6 @@ fn main() -> ExitCode {
         );
         print!("{text}");
     }
-    println!("\nThe proved tool's line stands first.");
     if let Err(error) = std::fs::write(STREAM, stream) {
         println!("{STREAM} cannot be written: {error}");
     }

@@ -1,0 +1,206 @@
+//! The page of measurements, in Markdown: a table an operation, then goals, then what the rules are.
+
+use crate::calls;
+use crate::measure::{measure, Times};
+use crate::mixed;
+use crate::subject::{Goal, Row};
+use compare::stream::{CHECK, DIRECT, FUSED, PLAIN, READ, WRITE};
+
+/// Operations measured, by number, as the page names them.
+pub const OPERATIONS: [(u8, &str); 6] = [
+    (READ, "01 read a rule"),
+    (DIRECT, "02 direct run"),
+    (CHECK, "03 check a plan"),
+    (WRITE, "04 write the circuit"),
+    (FUSED, "05 run the fused circuit, from the file's bytes"),
+    (PLAIN, "06 plain circuit and needed gates"),
+];
+
+const HEAD: &str = "\
+Nanoseconds a call: the median of TURNS turns, in brackets the least (of the mixed rules, hundred by hundred over MIXED
+turns). The tools are measured in one process, in turns, so that other work of the machine falls on all of them; it
+moves the least times least, and the goals at the end speak of these. A call is whole: it begins with the rule's
+bytes. Buffers are as the caller lends them, and lent again.
+
+- proved: the library `linnet`. It allocates nothing.
+- plain: `compare/`, Rust written to be compared with and not tuned (for needed gates one search a setting). It
+  allocates what it holds between, and gives a plain circuit in its own form.
+- tuned: `compare/tuned/`, Rust written for speed and proved by nobody: unsafe throughout, no allocation, one pass that
+  reads and makes gates, one wide load for statements of the form \"variable := operation on two variables\". The
+  ladders are mostly made of these, the reversed and the held up rule wholly.
+
+Rules, with the table at the end: R1 of document 01; ladders of nested ifs with products and comparisons in both blocks,
+a fifth of the gates joined; as many joined pairs as fit, each waiting for the one after it (reversed); half of the gates
+waiting for all of the other half (held up); and COUNT mixed rules, one call each in a row: the first COUNT accepted cases
+of operation 05 that the generator of `compare/run` makes from seed SEED, used for every operation.";
+
+/// The mixed rules are so many in a row that fewer turns do.
+pub fn mixed_turns(turns: usize) -> usize {
+    turns.div_ceil(5)
+}
+
+pub fn print_head(command: &str, turns: usize) {
+    let cores = std::thread::available_parallelism().map_or(1, |count| count.get());
+    println!("# The proved library beside plain and tuned Rust\n");
+    println!("Command: `{command}`, whose output this page is.");
+    println!(
+        "Machine: {}, {cores} cores, {} at work when this began.\n",
+        processor(),
+        load()
+    );
+    let head = HEAD
+        .replace("TURNS", &turns.to_string())
+        .replace("MIXED", &mixed_turns(turns).to_string())
+        .replace("COUNT", "2,000")
+        .replace("SEED", &mixed::SEED.to_string());
+    println!("{head}");
+}
+
+/// The processor's name, as Linux gives it.
+fn processor() -> String {
+    let text = std::fs::read_to_string("/proc/cpuinfo").unwrap_or_default();
+    let line = text.lines().find(|line| line.starts_with("model name"));
+    match line.and_then(|line| line.split_once(':')) {
+        Some((_, name)) => name.trim().to_string(),
+        None => "unknown".to_string(),
+    }
+}
+
+/// How many processes ran or waited to run in the last minute, on average, as Linux gives it.
+fn load() -> String {
+    let text = std::fs::read_to_string("/proc/loadavg").unwrap_or_default();
+    let load = text.split(' ').next().unwrap_or_default();
+    format!("{load} processes")
+}
+
+/// One operation on one row.
+pub struct Measured<'a> {
+    row: &'a Row,
+    proved: Times,
+    plain: Times,
+    tuned: Times,
+    /// Of the tuned implementation's fused run without a file.
+    unwritten: Option<Times>,
+}
+
+impl Measured<'_> {
+    /// How much longer the proved library takes, by the least times.
+    fn ratio(&self) -> f64 {
+        self.proved.least / self.tuned.least
+    }
+}
+
+pub fn measured(operation: u8, row: &Row, turns: usize) -> Measured<'_> {
+    let mut callers = vec![
+        calls::proved(operation),
+        calls::plain(operation),
+        calls::tuned(operation),
+    ];
+    if operation == FUSED {
+        callers.push(calls::tuned_unwritten());
+    }
+    let turns = match row.subjects.len() {
+        1 => turns,
+        _ => mixed_turns(turns),
+    };
+    let times = measure(turns, &mut callers, &row.subjects);
+    Measured {
+        row,
+        proved: times[0],
+        plain: times[1],
+        tuned: times[2],
+        unwritten: times.get(3).copied(),
+    }
+}
+
+/// The table of one operation, and for the fused run a line on the tuned implementation's other way.
+pub fn print_operation(name: &str, all: &[Measured]) {
+    println!("\n## {name}\n");
+    println!("| rule | proved, ns | plain, ns | tuned, ns | proved / plain | proved / tuned | proved, ns a gate |");
+    println!("|---|---:|---:|---:|---:|---:|---:|");
+    for one in all {
+        let gates = one.row.mean(|subject| subject.gates());
+        println!(
+            "| {} | {} | {} | {} | {} | {} | {:.1} ({:.1}) |",
+            one.row.name,
+            time(&one.proved),
+            time(&one.plain),
+            time(&one.tuned),
+            ratio(&one.proved, &one.plain),
+            ratio(&one.proved, &one.tuned),
+            one.proved.median / gates,
+            one.proved.least / gates
+        );
+    }
+    if all.iter().all(|one| one.unwritten.is_some()) {
+        print_unwritten(all);
+    }
+}
+
+fn time(times: &Times) -> String {
+    format!("{:.0} ({:.0})", times.median, times.least)
+}
+
+fn ratio(one: &Times, other: &Times) -> String {
+    let (median, least) = (one.median / other.median, one.least / other.least);
+    format!("{median:.2} ({least:.2})")
+}
+
+fn print_unwritten(all: &[Measured]) {
+    let text: Vec<String> = all
+        .iter()
+        .filter_map(|one| {
+            let least = one.unwritten?.least;
+            let times = one.proved.least / least;
+            Some(format!("{} {least:.0} ({times:.2})", one.row.name))
+        })
+        .collect();
+    println!("\nThe tuned implementation can also work the figures out as it orders, and write no file. That takes, by the");
+    println!(
+        "least times, with the ratio proved / tuned in brackets: {}.",
+        text.join("; ")
+    );
+}
+
+/// Kinds of rules with a goal, as the page names them, and the ratio that is to be reached.
+const GOALS: [(Goal, &str, f64); 3] = [
+    (Goal::Mixed, "mixed rules", 2.5),
+    (Goal::R1, "R1", 4.0),
+    (Goal::Ladder, "ladders", 4.0),
+];
+
+/// For each operation and kind of rules the greatest ratio, and whether it is low enough.
+pub fn print_goals(all: &[(&str, Vec<Measured>)]) {
+    println!("\n## Goals: proved / tuned at most, by the least times\n");
+    let heads = GOALS.map(|(_, name, most)| format!(" {name}: {most:.1} |"));
+    println!("| operation |{}", heads.concat());
+    println!("|---|---|---|---|");
+    for (name, measured) in all {
+        let cells = GOALS.map(|(goal, _, most)| {
+            let of_goal = measured.iter().filter(|one| one.row.goal == goal);
+            let worst = of_goal.map(Measured::ratio).fold(0.0, f64::max);
+            let met = if worst <= most { "met" } else { "**not met**" };
+            format!(" {worst:.2} {met} |")
+        });
+        println!("| {name} |{}", cells.concat());
+    }
+}
+
+/// What the rules are; of several in a row, on average.
+pub fn print_rows(rows: &[Row]) {
+    println!("\n## The rules\n");
+    println!("| rule | bytes | gates | conditions | plan, bytes | gates joined |");
+    println!("|---|---:|---:|---:|---:|---:|");
+    for row in rows {
+        let numbers = [
+            row.mean(|subject| subject.rule.len()),
+            row.mean(|subject| subject.gates()),
+            row.mean(|subject| subject.conditions()),
+            row.mean(|subject| subject.plan.len()),
+            row.mean(|subject| subject.joined()),
+        ];
+        let digits = usize::from(row.subjects.len() > 1);
+        let cells = numbers.map(|number| format!(" {number:.digits$} |"));
+        println!("| {} |{}", row.name, cells.concat());
+    }
+}

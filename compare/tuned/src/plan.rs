@@ -1,0 +1,174 @@
+//! A plan for a rule's circuit: rows 20 to 29 in one pass over its bytes, and what joining adds to the counts.
+
+use crate::law::*;
+use crate::needed::{counted, Conditions, Rested};
+use crate::places::{rising, two, Places};
+
+// What `marks` says of a gate: it is in a joined group; it is not the first there; its group is watched.
+pub const JOINED: u8 = 1;
+pub const INNER: u8 = 2;
+pub const WATCHED: u8 = 4;
+
+/// Wires that a joined group has beside its guards: two picks and the operation.
+pub const AFTER_GUARDS: usize = 3;
+
+/// A rule's circuit and a plan for it. Arrays hold something for each gate, and nothing after the gates.
+pub struct Planned {
+    pub gates: usize,
+    pub variables: usize,
+    /// The code in the lowest byte, then up to three argument gates in file order.
+    pub rows: Places<u32, GATES_MAX>,
+    pub constants: Places<u32, GATES_MAX>,
+    pub needs: Places<u64, GATES_MAX>,
+    pub conditions: Conditions,
+    pub conditions_count: usize,
+    /// 0 for a gate alone that nothing watches.
+    pub marks: Places<u8, GATES_MAX>,
+    /// The first member of each gate's group.
+    pub group: Places<u8, GATES_MAX>,
+    /// Of a joined first member: where its group begins in the plan.
+    pub begins: Places<u16, GATES_MAX>,
+    /// Of a joined member: the conditions that it rests on.
+    pub rests: Places<u8, GATES_MAX>,
+    /// Of a joined first member: the conditions that any member rests on.
+    pub group_rests: Places<u8, GATES_MAX>,
+    /// Of a joined first member: how many members are known to have arguments with wires.
+    pub passed: Places<u8, GATES_MAX>,
+    /// The wire of each gate's group, once it is written.
+    pub wires: Places<u16, GATES_MAX>,
+    /// What joining adds.
+    pub more_wires: usize,
+    pub more_bytes: usize,
+    pub more_cost: isize,
+}
+
+/// A member of the group that begins at a place of the plan.
+#[inline(always)]
+pub fn member(plan: &[u8], begins: usize, place: usize) -> usize {
+    usize::from(two(plan, begins + 1 + 2 * place))
+}
+
+impl Planned {
+    #[inline(always)]
+    pub fn new() -> Planned {
+        Planned {
+            gates: 0,
+            variables: 0,
+            rows: Places::new(),
+            constants: Places::new(),
+            needs: Places::new(),
+            conditions: [0; 8],
+            conditions_count: 0,
+            marks: Places::new(),
+            group: Places::new(),
+            begins: Places::new(),
+            rests: Places::new(),
+            group_rests: Places::new(),
+            passed: Places::new(),
+            wires: Places::new(),
+            more_wires: 0,
+            more_bytes: 0,
+            more_cost: 0,
+        }
+    }
+
+    /// Rows 20 to 29, the lowest that any place of the plan breaks, or 0.
+    #[inline(always)]
+    pub fn check(&mut self, plan: &[u8]) -> u8 {
+        if plan.len() < PLAN_BYTES_MIN || plan.len() > PLAN_BYTES_MAX {
+            20
+        } else if plan[..5] != PLAN_MARK {
+            21
+        } else if usize::from(two(plan, 5)) != self.gates {
+            22
+        } else {
+            self.check_groups(plan)
+        }
+    }
+
+    /// Rows 23 to 29, likewise.
+    #[inline(always)]
+    fn check_groups(&mut self, plan: &[u8]) -> u8 {
+        self.marks.fill(0, self.gates, 0);
+        self.group
+            .copy_from(&const { rising::<GATES_MAX>() }, self.gates);
+        let groups = usize::from(two(plan, 7));
+        let mut broken = 0;
+        let mut rested = Rested::NONE;
+        let mut place = PLAN_BYTES_MIN;
+        for _ in 0..groups {
+            let size = usize::from(*plan.get(place).unwrap_or(&u8::MAX));
+            let end = place + 1 + 2 * size;
+            if end > plan.len() {
+                return 23;
+            }
+            broken |= if size < 2 {
+                1 << 24
+            } else {
+                self.join(plan, place, size, &mut rested)
+            };
+            place = end;
+        }
+        if place != plan.len() {
+            return 23;
+        }
+        self.more_wires = AFTER_GUARDS * groups;
+        if broken == 0 {
+            0
+        } else {
+            broken.trailing_zeros() as u8
+        }
+    }
+
+    /// One group: the rows that it breaks, bit 25 for row 25 and so on. All are looked for at every member,
+    /// without a branch for each.
+    #[inline(always)]
+    fn join(&mut self, plan: &[u8], begins: usize, size: usize, rested: &mut Rested) -> u32 {
+        let first = member(plan, begins, 0);
+        if first >= self.gates {
+            return 1 << 25;
+        }
+        let code = self.rows.get(first) as u8;
+        let mut broken = 0;
+        let (mut seen, mut on, mut named) = (0, 0, 0);
+        let (mut least, mut mark) = (0, JOINED);
+        for place in 0..size {
+            let gate = member(plan, begins, place);
+            if gate >= self.gates || gate < least {
+                return 1 << 25;
+            }
+            least = gate + 1;
+            let needs = self.needs.get(gate);
+            let own = self.rows.get(gate) as u8;
+            broken |= u32::from(self.marks.get(gate) != 0) << 26;
+            broken |= u32::from(!costly(own)) << 27;
+            broken |= u32::from(own != code) << 28;
+            broken |= u32::from(seen & needs != 0) << 29;
+            seen |= needs;
+            let rests = rested.of(needs, place);
+            on |= rests;
+            named += counted(rests);
+            self.marks.set(gate, mark);
+            self.group.set(gate, first as u8);
+            self.rests.set(gate, rests);
+            mark = JOINED | INNER;
+        }
+        self.begins.set(first, begins as u16);
+        self.group_rests.set(first, on);
+        self.passed.set(first, 0);
+        self.count_group(code, size, named);
+        broken
+    }
+
+    /// The members' records of 5 bytes go; guards, two picks and one operation come. `named` is how many
+    /// conditions the guards name.
+    #[inline(always)]
+    fn count_group(&mut self, code: u8, size: usize, named: usize) {
+        let guards = 10 * size + 2 * named;
+        let picks = 2 * (2 + 4 * size);
+        self.more_bytes += guards + picks + 5 - 5 * size;
+        let cost = isize::from(COSTS[usize::from(code & 7)]);
+        let more = (GUARD_COST + 2 * PICK_COST_A_PAIR) * size;
+        self.more_cost += more as isize + cost - cost * size as isize;
+    }
+}
