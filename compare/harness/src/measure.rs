@@ -30,8 +30,8 @@ pub fn caller<T>(mut call: impl FnMut(&Subject) -> T + 'static) -> Caller {
     })
 }
 
-/// Makes the call so many steps further down the stack. Where a call's arrays lie moves its time, by up to a fifth,
-/// and differs from process to process; with turns at several places the least time is the same in all.
+/// Makes the call so many steps further down the stack. Where a call's arrays lie moves its time, by up to a quarter,
+/// and differs from process to process; with turns at several places least times agree to some percent.
 #[inline(never)]
 fn below(steps: usize, call: &mut dyn FnMut() -> Duration) -> Duration {
     let room = [0u8; STEP];
