@@ -10,6 +10,10 @@ const TURN: Duration = Duration::from_micros(100);
 /// free of other work.
 const PIECE: usize = 100;
 
+/// Places on the stack that turns take in turn, and the bytes between two of them, no round number of lines or pages.
+const PLACES: usize = 16;
+const STEP: usize = 1040;
+
 /// Calls one operation of one tool so many times on each subject: how long that took.
 pub type Caller = Box<dyn FnMut(&[Subject], u32) -> Duration>;
 
@@ -24,6 +28,20 @@ pub fn caller<T>(mut call: impl FnMut(&Subject) -> T + 'static) -> Caller {
         }
         start.elapsed()
     })
+}
+
+/// Makes the call so many steps further down the stack. Where a call's arrays lie moves its time, by up to a quarter,
+/// and differs from process to process; with turns at several places least times agree to some percent.
+#[inline(never)]
+fn below(steps: usize, call: &mut dyn FnMut() -> Duration) -> Duration {
+    let room = [0u8; STEP];
+    black_box(&room);
+    let took = match steps {
+        0 => call(),
+        _ => below(steps - 1, call),
+    };
+    black_box(&room);
+    took
 }
 
 /// Nanoseconds a call; of several pieces, on average over these.
@@ -45,8 +63,8 @@ pub fn measure(turns: usize, callers: &mut [Caller], subjects: &[Subject]) -> Ve
         for place in 0..callers.len() {
             let which = (turn + place) % callers.len();
             for (piece, taken) in subjects.chunks(PIECE).zip(&mut taken[which]) {
-                let took = callers[which](piece, calls[which]).as_nanos() as f64;
-                taken.push(took / f64::from(calls[which]));
+                let took = below(turn % PLACES, &mut || callers[which](piece, calls[which]));
+                taken.push(took.as_nanos() as f64 / f64::from(calls[which]));
             }
         }
     }

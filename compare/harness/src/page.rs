@@ -19,8 +19,9 @@ pub const OPERATIONS: [(u8, &str); 6] = [
 const HEAD: &str = "\
 Nanoseconds a call: the median of TURNS turns, in brackets the least (of the mixed rules, hundred by hundred over MIXED
 turns). The tools are measured in one process, in turns, so that other work of the machine falls on all of them; it
-moves the least times least, and the goals at the end speak of these. A call is whole: it begins with the rule's
-bytes. Buffers are as the caller lends them, and lent again.
+moves the least times least, and the goals at the end speak of these. Turns take 16 places on the stack, since where
+its arrays lie moves a call's time by up to a quarter. A call is whole: it begins with the rule's bytes. Buffers are as
+the caller lends them, and lent again.
 
 - proved: the library `linnet`. It allocates nothing.
 - plain: `compare/`, Rust written to be compared with and not tuned (for needed gates one search a setting). It
