@@ -24,12 +24,12 @@ ghost use Rattle.making.specs.Holding.{Held, Pushed, Applied, ExprMade, 
 // The gates that are stored, at most; one more says that there are more.
 pub const MOST_GATES: u16 = 256;
 
-// What an expression was made into: the gates then, the place after it, and the gate that it stands for.
-// The place stands between the two halves of words: side by side they would be stored one by one and loaded as one, which stalls.
+// What an expression was made into: the place after it, the gate that it stands for, and the gates then.
+// The count is last, in the second half of a word: a half word stored in the first is loaded with the whole word, which stalls.
 struct MadeExpr {
-    pub count: u16,
     pub next: usize,
     pub gate: GateId,
+    pub count: u16,
 }
 
 // What a statement or block was made into: the place after it, the gates then, and the variables assigned in it, bit x for variable x.
@@ -97,13 +97,13 @@ fn apply_gate(quads: &mut [u32; 1024], count: u16, op: Operation, a: GateId, b: 
 // 10 variable, its code at `at`: it makes no gate and stands for its present one.
 fn make_variable(s: &[u8], at: usize, present: &[u16; 32], count: u16) -> MadeExpr
     requires { ⌜ (at + 1 < length (now s)) × (getD (now s) (at + 1) 0 < 32) ⌝ }
-    ensures { λ r. ⌜ r ≡ record { count = count; next = at + 2; gate = record { 0 = getD (now (present .entry)) (getD (now (s .entry)) (at + 1) 0) 0 } } ⌝ }
+    ensures { λ r. ⌜ r ≡ record { next = at + 2; gate = record { 0 = getD (now (present .entry)) (getD (now (s .entry)) (at + 1) 0) 0 }; count = count } ⌝ }
 {
     let x = s[at + 1] as usize;
     MadeExpr {
-        count,
         next: at + 2,
         gate: GateId(present[x]),
+        count,
     }
 }
 
@@ -188,9 +188,9 @@ fn make_argument(
 // No code of an expression: reading took none such.
 fn nothing(at: usize, count: u16) -> MadeExpr {
     MadeExpr {
-        count,
         next: at,
         gate: GateId(0),
+        count,
     }
 }
 

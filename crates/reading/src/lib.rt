@@ -118,7 +118,8 @@ fn is_variable(s: &[u8], at: usize, want: Kind, deep: u8) -> bool
     codes::same_kind(kind_at(s, x), want)
 }
 
-// An expression of the kind wanted, at most `deep` levels deep.
+// An expression of the kind wanted, at most `deep` levels deep. It hands on a copy of the slice: else the compiler moves the slice as
+// one piece, whose two words its callers stored apart, and each call waits for both.
 fn read_expr(s: &[u8], at: usize, want: Kind, deep: u8) -> Step
     requires { ⌜ HasKinds (now s) ⌝ }
     ensures { λ r. ⌜ r ≡ stepOf (readExpr deep (now (s .entry)) want at) ⌝ }

@@ -2,7 +2,6 @@ use mathlib.Core.Path.{sym, ap}
 use borrow.Author.Needs.{needs}
 use Rattle.codes.specs.Codes.{entryOf}
 use Rattle.codes.specs.CodeLaws.{entry-form}
-use Rattle.codes.specs.declared.Code.{Code}
 use Rattle.codes.specs.declared.Form.{Form}
 use Rattle.codes.proofs.entry_of.Statement.{statement}
 use Rattle.codes.proofs.entry_of.Tie as tie

@@ -1,13 +1,10 @@
 use native.Mathlib.Omega.{arith}
 use mathlib.Core.Path.{sym, ap, _∙_}
 use mathlib.Core.Bool.{false≢true}
-use lib.ListN.{getD}
 use borrow.Author.Needs.{needs}
 use borrow.Author.Tests.{lt-ltb}
 use Rattle.answers.specs.ParsingLaws.{some-left}
 use denote.Ref.{now}
-use Rattle.codes.specs.Codes.{sameKind}
-use Rattle.codes.specs.declared.Kind.{Kind}
 use Rattle.answers.specs.Parsing.{stepOf}
 use Rattle.reading.specs.Expressions.{readVariable}
 use Rattle.reading.specs.ExpressionLaws.{expr-variable}
