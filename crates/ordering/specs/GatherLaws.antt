@@ -1,4 +1,4 @@
--- Laws of the two passes over the gates: the table of waits, gate by gate, and the set of groups left at first. Assumes nothing.
+-- Laws of the pass over the gates that fills the table of waits, gate by gate. Assumes nothing.
 use Prim.Native.Nat.{ℕ, _+_, _*_, _≤_, _<_}
 use mathlib.Core.Path.{_≡_, refl, sym, ap, _∙_}
 use mathlib.Core.Bool.{true, cond}
@@ -9,61 +9,21 @@ use lib.Dec.{eqb}
 use lib.ListN.{length, getD, replicate}
 use borrow.Author.Tests.{eq-eqb, ne-eqb}
 use Rattle.words.specs.Lists.{_∈_, elem, keep, upto, flat}
-use Rattle.words.specs.MemberLaws.{map-in, elem-more}
+use Rattle.words.specs.MemberLaws.{map-in}
 use Rattle.words.specs.TestLaws.{same?}
 use Rattle.settings.specs.Sets.{rests}
 use Rattle.settings.specs.ListLaws.{keep-yes, keep-no}
 use Rattle.gates.specs.Gates.{Gates, gateAt, arguments}
 use Rattle.needed.specs.Held.{gatesIn}
 use Rattle.needed.specs.HeldLaws.{gates-length, gates-at}
-use Rattle.plan.specs.Groups.{groups, members, restsOf, readsOf, waitsFor}
+use Rattle.plan.specs.Groups.{members, restsOf, readsOf, waitsFor}
 use Rattle.plan.specs.RestLaws.{rests-inside, rests-held}
 use Rattle.plan.specs.ReadsLaws.{reads-inside}
-use Rattle.ordering.specs.Tables.{HasWords, bitIn, putBit, putEach}
+use Rattle.ordering.specs.Tables.{HasWords, bitIn, putEach}
 use Rattle.ordering.specs.Reads.{argumentsAt, Into, Orderable}
-use Rattle.ordering.specs.Gathering.{Waiting, Left}
-use Rattle.ordering.specs.TableLaws.{clear-words, clear-bit, put-words, put-bit, puts-words, puts-bit, puts-append}
+use Rattle.ordering.specs.Gathering.{Waiting}
+use Rattle.ordering.specs.TableLaws.{clear-words, clear-bit, puts-words, puts-bit, puts-append}
 use Rattle.ordering.specs.ReadLaws.{arguments-at, elem-joined, flat-last}
-
--- The set of groups left: those named by a gate below i.
-pub record Listing (group : List ℕ) (count : ℕ) (left : List ℕ) (i : ℕ) : Type 0 where
-  pub room : count ≤ 256
-  pub below : i ≤ count
-  pub words : HasWords 4 left
-  pub holds : (q : ℕ) → q < 256 → bitIn 0 left q ≡ elem q (keep (λ p. eqb (getD group p 0) p) (upto i))
-
-module _ (group : List ℕ) (count : ℕ) where
-  pub listing-start : (left : List ℕ) → count ≤ 256 → left ≡ replicate 4 0 → Listing group count left 0
-  listing-start left h e = record { room = h; below = omega arith; words = clear-words 4 left e; holds = λ q l. clear-bit 4 0 q left e }
-
-  pub listing-yes : (left new : List ℕ) (i : ℕ) → Listing group count left i → i < count → getD group i 0 ≡ i → new ≡ putBit 0 i left → Listing group count new (i + 1)
-  listing-yes left new i s l h e =
-      record {
-        room = s .room;
-        below = omega arith;
-        words = rw e (put-words 4 0 i left (s .words));
-        holds = λ q k. rw (
-          e,
-          keep-yes (λ p. eqb (getD group p 0) p) i (eq-eqb (getD group i 0) i h),
-          elem-more q
-              (keep (λ p. eqb (getD group p 0) p) (upto i)) i,
-          ← s .holds q k,
-        )
-            (put-bit 4 0 left (s .words .size) (omega arith) i (omega (arith, s .room)) 0 q k);
-      }
-
-  pub listing-no : (left new : List ℕ) (i : ℕ) → Listing group count left i → i < count → (getD group i 0 ≡ i → ⊥) → new ≡ left → Listing group count new (i + 1)
-  listing-no left new i s l h e =
-      record {
-        room = s .room;
-        below = omega arith;
-        words = rw e (s .words);
-        holds = λ q k. rw (e, keep-no (λ p. eqb (getD group p 0) p) i (ne-eqb (getD group i 0) i h)) (s .holds q k);
-      }
-
-  pub listing-end : (left : List ℕ) (i : ℕ) → Listing group count left i → count ≤ i → Left (λ x. getD group x 0) count left
-  unfolding groups
-  listing-end left i s l = let e : count ≡ i = omega (arith, s .below) in record { words = s .words; holds = λ q k. rw e (s .holds q k) }
 
 -- the groups that p waits for on account of the gates below i
 unfoldable pub waitsBelow : Gates → List ℕ → (ℕ → ℕ) → ℕ → ℕ → List ℕ

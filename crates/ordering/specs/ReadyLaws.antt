@@ -1,9 +1,9 @@
 -- Laws of the search over tables that hold the waits and what is left: it finds the first ready group. Assumes nothing.
 use Prim.Native.Nat.{ℕ, zero, suc, _+_, _-_, _*_, _/_, _%_, _≤_, _<_}
-use mathlib.Core.Path.{_≡_, refl, sym, ap, _∙_}
+use mathlib.Core.Path.{_≡_, refl, sym, _∙_}
 use mathlib.Core.Bool.{true, false, cond, false≢true}
 use mathlib.Core.List.{List}
-use native.Mathlib.Nat.{zero-add, add-zero, suc-add}
+use native.Mathlib.Nat.{zero-add}
 use native.Mathlib.Omega.{arith}
 use lib.Dec.{eqb}
 use lib.ListN.{getD}
@@ -116,24 +116,7 @@ module _ (W : ℕ → List ℕ) (group : ℕ → ℕ) (n : ℕ) (waits left done
       (λ f. rw f (split (ready W done i) (λ g. rw g) (λ g. rw g)))
       (λ f. rw f))
 
-  -- groups written are passed over
-  skip : (a i k : ℕ) → ((p : ℕ) → i ≤ p → p < i + a → eqb (group p) p ≡ true → elem p done ≡ true)
-      → firstReady W done (keep (λ q. eqb (group q) q) (from i (a + k))) ≡ firstReady W done (keep (λ q. eqb (group q) q) (from (i + a) k))
-  skip zero i k h = rw (zero-add, add-zero)
-  skip (suc a) i k h =
-      let e : i + suc a ≡ suc i + a = omega arith in
-      rw (suc-add, e)
-      (split (eqb (group i) i)
-      (λ f. rw (f, h i (omega arith) (omega arith) f) (skip a (suc i) k (λ p x y z. h p (omega arith) (omega arith) z)))
-      (λ f. rw f (skip a (suc i) k (λ p x y z. h p (omega arith) (omega arith) z))))
-
-  -- so the search from `first` on, all groups below it written, gives the first ready group of all
-  pub next-right : (first : ℕ) → first ≤ n → ((p : ℕ) → p < first → p ∈ groups n group → p ∈ done)
-      → nextReady waits left first n ≡ asNext (firstReady W done (groups n group))
+  -- so the search over all gates gives the first ready group of all
+  pub next-right : nextReady waits left 0 n ≡ asNext (firstReady W done (groups n group))
   unfolding nextReady groups
-  next-right first l h =
-      let z : n ≡ first + (n - first) = omega arith in
-      search-list first (n - first) (omega arith)
-      ∙ ap asNext (sym (ap (λ (k : ℕ). firstReady W done (keep (λ q. eqb (group q) q) (from 0 k))) z
-      ∙ skip first 0 (n - first) (λ p a b e. ∈→elem p done (h p (omega arith) (keep-in (λ q. eqb (group q) q) (upto n) p (from-in 0 n p (omega arith) (omega arith)) e)))
-      ∙ ap (λ (k : ℕ). firstReady W done (keep (λ q. eqb (group q) q) (from k (n - first)))) (zero-add first)))
+  next-right = let z : n - 0 ≡ n = omega arith in rw z (search-list 0 n (omega arith))

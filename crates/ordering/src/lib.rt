@@ -8,11 +8,12 @@ ghost use lib.ListN.{length, getD, replicate};
 ghost use Rattle.words.specs.Buffers.{over};
 ghost use Rattle.settings.specs.Sets.{rests};
 ghost use Rattle.needed.specs.Held.{gatesIn};
+ghost use Rattle.plan.specs.Groups.{groups};
 ghost use Rattle.plan.specs.Order as plan;
 ghost use Rattle.ordering.specs.Tables.{bitIn, putBit, putEach, strikeBit};
 ghost use Rattle.ordering.specs.Reads.{arityOf, argumentsAt, Into, Orderable};
 ghost use Rattle.ordering.specs.Row.{orderOf, orderRow};
-ghost use Rattle.ordering.specs.Search.{nextReady};
+ghost use Rattle.ordering.specs.Search.{nextReady, placeOf, Holding};
 ghost use Rattle.ordering.specs.Gathering.{Waiting, Left};
 
 // A choice has three arguments.
@@ -163,25 +164,31 @@ fn find_waits(
     }
 }
 
-// Every group is left to write at first, from a clear set.
-fn find_left(group: &[u16; 256], count: usize, left: &mut [u64])
+// Every group is left to write at first, from a clear set; gives how many there are.
+fn find_left(group: &[u16; 256], count: usize, left: &mut [u64]) -> usize
     requires { ⌜ (count ≤ 256) × (now left ≡ replicate 4 0) ⌝ }
-    ensures { λ r. ⌜ Left (λ x. getD (now (group .entry)) x 0) count (now (left .exit)) ⌝ }
+    ensures counted { λ r. ⌜ r ≡ length (groups count (λ x. getD (now (group .entry)) x 0)) ⌝ }
+    ensures left { λ r. ⌜ Left (λ x. getD (now (group .entry)) x 0) count (now (left .exit)) ⌝ }
 {
+    let mut n: usize = 0;
     let mut i: usize = 0;
     while i < count {
         let p = GateId(i as u16);
         if group[i] == p.0 {
             put(left, 0, p);
+            n = n + 1;
         }
         i = i + 1;
     }
+    n
 }
 
-// The first group from `from` on that is left and waits for none that is left; or that a circle remains.
-fn next_ready(waits: &[u64], left: &[u64], from: GateId, count: usize) -> Next
-    requires { ⌜ (count ≤ 256) × ((length (now waits) ≡ 1024) × (length (now left) ≡ 4)) ⌝ }
-    ensures { λ r. ⌜ r ≡ nextReady (now (waits .entry)) (now (left .entry)) (from .0) count ⌝ }
+// The first group from `from` on that is left and waits for none that is left; or that a circle remains. Each group left that is passed by on the
+// way waits: the word that says so is put into `held`, so that it need not be asked again before one of `held` is struck.
+fn next_ready(waits: &[u64], left: &[u64], held: &mut [u64], from: GateId, count: usize) -> Next
+    requires { ⌜ (count ≤ 256) × ((length (now waits) ≡ 1024) × ((length (now left) ≡ 4) × ((from .0 ≤ count) × Holding (now waits) (now left) (now held) (from .0)))) ⌝ }
+    ensures next { λ r. ⌜ r ≡ nextReady (now (waits .entry)) (now (left .entry)) (from .0) count ⌝ }
+    ensures held { λ r. ⌜ Holding (now (waits .entry)) (now (left .entry)) (now (held .exit)) (placeOf r count) ⌝ }
 {
     let first = from.0 as usize;
     let mut p = first;
@@ -195,7 +202,9 @@ fn next_ready(waits: &[u64], left: &[u64], from: GateId, count: usize) -> Next
                 if w >= WORDS {
                     break 'search Next::Group(GateId(p as u16));
                 }
-                if !settings::excludes(waits[4 * p + w], left[w]) {
+                let x = waits[4 * p + w];
+                if !settings::excludes(x, left[w]) {
+                    held[w] = settings::union(held[w], x);
                     break 'waits;
                 }
                 w = w + 1;
@@ -205,7 +214,8 @@ fn next_ready(waits: &[u64], left: &[u64], from: GateId, count: usize) -> Next
     }
 }
 
-// The groups in the order of writing. `from` is the first gate that may name an unwritten group: each turn passes it by, or writes the next ready group.
+// The groups in the order of writing: again and again the next ready group. No group below `from` is ready; where the group that is written is one
+// for which those below it were held, they are searched again.
 pub fn order_groups(
     quads: &[u32; 1024],
     count: usize,
@@ -222,24 +232,26 @@ pub fn order_groups(
     let mut waits = [0u64; 1024];
     find_waits(quads, count, needs, conditions, group, places, &mut waits);
     let mut left = [0u64; 4];
-    find_left(group, count, &mut left);
+    let n = find_left(group, count, &mut left);
+    let mut held = [0u64; 4];
+    let mut from: u16 = 0;
     let mut k: usize = 0;
-    let mut from: usize = 0;
-    while from < count {
-        let first = GateId(from as u16);
-        if has(&left, 0, first) {
-            match next_ready(&waits, &left, first, count) {
-                Next::Group(p) => {
-                    order[k] = p.0;
-                    strike(&mut left, p);
-                    k = k + 1;
-                }
-                Next::Circle => {
-                    return Order::Circle;
+    while k < n {
+        match next_ready(&waits, &left, &mut held, GateId(from), count) {
+            Next::Group(p) => {
+                order[k] = p.0;
+                strike(&mut left, p);
+                k = k + 1;
+                if has(&held, 0, p) {
+                    held = [0u64; 4];
+                    from = 0;
+                } else {
+                    from = p.0 + 1;
                 }
             }
-        } else {
-            from = from + 1;
+            Next::Circle => {
+                return Order::Circle;
+            }
         }
     }
     Order::Placed(k)

@@ -1,19 +1,21 @@
 use borrow.Author.Needs.{needs}
-use mathlib.Core.Path.{refl, sym, _∙_}
+use mathlib.Core.Path.{_≡_, refl, sym, _∙_}
 use native.Mathlib.Omega.{arith}
-use Prim.Native.Nat.{ℕ, _-_, _+_}
+use Prim.Native.Nat.{ℕ, _-_}
 use mathlib.Core.List.{List, []}
-use Rattle.ordering.specs.PlacingLaws.{placing-pass, placing-room, placing-take}
+use lib.ListN.{length, getD}
+use Rattle.plan.specs.Groups.{groups}
+use Rattle.ordering.specs.PlacingLaws.{placing-room, placing-again, placing-on}
 use Rattle.ordering.specs.OrderingLaws.{PlacingIn, ordering-start, ordering-circle, ordering-end}
 use Rattle.ordering.proofs.order_groups.Statement.{statement}
 use Rattle.ordering.proofs.order_groups.Tie as tie
 
 abbrev Inv-loop : tie.InvT-loop
-Inv-loop quads count needs conditions group places order₀ waits left₀ k₀ from₀ order left k from = (done : List ℕ)
-    × PlacingIn quads count needs group waits order₀ order left k from done
+Inv-loop quads count needs conditions group places order₀ waits left₀ n held₀ from₀ k₀ order left held from k = (n ≡ length (groups count (λ x. getD group x 0)))
+    × ((done : List ℕ) × PlacingIn quads count needs group waits order₀ order left held k from done)
 
 abbrev μ-loop : tie.MeasureT-loop
-μ-loop quads count needs conditions group places order₀ waits left₀ k₀ from₀ order left k from = (count - from) + (256 - k)
+μ-loop quads count needs conditions group places order₀ waits left₀ n held₀ from₀ k₀ order left held from k = n - k
 
 slice-aggregate-find-waits : tie.Need-slice-aggregate-find-waits Inv-loop μ-loop
 slice-aggregate-find-waits c = refl
@@ -29,106 +31,89 @@ find-left-requires c κs = (c .before .before .before .before .pre .0 .room, ref
 
 loop-holds : tie.Need-loop-holds Inv-loop μ-loop
 loop-holds c =
-    let c6 = c .before .before .before .before .before .before in
-    ([], ordering-start _ _ _ _ _ _ _ _ _ (c6 .pre .0) (c .before .before .before .before .find-waits .ensures) (c .before .find-left .ensures) (c6 .pre .1))
-
-slice-aggregate-has : tie.Need-slice-aggregate-has Inv-loop μ-loop
-slice-aggregate-has c = sym (c .before .before .loop .inv .1 .tabled .lefts .size)
-
-cast-t20 : tie.Need-cast-t20 Inv-loop μ-loop
-cast-t20 c = record { fits = omega (arith, c .before .loop .inv .1 .tabled .room, c .loop-test .taken) }
-
-has-requires : tie.Need-has-requires Inv-loop μ-loop
-has-requires c κs = (
-  omega (arith, c .before .before .loop .inv .1 .tabled .lefts .size),
-  omega
-      (arith, c .before .before .loop .inv .1 .tabled .room, c .before .loop-test .taken),
-)
+    let pre = c .before .before .before .before .before .before .pre in (
+      c .before .find-left .ensures .0,
+      ([], ordering-start _ _ _ _ _ _ _ _ _ _ (pre .0) (c .before .before .before .before .find-waits .ensures) (c .before .find-left .ensures .1) (pre .1) refl),
+    )
 
 slice-aggregate-next-ready : tie.Need-slice-aggregate-next-ready Inv-loop μ-loop
-slice-aggregate-next-ready c = sym (c .before .before .before .before .before .loop .inv .1 .tabled .waiting .size)
+slice-aggregate-next-ready c = sym (c .before .before .loop .inv .1 .1 .tabled .waiting .size)
 
 slice-aggregate-next-ready-2 : tie.Need-slice-aggregate-next-ready-2 Inv-loop μ-loop
-slice-aggregate-next-ready-2 c = sym (c .before .before .before .before .before .before .loop .inv .1 .tabled .lefts .size)
+slice-aggregate-next-ready-2 c = sym (c .before .before .before .loop .inv .1 .1 .tabled .lefts .size)
+
+slice-aggregate-next-ready-3 : tie.Need-slice-aggregate-next-ready-3 Inv-loop μ-loop
+slice-aggregate-next-ready-3 c = sym (c .before .before .before .before .loop .inv .1 .1 .holding .size)
 
 next-ready-requires : tie.Need-next-ready-requires Inv-loop μ-loop
 next-ready-requires c κs =
-    let c6 = c .before .before .before .before .before .before in
-    (c6 .loop .inv .1 .tabled .room, (c6 .loop .inv .1 .tabled .waiting .size, c6 .loop .inv .1 .tabled .lefts .size))
+    let i = c .before .before .before .before .loop .inv .1 .1 in
+    (i .tabled .room, (i .tabled .waiting .size, (i .tabled .lefts .size, (i .below, i .holding))))
 
 mul-order : tie.Need-mul-order Inv-loop μ-loop
 mul-order c =
-    let c10 = c .before .before .before .before .before .before .before .before .before .before in
-    record {
-      fits = omega
-          (arith, placing-room _ _ _ _ _ _ _ _ _ _ (c10 .loop .inv .1) _ (sym (c .before .p .given .1) ∙ c .before .before .before .next-ready .ensures) .1);
-    }
+    let i = c .before .before .before .before .before .before .before .before .before .loop .inv .1 .1 in
+    let room = placing-room _ _ _ _ _ _ _ _ _ _ _ i _ (sym (c .before .p .given .1) ∙ c .before .before .before .before .next-ready .ensures .0) in
+    record { fits = omega (arith, room .1) }
 
 element-write-order : tie.Need-element-write-order Inv-loop μ-loop
 element-write-order c =
-    let c10 = c .before .before .before .before .before .before .before .before .before .before in
-    placing-room _ _ _ _ _ _ _ _ _ _ (c10 .loop .inv .1) _ (sym (c .before .p .given .1) ∙ c .before .before .before .next-ready .ensures) .1
+    let i = c .before .before .before .before .before .before .before .before .before .loop .inv .1 .1 in
+    let room = placing-room _ _ _ _ _ _ _ _ _ _ _ i _ (sym (c .before .p .given .1) ∙ c .before .before .before .before .next-ready .ensures .0) in
+    room .1
 
 slice-aggregate-strike : tie.Need-slice-aggregate-strike Inv-loop μ-loop
-slice-aggregate-strike c = sym (c .before .before .before .before .before .before .before .before .before .before .before .loop .inv .1 .tabled .lefts .size)
+slice-aggregate-strike c = sym (c .before .before .before .before .before .before .before .before .before .before .loop .inv .1 .1 .tabled .lefts .size)
 
 strike-requires : tie.Need-strike-requires Inv-loop μ-loop
 strike-requires c κs =
-    let c11 = c .before .before .before .before .before .before .before .before .before .before .before in (
-      omega (arith, c11 .loop .inv .1 .tabled .lefts .size),
-      placing-room _ _ _ _ _ _ _ _ _ _ (c11 .loop .inv .1) _
-          (sym (c .before .before .p .given .1) ∙ c .before .before .before .before .next-ready .ensures) .0,
-    )
+    let i = c .before .before .before .before .before .before .before .before .before .before .loop .inv .1 .1 in
+    let room = placing-room _ _ _ _ _ _ _ _ _ _ _ i _ (sym (c .before .before .p .given .1) ∙ c .before .before .before .before .before .next-ready .ensures .0) in
+    (omega (arith, i .tabled .lefts .size), room .0)
 
 add-k : tie.Need-add-k Inv-loop μ-loop
 add-k c =
-    let c6 = c .before .before .before .before .before .before in
-    let c13 = c6 .before .before .before .before .before .before .before in
-    record {
-      fits = omega
-          (arith, placing-room _ _ _ _ _ _ _ _ _ _ (c13 .loop .inv .1) _ (sym (c .before .before .before .before .p .given .1) ∙ c6 .next-ready .ensures) .1);
-    }
+    let i = c .before .before .before .before .before .before .before .before .before .before .before .before .loop .inv .1 .1 in
+    let room = placing-room _ _ _ _ _ _ _ _ _ _ _ i _ (sym (c .before .before .before .before .p .given .1) ∙ c .before .before .before .before .before .before .before .next-ready .ensures .0) in
+    record { fits = omega (arith, room .1) }
 
-loop-less : tie.Need-loop-less Inv-loop μ-loop
-loop-less c =
-    let c6 = c .before .before .before .before .before .before in
-    let c13 = c6 .before .before .before .before .before .before .before in
-    omega (arith, placing-room _ _ _ _ _ _ _ _ _ _ (c13 .loop .inv .1) _ (sym (c .before .before .before .before .p .given .1) ∙ c6 .next-ready .ensures) .1)
+slice-aggregate-has : tie.Need-slice-aggregate-has Inv-loop μ-loop
+slice-aggregate-has c = sym (c .before .before .before .before .before .before .before .before .next-ready .ensures .1 .size)
+
+has-requires : tie.Need-has-requires Inv-loop μ-loop
+has-requires c κs =
+    let i = c .before .before .before .before .before .before .before .before .before .before .before .before .before .loop .inv .1 .1 in
+    let room = placing-room _ _ _ _ _ _ _ _ _ _ _ i _ (sym (c .before .before .before .before .before .p .given .1) ∙ c .before .before .before .before .before .before .before .before .next-ready .ensures .0) in
+    (omega (arith, c .before .before .before .before .before .before .before .before .next-ready .ensures .1 .size), room .0)
 
 loop-again : tie.Need-loop-again Inv-loop μ-loop
 loop-again c =
-    let c6 = c .before .before .before .before .before .before in
-    let c13 = c6 .before .before .before .before .before .before .before in (
-      _,
-      placing-take _ _ _ _ _ _ _ _ _ _ (c13 .loop .inv .1) _ (sym (c .before .before .before .before .p .given .1) ∙ c6 .next-ready .ensures) _ _ refl
-          (c .before .strike .ensures),
-    )
+    let i = c .before .before .before .before .before .before .before .before .before .before .before .before .before .before .before .loop .inv in
+    let r = sym (c .before .before .before .before .before .before .before .p .given .1) ∙ c .before .before .before .before .before .before .before .before .before .before .next-ready .ensures .0 in
+    (i .0, (_, placing-again _ _ _ _ _ _ _ _ _ _ _ (i .1 .1) _ r _ _ _ refl (c .before .before .before .before .strike .ensures) refl))
+
+add-from : tie.Need-add-from Inv-loop μ-loop
+add-from c =
+    let i = c .before .before .before .before .before .before .before .before .before .before .before .before .before .before .before .before .loop .inv .1 .1 in
+    let room = placing-room _ _ _ _ _ _ _ _ _ _ _ i _ (sym (c .before .before .before .before .before .before .before .before .p .given .1) ∙ c .before .before .before .before .before .before .before .before .before .before .before .next-ready .ensures .0) in
+    record { fits = omega (arith, room .0) }
+
+loop-again-2 : tie.Need-loop-again-2 Inv-loop μ-loop
+loop-again-2 c =
+    let i = c .before .before .before .before .before .before .before .before .before .before .before .before .before .before .before .before .loop .inv in
+    let e = c .before .before .before .before .before .before .before .before .p .given .1 in
+    let n = c .before .before .before .before .before .before .before .before .before .before .before .next-ready .ensures in
+    (i .0, (_, placing-on _ _ _ _ _ _ _ _ _ _ _ (i .1 .1) _ (sym e ∙ n .0) _ _ _ _ e (n .1) (sym (c .before .before .has .ensures) ∙ c .before .if1 .left) refl (c .before .before .before .before .before .strike .ensures)))
 
 returns : tie.Need-returns Inv-loop μ-loop
 returns c =
-    let c6 = c .before .before .before .before .before .before in
-    let c8 = c6 .before .before in
-    let c9 = c8 .before in
-    let c16 = c9 .before .before .before .before .before .before .before in
-    ordering-circle _ _ _ (c16 .args .group .now) _ _ _ _ _ _ _ (c9 .loop .inv .1) (sym (c .enum-told .given .1) ∙ c .before .before .next-ready .ensures)
-    (c8 .loop-test .taken) (sym (c6 .has .ensures) ∙ c .before .before .before .before .before .if1 .taken)
-
-add-from : tie.Need-add-from Inv-loop μ-loop
-add-from c = record { fits = omega (arith, c .before .before .before .before .loop .inv .1 .tabled .room, c .before .before .before .loop-test .taken) }
-
-loop-less-2 : tie.Need-loop-less-2 Inv-loop μ-loop
-loop-less-2 c = omega (arith, c .before .before .before .loop-test .taken)
-
-loop-again-2 : tie.Need-loop-again-2 Inv-loop μ-loop
-loop-again-2 c = (
-  _,
-  placing-pass _ _ _ _ _ _ _ _ _ _ (c .before .before .before .before .loop .inv .1) (c .before .before .before .loop-test .taken)
-      (sym (c .before .has .ensures) ∙ c .if1 .left),
-)
+    let i = c .before .before .before .before .before .before .before .before .loop .inv in
+    let group = c .before .before .before .before .before .before .before .before .before .before .before .before .before .before .before .args .group .now in
+    ordering-circle _ _ _ group _ _ _ _ _ _ _ _ (i .1 .1) _ (i .0)
+    (sym (c .enum-told .given .1) ∙ c .before .before .before .next-ready .ensures .0) (c .before .before .before .before .before .before .before .loop-test .taken)
 
 returns-2 : tie.Need-returns-2 Inv-loop μ-loop
-returns-2 c = ordering-end _ _ _ (c .before .before .before .before .before .before .before .before .args .group .now) _ _ _ _ _ _ _ (c .before .loop .inv .1)
-    (c .loop-test .left)
+returns-2 c = let i = c .before .loop .inv in ordering-end _ _ _ (c .before .before .before .before .before .before .before .before .args .group .now) _ _ _ _ _ _ _ _ (i .1 .1) _ (i .0) (c .loop-test .left)
 
 pub order-groups-spec : {M : Type 1} → statement M
 order-groups-spec =
@@ -141,11 +126,9 @@ order-groups-spec =
     slice-aggregate-find-left
     find-left-requires
     loop-holds
-    cast-t20
-    slice-aggregate-has
-    has-requires
     slice-aggregate-next-ready
     slice-aggregate-next-ready-2
+    slice-aggregate-next-ready-3
     next-ready-requires
     (λ c. search needs)
     mul-order
@@ -153,11 +136,13 @@ order-groups-spec =
     slice-aggregate-strike
     strike-requires
     add-k
-    loop-less
+    slice-aggregate-has
+    has-requires
+    (λ c. search needs)
     loop-again
+    add-from
+    (λ c. search needs)
+    loop-again-2
     (λ c. search needs)
     returns
-    add-from
-    loop-less-2
-    loop-again-2
     returns-2)
