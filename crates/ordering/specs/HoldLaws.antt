@@ -6,56 +6,45 @@ use mathlib.Core.List.{List}
 use mathlib.Core.Logic.{_⊎_, inl, inr}
 use native.Mathlib.Nat.{zero-add}
 use native.Mathlib.Omega.{arith}
-use lib.ListN.{length, getD, set, replicate, length-set, length-replicate}
-use lib.Seq.{getD-set-same, getD-set-other}
+use lib.ListN.{length, getD}
 use borrow.Author.Tests.{eq-eqb, ne-eqb}
 use Rattle.words.specs.TestLaws.{split, same?}
 use Rattle.settings.specs.Settings.{bit}
 use Rattle.settings.specs.Sets.{excludes, union}
 use Rattle.settings.specs.BitLaws.{bit-or}
 use Rattle.settings.specs.SetLaws.{excludes-right}
-use Rattle.ordering.specs.Tables.{HasWords, bitIn, strikeBit}
+use Rattle.ordering.specs.Tables.{bitIn, strikeBit}
 use Rattle.ordering.specs.Search.{freeFrom, readyIn, searchFrom, nextReady, HeldUp, Holding}
 use Rattle.ordering.specs.TableLaws.{strike-bit}
 
 -- nothing is passed by yet
-pub holding-clear : (waits left held : List ℕ) → held ≡ replicate 4 0 → Holding waits left held 0
-holding-clear waits left held e = record { size = ap length e ∙ length-replicate {A = ℕ} 4 0; passed = λ q l m. absurd (omega arith) }
+pub holding-start : (waits left : List ℕ) (held : ℕ) → Holding waits left held 0
+holding-start waits left held q l m = absurd (omega arith)
 
-module _ (waits left held : List ℕ) (p : ℕ) (s : Holding waits left held p) where
+or-true : (b : Bool) → (b || true) ≡ true
+or-true true = refl
+or-true false = refl
+
+module _ (waits left : List ℕ) (held p : ℕ) (s : Holding waits left held p) where
   -- a gate that names no group left
   pub holding-pass : bitIn 0 left p ≡ false → Holding waits left held (p + 1)
-  holding-pass e = record { size = s .size; passed = λ q l m. go q l m (same? q p) }
+  holding-pass e q l m = go (same? q p)
     where
-      go : (q : ℕ) → q < p + 1 → bitIn 0 left q ≡ true → (q ≡ p) ⊎ (q ≡ p → ⊥) → HeldUp waits left held q
-      go q l m (inl f) = absurd (true≢false (sym m ∙ ap (bitIn 0 left) f ∙ e))
-      go q l m (inr f) = s .passed q (omega arith) m
+      go : (q ≡ p) ⊎ (q ≡ p → ⊥) → HeldUp waits left held q
+      go (inl f) = absurd (true≢false (sym m ∙ ap (bitIn 0 left) f ∙ e))
+      go (inr f) = s q (omega arith) m
 
   -- a group that waits
-  pub holding-more : (w : ℕ) (new : List ℕ) → w < 4 → excludes (getD waits (4 * p + w) 0) (getD left w 0) ≡ false
-      → new ≡ set held w (union (getD held w 0) (getD waits (4 * p + w) 0)) → Holding waits left new (p + 1)
-  holding-more w new l x e =
-      record { size = ap length e ∙ length-set held w (union (getD held w 0) (getD waits (4 * p + w) 0)) ∙ s .size; passed = λ q k m. go q k m (same? q p) }
+  pub holding-more : (w : ℕ) → w < 4 → excludes (getD waits (4 * p + w) 0) (getD left w 0) ≡ false
+      → Holding waits left (union held (getD waits (4 * p + w) 0)) (p + 1)
+  holding-more w l x q k m = go (same? q p)
     where
-      here : (j : ℕ) → bit (getD new w 0) j ≡ (bit (getD held w 0) j || bit (getD waits (4 * p + w) 0) j)
-      here j =
-          ap (λ (d : List ℕ). bit (getD d w 0) j) e
-          ∙ ap (λ (y : ℕ). bit y j) (getD-set-same held w (union (getD held w 0) (getD waits (4 * p + w) 0)) 0 (rw (s .size) l))
-          ∙ bit-or (getD held w 0) (getD waits (4 * p + w) 0) j
+      both : (j : ℕ) → bit (union held (getD waits (4 * p + w) 0)) j ≡ (bit held j || bit (getD waits (4 * p + w) 0) j)
+      both j = bit-or held (getD waits (4 * p + w) 0) j
 
-      more : (v j : ℕ) → bit (getD held v 0) j ≡ true → (v ≡ w) ⊎ (v ≡ w → ⊥) → bit (getD new v 0) j ≡ true
-      more v j b (inl f) = rw f (here j ∙ rw (rw f at b))
-      more v j b (inr f) =
-          ap (λ (d : List ℕ). bit (getD d v 0) j) e
-          ∙ ap (λ (y : ℕ). bit y j) (getD-set-other held w v (union (getD held w 0) (getD waits (4 * p + w) 0)) 0 f) ∙ b
-
-      or-true : (b : Bool) → (b || true) ≡ true
-      or-true true = refl
-      or-true false = refl
-
-      go : (q : ℕ) → q < p + 1 → bitIn 0 left q ≡ true → (q ≡ p) ⊎ (q ≡ p → ⊥) → HeldUp waits left new q
-      go q k m (inl f) = rw f (w, l, x, λ j h b. here j ∙ rw b (or-true (bit (getD held w 0) j)))
-      go q k m (inr f) = let r = s .passed q (omega arith) m in (r .0, r .1, r .2, λ j h b. more (r .0) j (r .3 j h b) (same? (r .0) w))
+      go : (q ≡ p) ⊎ (q ≡ p → ⊥) → HeldUp waits left (union held (getD waits (4 * p + w) 0)) q
+      go (inl f) = rw f (w, l, x, λ j h b. both j ∙ rw b (or-true (bit held j)))
+      go (inr f) = let r = s q (omega arith) m in (r .0, r .1, r .2, λ j h b. both j ∙ rw (r .3 j h b))
 
   -- a group that is held up is not free
   held-free : (q v k w : ℕ) → v ≤ w → w < v + k → excludes (getD waits (4 * q + w) 0) (getD left w 0) ≡ false → freeFrom waits left q v k ≡ false
@@ -73,7 +62,7 @@ module _ (waits left held : List ℕ) (p : ℕ) (s : Holding waits left held p) 
   unfolding readyIn
   unready q l =
       split (bitIn 0 left q)
-      (λ t. rw t (let r = s .passed q l t in held-free q 0 4 (r .0) (omega arith) (omega (arith, r .1)) (r .2)))
+      (λ t. rw t (let r = s q l t in held-free q 0 4 (r .0) (omega arith) (omega (arith, r .1)) (r .2)))
       (λ t. rw t)
 
   -- so the search may begin at p
@@ -89,36 +78,36 @@ module _ (waits left held : List ℕ) (p : ℕ) (s : Holding waits left held p) 
           rw (e, f, unready i (omega arith)) (skip a (i + 1) (omega arith))
 
 -- p is struck, and is none of held: what was held up stays so, and p itself is not left
-pub holding-struck : (n : ℕ) (waits left held new : List ℕ) (p : ℕ) → HasWords n waits → length left ≡ 4 → p < 256 → bitIn 0 left p ≡ true
-    → Holding waits left held p → bitIn 0 held p ≡ false → new ≡ strikeBit p left → Holding waits new held (p + 1)
-holding-struck n waits left held new p h z l b s x e = record { size = s .size; passed = λ q k m. go q k m (same? q p) }
+pub holding-struck : (waits left new : List ℕ) (held p : ℕ) → ((i : ℕ) → getD waits i 0 < 2 ^ 64) → length left ≡ 4 → p < 256 → bitIn 0 left p ≡ true
+    → Holding waits left held p → bit held (p % 64) ≡ false → new ≡ strikeBit p left → Holding waits new held (p + 1)
+holding-struck waits left new held p h z l b s x e q i m = go (same? q p)
   where
-    struck : (q : ℕ) → q < 256 → (q ≡ p → ⊥) → bitIn 0 new q ≡ bitIn 0 left q
-    struck q k f = ap (λ (d : List ℕ). bitIn 0 d q) e ∙ strike-bit left z p l b q k ∙ rw (ne-eqb q p f)
+    struck : (a : ℕ) → a < 256 → (a ≡ p → ⊥) → bitIn 0 new a ≡ bitIn 0 left a
+    struck a k f = ap (λ (d : List ℕ). bitIn 0 d a) e ∙ strike-bit left z p l b a k ∙ rw (ne-eqb a p f)
 
     word : (d : List ℕ) (w j : ℕ) → j < 64 → bitIn 0 d (64 * w + j) ≡ bit (getD d w 0) j
-    word d w j k = unfold bitIn in
-        let a : 0 + (64 * w + j) / 64 ≡ w = omega arith in
+    word d w j k =
+        unfold bitIn in let a : 0 + (64 * w + j) / 64 ≡ w = omega arith in
         let c : (64 * w + j) % 64 ≡ j = omega arith in
         rw (a, c)
 
-    still : (q : ℕ) → HeldUp waits left held q → HeldUp waits new held q
-    still q (w, a, y, f) = (w, a, split (excludes (getD waits (4 * q + w) 0) (getD new w 0)) (λ t. absurd (true≢false (sym (same t) ∙ y))) (λ t. t), f)
+    still : HeldUp waits left held q → HeldUp waits new held q
+    still (w, a, y, f) = (w, a, split (excludes (getD waits (4 * q + w) 0) (getD new w 0)) (λ t. absurd (true≢false (sym (same t) ∙ y))) (λ t. t), f)
       where
         fits : getD waits (4 * q + w) 0 < 2 ^ 64
-        fits = h .fits (4 * q + w)
+        fits = h (4 * q + w)
 
         same : excludes (getD waits (4 * q + w) 0) (getD new w 0) ≡ true → excludes (getD waits (4 * q + w) 0) (getD left w 0) ≡ true
         same t =
             excludes-right 64 (getD waits (4 * q + w) 0) (getD left w 0) fits .1
             (λ j k c d.
-            let o : 64 * w + j ≡ p → ⊥ = λ g. true≢false (sym (f j k c) ∙ sym (word held w j k) ∙ ap (bitIn 0 held) g ∙ x) in
+            let o : 64 * w + j ≡ p → ⊥ = λ g. let r : j ≡ p % 64 = omega arith in true≢false (sym (f j k c) ∙ ap (bit held) r ∙ x) in
             let r : bit (getD new w 0) j ≡ true = sym (word new w j k) ∙ struck (64 * w + j) (omega arith) o ∙ word left w j k ∙ d in
             excludes-right 64 (getD waits (4 * q + w) 0) (getD new w 0) fits .0 t j k c r)
 
     none : bitIn 0 new p ≡ true → ⊥
-    none m = true≢false (sym m ∙ ap (λ (d : List ℕ). bitIn 0 d p) e ∙ strike-bit left z p l b p l ∙ rw (eq-eqb p p refl))
+    none g = true≢false (sym g ∙ ap (λ (d : List ℕ). bitIn 0 d p) e ∙ strike-bit left z p l b p l ∙ rw (eq-eqb p p refl))
 
-    go : (q : ℕ) → q < p + 1 → bitIn 0 new q ≡ true → (q ≡ p) ⊎ (q ≡ p → ⊥) → HeldUp waits new held q
-    go q k m (inl f) = absurd (none (rw f at m))
-    go q k m (inr f) = still q (s .passed q (omega arith) (sym (struck q (omega arith) f) ∙ m))
+    go : (q ≡ p) ⊎ (q ≡ p → ⊥) → HeldUp waits new held q
+    go (inl f) = absurd (none (rw f at m))
+    go (inr f) = still (s q (omega arith) (sym (struck q (omega arith) f) ∙ m))

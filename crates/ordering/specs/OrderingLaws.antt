@@ -2,7 +2,7 @@
 use Prim.Native.Nat.{ℕ, _≤_, _<_}
 use mathlib.Core.Path.{_≡_, sym, ap, _∙_}
 use mathlib.Core.List.{List, [], reverse}
-use lib.ListN.{length, getD, replicate}
+use lib.ListN.{length, getD}
 use Rattle.words.specs.Buffers.{over}
 use Rattle.gates.specs.Gates.{Gates}
 use Rattle.needed.specs.Held.{gatesIn}
@@ -19,7 +19,7 @@ use Rattle.ordering.specs.declared.Order.the-variants.{Placed, Circle}
 use Rattle.ordering.specs.PlacingLaws.{Placing, placing-start, placing-circle, placing-end}
 
 -- the loop's record for the gates of the quads
-abbrev pub PlacingIn : List ℕ → ℕ → List ℕ → List ℕ → List ℕ → List ℕ → List ℕ → List ℕ → List ℕ → ℕ → ℕ → List ℕ → Type 0
+abbrev pub PlacingIn : List ℕ → ℕ → List ℕ → List ℕ → List ℕ → List ℕ → List ℕ → List ℕ → ℕ → ℕ → ℕ → List ℕ → Type 0
 PlacingIn quads count needs group waits order₀ order left held k first done =
     Placing (waitsFor (gatesIn quads count) needs (λ x. getD group x 0)) (λ x. getD group x 0) count waits order₀ order left held k first done
 
@@ -30,27 +30,28 @@ module _ (quads : List ℕ) (count : ℕ) (needs group : List ℕ) where
   abbrev g : ℕ → ℕ
   g = λ x. getD group x 0
 
-  pub ordering-start : (conds places waits left held order₀ : List ℕ) → Orderable quads count conds group places → Waiting C needs g waits → Left g count left
-      → length order₀ ≡ 256 → held ≡ replicate 4 0
+  pub ordering-start : (conds places waits left order₀ : List ℕ) (held : ℕ) → Orderable quads count conds group places → Waiting C needs g waits → Left g count left
+      → length order₀ ≡ 256
       → PlacingIn quads count needs group waits order₀ order₀ left held 0 0 []
-  ordering-start conds places waits left held order₀ o w l s e =
+  ordering-start conds places waits left order₀ held o w l s =
       placing-start (waitsFor C needs g) g count waits order₀ left held
       record {
         room = o .room;
-        waiting = w .words;
+        wide = rw (gates-length quads count) at (w .wide);
+        fits = w .fits;
         lefts = l .words;
         holds = w .holds;
         remains = l .holds;
         closed = λ p q m. rw (gates-length quads count) at (waits-closed C (o .earlier) needs g (λ x h. o .named x (rw (gates-length quads count) at h)) p q m);
       }
-      s e
+      s
 
   -- the order in the loop's terms
   order-is : order C needs g ≡ schedule (waitsFor C needs g) (groups count g) (length (groups count g)) []
   unfolding order
   order-is = ap (λ (n : ℕ). schedule (waitsFor C needs g) (groups n g) (length (groups n g)) []) (gates-length quads count)
 
-  module _ (waits order₀ new left held : List ℕ) (k first : ℕ) (done : List ℕ) (s : PlacingIn quads count needs group waits order₀ new left held k first done)
+  module _ (waits order₀ new left : List ℕ) (held k first : ℕ) (done : List ℕ) (s : PlacingIn quads count needs group waits order₀ new left held k first done)
       (n : ℕ) (many : n ≡ length (groups count g)) where
     kept : schedule (waitsFor C needs g) (groups count g) (length (groups count g)) [] ≡ done → new ≡ over (reverse (order C needs g)) order₀
     kept e = s .written ∙ ap (λ (l : List ℕ). over (reverse l) order₀) (sym (order-is ∙ e))

@@ -4,7 +4,7 @@ use mathlib.Core.Path.{_≡_}
 use mathlib.Core.Bool.{Bool, true, false, cond}
 use mathlib.Core.List.{List}
 use mathlib.Core.Option.{Option, none, some}
-use lib.ListN.{length, getD}
+use lib.ListN.{getD}
 use Rattle.settings.specs.Settings.{bit}
 use Rattle.settings.specs.Sets.{excludes}
 use Rattle.ordering.specs.Tables.{bitIn}
@@ -40,11 +40,10 @@ placeOf (Group p) n = p .0
 placeOf Circle n = n
 
 -- one word of q's waits has some of what is left, and all of that word is in held
-abbrev pub HeldUp : List ℕ → List ℕ → List ℕ → ℕ → Type 0
+abbrev pub HeldUp : List ℕ → List ℕ → ℕ → ℕ → Type 0
 HeldUp waits left held q = (w : ℕ) × (w < 4) × (excludes (getD waits (4 * q + w) 0) (getD left w 0) ≡ false)
-    × ((j : ℕ) → j < 64 → bit (getD waits (4 * q + w) 0) j ≡ true → bit (getD held w 0) j ≡ true)
+    × ((j : ℕ) → j < 64 → bit (getD waits (4 * q + w) 0) j ≡ true → bit held j ≡ true)
 
 -- held holds up each group below p that is left
-pub record Holding (waits left held : List ℕ) (p : ℕ) : Type 0 where
-  pub size : length held ≡ 4
-  pub passed : (q : ℕ) → q < p → bitIn 0 left q ≡ true → HeldUp waits left held q
+abbrev pub Holding : List ℕ → List ℕ → ℕ → ℕ → Type 0
+Holding waits left held p = (q : ℕ) → q < p → bitIn 0 left q ≡ true → HeldUp waits left held q

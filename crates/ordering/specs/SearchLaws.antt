@@ -5,7 +5,7 @@ use mathlib.Core.Bool.{true, false}
 use mathlib.Core.List.{List}
 use mathlib.Core.Option.{Option, none, some}
 use native.Mathlib.Omega.{arith}
-use lib.ListN.{length, getD, set}
+use lib.ListN.{length, getD}
 use Rattle.settings.specs.Sets.{excludes, union}
 use Rattle.gates.specs.declared.GateId.{GateId}
 use Rattle.ordering.specs.Tables.{bitIn}
@@ -17,16 +17,16 @@ less : (n p : ℕ) → p < n → n - p ≡ suc (n - (p + 1))
 less n p h = omega arith
 
 -- no group below p, from `from` on, is ready; held holds up those that are left
-pub record Searching (waits left : List ℕ) (first count : ℕ) (held : List ℕ) (p : ℕ) : Type 0 where
+pub record Searching (waits left : List ℕ) (first count held p : ℕ) : Type 0 where
   pub room : count ≤ 256
-  pub waiting : length waits ≡ 1024
+  pub wide : 4 * count ≤ length waits
   pub lefts : length left ≡ 4
   pub holding : Holding waits left held p
   pub below : p ≤ count
   pub here : nextReady waits left first count ≡ searchFrom waits left p (count - p)
 
 -- p is left, and waits for none that is left as far as its words below w say
-pub record TestingWords (waits left : List ℕ) (first count : ℕ) (held : List ℕ) (p w : ℕ) : Type 0 where
+pub record TestingWords (waits left : List ℕ) (first count held p w : ℕ) : Type 0 where
   pub search : Searching waits left first count held p
   pub inside : p < count
   pub isLeft : bitIn 0 left p ≡ true
@@ -34,35 +34,35 @@ pub record TestingWords (waits left : List ℕ) (first count : ℕ) (held : List
   pub tested : freeFrom waits left p 0 4 ≡ freeFrom waits left p w (4 - w)
 
 module _ (waits left : List ℕ) (first count : ℕ) where
-  pub searching-start : (held : List ℕ) → count ≤ 256 → length waits ≡ 1024 → length left ≡ 4 → first ≤ count → Holding waits left held first
+  pub searching-start : (held : ℕ) → count ≤ 256 → 4 * count ≤ length waits → length left ≡ 4 → first ≤ count → Holding waits left held first
       → Searching waits left first count held first
   unfolding nextReady
-  searching-start held h a b l s = record { room = h; waiting = a; lefts = b; holding = s; below = l; here = refl }
+  searching-start held h a b l s = record { room = h; wide = a; lefts = b; holding = s; below = l; here = refl }
 
-  step : (held new : List ℕ) (p : ℕ) → Searching waits left first count held p → p < count → readyIn waits left p ≡ false → Holding waits left new (p + 1)
+  step : (held new p : ℕ) → Searching waits left first count held p → p < count → readyIn waits left p ≡ false → Holding waits left new (p + 1)
       → Searching waits left first count new (p + 1)
   unfolding searchFrom
   step held new p s l e h =
-      record { room = s .room; waiting = s .waiting; lefts = s .lefts; holding = h; below = omega arith; here = s .here ∙ rw (less count p l, e) }
+      record { room = s .room; wide = s .wide; lefts = s .lefts; holding = h; below = omega arith; here = s .here ∙ rw (less count p l, e) }
 
   -- past a gate that names no group left
-  pub searching-past : (held new : List ℕ) (p : ℕ) → Searching waits left first count held p → p < count → bitIn 0 left p ≡ false → new ≡ held
+  pub searching-past : (held new p : ℕ) → Searching waits left first count held p → p < count → bitIn 0 left p ≡ false → new ≡ held
       → Searching waits left first count new (p + 1)
   unfolding readyIn
   searching-past held new p s l e f = step held new p s l (rw e) (rw f (holding-pass waits left held p (s .holding) e))
 
   -- past a group that waits
-  pub searching-held : (held new : List ℕ) (p w : ℕ) → TestingWords waits left first count held p w → w < 4
-      → excludes (getD waits (4 * p + w) 0) (getD left w 0) ≡ false → new ≡ set held w (union (getD held w 0) (getD waits (4 * p + w) 0))
+  pub searching-held : (held new p w : ℕ) → TestingWords waits left first count held p w → w < 4
+      → excludes (getD waits (4 * p + w) 0) (getD left w 0) ≡ false → new ≡ union held (getD waits (4 * p + w) 0)
       → Searching waits left first count new (p + 1)
   unfolding readyIn
   searching-held held new p w t l e f =
-      step held new p (t .search) (t .inside) (rw (t .isLeft) (t .tested ∙ waiting)) (holding-more waits left held p (t .search .holding) w new l e f)
+      step held new p (t .search) (t .inside) (rw (t .isLeft) (t .tested ∙ waiting)) (rw f (holding-more waits left held p (t .search .holding) w l e))
     where
       waiting : freeFrom waits left p w (4 - w) ≡ false
       waiting = unfold freeFrom in rw (less 4 w l, e)
 
-  module _ (held : List ℕ) where
+  module _ (held : ℕ) where
     pub testing-start : (p : ℕ) → Searching waits left first count held p → p < count → bitIn 0 left p ≡ true → TestingWords waits left first count held p 0
     testing-start p s l e = record { search = s; inside = l; isLeft = e; below = omega arith; tested = refl }
 

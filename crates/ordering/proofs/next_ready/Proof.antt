@@ -1,7 +1,6 @@
 use borrow.Author.Tests.{not-true, not-false}
 use mathlib.Core.Logic.{⊎-elim}
-use mathlib.Core.Path.{sym, ap, _∙_}
-use lib.ListN.{set}
+use mathlib.Core.Path.{sym, _∙_}
 use borrow.Author.Needs.{needs}
 use Prim.Native.Nat.{_-_}
 use Rattle.ordering.specs.SearchLaws.{Searching, TestingWords, searching-start, searching-past, searching-held, searching-end, testing-start, testing-next, testing-end}
@@ -21,7 +20,7 @@ abbrev μ-search : tie.MeasureT-search
 μ-search waits left held₀ count first p₀ held p = count - p
 
 search-holds : tie.Need-search-holds Inv-waits μ-waits Inv-search μ-search
-search-holds c = let pre = c .before .before .before .before .pre in searching-start _ _ _ _ _ (pre .0) (pre .1 .0) (pre .1 .1 .0) (pre .1 .1 .1 .0) (pre .1 .1 .1 .1)
+search-holds c = let pre = c .before .before .before .pre in searching-start _ _ _ _ _ (pre .0) (pre .1 .0) (pre .1 .1 .0) (pre .1 .1 .1 .0) (pre .1 .1 .1 .1)
 
 waits-holds : tie.Need-waits-holds Inv-waits μ-waits Inv-search μ-search
 waits-holds c = testing-start _ _ _ _ _ _ (c .before .before .before .search .inv) (c .before .before .if1 .left) (sym (c .before .has .ensures) ∙ c .if2 .taken)
@@ -35,7 +34,7 @@ search-again : tie.Need-search-again Inv-waits μ-waits Inv-search μ-search
 search-again c =
     ⊎-elim
     (λ w.
-    searching-held _ _ _ _ _ _ _ _ (w .1 .inv) (w .2 .left) (sym (w .5 .ensures) ∙ not-true _ (w .6 .taken)) (w .9 ∙ ap (set (w .1 .held) (w .1 .w)) (w .8 .ensures)))
+    searching-held _ _ _ _ _ _ _ _ (w .1 .inv) (w .2 .left) (sym (w .5 .ensures) ∙ not-true _ (w .6 .taken)) (w .9 ∙ w .8 .ensures))
     (λ w. searching-past _ _ _ _ _ _ _ (c .before .before .before .search .inv) (c .before .before .if1 .left) (sym (c .before .has .ensures) ∙ w .0 .left) (w .1))
     (c .if2 .came)
 
@@ -66,18 +65,12 @@ next-ready-spec =
     (λ c. search needs)
     (λ c. search needs)
     (λ c κs. search needs)
-    (λ c. search needs)
-    (λ c. search needs)
     (λ c κs. search needs)
-    (λ c. search needs)
-    (λ c. search needs)
     (λ c. search needs)
     (λ c. search needs)
     waits-again
     (λ c. search needs)
     (λ c. search needs)
     search-again
-    (λ c. search needs)
     returns
-    (λ c. search needs)
     returns-2)

@@ -16,7 +16,7 @@ abbrev μ-loop : tie.MeasureT-loop
 μ-loop conditions group s p waits₀ r n i₀ waits i = n - i
 
 loop-holds : tie.Need-loop-holds Inv-loop μ-loop
-loop-holds c = let a = c .before .before in putting-start _ _ _ _ (omega (arith, a .pre .0)) (a .pre .1 .0) (a .pre .1 .1)
+loop-holds c = let a = c .before .before in putting-start _ _ _ _ (a .pre .0) (a .pre .1)
 
 element-copy-out-t : tie.Need-element-copy-out-t Inv-loop μ-loop
 element-copy-out-t c = omega (arith, c .loop-test .taken, c .before .before .rested .ensures .0, few-rests 6 (c .before .before .before .before .args .s))
@@ -38,7 +38,7 @@ wait-for-requires c κs =
     let c6 = c .before .before .before .before .before .before in
     let g = rested-gate (c6 .before .before .args .conditions .now) _ _ _ _ (c6 .rested .ensures) (c .before .before .before .before .loop-test .taken) in
     let i = c .before .before .before .before .before .loop .inv in
-    (i .size, (omega (arith, i .room), rw (c .group-of .ensures) (putting-into _ _ _ _ _ _ _ i (g .0) (g .1) .1)))
+    (i .room, rw (c .group-of .ensures) (putting-into _ _ _ _ _ _ _ i (g .0) (g .1) .1))
 
 loop-again : tie.Need-loop-again Inv-loop μ-loop
 loop-again c =
@@ -46,6 +46,9 @@ loop-again c =
     let c9 = c7 .before .before in
     let g = rested-gate (c9 .before .before .args .conditions .now) _ _ _ _ (c9 .rested .ensures) (c7 .loop-test .taken) in
     putting-step _ _ _ _ _ _ _ _ _ (c7 .before .loop .inv) (g .0) (g .1) (c .before .before .before .group-of .ensures) (c .before .before .wait-for .ensures)
+
+same-length : tie.Need-same-length Inv-loop μ-loop
+same-length c = c .before .loop .inv .size
 
 returns : tie.Need-returns Inv-loop μ-loop
 returns c =
@@ -71,5 +74,5 @@ wait-conditions-spec =
     (λ c. search needs)
     (λ c. search needs)
     loop-again
-    (λ c. search needs)
+    same-length
     returns)
