@@ -72,10 +72,10 @@ argument-of quads i k n e h = (
 )
 
 -- the gate of condition i of those that s rests on, k of them, listed in an array
-pub rested-gate : (conds : List ℕ) (s : ℕ) (at : List ℕ) (k i : ℕ) → (k ≡ length (rests 6 s)) × (at ≡ padded 6 (rests 6 s)) → i < k
+pub rested-gate : (conds : List ℕ) (s : ℕ) (at : List ℕ) (k i : ℕ) → k ≡ length (rests 6 s) → at ≡ padded 6 (rests 6 s) → i < k
     → (i < length (map (λ t. getD conds t 0) (rests 6 s))) × (getD conds (getD at i 0) 0 ≡ getD (map (λ t. getD conds t 0) (rests 6 s)) i 0)
-rested-gate conds s at k i h l =
-    let n : i < length (rests 6 s) = omega (arith, h .0) in (
+rested-gate conds s at k i h g l =
+    let n : i < length (rests 6 s) = omega (arith, h) in (
       rw (length-map (rests 6 s) (λ t. getD conds t 0)) n,
-      ap (λ (t : ℕ). getD conds t 0) (rested-at 6 s at k i h l .0) ∙ sym (map-at (λ t. getD conds t 0) (rests 6 s) i n),
+      ap (λ (t : ℕ). getD conds t 0) (rested-at 6 s at k i h g l .0) ∙ sym (map-at (λ t. getD conds t 0) (rests 6 s) i n),
     )
