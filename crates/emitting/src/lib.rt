@@ -2,12 +2,13 @@
 // The lent arrays hold plain numbers; a gate's number in hand is a `GateId`, a wire's a `WireId`.
 use fused::WireId;
 use gates::GateId;
+use settings::ConditionList;
 ghost use mathlib.Core.Path.{_≡_};
 ghost use mathlib.Core.List.{_∷_, [], map};
 ghost use Prim.Native.Nat.{_+_, _*_, _<_, _≤_};
 ghost use lib.ListN.{length, getD};
 ghost use Rattle.words.specs.Numbers.{bytesOf};
-ghost use Rattle.words.specs.Buffers.{over};
+ghost use Rattle.words.specs.Buffers.{over, padded};
 ghost use Rattle.settings.specs.Sets.{rests};
 ghost use Rattle.gates.specs.Limits.{mostConditions};
 ghost use Rattle.needed.specs.Held.{codeAt};
@@ -152,12 +153,19 @@ pub fn put_alone(
     put_applied(out, quads, group, wires, g)
 }
 
-// The wires of the conditions that s rests on, rising.
-fn put_rested(out: &mut [u8], s: u64, conditions: &[u16; 6], group: &[u16; 256], wires: &[u16; 256])
-    requires { ⌜ (2 * length (rests mostConditions s) ≤ length (now out)) × Guarded (now conditions) (now group) ⌝ }
+// The wires of the conditions that s rests on, which r lists, rising.
+fn put_rested(
+    out: &mut [u8],
+    s: u64,
+    r: ConditionList,
+    conditions: &[u16; 6],
+    group: &[u16; 256],
+    wires: &[u16; 256],
+)
+    requires { ⌜ ((2 * length (rests mostConditions s) ≤ length (now out)) × Guarded (now conditions) (now group))
+        × ((r .count ≡ length (rests mostConditions s)) × (r .at ≡ padded mostConditions (rests mostConditions s))) ⌝ }
     ensures { λ r. ⌜ now (out .exit) ≡ over (wiresBytes (map (λ t. wireIn (now (group .entry)) (now (wires .entry)) (getD (now (conditions .entry)) t 0)) (rests mostConditions s))) (now (out .entry)) ⌝ }
 {
-    let r = settings::rested(s);
     let count = r.count as usize;
     let mut n: usize = 0;
     let mut i: usize = 0;
@@ -182,11 +190,12 @@ fn put_guard(
     ensures counted { λ r. ⌜ r ≡ length (recordBytes (guardIn (now (conditions .entry)) (wireIn (now (group .entry)) (now (wires .entry))) s)) ⌝ }
     ensures written { λ r. ⌜ now (out .exit) ≡ over (recordBytes (guardIn (now (conditions .entry)) (wireIn (now (group .entry)) (now (wires .entry))) s)) (now (out .entry)) ⌝ }
 {
-    let d = settings::rested(s).count;
+    let r = settings::rested(s);
+    let d = r.count;
     put_short(out, GUARD, d);
-    put_rested(&mut out[2..], s, conditions, group, wires);
+    put_rested(&mut out[2..], s, r, conditions, group, wires);
     let n = 2 + 2 * (d as usize);
-    words::put64(&mut out[n..], settings::table(s));
+    words::put64(&mut out[n..], settings::table(s, r));
     n + 8
 }
 

@@ -35,15 +35,15 @@ one-more base a q group l m w₀ w new e h f k =
 
 -- The gates of a list: group p waits for the groups of the first k.
 pub record Putting (group l waits₀ : List ℕ) (base : ℕ) (waits : List ℕ) (k : ℕ) : Type 0 where
-  pub room : base + 4 ≤ 1024
+  pub room : base + 4 ≤ length waits
+  pub size : length waits ≡ length waits₀
   pub into : Into group l
   pub below : k ≤ length l
-  pub size : length waits ≡ 1024
   pub made : waits ≡ putEach base (map (λ a. getD group a 0) (take k l)) waits₀
 
 module _ (group l waits₀ : List ℕ) (base : ℕ) where
-  pub putting-start : base + 4 ≤ 1024 → length waits₀ ≡ 1024 → Into group l → Putting group l waits₀ base waits₀ 0
-  putting-start r e m = record { room = r; into = m; below = omega arith; size = e; made = puts-none base waits₀ }
+  pub putting-start : base + 4 ≤ length waits₀ → Into group l → Putting group l waits₀ base waits₀ 0
+  putting-start r m = record { room = r; size = refl; into = m; below = omega arith; made = puts-none base waits₀ }
 
   pub putting-into : (waits : List ℕ) (k a : ℕ) → Putting group l waits₀ base waits k → k < length l → a ≡ getD l k 0 → (a < 256) × (getD group a 0 < 256)
   putting-into waits k a g h e = g .into a (rw e (getD-in l k h))
@@ -53,10 +53,10 @@ module _ (group l waits₀ : List ℕ) (base : ℕ) where
   putting-step waits new k a q g h e f p =
       let m : take (k + 1) l ≡ take k l ++ (a ∷ []) = rw (add-one k, e) (take-suc l k 0 h) in
       record {
-        room = g .room;
+        room = rw (put-length base q waits new p) (g .room);
+        size = put-length base q waits new p ∙ g .size;
         into = g .into;
         below = omega arith;
-        size = put-length base q waits new p ∙ g .size;
         made = one-more base a q group (take k l) (take (k + 1) l) waits₀ waits new m (g .made) f p;
       }
 
@@ -72,10 +72,10 @@ argument-of quads i k n e h = (
 )
 
 -- the gate of condition i of those that s rests on, k of them, listed in an array
-pub rested-gate : (conds : List ℕ) (s : ℕ) (at : List ℕ) (k i : ℕ) → (k ≡ length (rests 6 s)) × (at ≡ padded 6 (rests 6 s)) → i < k
+pub rested-gate : (conds : List ℕ) (s : ℕ) (at : List ℕ) (k i : ℕ) → k ≡ length (rests 6 s) → at ≡ padded 6 (rests 6 s) → i < k
     → (i < length (map (λ t. getD conds t 0) (rests 6 s))) × (getD conds (getD at i 0) 0 ≡ getD (map (λ t. getD conds t 0) (rests 6 s)) i 0)
-rested-gate conds s at k i h l =
-    let n : i < length (rests 6 s) = omega (arith, h .0) in (
+rested-gate conds s at k i h g l =
+    let n : i < length (rests 6 s) = omega (arith, h) in (
       rw (length-map (rests 6 s) (λ t. getD conds t 0)) n,
-      ap (λ (t : ℕ). getD conds t 0) (rested-at 6 s at k i h l .0) ∙ sym (map-at (λ t. getD conds t 0) (rests 6 s) i n),
+      ap (λ (t : ℕ). getD conds t 0) (rested-at 6 s at k i h g l .0) ∙ sym (map-at (λ t. getD conds t 0) (rests 6 s) i n),
     )

@@ -1,4 +1,4 @@
--- Laws of the two passes over the gates: the table of waits, gate by gate, and the set of groups left at first. Assumes nothing.
+-- Laws of the pass over the gates that fills the table of waits, gate by gate. Assumes nothing.
 use Prim.Native.Nat.{ℕ, _+_, _*_, _≤_, _<_}
 use mathlib.Core.Path.{_≡_, refl, sym, ap, _∙_}
 use mathlib.Core.Bool.{true, cond}
@@ -9,61 +9,21 @@ use lib.Dec.{eqb}
 use lib.ListN.{length, getD, replicate}
 use borrow.Author.Tests.{eq-eqb, ne-eqb}
 use Rattle.words.specs.Lists.{_∈_, elem, keep, upto, flat}
-use Rattle.words.specs.MemberLaws.{map-in, elem-more}
+use Rattle.words.specs.MemberLaws.{map-in}
 use Rattle.words.specs.TestLaws.{same?}
 use Rattle.settings.specs.Sets.{rests}
 use Rattle.settings.specs.ListLaws.{keep-yes, keep-no}
 use Rattle.gates.specs.Gates.{Gates, gateAt, arguments}
 use Rattle.needed.specs.Held.{gatesIn}
 use Rattle.needed.specs.HeldLaws.{gates-length, gates-at}
-use Rattle.plan.specs.Groups.{groups, members, restsOf, readsOf, waitsFor}
+use Rattle.plan.specs.Groups.{members, restsOf, readsOf, waitsFor}
 use Rattle.plan.specs.RestLaws.{rests-inside, rests-held}
 use Rattle.plan.specs.ReadsLaws.{reads-inside}
-use Rattle.ordering.specs.Tables.{HasWords, bitIn, putBit, putEach}
+use Rattle.ordering.specs.Tables.{HasWords, bitIn, putEach}
 use Rattle.ordering.specs.Reads.{argumentsAt, Into, Orderable}
-use Rattle.ordering.specs.Gathering.{Waiting, Left}
-use Rattle.ordering.specs.TableLaws.{clear-words, clear-bit, put-words, put-bit, puts-words, puts-bit, puts-append}
+use Rattle.ordering.specs.Gathering.{Waiting}
+use Rattle.ordering.specs.TableLaws.{clear-words, clear-bit, puts-words, puts-bit, puts-append}
 use Rattle.ordering.specs.ReadLaws.{arguments-at, elem-joined, flat-last}
-
--- The set of groups left: those named by a gate below i.
-pub record Listing (group : List ℕ) (count : ℕ) (left : List ℕ) (i : ℕ) : Type 0 where
-  pub room : count ≤ 256
-  pub below : i ≤ count
-  pub words : HasWords 4 left
-  pub holds : (q : ℕ) → q < 256 → bitIn 0 left q ≡ elem q (keep (λ p. eqb (getD group p 0) p) (upto i))
-
-module _ (group : List ℕ) (count : ℕ) where
-  pub listing-start : (left : List ℕ) → count ≤ 256 → left ≡ replicate 4 0 → Listing group count left 0
-  listing-start left h e = record { room = h; below = omega arith; words = clear-words 4 left e; holds = λ q l. clear-bit 4 0 q left e }
-
-  pub listing-yes : (left new : List ℕ) (i : ℕ) → Listing group count left i → i < count → getD group i 0 ≡ i → new ≡ putBit 0 i left → Listing group count new (i + 1)
-  listing-yes left new i s l h e =
-      record {
-        room = s .room;
-        below = omega arith;
-        words = rw e (put-words 4 0 i left (s .words));
-        holds = λ q k. rw (
-          e,
-          keep-yes (λ p. eqb (getD group p 0) p) i (eq-eqb (getD group i 0) i h),
-          elem-more q
-              (keep (λ p. eqb (getD group p 0) p) (upto i)) i,
-          ← s .holds q k,
-        )
-            (put-bit 4 0 left (s .words .size) (omega arith) i (omega (arith, s .room)) 0 q k);
-      }
-
-  pub listing-no : (left new : List ℕ) (i : ℕ) → Listing group count left i → i < count → (getD group i 0 ≡ i → ⊥) → new ≡ left → Listing group count new (i + 1)
-  listing-no left new i s l h e =
-      record {
-        room = s .room;
-        below = omega arith;
-        words = rw e (s .words);
-        holds = λ q k. rw (e, keep-no (λ p. eqb (getD group p 0) p) i (ne-eqb (getD group i 0) i h)) (s .holds q k);
-      }
-
-  pub listing-end : (left : List ℕ) (i : ℕ) → Listing group count left i → count ≤ i → Left (λ x. getD group x 0) count left
-  unfolding groups
-  listing-end left i s l = let e : count ≡ i = omega (arith, s .below) in record { words = s .words; holds = λ q k. rw e (s .holds q k) }
 
 -- the groups that p waits for on account of the gates below i
 unfoldable pub waitsBelow : Gates → List ℕ → (ℕ → ℕ) → ℕ → ℕ → List ℕ
@@ -84,10 +44,11 @@ below-no C sets group i p e =
     ap (λ (r : List ℕ). map group (flat (readsOf C sets (members (length C) group p)) r)) (keep-no (λ x. eqb (group x) p) i (ne-eqb (group i) p e))
 
 -- The table of waits: those on account of the gates below i.
-pub record GatheringWaits (quads : List ℕ) (count : ℕ) (needs conds group places waits : List ℕ) (i : ℕ) : Type 0 where
+pub record GatheringWaits (quads : List ℕ) (count : ℕ) (needs conds group places waits : List ℕ) (size i : ℕ) : Type 0 where
   pub orderable : Orderable quads count conds group places
   pub below : i ≤ count
-  pub words : HasWords 1024 waits
+  pub wide : 4 * count ≤ size
+  pub words : HasWords size waits
   pub holds : (p q : ℕ) → p < 256 → q < 256 → bitIn (4 * p) waits q ≡ elem q (waitsBelow (gatesIn quads count) needs (λ x. getD group x 0) i p)
 
 module _ (quads : List ℕ) (count : ℕ) (needs conds group places : List ℕ) where
@@ -97,12 +58,19 @@ module _ (quads : List ℕ) (count : ℕ) (needs conds group places : List ℕ) 
   abbrev g : ℕ → ℕ
   g = λ x. getD group x 0
 
-  pub gathering-start : (waits : List ℕ) → Orderable quads count conds group places → waits ≡ replicate 1024 0
-      → GatheringWaits quads count needs conds group places waits 0
+  pub gathering-start : (waits : List ℕ) → Orderable quads count conds group places → waits ≡ replicate (length waits) 0 → 4 * count ≤ length waits
+      → GatheringWaits quads count needs conds group places waits (length waits) 0
   unfolding waitsBelow
-  gathering-start waits o e = record { orderable = o; below = omega arith; words = clear-words 1024 waits e; holds = λ p q h l. clear-bit 1024 (4 * p) q waits e }
+  gathering-start waits o e r =
+      record {
+        orderable = o;
+        below = omega arith;
+        wide = r;
+        words = clear-words (length waits) waits e;
+        holds = λ p q h l. clear-bit (length waits) (4 * p) q waits e;
+      }
 
-  module _ (waits : List ℕ) (i : ℕ) (s : GatheringWaits quads count needs conds group places waits i) (l : i < count) where
+  module _ (waits : List ℕ) (size i : ℕ) (s : GatheringWaits quads count needs conds group places waits size i) (l : i < count) where
     inside : i < length C
     inside = rw (gates-length quads count) l
 
@@ -112,8 +80,8 @@ module _ (quads : List ℕ) (count : ℕ) (needs conds group places : List ℕ) 
     arguments-here : arguments (gateAt C i) ≡ argumentsAt quads i
     arguments-here = ap arguments (gates-at quads count i l) ∙ arguments-at quads i
 
-    pub gathering-group : getD group i 0 < 256
-    gathering-group = group-low i l
+    pub gathering-group : (getD group i 0 < 256) × (4 * getD group i 0 + 4 ≤ size)
+    gathering-group = (group-low i l, omega (arith, s .orderable .named i l .0, s .wide))
 
     pub gathering-arguments : Into group (argumentsAt quads i)
     gathering-arguments a m =
@@ -130,8 +98,15 @@ module _ (quads : List ℕ) (count : ℕ) (needs conds group places : List ℕ) 
         (omega (arith, s .orderable .room), group-low a h)
 
     step : (new : List ℕ) → new ≡ putEach (4 * g i) (map g (readsOf C needs (members (length C) g (g i)) i)) waits
-        → GatheringWaits quads count needs conds group places new (i + 1)
-    step new e = record { orderable = s .orderable; below = omega arith; words = rw e (puts-words 1024 (4 * g i) reads waits (s .words)); holds = held }
+        → GatheringWaits quads count needs conds group places new size (i + 1)
+    step new e =
+        record {
+          orderable = s .orderable;
+          below = omega arith;
+          wide = s .wide;
+          words = rw e (puts-words size (4 * g i) reads waits (s .words));
+          holds = held;
+        }
       where
         reads : List ℕ
         reads = map g (readsOf C needs (members (length C) g (g i)) i)
@@ -145,7 +120,7 @@ module _ (quads : List ℕ) (count : ℕ) (needs conds group places : List ℕ) 
         held : (p q : ℕ) → p < 256 → q < 256 → bitIn (4 * p) new q ≡ elem q (waitsBelow C needs g (i + 1) p)
         held p q h k =
             ap (λ (w : List ℕ). bitIn (4 * p) w q) e
-            ∙ puts-bit 1024 (g i) reads waits (s .words) (omega (arith, gathering-group)) low p q k
+            ∙ puts-bit size (g i) reads waits (s .words) (gathering-group .1) low p q k
             ∙ go (same? p (g i))
           where
             go : (p ≡ g i) ⊎ (p ≡ g i → ⊥)
@@ -161,13 +136,13 @@ module _ (quads : List ℕ) (count : ℕ) (needs conds group places : List ℕ) 
             )
             go (inr f) = rw (ne-eqb p (g i) f, below-no C needs g i p (λ z. f (sym z))) (s .holds p q h k)
 
-    pub gathering-size : (base : ℕ) (m mid : List ℕ) → mid ≡ putEach base m waits → length mid ≡ 1024
-    gathering-size base m mid e = ap length e ∙ puts-words 1024 base m waits (s .words) .size
+    pub gathering-size : (base : ℕ) (m mid : List ℕ) → mid ≡ putEach base m waits → length mid ≡ size
+    gathering-size base m mid e = ap length e ∙ puts-words size base m waits (s .words) .size
 
     -- a member of a group of one
     pub gathering-alone : (new : List ℕ) (p : ℕ) → p ≡ getD group i 0 → getD places i 0 ≡ 0 → new ≡ putEach (4 * p)
         (map (λ a. getD group a 0) (argumentsAt quads i)) waits
-        → GatheringWaits quads count needs conds group places new (i + 1)
+        → GatheringWaits quads count needs conds group places new size (i + 1)
     gathering-alone new p e z h = step new (h ∙ rw e (ap (λ (r : List ℕ). putEach (4 * g i) (map g r) waits) reads))
       where
         reads : argumentsAt quads i ≡ readsOf C needs (members (length C) g (g i)) i
@@ -177,7 +152,7 @@ module _ (quads : List ℕ) (count : ℕ) (needs conds group places : List ℕ) 
     pub gathering-joined : (mid new : List ℕ) (p n : ℕ) → p ≡ getD group i 0 → (getD places i 0 ≡ 0 → ⊥) → n ≡ getD needs i 0
         → mid ≡ putEach (4 * p) (map (λ a. getD group a 0) (argumentsAt quads i)) waits
         → new ≡ putEach (4 * p) (map (λ a. getD group a 0) (map (λ t. getD conds t 0) (rests 6 n))) mid
-        → GatheringWaits quads count needs conds group places new (i + 1)
+        → GatheringWaits quads count needs conds group places new size (i + 1)
     gathering-joined mid new p n e z f h k =
         step new
         (k ∙ rw (h, f, e) (puts-append (4 * g i) (map g (argumentsAt quads i)) (map g (map (λ t. getD conds t 0) (rests 6 (getD needs i 0)))) waits
@@ -187,11 +162,12 @@ module _ (quads : List ℕ) (count : ℕ) (needs conds group places : List ℕ) 
         reads : argumentsAt quads i ++ map (λ t. getD conds t 0) (rests 6 (getD needs i 0)) ≡ readsOf C needs (members (length C) g (g i)) i
         reads = rw (gates-length quads count, s .orderable .many i l, ne-eqb (getD places i 0) 0 z, ← rests-here, arguments-here)
 
-  pub gathering-end : (waits : List ℕ) (i : ℕ) → GatheringWaits quads count needs conds group places waits i → count ≤ i → Waiting C needs g waits
+  pub gathering-end : (waits : List ℕ) (size i : ℕ) → GatheringWaits quads count needs conds group places waits size i → count ≤ i → Waiting C needs g waits
   unfolding waitsBelow waitsFor
-  gathering-end waits i s l =
+  gathering-end waits size i s l =
       record {
-        words = s .words;
+        wide = rw (gates-length quads count, s .words .size) (s .wide);
+        fits = s .words .fits;
         holds = λ p q h k. s .holds p q h k ∙ ap
             (λ (n : ℕ). elem q (map g (flat (readsOf C needs (members (length C) g p)) (keep (λ x. eqb (g x) p) (upto n))))) len;
       }

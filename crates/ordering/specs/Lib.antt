@@ -6,7 +6,9 @@ pub mod Gathering
 pub mod TableLaws
 pub mod ReadLaws
 pub mod ArgumentLaws
+pub mod LeftLaws
 pub mod GatherLaws
+pub mod HoldLaws
 pub mod SearchLaws
 pub mod ReadyLaws
 pub mod PlacingLaws

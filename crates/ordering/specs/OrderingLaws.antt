@@ -1,7 +1,6 @@
 -- Laws of ordering: what the loop over the tables leaves is the order of writing, and its answer. Assumes nothing.
 use Prim.Native.Nat.{ℕ, _≤_, _<_}
 use mathlib.Core.Path.{_≡_, sym, ap, _∙_}
-use mathlib.Core.Bool.{true}
 use mathlib.Core.List.{List, [], reverse}
 use lib.ListN.{length, getD}
 use Rattle.words.specs.Buffers.{over}
@@ -11,7 +10,6 @@ use Rattle.needed.specs.HeldLaws.{gates-length}
 use Rattle.plan.specs.Groups.{groups, waitsFor}
 use Rattle.plan.specs.Order.{schedule, order}
 use Rattle.plan.specs.ReadsLaws.{waits-closed}
-use Rattle.ordering.specs.Tables.{bitIn}
 use Rattle.ordering.specs.Reads.{Orderable}
 use Rattle.ordering.specs.Row.{orderOf}
 use Rattle.ordering.specs.Gathering.{Waiting, Left}
@@ -21,9 +19,9 @@ use Rattle.ordering.specs.declared.Order.the-variants.{Placed, Circle}
 use Rattle.ordering.specs.PlacingLaws.{Placing, placing-start, placing-circle, placing-end}
 
 -- the loop's record for the gates of the quads
-abbrev pub PlacingIn : List ℕ → ℕ → List ℕ → List ℕ → List ℕ → List ℕ → List ℕ → List ℕ → ℕ → ℕ → List ℕ → Type 0
-PlacingIn quads count needs group waits order₀ order left k first done =
-    Placing (waitsFor (gatesIn quads count) needs (λ x. getD group x 0)) (λ x. getD group x 0) count waits order₀ order left k first done
+abbrev pub PlacingIn : List ℕ → ℕ → List ℕ → List ℕ → List ℕ → List ℕ → List ℕ → List ℕ → ℕ → ℕ → ℕ → List ℕ → Type 0
+PlacingIn quads count needs group waits order₀ order left held k first done =
+    Placing (waitsFor (gatesIn quads count) needs (λ x. getD group x 0)) (λ x. getD group x 0) count waits order₀ order left held k first done
 
 module _ (quads : List ℕ) (count : ℕ) (needs group : List ℕ) where
   abbrev C : Gates
@@ -32,14 +30,15 @@ module _ (quads : List ℕ) (count : ℕ) (needs group : List ℕ) where
   abbrev g : ℕ → ℕ
   g = λ x. getD group x 0
 
-  pub ordering-start : (conds places waits left order₀ : List ℕ) → Orderable quads count conds group places → Waiting C needs g waits → Left g count left
+  pub ordering-start : (conds places waits left order₀ : List ℕ) (held : ℕ) → Orderable quads count conds group places → Waiting C needs g waits → Left g count left
       → length order₀ ≡ 256
-      → PlacingIn quads count needs group waits order₀ order₀ left 0 0 []
-  ordering-start conds places waits left order₀ o w l s =
-      placing-start (waitsFor C needs g) g count waits order₀ left
+      → PlacingIn quads count needs group waits order₀ order₀ left held 0 0 []
+  ordering-start conds places waits left order₀ held o w l s =
+      placing-start (waitsFor C needs g) g count waits order₀ left held
       record {
         room = o .room;
-        waiting = w .words;
+        wide = rw (gates-length quads count) at (w .wide);
+        fits = w .fits;
         lefts = l .words;
         holds = w .holds;
         remains = l .holds;
@@ -52,19 +51,20 @@ module _ (quads : List ℕ) (count : ℕ) (needs group : List ℕ) where
   unfolding order
   order-is = ap (λ (n : ℕ). schedule (waitsFor C needs g) (groups n g) (length (groups n g)) []) (gates-length quads count)
 
-  module _ (waits order₀ new left : List ℕ) (k first : ℕ) (done : List ℕ) (s : PlacingIn quads count needs group waits order₀ new left k first done) where
+  module _ (waits order₀ new left : List ℕ) (held k first : ℕ) (done : List ℕ) (s : PlacingIn quads count needs group waits order₀ new left held k first done)
+      (n : ℕ) (many : n ≡ length (groups count g)) where
     kept : schedule (waitsFor C needs g) (groups count g) (length (groups count g)) [] ≡ done → new ≡ over (reverse (order C needs g)) order₀
     kept e = s .written ∙ ap (λ (l : List ℕ). over (reverse l) order₀) (sym (order-is ∙ e))
 
-    pub ordering-circle : next.Circle ≡ nextReady waits left first count → first < count → bitIn 0 left first ≡ true
+    pub ordering-circle : next.Circle ≡ nextReady waits left first count → k < n
         → (Circle ≡ orderOf C needs g) × (new ≡ over (reverse (order C needs g)) order₀)
     unfolding orderOf
-    ordering-circle e l b =
-        let r = placing-circle (waitsFor C needs g) g count waits order₀ new left k first done s e l b in
+    ordering-circle e l =
+        let r = placing-circle (waitsFor C needs g) g count waits order₀ new left held k first done s e (rw many at l) in
         (rw (gates-length quads count, order-is, r .0, r .1), kept (r .0))
 
-    pub ordering-end : count ≤ first → (Placed k ≡ orderOf C needs g) × (new ≡ over (reverse (order C needs g)) order₀)
+    pub ordering-end : n ≤ k → (Placed k ≡ orderOf C needs g) × (new ≡ over (reverse (order C needs g)) order₀)
     unfolding orderOf
     ordering-end l =
-        let r = placing-end (waitsFor C needs g) g count waits order₀ new left k first done s l in
+        let r = placing-end (waitsFor C needs g) g count waits order₀ new left held k first done s (rw many at l) in
         (rw (gates-length quads count, order-is, r .0, r .1 .0, r .1 .1), kept (r .0))

@@ -1,7 +1,7 @@
 -- Laws of the loop that writes the groups in order, the next ready one at each turn. Assumes nothing.
-use Prim.Native.Nat.{ℕ, suc, _+_, _-_, _≤_, _<_}
+use Prim.Native.Nat.{ℕ, suc, _+_, _-_, _%_, _≤_, _<_}
 use mathlib.Core.Path.{_≡_, refl, sym, ap, _∙_}
-use mathlib.Core.Bool.{Bool, true, false, cond, true≢false}
+use mathlib.Core.Bool.{true, false, cond, true≢false}
 use mathlib.Core.List.{List, [], _∷_, reverse, reverse-cons}
 use mathlib.Core.Logic.{_⊎_, inl, inr}
 use mathlib.Core.Option.{some}
@@ -14,7 +14,7 @@ use Rattle.words.specs.MemberLaws.{elem→∈, ∈→elem}
 use Rattle.words.specs.TestLaws.{split, same?}
 use Rattle.words.specs.Buffers.{over}
 use Rattle.words.specs.BufferLaws.{over-nil, over-snoc}
-use Rattle.settings.specs.Settings.{Once}
+use Rattle.settings.specs.Settings.{Once, bit}
 use Rattle.gates.specs.declared.GateId.{GateId}
 use Rattle.plan.specs.Groups.{groups}
 use Rattle.plan.specs.GroupLaws.{group-of}
@@ -23,67 +23,45 @@ use Rattle.plan.specs.CircleLaws.{allIn-each, allIn-back}
 use Rattle.plan.specs.OrderLaws.{found, none-left, stays, turn}
 use Rattle.plan.specs.CountLaws.{once-length, groups-once, groups-most}
 use Rattle.ordering.specs.Tables.{bitIn, strikeBit}
-use Rattle.ordering.specs.Search.{nextReady, asNext}
+use Rattle.ordering.specs.Search.{nextReady, asNext, placeOf, Holding}
 use Rattle.ordering.specs.declared.Next.{Next}
 use Rattle.ordering.specs.declared.Next.the-variants.{Group, Circle}
 use Rattle.ordering.specs.TableLaws.{strike-words, strike-bit}
+use Rattle.ordering.specs.HoldLaws.{holding-start, holding-search, holding-struck}
 use Rattle.ordering.specs.SearchLaws.{as-none, as-some}
 use Rattle.ordering.specs.ReadyLaws.{Tabled, next-right}
 
--- done is written, the last first, k groups; the groups below `first` are among them; what the order places from the start it places from here
-pub record Placing (W : ℕ → List ℕ) (group : ℕ → ℕ) (n : ℕ) (waits order₀ order left : List ℕ) (k first : ℕ) (done : List ℕ) : Type 0 where
+-- done is written, the last first, k groups; held holds up the groups below `first`; what the order places from the start it places from here
+pub record Placing (W : ℕ → List ℕ) (group : ℕ → ℕ) (n : ℕ) (waits order₀ order left : List ℕ) (held k first : ℕ) (done : List ℕ) : Type 0 where
   pub tabled : Tabled W group n waits left done
   pub once : Once done
   pub inside : (p : ℕ) → p ∈ done → p ∈ groups n group
   pub below : first ≤ n
-  pub past : (p : ℕ) → p < first → p ∈ groups n group → p ∈ done
+  pub holding : Holding waits left held first
   pub counted : length done ≡ k
   pub same : schedule W (groups n group) (length (groups n group)) [] ≡ schedule W (groups n group) (length (groups n group) - k) done
   pub size : length order₀ ≡ 256
   pub written : order ≡ over (reverse done) order₀
 
 module _ (W : ℕ → List ℕ) (group : ℕ → ℕ) (n : ℕ) (waits order₀ : List ℕ) where
-  pub placing-start : (left : List ℕ) → Tabled W group n waits left [] → length order₀ ≡ 256 → Placing W group n waits order₀ order₀ left 0 0 []
-  placing-start left t s =
+  pub placing-start : (left : List ℕ) (held : ℕ) → Tabled W group n waits left [] → length order₀ ≡ 256
+      → Placing W group n waits order₀ order₀ left held 0 0 []
+  placing-start left held t s =
       record {
         tabled = t;
         once = tt;
         inside = λ p m. absurd m;
         below = omega arith;
-        past = λ p l m. absurd (omega arith);
+        holding = holding-start waits left held;
         counted = refl;
         same = let z : length (groups n group) ≡ length (groups n group) - 0 = omega arith in ap (λ (k : ℕ). schedule W (groups n group) k []) z;
         size = s;
         written = sym (over-nil order₀);
       }
 
-  module _ (order left : List ℕ) (k first : ℕ) (done : List ℕ) (s : Placing W group n waits order₀ order left k first done) where
-    -- a gate that names no group left is passed by
-    pub placing-pass : first < n → bitIn 0 left first ≡ false → Placing W group n waits order₀ order left k (first + 1) done
-    placing-pass l e =
-        record {
-          tabled = s .tabled;
-          once = s .once;
-          inside = s .inside;
-          below = omega arith;
-          past = λ p h m. go p h m (same? p first);
-          counted = s .counted;
-          same = s .same;
-          size = s .size;
-          written = s .written;
-        }
-      where
-        here : first ∈ groups n group → first ∈ done
-        here m =
-            split (elem first done) (elem→∈ first done)
-            (λ f. absurd (true≢false (sym (∈→elem first (groups n group) m) ∙ sym (s .tabled .remains first (omega (arith, s .tabled .room)) ∙ rw f) ∙ e)))
-
-        go : (p : ℕ) → p < first + 1 → p ∈ groups n group → (p ≡ first) ⊎ (p ≡ first → ⊥) → p ∈ done
-        go p h m (inl f) = rw f (here (rw f at m))
-        go p h m (inr f) = s .past p (omega arith) m
-
+  module _ (order left : List ℕ) (held k first : ℕ) (done : List ℕ) (s : Placing W group n waits order₀ order left held k first done) where
     first-of : (r : Next) → r ≡ nextReady waits left first n → r ≡ asNext (firstReady W done (groups n group))
-    first-of r e = e ∙ next-right W group n waits left done (s .tabled) first (s .below) (s .past)
+    first-of r e = e ∙ sym (holding-search waits left held first (s .holding) n (s .below)) ∙ next-right W group n waits left done (s .tabled)
 
     -- the next ready group is one that is not written: there is room for it
     module _ (p : GateId) (e : Group p ≡ nextReady waits left first n) where
@@ -106,26 +84,27 @@ module _ (W : ℕ → List ℕ) (group : ℕ → ℕ) (n : ℕ) (waits order₀ 
       pub placing-room : (p .0 < 256) × (k < 256)
       placing-room = (omega (arith, group-of n group (p .0) (new-group .0) .0, s .tabled .room), omega (arith, fuel, groups-most n group, s .tabled .room))
 
+      is : bitIn 0 left (p .0) ≡ true
+      is = s .tabled .remains (p .0) (placing-room .0) ∙ rw (new-group .1, ∈→elem (p .0) (groups n group) (new-group .0))
+
       still : (q : ℕ) → q < 256 → bitIn 0 (strikeBit (p .0) left) q ≡ cond (elem q (p .0 ∷ done)) false (elem q (groups n group))
       still q l =
           strike-bit left (s .tabled .lefts .size) (p .0) (placing-room .0) is q l ∙ rw (s .tabled .remains q l) (go (same? q (p .0)))
         where
-          is : bitIn 0 left (p .0) ≡ true
-          is = s .tabled .remains (p .0) (placing-room .0) ∙ rw (new-group .1, ∈→elem (p .0) (groups n group) (new-group .0))
-
           go : (q ≡ p .0) ⊎ (q ≡ p .0 → ⊥)
               → cond (eqb q (p .0)) false (cond (elem q done) false (elem q (groups n group))) ≡ cond (cond (eqb q (p .0)) true (elem q done)) false
               (elem q (groups n group))
           go (inl f) = rw (eq-eqb q (p .0) f)
           go (inr f) = rw (ne-eqb q (p .0) f)
 
-      pub placing-take : (order′ left′ : List ℕ) → order′ ≡ set order k (p .0) → left′ ≡ strikeBit (p .0) left
-          → Placing W group n waits order₀ order′ left′ (k + 1) first (p .0 ∷ done)
-      placing-take order′ left′ f h =
+      take : (order′ left′ : List ℕ) (held′ first′ : ℕ) → order′ ≡ set order k (p .0) → left′ ≡ strikeBit (p .0) left → first′ ≤ n
+          → Holding waits left′ held′ first′ → Placing W group n waits order₀ order′ left′ held′ (k + 1) first′ (p .0 ∷ done)
+      take order′ left′ held′ first′ f h a b =
           record {
             tabled = record {
               room = s .tabled .room;
-              waiting = s .tabled .waiting;
+              wide = s .tabled .wide;
+              fits = s .tabled .fits;
               lefts = rw h (strike-words 4 (p .0) left (s .tabled .lefts));
               holds = s .tabled .holds;
               remains = λ q l. rw h (still q l);
@@ -133,8 +112,8 @@ module _ (W : ℕ → List ℕ) (group : ℕ → ℕ) (n : ℕ) (waits order₀ 
             };
             once = new-once;
             inside = new-inside;
-            below = s .below;
-            past = λ q l m. inr (s .past q l m);
+            below = a;
+            holding = b;
             counted = let z : suc (length done) ≡ k + 1 = omega (arith, s .counted) in z;
             same = s .same ∙ again;
             size = s .size;
@@ -148,32 +127,45 @@ module _ (W : ℕ → List ℕ) (group : ℕ → ℕ) (n : ℕ) (waits order₀ 
               let z : length (groups n group) - k ≡ suc (length (groups n group) - (k + 1)) = omega (arith, fuel) in
               rw z (turn W done (groups n group) (length (groups n group) - (k + 1)) (p .0) ready-group)
 
-    -- no group is ready though one is left: a circle remains
-    pub placing-circle : Circle ≡ nextReady waits left first n → first < n → bitIn 0 left first ≡ true
+      -- groups were held up by it: the search begins again
+      pub placing-again : (order′ left′ : List ℕ) (held′ : ℕ) → order′ ≡ set order k (p .0) → left′ ≡ strikeBit (p .0) left
+          → Placing W group n waits order₀ order′ left′ held′ (k + 1) 0 (p .0 ∷ done)
+      placing-again order′ left′ held′ f h = take order′ left′ held′ 0 f h (omega arith) (holding-start waits left′ held′)
+
+      -- none was: the search goes on behind it
+      pub placing-on : (order′ left′ : List ℕ) (held′ : ℕ) (r : Next) → r ≡ Group p → Holding waits left held′ (placeOf r n) → bit held′ (p .0 % 64) ≡ false
+          → order′ ≡ set order k (p .0) → left′ ≡ strikeBit (p .0) left → Placing W group n waits order₀ order′ left′ held′ (k + 1) (p .0 + 1) (p .0 ∷ done)
+      placing-on order′ left′ held′ r x a b f h =
+          take order′ left′ held′ (p .0 + 1) f h (omega (arith, group-of n group (p .0) (new-group .0) .0))
+          (holding-struck waits left left′ held′ (p .0) (s .tabled .fits) (s .tabled .lefts .size) (placing-room .0) is (rw x at a) b h)
+
+    -- no group is ready though not all are written: a circle remains
+    pub placing-circle : Circle ≡ nextReady waits left first n → k < length (groups n group)
         → (schedule W (groups n group) (length (groups n group)) [] ≡ done) × (allIn (groups n group) done ≡ false)
-    placing-circle e l b = (
+    placing-circle e l = (
       s .same ∙ stays W done (groups n group) (length (groups n group) - k) (as-none (firstReady W done (groups n group)) (first-of Circle e)),
-      split (allIn (groups n group) done) (λ t. absurd (out t (elem first done) refl (elem first (groups n group)) refl)) (λ t. t),
+      split (allIn (groups n group) done)
+          (λ t. absurd (omega (arith, l, s .counted, once-length (groups n group) done (groups-once n group) (allIn-each (groups n group) done t)))) (λ t. t),
     )
-      where
-        is : true ≡ cond (elem first done) false (elem first (groups n group))
-        is = sym b ∙ s .tabled .remains first (omega (arith, s .tabled .room))
 
-        out : allIn (groups n group) done ≡ true → (x : Bool) → elem first done ≡ x → (y : Bool) → elem first (groups n group) ≡ y → ⊥
-        out t true f y g = true≢false (is ∙ rw f)
-        out t false f false g = true≢false (is ∙ rw (f, g))
-        out t false f true g = true≢false (sym (∈→elem first done (allIn-each (groups n group) done t first (elem→∈ first (groups n group) g))) ∙ f)
-
-    -- every gate is passed by: every group is written
-    pub placing-end : n ≤ first
+    -- as many as there are: every group is written
+    pub placing-end : length (groups n group) ≤ k
         → (schedule W (groups n group) (length (groups n group)) [] ≡ done) × ((allIn (groups n group) done ≡ true) × (k ≡ length (groups n group)))
     placing-end l = (
       s .same ∙ stays W done (groups n group) (length (groups n group) - k) (none-left W done (groups n group) all),
       (
         allIn-back (groups n group) done all,
-        omega (arith, s .counted, once-length done (groups n group) (s .once) (s .inside), once-length (groups n group) done (groups-once n group) all),
+        omega (arith, s .counted, once-length done (groups n group) (s .once) (s .inside)),
       ),
     )
       where
+        in-groups : (p : ℕ) → p ∈ groups n group → (q : ℕ) → q ∈ (p ∷ done) → q ∈ groups n group
+        in-groups p m q (inl f) = rw f m
+        in-groups p m q (inr i) = s .inside q i
+
         all : (p : ℕ) → p ∈ groups n group → p ∈ done
-        all p m = s .past p (omega (arith, group-of n group p m .0)) m
+        all p m =
+            split (elem p done) (elem→∈ p done)
+            (λ f.
+            let o : Once (p ∷ done) = (λ i. true≢false (sym (∈→elem p done i) ∙ f), s .once) in
+            absurd (omega (arith, once-length (p ∷ done) (groups n group) o (in-groups p m), s .counted)))

@@ -1,12 +1,12 @@
 -- Laws of the search over tables that hold the waits and what is left: it finds the first ready group. Assumes nothing.
-use Prim.Native.Nat.{ℕ, zero, suc, _+_, _-_, _*_, _/_, _%_, _≤_, _<_}
-use mathlib.Core.Path.{_≡_, refl, sym, ap, _∙_}
+use Prim.Native.Nat.{ℕ, zero, suc, _+_, _-_, _*_, _/_, _%_, _^_, _≤_, _<_}
+use mathlib.Core.Path.{_≡_, refl, sym, _∙_}
 use mathlib.Core.Bool.{true, false, cond, false≢true}
 use mathlib.Core.List.{List}
-use native.Mathlib.Nat.{zero-add, add-zero, suc-add}
+use native.Mathlib.Nat.{zero-add}
 use native.Mathlib.Omega.{arith}
 use lib.Dec.{eqb}
-use lib.ListN.{getD}
+use lib.ListN.{length, getD}
 use borrow.Author.Tests.{eqb-true, eqb-false}
 use Rattle.words.specs.Lists.{_∈_, elem, keep, from, upto}
 use Rattle.words.specs.MemberLaws.{elem→∈, ∈→elem, keep-in, keep-from, from-in}
@@ -24,7 +24,8 @@ use Rattle.ordering.specs.Search.{freeFrom, readyIn, searchFrom, nextRea
 -- the tables hold the waits W of the groups of n gates, and which of them are left after those of done
 pub record Tabled (W : ℕ → List ℕ) (group : ℕ → ℕ) (n : ℕ) (waits left done : List ℕ) : Type 0 where
   pub room : n ≤ 256
-  pub waiting : HasWords 1024 waits
+  pub wide : 4 * n ≤ length waits
+  pub fits : (i : ℕ) → getD waits i 0 < 2 ^ 64
   pub lefts : HasWords 4 left
   pub holds : (p q : ℕ) → p < 256 → q < 256 → bitIn (4 * p) waits q ≡ elem q (W p)
   pub remains : (q : ℕ) → q < 256 → bitIn 0 left q ≡ cond (elem q done) false (elem q (groups n group))
@@ -72,14 +73,14 @@ module _ (W : ℕ → List ℕ) (group : ℕ → ℕ) (n : ℕ) (waits left done
               let z : bitIn 0 left q ≡ true = t .remains q k ∙ rw (e, ∈→elem q (groups n group) g) in
               let b : bit (getD left (q / 64) 0) (q % 64) ≡ true = sym (left-bit left q) ∙ z in
               let x = free-word waits left p 0 4 f (q / 64) (omega arith) (omega arith) in
-              absurd (excludes-right 64 (getD waits (4 * p + q / 64) 0) (getD left (q / 64) 0) (t .waiting .fits (4 * p + q / 64)) .0 x (q % 64) (omega arith) a b))
+              absurd (excludes-right 64 (getD waits (4 * p + q / 64) 0) (getD left (q / 64) 0) (t .fits (4 * p + q / 64)) .0 x (q % 64) (omega arith) a b))
 
       back : allIn (W p) done ≡ true → freeFrom waits left p 0 4 ≡ true
       back h = free-back waits left p 0 4 each
         where
           each : (v : ℕ) → 0 ≤ v → v < 0 + 4 → excludes (getD waits (4 * p + v) 0) (getD left v 0) ≡ true
           each v a b =
-              excludes-right 64 (getD waits (4 * p + v) 0) (getD left v 0) (t .waiting .fits (4 * p + v)) .1
+              excludes-right 64 (getD waits (4 * p + v) 0) (getD left v 0) (t .fits (4 * p + v)) .1
               (λ j k x y.
               let d : (64 * v + j) / 64 ≡ v = omega arith in
               let r : (64 * v + j) % 64 ≡ j = omega arith in
@@ -116,24 +117,7 @@ module _ (W : ℕ → List ℕ) (group : ℕ → ℕ) (n : ℕ) (waits left done
       (λ f. rw f (split (ready W done i) (λ g. rw g) (λ g. rw g)))
       (λ f. rw f))
 
-  -- groups written are passed over
-  skip : (a i k : ℕ) → ((p : ℕ) → i ≤ p → p < i + a → eqb (group p) p ≡ true → elem p done ≡ true)
-      → firstReady W done (keep (λ q. eqb (group q) q) (from i (a + k))) ≡ firstReady W done (keep (λ q. eqb (group q) q) (from (i + a) k))
-  skip zero i k h = rw (zero-add, add-zero)
-  skip (suc a) i k h =
-      let e : i + suc a ≡ suc i + a = omega arith in
-      rw (suc-add, e)
-      (split (eqb (group i) i)
-      (λ f. rw (f, h i (omega arith) (omega arith) f) (skip a (suc i) k (λ p x y z. h p (omega arith) (omega arith) z)))
-      (λ f. rw f (skip a (suc i) k (λ p x y z. h p (omega arith) (omega arith) z))))
-
-  -- so the search from `first` on, all groups below it written, gives the first ready group of all
-  pub next-right : (first : ℕ) → first ≤ n → ((p : ℕ) → p < first → p ∈ groups n group → p ∈ done)
-      → nextReady waits left first n ≡ asNext (firstReady W done (groups n group))
+  -- so the search over all gates gives the first ready group of all
+  pub next-right : nextReady waits left 0 n ≡ asNext (firstReady W done (groups n group))
   unfolding nextReady groups
-  next-right first l h =
-      let z : n ≡ first + (n - first) = omega arith in
-      search-list first (n - first) (omega arith)
-      ∙ ap asNext (sym (ap (λ (k : ℕ). firstReady W done (keep (λ q. eqb (group q) q) (from 0 k))) z
-      ∙ skip first 0 (n - first) (λ p a b e. ∈→elem p done (h p (omega arith) (keep-in (λ q. eqb (group q) q) (upto n) p (from-in 0 n p (omega arith) (omega arith)) e)))
-      ∙ ap (λ (k : ℕ). firstReady W done (keep (λ q. eqb (group q) q) (from k (n - first)))) (zero-add first)))
+  next-right = let z : n - 0 ≡ n = omega arith in rw z (search-list 0 n (omega arith))

@@ -6,73 +6,87 @@ use mathlib.Core.List.{List}
 use mathlib.Core.Option.{Option, none, some}
 use native.Mathlib.Omega.{arith}
 use lib.ListN.{length, getD}
-use Rattle.settings.specs.Sets.{excludes}
+use Rattle.settings.specs.Sets.{excludes, union}
 use Rattle.gates.specs.declared.GateId.{GateId}
 use Rattle.ordering.specs.Tables.{bitIn}
-use Rattle.ordering.specs.Search.{freeFrom, readyIn, searchFrom, nextReady, asNext}
+use Rattle.ordering.specs.Search.{freeFrom, readyIn, searchFrom, nextReady, asNext, Holding}
+use Rattle.ordering.specs.HoldLaws.{holding-pass, holding-more}
 use Rattle.ordering.specs.declared.Next.the-variants.{Group, Circle}
 
 less : (n p : ℕ) → p < n → n - p ≡ suc (n - (p + 1))
 less n p h = omega arith
 
--- no group below p, from `from` on, is ready
-pub record Searching (waits left : List ℕ) (first count p : ℕ) : Type 0 where
+-- no group below p, from `from` on, is ready; held holds up those that are left
+pub record Searching (waits left : List ℕ) (first count held p : ℕ) : Type 0 where
   pub room : count ≤ 256
-  pub waiting : length waits ≡ 1024
+  pub wide : 4 * count ≤ length waits
   pub lefts : length left ≡ 4
+  pub holding : Holding waits left held p
+  pub below : p ≤ count
   pub here : nextReady waits left first count ≡ searchFrom waits left p (count - p)
 
 -- p is left, and waits for none that is left as far as its words below w say
-pub record TestingWords (waits left : List ℕ) (first count p w : ℕ) : Type 0 where
-  pub search : Searching waits left first count p
+pub record TestingWords (waits left : List ℕ) (first count held p w : ℕ) : Type 0 where
+  pub search : Searching waits left first count held p
   pub inside : p < count
   pub isLeft : bitIn 0 left p ≡ true
   pub below : w ≤ 4
   pub tested : freeFrom waits left p 0 4 ≡ freeFrom waits left p w (4 - w)
 
 module _ (waits left : List ℕ) (first count : ℕ) where
-  pub searching-start : count ≤ 256 → length waits ≡ 1024 → length left ≡ 4 → Searching waits left first count first
+  pub searching-start : (held : ℕ) → count ≤ 256 → 4 * count ≤ length waits → length left ≡ 4 → first ≤ count → Holding waits left held first
+      → Searching waits left first count held first
   unfolding nextReady
-  searching-start h a b = record { room = h; waiting = a; lefts = b; here = refl }
+  searching-start held h a b l s = record { room = h; wide = a; lefts = b; holding = s; below = l; here = refl }
 
-  step : (p : ℕ) → Searching waits left first count p → p < count → readyIn waits left p ≡ false → Searching waits left first count (p + 1)
+  step : (held new p : ℕ) → Searching waits left first count held p → p < count → readyIn waits left p ≡ false → Holding waits left new (p + 1)
+      → Searching waits left first count new (p + 1)
   unfolding searchFrom
-  step p s l e = record { room = s .room; waiting = s .waiting; lefts = s .lefts; here = s .here ∙ rw (less count p l, e) }
+  step held new p s l e h =
+      record { room = s .room; wide = s .wide; lefts = s .lefts; holding = h; below = omega arith; here = s .here ∙ rw (less count p l, e) }
 
   -- past a gate that names no group left
-  pub searching-past : (p : ℕ) → Searching waits left first count p → p < count → bitIn 0 left p ≡ false → Searching waits left first count (p + 1)
+  pub searching-past : (held new p : ℕ) → Searching waits left first count held p → p < count → bitIn 0 left p ≡ false → new ≡ held
+      → Searching waits left first count new (p + 1)
   unfolding readyIn
-  searching-past p s l e = step p s l (rw e)
+  searching-past held new p s l e f = step held new p s l (rw e) (rw f (holding-pass waits left held p (s .holding) e))
 
   -- past a group that waits
-  pub searching-held : (p w : ℕ) → TestingWords waits left first count p w → w < 4 → excludes (getD waits (4 * p + w) 0) (getD left w 0) ≡ false
-      → Searching waits left first count (p + 1)
+  pub searching-held : (held new p w : ℕ) → TestingWords waits left first count held p w → w < 4
+      → excludes (getD waits (4 * p + w) 0) (getD left w 0) ≡ false → new ≡ union held (getD waits (4 * p + w) 0)
+      → Searching waits left first count new (p + 1)
   unfolding readyIn
-  searching-held p w t l e = step p (t .search) (t .inside) (rw (t .isLeft) (t .tested ∙ held))
+  searching-held held new p w t l e f =
+      step held new p (t .search) (t .inside) (rw (t .isLeft) (t .tested ∙ waiting)) (rw f (holding-more waits left held p (t .search .holding) w l e))
     where
-      held : freeFrom waits left p w (4 - w) ≡ false
-      held = unfold freeFrom in rw (less 4 w l, e)
+      waiting : freeFrom waits left p w (4 - w) ≡ false
+      waiting = unfold freeFrom in rw (less 4 w l, e)
 
-  pub testing-start : (p : ℕ) → Searching waits left first count p → p < count → bitIn 0 left p ≡ true → TestingWords waits left first count p 0
-  testing-start p s l e = record { search = s; inside = l; isLeft = e; below = omega arith; tested = refl }
+  module _ (held : ℕ) where
+    pub testing-start : (p : ℕ) → Searching waits left first count held p → p < count → bitIn 0 left p ≡ true → TestingWords waits left first count held p 0
+    testing-start p s l e = record { search = s; inside = l; isLeft = e; below = omega arith; tested = refl }
 
-  pub testing-next : (p w : ℕ) → TestingWords waits left first count p w → w < 4 → excludes (getD waits (4 * p + w) 0) (getD left w 0) ≡ true
-      → TestingWords waits left first count p (w + 1)
-  unfolding freeFrom
-  testing-next p w t l e =
-      record { search = t .search; inside = t .inside; isLeft = t .isLeft; below = omega arith; tested = t .tested ∙ rw (less 4 w l, e) }
+    pub testing-next : (p w : ℕ) → TestingWords waits left first count held p w → w < 4 → excludes (getD waits (4 * p + w) 0) (getD left w 0) ≡ true
+        → TestingWords waits left first count held p (w + 1)
+    unfolding freeFrom
+    testing-next p w t l e =
+        record { search = t .search; inside = t .inside; isLeft = t .isLeft; below = omega arith; tested = t .tested ∙ rw (less 4 w l, e) }
 
-  -- a group left that waits for none that is
-  pub testing-end : (p w : ℕ) → TestingWords waits left first count p w → 4 ≤ w → Group (record { 0 = p }) ≡ nextReady waits left first count
-  unfolding searchFrom readyIn
-  testing-end p w t l = sym (t .search .here ∙ rw (less count p (t .inside), t .isLeft, t .tested ∙ free))
-    where
-      free : freeFrom waits left p w (4 - w) ≡ true
-      free = unfold freeFrom in let e : 4 - w ≡ 0 = omega arith in rw e
+    -- a group left that waits for none that is
+    pub testing-end : (p w : ℕ) → TestingWords waits left first count held p w → 4 ≤ w → Group (record { 0 = p }) ≡ nextReady waits left first count
+    unfolding searchFrom readyIn
+    testing-end p w t l = sym (t .search .here ∙ rw (less count p (t .inside), t .isLeft, t .tested ∙ free))
+      where
+        free : freeFrom waits left p w (4 - w) ≡ true
+        free = unfold freeFrom in let e : 4 - w ≡ 0 = omega arith in rw e
 
-  pub searching-end : (p : ℕ) → Searching waits left first count p → count ≤ p → Circle ≡ nextReady waits left first count
-  unfolding searchFrom
-  searching-end p s l = let e : count - p ≡ 0 = omega arith in sym (s .here ∙ rw e)
+    pub searching-end : (p : ℕ) → Searching waits left first count held p → count ≤ p
+        → (Circle ≡ nextReady waits left first count) × Holding waits left held count
+    unfolding searchFrom
+    searching-end p s l =
+        let e : count - p ≡ 0 = omega arith in
+        let f : count ≡ p = omega (arith, s .below) in
+        (sym (s .here ∙ rw e), rw f (s .holding))
 
 -- what the code yields, back in the list's terms
 pub as-none : (o : Option ℕ) → Circle ≡ asNext o → o ≡ none

@@ -8,17 +8,21 @@ ghost use lib.ListN.{length, getD, replicate};
 ghost use Rattle.words.specs.Buffers.{over};
 ghost use Rattle.settings.specs.Sets.{rests};
 ghost use Rattle.needed.specs.Held.{gatesIn};
+ghost use Rattle.plan.specs.Groups.{groups};
 ghost use Rattle.plan.specs.Order as plan;
 ghost use Rattle.ordering.specs.Tables.{bitIn, putBit, putEach, strikeBit};
 ghost use Rattle.ordering.specs.Reads.{arityOf, argumentsAt, Into, Orderable};
 ghost use Rattle.ordering.specs.Row.{orderOf, orderRow};
-ghost use Rattle.ordering.specs.Search.{nextReady};
+ghost use Rattle.ordering.specs.Search.{nextReady, placeOf, Holding};
 ghost use Rattle.ordering.specs.Gathering.{Waiting, Left};
 
 // A choice has three arguments.
 const CHOICE_ARITY: usize = 3;
 // The words of a set of groups.
 const WORDS: usize = 4;
+
+// Gates for which a table of 128 words is enough.
+const FEW: usize = 32;
 
 // What a search for a ready group yields: the first one, or that each unwritten group waits for one.
 pub enum Next {
@@ -100,7 +104,7 @@ fn group_of(group: &[u16; 256], g: GateId) -> GateId
 
 // Group p waits for group q, which may be p itself.
 fn wait_for(waits: &mut [u64], p: GateId, q: GateId)
-    requires { ⌜ (length (now waits) ≡ 1024) × ((p .0 < 256) × (q .0 < 256)) ⌝ }
+    requires { ⌜ (4 * p .0 + 4 ≤ length (now waits)) × (q .0 < 256) ⌝ }
     ensures { λ r. ⌜ now (waits .exit) ≡ putBit (4 * p .0) (q .0) (now (waits .entry)) ⌝ }
 {
     let i = p.0 as usize;
@@ -109,7 +113,7 @@ fn wait_for(waits: &mut [u64], p: GateId, q: GateId)
 
 // Group p waits for the groups of gate m's arguments, its own too.
 fn wait_arguments(quads: &[u32; 1024], group: &[u16; 256], m: GateId, p: GateId, waits: &mut [u64])
-    requires { ⌜ ((m .0 < 256) × (p .0 < 256)) × ((length (now waits) ≡ 1024) × Into (now group) (argumentsAt (now quads) (m .0))) ⌝ }
+    requires { ⌜ (m .0 < 256) × ((4 * p .0 + 4 ≤ length (now waits)) × Into (now group) (argumentsAt (now quads) (m .0))) ⌝ }
     ensures { λ r. ⌜ now (waits .exit) ≡ putEach (4 * p .0) (map (λ a. getD (now (group .entry)) a 0) (argumentsAt (now (quads .entry)) (m .0))) (now (waits .entry)) ⌝ }
 {
     let i = m.0 as usize;
@@ -124,7 +128,7 @@ fn wait_arguments(quads: &[u32; 1024], group: &[u16; 256], m: GateId, p: GateId,
 
 // Group p waits for the groups of the conditions that a joined member rests on, its own too; s: when the member is needed.
 fn wait_conditions(conditions: &[u16; 6], group: &[u16; 256], s: u64, p: GateId, waits: &mut [u64])
-    requires { ⌜ (p .0 < 256) × ((length (now waits) ≡ 1024) × Into (now group) (map (λ t. getD (now conditions) t 0) (rests 6 s))) ⌝ }
+    requires { ⌜ (4 * p .0 + 4 ≤ length (now waits)) × Into (now group) (map (λ t. getD (now conditions) t 0) (rests 6 s)) ⌝ }
     ensures { λ r. ⌜ now (waits .exit) ≡ putEach (4 * p .0) (map (λ a. getD (now (group .entry)) a 0) (map (λ t. getD (now (conditions .entry)) t 0) (rests 6 s))) (now (waits .entry)) ⌝ }
 {
     let r = settings::rested(s);
@@ -148,7 +152,7 @@ fn find_waits(
     places: &[u16; 256],
     waits: &mut [u64],
 )
-    requires { ⌜ Orderable (now quads) count (now conditions) (now group) (now places) × (now waits ≡ replicate 1024 0) ⌝ }
+    requires { ⌜ Orderable (now quads) count (now conditions) (now group) (now places) × ((now waits ≡ replicate (length (now waits)) 0) × (4 * count ≤ length (now waits))) ⌝ }
     ensures { λ r. ⌜ Waiting (gatesIn (now (quads .entry)) count) (now (needs .entry)) (λ x. getD (now (group .entry)) x 0) (now (waits .exit)) ⌝ }
 {
     let mut i: usize = 0;
@@ -163,25 +167,31 @@ fn find_waits(
     }
 }
 
-// Every group is left to write at first, from a clear set.
-fn find_left(group: &[u16; 256], count: usize, left: &mut [u64])
+// Every group is left to write at first, from a clear set; gives how many there are.
+fn find_left(group: &[u16; 256], count: usize, left: &mut [u64]) -> usize
     requires { ⌜ (count ≤ 256) × (now left ≡ replicate 4 0) ⌝ }
-    ensures { λ r. ⌜ Left (λ x. getD (now (group .entry)) x 0) count (now (left .exit)) ⌝ }
+    ensures counted { λ r. ⌜ r ≡ length (groups count (λ x. getD (now (group .entry)) x 0)) ⌝ }
+    ensures left { λ r. ⌜ Left (λ x. getD (now (group .entry)) x 0) count (now (left .exit)) ⌝ }
 {
+    let mut n: usize = 0;
     let mut i: usize = 0;
     while i < count {
         let p = GateId(i as u16);
         if group[i] == p.0 {
             put(left, 0, p);
+            n = n + 1;
         }
         i = i + 1;
     }
+    n
 }
 
-// The first group from `from` on that is left and waits for none that is left; or that a circle remains.
-fn next_ready(waits: &[u64], left: &[u64], from: GateId, count: usize) -> Next
-    requires { ⌜ (count ≤ 256) × ((length (now waits) ≡ 1024) × (length (now left) ≡ 4)) ⌝ }
-    ensures { λ r. ⌜ r ≡ nextReady (now (waits .entry)) (now (left .entry)) (from .0) count ⌝ }
+// The first group from `from` on that is left and waits for none that is left; or that a circle remains. Each group left that is passed by on the
+// way waits: the word that says so is put into `held`, group q as bit q % 64, so that it need not be asked again before one of `held` is struck.
+fn next_ready(waits: &[u64], left: &[u64], held: &mut u64, from: GateId, count: usize) -> Next
+    requires { ⌜ (count ≤ 256) × ((4 * count ≤ length (now waits)) × ((length (now left) ≡ 4) × ((from .0 ≤ count) × Holding (now waits) (now left) (now held) (from .0)))) ⌝ }
+    ensures next { λ r. ⌜ r ≡ nextReady (now (waits .entry)) (now (left .entry)) (from .0) count ⌝ }
+    ensures held { λ r. ⌜ Holding (now (waits .entry)) (now (left .entry)) (now (held .exit)) (placeOf r count) ⌝ }
 {
     let first = from.0 as usize;
     let mut p = first;
@@ -195,7 +205,9 @@ fn next_ready(waits: &[u64], left: &[u64], from: GateId, count: usize) -> Next
                 if w >= WORDS {
                     break 'search Next::Group(GateId(p as u16));
                 }
-                if !settings::excludes(waits[4 * p + w], left[w]) {
+                let x = waits[4 * p + w];
+                if !settings::excludes(x, left[w]) {
+                    *held = settings::union(*held, x);
                     break 'waits;
                 }
                 w = w + 1;
@@ -205,7 +217,50 @@ fn next_ready(waits: &[u64], left: &[u64], from: GateId, count: usize) -> Next
     }
 }
 
-// The groups in the order of writing. `from` is the first gate that may name an unwritten group: each turn passes it by, or writes the next ready group.
+// The groups in the order of writing: again and again the next ready group. No group below `from` is ready; where the group that is written is one
+// for which those below it were held, they are searched again. `waits` is a clear table.
+fn order_in(
+    quads: &[u32; 1024],
+    count: usize,
+    needs: &[u64; 256],
+    conditions: &[u16; 6],
+    group: &[u16; 256],
+    places: &[u16; 256],
+    waits: &mut [u64],
+    order: &mut [u16; 256],
+) -> Order
+    requires { ⌜ Orderable (now quads) count (now conditions) (now group) (now places) × ((length (now order) ≡ 256) × ((now waits ≡ replicate (length (now waits)) 0) × (4 * count ≤ length (now waits)))) ⌝ }
+    ensures answer { λ r. ⌜ r ≡ orderOf (gatesIn (now (quads .entry)) count) (now (needs .entry)) (λ x. getD (now (group .entry)) x 0) ⌝ }
+    ensures written { λ r. ⌜ now (order .exit) ≡ over (reverse (plan.order (gatesIn (now (quads .entry)) count) (now (needs .entry)) (λ x. getD (now (group .entry)) x 0))) (now (order .entry)) ⌝ }
+{
+    find_waits(quads, count, needs, conditions, group, places, waits);
+    let mut left = [0u64; 4];
+    let n = find_left(group, count, &mut left);
+    let mut held = settings::empty();
+    let mut from: u16 = 0;
+    let mut k: usize = 0;
+    while k < n {
+        match next_ready(waits, &left, &mut held, GateId(from), count) {
+            Next::Group(p) => {
+                order[k] = p.0;
+                strike(&mut left, p);
+                k = k + 1;
+                if settings::has(held, (p.0 % 64) as u8) {
+                    held = settings::empty();
+                    from = 0;
+                } else {
+                    from = p.0 + 1;
+                }
+            }
+            Next::Circle => {
+                return Order::Circle;
+            }
+        }
+    }
+    Order::Placed(k)
+}
+
+// The groups in the order of writing. Few gates have a small table of waits, which is sooner cleared.
 pub fn order_groups(
     quads: &[u32; 1024],
     count: usize,
@@ -219,28 +274,28 @@ pub fn order_groups(
     ensures answer { λ r. ⌜ r ≡ orderOf (gatesIn (now (quads .entry)) count) (now (needs .entry)) (λ x. getD (now (group .entry)) x 0) ⌝ }
     ensures written { λ r. ⌜ now (order .exit) ≡ over (reverse (plan.order (gatesIn (now (quads .entry)) count) (now (needs .entry)) (λ x. getD (now (group .entry)) x 0))) (now (order .entry)) ⌝ }
 {
-    let mut waits = [0u64; 1024];
-    find_waits(quads, count, needs, conditions, group, places, &mut waits);
-    let mut left = [0u64; 4];
-    find_left(group, count, &mut left);
-    let mut k: usize = 0;
-    let mut from: usize = 0;
-    while from < count {
-        let first = GateId(from as u16);
-        if has(&left, 0, first) {
-            match next_ready(&waits, &left, first, count) {
-                Next::Group(p) => {
-                    order[k] = p.0;
-                    strike(&mut left, p);
-                    k = k + 1;
-                }
-                Next::Circle => {
-                    return Order::Circle;
-                }
-            }
-        } else {
-            from = from + 1;
-        }
+    if count <= FEW {
+        let mut few = [0u64; 128];
+        return order_in(
+            quads,
+            count,
+            needs,
+            conditions,
+            group,
+            places,
+            &mut few,
+            order,
+        );
     }
-    Order::Placed(k)
+    let mut waits = [0u64; 1024];
+    order_in(
+        quads,
+        count,
+        needs,
+        conditions,
+        group,
+        places,
+        &mut waits,
+        order,
+    )
 }

@@ -5,9 +5,8 @@ use mathlib.Core.List.{List}
 use Prim.Native.Nat.{ℕ, _^_, _≤_, _<_}
 use native.Mathlib.Omega.{arith}
 use lib.ListN.{length, getD}
-use lib.Pow.{pow-mono}
 use Rattle.words.specs.Lists.{upto}
-use Rattle.words.specs.ListLaws.{length-from, keep-same, length-keep}
+use Rattle.words.specs.ListLaws.{length-from, keep-same}
 use Rattle.words.specs.MemberLaws.{keep-in, from-below}
 use Rattle.settings.specs.Settings.{Setting, Over, bit, settingOf, numberOf, Agree, preRestsOn, preRests}
 use Rattle.settings.specs.Sets.{has, collect, restsOn, rests}
@@ -56,14 +55,10 @@ module _ (n s : ℕ) where
   chosen-rests =
       keep-same (bit (collect n (restsOn n s))) (restsOn n s) (upto n) (λ t m. collect-has n (restsOn n s) t (omega (arith, from-below 0 n t m)))
 
--- a setting of n conditions is numbered below 2 ^ n, and a table over conditions below n has at most that many bits
+-- a setting of n conditions is numbered below 2 ^ n
 pub spread-below : (n : ℕ) (ts : List ℕ) (j : ℕ) → spread n ts j < 2 ^ n
 unfolding spread
 spread-below n ts j = rw (length-from 0 n) at (numberOf-below (upto n) (settingOf ts j))
-
-pub chosen-size : (n on : ℕ) → 2 ^ length (chosen n on) ≤ 2 ^ n
-unfolding chosen
-chosen-size n on = pow-mono (rw (length-from 0 n) at (length-keep (bit on) (upto n)))
 
 module _ (n s : ℕ) (cs : List ℕ) (P : Setting → Bool) (H : Holds n s cs P) where
   -- the table of the set gives P at whatever the wires σ of the condition gates rested on hold

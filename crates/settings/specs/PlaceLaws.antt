@@ -68,11 +68,11 @@ module _ (n s : ℕ) where
       omega (arith, from-below 0 n (getD l i 0) (keep-from (restsOn n s) (upto n) (getD l i 0) (getD-in l i h) .0))
 
   -- condition i of them, listed in an array
-  pub rested-at : (at : List ℕ) (k i : ℕ) → (k ≡ length (rests n s)) × (at ≡ padded n (rests n s)) → i < k
+  pub rested-at : (at : List ℕ) (k i : ℕ) → k ≡ length (rests n s) → at ≡ padded n (rests n s) → i < k
       → (getD at i 0 ≡ getD (rests n s) i 0) × (getD at i 0 < n)
-  rested-at at k i h l =
-      let e : getD at i 0 ≡ getD (rests n s) i 0 = rw (h .1) (padded-at n (rests n s) i) in
-      (e, rw e (rests-below i (omega (arith, h .0))))
+  rested-at at k i h g l =
+      let e : getD at i 0 ≡ getD (rests n s) i 0 = rw g (padded-at n (rests n s) i) in
+      (e, rw e (rests-below i (omega (arith, h))))
 
   -- a set that rests on none but the first m conditions repeats the pattern of its first 2 ^ m settings
   pub repeats : (m : ℕ) → m ≤ n → ((t : ℕ) → m ≤ t → t < n → restsOn n s t ≡ false) → (j : ℕ) → j < 2 ^ n → has s j ≡ has s (j % 2 ^ m)

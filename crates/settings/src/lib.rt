@@ -1,9 +1,9 @@
 // Document 01, "Needed gates" and "The fused circuit file", at six conditions: a set of settings is 64 bits, bit j for setting j.
 ghost use mathlib.Core.Path.{_≡_};
-ghost use Prim.Native.Nat.{_<_, _^_};
+ghost use Prim.Native.Nat.{_+_, _-_, _<_, _≤_, _^_};
 ghost use lib.ListN.{length};
+ghost use lib.Bits.{bitAnd};
 ghost use Rattle.words.specs.Buffers.{padded};
-ghost use Rattle.settings.specs.Settings.{bit};
 ghost use Rattle.settings.specs.Sets as sets;
 ghost use Rattle.settings.specs.Guards as guards;
 
@@ -110,24 +110,10 @@ pub fn rests_on(s: u64, t: u8) -> bool
     ((s >> far) ^ s) & lacking(t) != 0
 }
 
-// The conditions that s rests on: bit t is 1 when s rests on condition t.
-pub fn rests(s: u64) -> u8
-    ensures { λ r. ⌜ r ≡ sets.collect 6 (sets.restsOn 6 s) ⌝ }
-{
-    let mut on: u8 = 0;
-    let mut t: u8 = 0;
-    while t < CONDITIONS {
-        if rests_on(s, t) {
-            on = on | power(t);
-        }
-        t = t + 1;
-    }
-    on
-}
-
-// Conditions, rising: so many of them, zeros after them.
+// Conditions, rising: so many of them, zeros after them; in the number `on` the bit of each is 1.
 pub struct ConditionList {
     pub count: u8,
+    pub on: u8,
     pub at: [u8; 6],
 }
 
@@ -135,82 +121,60 @@ pub struct ConditionList {
 pub fn rested(s: u64) -> ConditionList
     ensures counted { λ r. ⌜ r .count ≡ length (sets.rests 6 s) ⌝ }
     ensures listed { λ r. ⌜ r .at ≡ padded 6 (sets.rests 6 s) ⌝ }
+    ensures chosen { λ r. ⌜ r .on ≡ sets.collect 6 (sets.restsOn 6 s) ⌝ }
 {
     let mut at = [0u8; 6];
+    let mut on: u8 = 0;
     let mut k: u8 = 0;
     let mut t: u8 = 0;
     while t < CONDITIONS {
         if rests_on(s, t) {
             let i = k as usize;
             at[i] = t;
+            on = on | power(t);
             k = k + 1;
         }
         t = t + 1;
     }
-    ConditionList { count: k, at: at }
-}
-
-// Is condition t among those of `on`?
-fn among(on: u8, t: u8) -> bool
-    requires { ⌜ t < 6 ⌝ }
-    ensures { λ r. ⌜ r ≡ bit on t ⌝ }
-{
-    (on >> t) % 2 == 1
-}
-
-// The bits of a table over the conditions `on`: 2 for each condition, multiplied.
-fn size(on: u8) -> u8
-    ensures { λ r. ⌜ r ≡ 2 ^ length (guards.chosen 6 on) ⌝ }
-{
-    let mut n: u8 = 1;
-    let mut t: u8 = 0;
-    while t < CONDITIONS {
-        if among(on, t) {
-            n = n * 2;
-        }
-        t = t + 1;
+    ConditionList {
+        count: k,
+        on: on,
+        at: at,
     }
-    n
 }
 
-// The setting that gives the conditions `on`, rising, the bits of j, and the others 0.
-fn spread(on: u8, j: u8) -> u8
-    ensures { λ r. ⌜ r ≡ guards.spread 6 (guards.chosen 6 on) j ⌝ }
+// The bits of a table over so many conditions.
+fn size(count: u8) -> u8
+    requires { ⌜ count ≤ 6 ⌝ }
+    ensures { λ r. ⌜ r ≡ 2 ^ count ⌝ }
 {
-    let mut r: u8 = 0;
-    let mut left = j;
-    let mut t: u8 = 0;
-    while t < CONDITIONS {
-        if among(on, t) {
-            if left % 2 == 1 {
-                r = r | power(t);
-            }
-            left = left / 2;
-        }
-        t = t + 1;
-    }
-    r
+    1 << count
 }
 
-// The table of s over the conditions `on`: bit j says whether the setting that gives them the bits of j is in s.
-fn table_over(s: u64, on: u8) -> u64
-    ensures { λ r. ⌜ r ≡ guards.tableOver 6 (guards.chosen 6 on) s ⌝ }
+// The setting after this one, of those that give 1 to conditions of `on` alone: a carry passes over the conditions that are none of `on`.
+fn next_setting(on: u8, setting: u8) -> u8
+    requires { ⌜ (on < 64) × (setting < 64) ⌝ }
+    ensures { λ r. ⌜ r ≡ bitAnd (setting + (64 - on)) on ⌝ }
 {
-    let n = size(on);
-    let mut r: u64 = 0;
-    let mut j: u8 = 0;
-    while j < n {
-        if has(s, spread(on, j)) {
-            r = r | only(j);
-        }
-        j = j + 1;
-    }
-    r
+    (setting + (64 - on)) & on
 }
 
-// The guard's table of s: over the conditions that s rests on.
-pub fn table(s: u64) -> u64
+// The guard's table of s: over the conditions that s rests on, which r lists. Bit j says whether the setting that gives them the bits of j is in s.
+pub fn table(s: u64, r: ConditionList) -> u64
+    requires { ⌜ (r .count ≡ length (sets.rests 6 s)) × (r .on ≡ sets.collect 6 (sets.restsOn 6 s)) ⌝ }
     ensures { λ r. ⌜ r ≡ guards.table 6 s ⌝ }
 {
-    table_over(s, rests(s))
+    let on = r.on;
+    let n = size(r.count);
+    let mut bits: u64 = 0;
+    let mut setting: u8 = 0;
+    let mut j: u8 = 0;
+    while j < n {
+        if has(s, setting) {
+            bits = bits | only(j);
+        }
+        setting = next_setting(on, setting);
+        j = j + 1;
+    }
+    bits
 }

@@ -10,11 +10,16 @@ use Rattle.emitting.proofs.put_guard.Statement.{statement}
 use Rattle.emitting.proofs.put_guard.Tie as tie
 
 put-rested-requires : tie.Need-put-rested-requires
-put-rested-requires c κs = let a = c .before .before .before .before .before .before .before .args in (
-  guard-room (a .conditions .now) (wireIn (a .group .now) (a .wires .now)) (a .s) _ _ _ (c .before .before .before .before .before .before .before .pre .0)
-      (c .before .before .before .put-short .ensures),
-  c .before .before .before .before .before .before .before .pre .1,
-)
+put-rested-requires c κs =
+    let start = c .before .before .before .before .before .before .before in
+    let a = start .args in
+    let r = c .before .before .before .before .before .rested .ensures in (
+      (
+        guard-room (a .conditions .now) (wireIn (a .group .now) (a .wires .now)) (a .s) _ _ _ (start .pre .0) (c .before .before .before .put-short .ensures),
+        start .pre .1,
+      ),
+      (r .0, r .1 .0),
+    )
 
 sub-put64 : tie.Need-sub-put64
 sub-put64 c = let a = c .before .before .before .before .before .before .before .before .before .before .args in
@@ -34,6 +39,9 @@ part-put64-start c = let a = c .before .before .before .before .before .before .
     let z : 2 + 2 * c .before .before .before .before .before .before .before .before .rested .result .count ≤ length
     (putMid 2 (length e - 2) e (c .before .before .put-rested .last .0)) = omega (arith, f) in
     search needs
+
+table-requires : tie.Need-table-requires
+table-requires c κs = let r = c .before .before .before .before .before .before .before .before .before .rested .ensures in (r .0, r .1 .1)
 
 put64-requires : tie.Need-put64-requires
 put64-requires c κs = let a = c .before .before .before .before .before .before .before .before .before .before .before .before .args in
@@ -67,7 +75,7 @@ put-guard-spec =
     sub-put64
     part-put64-start
     (λ c. search needs)
-    (λ c κs. search needs)
+    table-requires
     put64-requires
     (λ c. search needs)
     (λ c. search needs)

@@ -1,21 +1,21 @@
 use mathlib.Core.Logic.{⊎-elim}
-use mathlib.Core.Path.{sym, _∙_, refl}
+use mathlib.Core.Path.{_∙_, refl}
 use borrow.Author.Needs.{needs}
 use native.Mathlib.Omega.{arith}
 use Prim.Native.Nat.{_-_}
-use Rattle.ordering.specs.TableLaws.{clear-words}
+use lib.ListN.{length}
 use Rattle.ordering.specs.GatherLaws.{GatheringWaits, gathering-start, gathering-group, gathering-size, gathering-arguments, gathering-conditions, gathering-alone, gathering-joined, gathering-end}
 use Rattle.ordering.proofs.find_waits.Statement.{statement}
 use Rattle.ordering.proofs.find_waits.Tie as tie
 
 abbrev Inv-loop : tie.InvT-loop
-Inv-loop quads count needs conditions group places waits₀ i₀ waits i = GatheringWaits quads count needs conditions group places waits i
+Inv-loop quads count needs conditions group places waits₀ i₀ waits i = GatheringWaits quads count needs conditions group places waits (length waits₀) i
 
 abbrev μ-loop : tie.MeasureT-loop
 μ-loop quads count needs conditions group places waits₀ i₀ waits i = count - i
 
 loop-holds : tie.Need-loop-holds Inv-loop μ-loop
-loop-holds c = gathering-start _ _ _ _ _ _ _ (c .before .pre .0) (c .before .pre .1)
+loop-holds c = gathering-start _ _ _ _ _ _ _ (c .before .pre .0) (c .before .pre .1 .0) (c .before .pre .1 .1)
 
 cast-if1 : tie.Need-cast-if1 Inv-loop μ-loop
 cast-if1 c = record { fits = omega (arith, c .before .loop .inv .orderable .room, c .loop-test .taken) }
@@ -27,8 +27,8 @@ wait-arguments-requires : tie.Need-wait-arguments-requires Inv-loop μ-loop
 wait-arguments-requires c κs =
     let i = c .before .before .before .loop .inv in
     let t = c .before .before .loop-test .taken in (
-      (omega (arith, i .orderable .room, t), omega (arith, i .orderable .room, t, c .before .group-of .ensures, gathering-group _ _ _ _ _ _ _ _ i t)),
-      (i .words .size, gathering-arguments _ _ _ _ _ _ _ _ i t),
+      omega (arith, i .orderable .room, t),
+      (omega (arith, c .before .group-of .ensures, gathering-group _ _ _ _ _ _ _ _ _ i t .1), gathering-arguments _ _ _ _ _ _ _ _ _ i t),
     )
 
 mul-if1 : tie.Need-mul-if1 Inv-loop μ-loop
@@ -56,12 +56,13 @@ wait-conditions-requires : tie.Need-wait-conditions-requires Inv-loop μ-loop
 wait-conditions-requires c κs =
     let i = c .before .before .before .before .before .before .before .before .before .before .loop .inv in
     let t = c .before .before .before .before .before .before .before .before .before .loop-test .taken in (
-      rw (c .before .before .before .before .before .before .before .before .group-of .ensures) (gathering-group _ _ _ _ _ _ _ _ i t),
-      (
-        gathering-size _ _ _ _ _ _ _ _ i t _ _ _
-            (c .before .before .before .before .before .before .wait-arguments .ensures),
-        gathering-conditions _ _ _ _ _ _ _ _ i t _ refl,
+      omega (
+        arith,
+        c .before .before .before .before .before .before .before .before .group-of .ensures,
+        gathering-group _ _ _ _ _ _ _ _ _ i t .1,
+        gathering-size _ _ _ _ _ _ _ _ _ i t _ _ _ (c .before .before .before .before .before .before .wait-arguments .ensures),
       ),
+      gathering-conditions _ _ _ _ _ _ _ _ _ i t _ refl,
     )
 
 loop-again : tie.Need-loop-again Inv-loop μ-loop
@@ -73,15 +74,15 @@ loop-again c =
     let i = c8 .loop .inv in
     let t = c7 .loop-test .taken in
     ⊎-elim
-    (λ w. gathering-joined _ _ _ _ _ _ _ _ i t _ _ _ _ (c6 .group-of .ensures) (w .0 .taken) refl (c4 .wait-arguments .ensures) (w .6 ∙ w .3 .ensures))
-    (λ w. gathering-alone _ _ _ _ _ _ _ _ i t _ _ (c6 .group-of .ensures) (w .0 .left) (w .1 ∙ c4 .wait-arguments .ensures))
+    (λ w. gathering-joined _ _ _ _ _ _ _ _ _ i t _ _ _ _ (c6 .group-of .ensures) (w .0 .taken) refl (c4 .wait-arguments .ensures) (w .6 ∙ w .3 .ensures))
+    (λ w. gathering-alone _ _ _ _ _ _ _ _ _ i t _ _ (c6 .group-of .ensures) (w .0 .left) (w .1 ∙ c4 .wait-arguments .ensures))
     (c .if1 .came)
 
 same-length : tie.Need-same-length Inv-loop μ-loop
-same-length c = c .before .loop .inv .words .size ∙ sym (clear-words 1024 _ (c .before .before .before .pre .1) .size)
+same-length c = c .before .loop .inv .words .size
 
 returns : tie.Need-returns Inv-loop μ-loop
-returns c = gathering-end _ _ _ _ _ _ _ _ (c .before .loop .inv) (c .loop-test .left)
+returns c = gathering-end _ _ _ _ _ _ _ _ _ (c .before .loop .inv) (c .loop-test .left)
 
 pub find-waits-spec : {M : Type 1} → statement M
 find-waits-spec =

@@ -8,40 +8,41 @@ use Rattle.ordering.proofs.next_ready.Statement.{statement}
 use Rattle.ordering.proofs.next_ready.Tie as tie
 
 abbrev Inv-waits : tie.InvT-waits
-Inv-waits waits left count first p w₀ w = TestingWords waits left first count p w
+Inv-waits waits left held₀ count first p w₀ held w = TestingWords waits left first count held p w
 
 abbrev μ-waits : tie.MeasureT-waits
-μ-waits waits left count first p w₀ w = 4 - w
+μ-waits waits left held₀ count first p w₀ held w = 4 - w
 
 abbrev Inv-search : tie.InvT-search
-Inv-search waits left count first p₀ p = Searching waits left first count p
+Inv-search waits left held₀ count first p₀ held p = Searching waits left first count held p
 
 abbrev μ-search : tie.MeasureT-search
-μ-search waits left count first p₀ p = count - p
+μ-search waits left held₀ count first p₀ held p = count - p
 
 search-holds : tie.Need-search-holds Inv-waits μ-waits Inv-search μ-search
-search-holds c = let pre = c .before .before .before .pre in searching-start _ _ _ _ (pre .0) (pre .1 .0) (pre .1 .1)
+search-holds c = let pre = c .before .before .before .pre in searching-start _ _ _ _ _ (pre .0) (pre .1 .0) (pre .1 .1 .0) (pre .1 .1 .1 .0) (pre .1 .1 .1 .1)
 
 waits-holds : tie.Need-waits-holds Inv-waits μ-waits Inv-search μ-search
-waits-holds c = testing-start _ _ _ _ _ (c .before .before .before .search .inv) (c .before .before .if1 .left) (sym (c .before .has .ensures) ∙ c .if2 .taken)
+waits-holds c = testing-start _ _ _ _ _ _ (c .before .before .before .search .inv) (c .before .before .if1 .left) (sym (c .before .has .ensures) ∙ c .if2 .taken)
 
 waits-again : tie.Need-waits-again Inv-waits μ-waits Inv-search μ-search
 waits-again c =
-    testing-next _ _ _ _ _ _ (c .before .before .before .before .before .waits .inv) (c .before .before .before .before .if3 .left)
+    testing-next _ _ _ _ _ _ _ (c .before .before .before .before .before .waits .inv) (c .before .before .before .before .if3 .left)
     (sym (c .before .excludes .ensures) ∙ not-false _ (c .if4 .left))
 
 search-again : tie.Need-search-again Inv-waits μ-waits Inv-search μ-search
 search-again c =
     ⊎-elim
-    (λ w. searching-held _ _ _ _ _ _ (w .1 .inv) (w .2 .left) (sym (w .5 .ensures) ∙ not-true _ (w .6 .taken)))
-    (λ w. searching-past _ _ _ _ _ (c .before .before .before .search .inv) (c .before .before .if1 .left) (sym (c .before .has .ensures) ∙ w .left))
+    (λ w.
+    searching-held _ _ _ _ _ _ _ _ (w .1 .inv) (w .2 .left) (sym (w .5 .ensures) ∙ not-true _ (w .6 .taken)) (w .9 ∙ w .8 .ensures))
+    (λ w. searching-past _ _ _ _ _ _ _ (c .before .before .before .search .inv) (c .before .before .if1 .left) (sym (c .before .has .ensures) ∙ w .0 .left) (w .1))
     (c .if2 .came)
 
 returns : tie.Need-returns Inv-waits μ-waits Inv-search μ-search
-returns c = searching-end _ _ _ _ _ (c .before .search .inv) (c .if1 .taken)
+returns c = searching-end _ _ _ _ _ _ (c .before .search .inv) (c .if1 .taken)
 
 returns-2 : tie.Need-returns-2 Inv-waits μ-waits Inv-search μ-search
-returns-2 c = testing-end _ _ _ _ _ _ (c .before .waits .inv) (c .if3 .taken)
+returns-2 c = (testing-end _ _ _ _ _ _ _ (c .before .waits .inv) (c .if3 .taken), c .before .waits .inv .search .holding)
 
 pub next-ready-spec : {M : Type 1} → statement M
 next-ready-spec =
@@ -63,6 +64,7 @@ next-ready-spec =
     (λ c. search needs)
     (λ c. search needs)
     (λ c. search needs)
+    (λ c κs. search needs)
     (λ c κs. search needs)
     (λ c. search needs)
     (λ c. search needs)

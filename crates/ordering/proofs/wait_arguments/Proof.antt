@@ -17,17 +17,17 @@ abbrev μ-loop : tie.MeasureT-loop
 loop-holds : tie.Need-loop-holds Inv-loop μ-loop
 loop-holds c =
     let c4 = c .before .before .before .before in
-    putting-start _ _ _ _ (omega (arith, c4 .pre .0 .1)) (c4 .pre .1 .0) (c4 .pre .1 .1)
+    putting-start _ _ _ _ (c4 .pre .1 .0) (c4 .pre .1 .1)
 
 add-argument-2 : tie.Need-add-argument-2 Inv-loop μ-loop
 add-argument-2 c =
     let c6 = c .before .before .before .before .before .before in
-    record { fits = omega (arith, argument-of (c6 .args .quads .now) (c6 .args .m .0) _ _ (c .before .before .arity-of .ensures) (c .loop-test .taken) .0, c6 .pre .0 .0) }
+    record { fits = omega (arith, argument-of (c6 .args .quads .now) (c6 .args .m .0) _ _ (c .before .before .arity-of .ensures) (c .loop-test .taken) .0, c6 .pre .0) }
 
 argument-requires : tie.Need-argument-requires Inv-loop μ-loop
 argument-requires c κs =
     let a = argument-of _ _ _ _ (c .before .before .arity-of .ensures) (c .loop-test .taken) in
-    (omega (arith, a .0, c .before .before .before .before .before .before .pre .0 .0), putting-into _ _ _ _ _ _ _ (c .before .loop .inv) (a .1 .0) (a .1 .1) .0)
+    (omega (arith, a .0, c .before .before .before .before .before .before .pre .0), putting-into _ _ _ _ _ _ _ (c .before .loop .inv) (a .1 .0) (a .1 .1) .0)
 
 group-of-requires : tie.Need-group-of-requires Inv-loop μ-loop
 group-of-requires c κs =
@@ -38,7 +38,7 @@ wait-for-requires : tie.Need-wait-for-requires Inv-loop μ-loop
 wait-for-requires c κs =
     let a = argument-of _ _ _ _ (c .before .before .before .before .before .arity-of .ensures) (c .before .before .before .loop-test .taken) in
     let i = c .before .before .before .before .loop .inv in
-    (i .size, (omega (arith, i .room), rw (c .group-of .ensures) (putting-into _ _ _ _ _ _ _ i (a .1 .0) (c .before .before .argument .ensures ∙ a .1 .1) .1)))
+    (i .room, rw (c .group-of .ensures) (putting-into _ _ _ _ _ _ _ i (a .1 .0) (c .before .before .argument .ensures ∙ a .1 .1) .1))
 
 loop-again : tie.Need-loop-again Inv-loop μ-loop
 loop-again c =
@@ -46,6 +46,9 @@ loop-again c =
     let a = argument-of _ _ _ _ (c6 .before .before .arity-of .ensures) (c6 .loop-test .taken) in
     putting-step _ _ _ _ _ _ _ _ _ (c6 .before .loop .inv) (a .1 .0) (c .before .before .before .before .before .argument .ensures ∙ a .1 .1)
     (c .before .before .before .group-of .ensures) (c .before .before .wait-for .ensures)
+
+same-length : tie.Need-same-length Inv-loop μ-loop
+same-length c = c .before .loop .inv .size
 
 returns : tie.Need-returns Inv-loop μ-loop
 returns c =
@@ -73,5 +76,5 @@ wait-arguments-spec =
     (λ c. search needs)
     (λ c. search needs)
     loop-again
-    (λ c. search needs)
+    same-length
     returns)
