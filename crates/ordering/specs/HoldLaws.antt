@@ -77,14 +77,6 @@ module _ (waits left : List ℕ) (held p : ℕ) (s : Holding waits left held p) 
           let f : i + suc a ≡ (i + 1) + a = omega arith in
           rw (e, f, unready i (omega arith)) (skip a (i + 1) (omega arith))
 
--- a group by its word and its bit there
-pub word-bit : (d : List ℕ) (w j : ℕ) → j < 64 → bitIn 0 d (64 * w + j) ≡ bit (getD d w 0) j
-unfolding bitIn
-word-bit d w j k =
-    let a : 0 + (64 * w + j) / 64 ≡ w = omega arith in
-    let c : (64 * w + j) % 64 ≡ j = omega arith in
-    rw (a, c)
-
 -- p is struck, and is none of held: what was held up stays so, and p itself is not left
 pub holding-struck : (waits left new : List ℕ) (held p : ℕ) → ((i : ℕ) → getD waits i 0 < 2 ^ 64) → length left ≡ 4 → p < 256 → bitIn 0 left p ≡ true
     → Holding waits left held p → bit held (p % 64) ≡ false → new ≡ strikeBit p left → Holding waits new held (p + 1)
@@ -92,6 +84,12 @@ holding-struck waits left new held p h z l b s x e q i m = go (same? q p)
   where
     struck : (a : ℕ) → a < 256 → (a ≡ p → ⊥) → bitIn 0 new a ≡ bitIn 0 left a
     struck a k f = ap (λ (d : List ℕ). bitIn 0 d a) e ∙ strike-bit left z p l b a k ∙ rw (ne-eqb a p f)
+
+    word : (d : List ℕ) (w j : ℕ) → j < 64 → bitIn 0 d (64 * w + j) ≡ bit (getD d w 0) j
+    word d w j k =
+        unfold bitIn in let a : 0 + (64 * w + j) / 64 ≡ w = omega arith in
+        let c : (64 * w + j) % 64 ≡ j = omega arith in
+        rw (a, c)
 
     still : HeldUp waits left held q → HeldUp waits new held q
     still (w, a, y, f) = (w, a, split (excludes (getD waits (4 * q + w) 0) (getD new w 0)) (λ t. absurd (true≢false (sym (same t) ∙ y))) (λ t. t), f)
@@ -104,7 +102,7 @@ holding-struck waits left new held p h z l b s x e q i m = go (same? q p)
             excludes-right 64 (getD waits (4 * q + w) 0) (getD left w 0) fits .1
             (λ j k c d.
             let o : 64 * w + j ≡ p → ⊥ = λ g. let r : j ≡ p % 64 = omega arith in true≢false (sym (f j k c) ∙ ap (bit held) r ∙ x) in
-            let r : bit (getD new w 0) j ≡ true = sym (word-bit new w j k) ∙ struck (64 * w + j) (omega arith) o ∙ word-bit left w j k ∙ d in
+            let r : bit (getD new w 0) j ≡ true = sym (word new w j k) ∙ struck (64 * w + j) (omega arith) o ∙ word left w j k ∙ d in
             excludes-right 64 (getD waits (4 * q + w) 0) (getD new w 0) fits .0 t j k c r)
 
     none : bitIn 0 new p ≡ true → ⊥

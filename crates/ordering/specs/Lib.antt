@@ -9,7 +9,6 @@ pub mod ArgumentLaws
 pub mod LeftLaws
 pub mod GatherLaws
 pub mod HoldLaws
-pub mod SeenLaws
 pub mod SearchLaws
 pub mod ReadyLaws
 pub mod PlacingLaws

@@ -23,12 +23,11 @@ use Rattle.plan.specs.CircleLaws.{allIn-each, allIn-back}
 use Rattle.plan.specs.OrderLaws.{found, none-left, stays, turn}
 use Rattle.plan.specs.CountLaws.{once-length, groups-once, groups-most}
 use Rattle.ordering.specs.Tables.{bitIn, strikeBit}
-use Rattle.ordering.specs.Search.{nextReady, asNext, placeOf, Holding, Seen}
+use Rattle.ordering.specs.Search.{nextReady, asNext, placeOf, Holding}
 use Rattle.ordering.specs.declared.Next.{Next}
 use Rattle.ordering.specs.declared.Next.the-variants.{Group, Circle}
 use Rattle.ordering.specs.TableLaws.{strike-words, strike-bit}
 use Rattle.ordering.specs.HoldLaws.{holding-start, holding-search, holding-struck}
-use Rattle.ordering.specs.SeenLaws.{seen-struck}
 use Rattle.ordering.specs.SearchLaws.{as-none, as-some}
 use Rattle.ordering.specs.ReadyLaws.{Tabled, next-right}
 
@@ -139,11 +138,6 @@ module _ (W : ℕ → List ℕ) (group : ℕ → ℕ) (n : ℕ) (waits order₀ 
       placing-on order′ left′ held′ r x a b f h =
           take order′ left′ held′ (p .0 + 1) f h (omega (arith, group-of n group (p .0) (new-group .0) .0))
           (holding-struck waits left left′ held′ (p .0) (s .tabled .fits) (s .tabled .lefts .size) (placing-room .0) is (rw x at a) b h)
-
-      -- and what was seen of the waits stays
-      pub placing-seen : (m : ℕ) (seen left′ : List ℕ) → Seen m waits left seen → left′ ≡ strikeBit (p .0) left → Seen m waits left′ seen
-      placing-seen m seen left′ v h =
-          seen-struck waits left m seen v left′ (p .0) (s .tabled .fits) (s .tabled .lefts .size) (placing-room .0) is h
 
     -- no group is ready though not all are written: a circle remains
     pub placing-circle : Circle ≡ nextReady waits left first n → k < length (groups n group)

@@ -4,7 +4,7 @@ use mathlib.Core.Path.{_≡_}
 use mathlib.Core.Bool.{Bool, true, false, cond}
 use mathlib.Core.List.{List}
 use mathlib.Core.Option.{Option, none, some}
-use lib.ListN.{length, getD}
+use lib.ListN.{getD}
 use Rattle.settings.specs.Settings.{bit}
 use Rattle.settings.specs.Sets.{excludes}
 use Rattle.ordering.specs.Tables.{bitIn}
@@ -47,13 +47,3 @@ HeldUp waits left held q = (w : ℕ) × (w < 4) × (excludes (getD waits (4 * q 
 -- held holds up each group below p that is left
 abbrev pub Holding : List ℕ → List ℕ → ℕ → ℕ → Type 0
 Holding waits left held p = (q : ℕ) → q < p → bitIn 0 left q ≡ true → HeldUp waits left held q
-
--- none of q's words before w has any of what is left
-abbrev pub Clear : List ℕ → List ℕ → ℕ → ℕ → Type 0
-Clear waits left q w = (v : ℕ) → v < w → excludes (getD waits (4 * q + v) 0) (getD left v 0) ≡ true
-
--- seen has for each of n groups the word at which it was last found waiting, 0 at first: the words before it are clear
-pub record Seen (n : ℕ) (waits left seen : List ℕ) : Type 0 where
-  pub size : length seen ≡ n
-  pub short : (q : ℕ) → getD seen q 0 < 4
-  pub clear : (q : ℕ) → Clear waits left q (getD seen q 0)

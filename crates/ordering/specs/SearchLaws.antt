@@ -9,9 +9,8 @@ use lib.ListN.{length, getD}
 use Rattle.settings.specs.Sets.{excludes, union}
 use Rattle.gates.specs.declared.GateId.{GateId}
 use Rattle.ordering.specs.Tables.{bitIn}
-use Rattle.ordering.specs.Search.{freeFrom, readyIn, searchFrom, nextReady, asNext, Holding, Clear, Seen}
+use Rattle.ordering.specs.Search.{freeFrom, readyIn, searchFrom, nextReady, asNext, Holding}
 use Rattle.ordering.specs.HoldLaws.{holding-pass, holding-more}
-use Rattle.ordering.specs.SeenLaws.{clear-next, clear-free}
 use Rattle.ordering.specs.declared.Next.the-variants.{Group, Circle}
 
 less : (n p : ℕ) → p < n → n - p ≡ suc (n - (p + 1))
@@ -32,7 +31,7 @@ pub record TestingWords (waits left : List ℕ) (first count held p w : ℕ) : T
   pub inside : p < count
   pub isLeft : bitIn 0 left p ≡ true
   pub below : w ≤ 4
-  pub tested : Clear waits left p w
+  pub tested : freeFrom waits left p 0 4 ≡ freeFrom waits left p w (4 - w)
 
 module _ (waits left : List ℕ) (first count : ℕ) where
   pub searching-start : (held : ℕ) → count ≤ 256 → 4 * count ≤ length waits → length left ≡ 4 → first ≤ count → Holding waits left held first
@@ -58,28 +57,25 @@ module _ (waits left : List ℕ) (first count : ℕ) where
       → Searching waits left first count new (p + 1)
   unfolding readyIn
   searching-held held new p w t l e f =
-      step held new p (t .search) (t .inside) (rw (t .isLeft) (clear-free waits left p w (t .below) (t .tested) ∙ waiting))
-      (rw f (holding-more waits left held p (t .search .holding) w l e))
+      step held new p (t .search) (t .inside) (rw (t .isLeft) (t .tested ∙ waiting)) (rw f (holding-more waits left held p (t .search .holding) w l e))
     where
       waiting : freeFrom waits left p w (4 - w) ≡ false
       waiting = unfold freeFrom in rw (less 4 w l, e)
 
   module _ (held : ℕ) where
-    -- from the word at which p was last found waiting
-    pub testing-start : (p w n : ℕ) (seen : List ℕ) → Searching waits left first count held p → p < count → bitIn 0 left p ≡ true → Seen n waits left seen
-        → w ≡ getD seen p 0 → TestingWords waits left first count held p w
-    testing-start p w n seen s l e c f =
-        record { search = s; inside = l; isLeft = e; below = omega (arith, c .short p); tested = rw f (c .clear p) }
+    pub testing-start : (p : ℕ) → Searching waits left first count held p → p < count → bitIn 0 left p ≡ true → TestingWords waits left first count held p 0
+    testing-start p s l e = record { search = s; inside = l; isLeft = e; below = omega arith; tested = refl }
 
     pub testing-next : (p w : ℕ) → TestingWords waits left first count held p w → w < 4 → excludes (getD waits (4 * p + w) 0) (getD left w 0) ≡ true
         → TestingWords waits left first count held p (w + 1)
+    unfolding freeFrom
     testing-next p w t l e =
-        record { search = t .search; inside = t .inside; isLeft = t .isLeft; below = omega arith; tested = clear-next waits left p w (t .tested) e }
+        record { search = t .search; inside = t .inside; isLeft = t .isLeft; below = omega arith; tested = t .tested ∙ rw (less 4 w l, e) }
 
     -- a group left that waits for none that is
     pub testing-end : (p w : ℕ) → TestingWords waits left first count held p w → 4 ≤ w → Group (record { 0 = p }) ≡ nextReady waits left first count
     unfolding searchFrom readyIn
-    testing-end p w t l = sym (t .search .here ∙ rw (less count p (t .inside), t .isLeft, clear-free waits left p w (t .below) (t .tested) ∙ free))
+    testing-end p w t l = sym (t .search .here ∙ rw (less count p (t .inside), t .isLeft, t .tested ∙ free))
       where
         free : freeFrom waits left p w (4 - w) ≡ true
         free = unfold freeFrom in let e : 4 - w ≡ 0 = omega arith in rw e

@@ -13,7 +13,7 @@ ghost use Rattle.plan.specs.Order as plan;
 ghost use Rattle.ordering.specs.Tables.{bitIn, putBit, putEach, strikeBit};
 ghost use Rattle.ordering.specs.Reads.{arityOf, argumentsAt, Into, Orderable};
 ghost use Rattle.ordering.specs.Row.{orderOf, orderRow};
-ghost use Rattle.ordering.specs.Search.{nextReady, placeOf, Holding, Seen};
+ghost use Rattle.ordering.specs.Search.{nextReady, placeOf, Holding};
 ghost use Rattle.ordering.specs.Gathering.{Waiting, Left};
 
 // A choice has three arguments.
@@ -187,20 +187,11 @@ fn find_left(group: &[u16; 256], count: usize, left: &mut [u64]) -> usize
 }
 
 // The first group from `from` on that is left and waits for none that is left; or that a circle remains. Each group left that is passed by on the
-// way waits: the word that says so is put into `held`, group q as bit q % 64, so that it need not be asked again before one of `held` is struck;
-// and `seen` keeps which of its words that is, so that passing it again costs one word: what is left only shrinks.
-fn next_ready(
-    waits: &[u64],
-    left: &[u64],
-    seen: &mut [u8],
-    held: &mut u64,
-    from: GateId,
-    count: usize,
-) -> Next
-    requires { ⌜ (count ≤ 256) × ((4 * count ≤ length (now waits)) × ((length (now left) ≡ 4) × ((from .0 ≤ count) × (Holding (now waits) (now left) (now held) (from .0) × ((count ≤ length (now seen)) × Seen (length (now seen)) (now waits) (now left) (now seen)))))) ⌝ }
+// way waits: the word that says so is put into `held`, group q as bit q % 64, so that it need not be asked again before one of `held` is struck.
+fn next_ready(waits: &[u64], left: &[u64], held: &mut u64, from: GateId, count: usize) -> Next
+    requires { ⌜ (count ≤ 256) × ((4 * count ≤ length (now waits)) × ((length (now left) ≡ 4) × ((from .0 ≤ count) × Holding (now waits) (now left) (now held) (from .0)))) ⌝ }
     ensures next { λ r. ⌜ r ≡ nextReady (now (waits .entry)) (now (left .entry)) (from .0) count ⌝ }
     ensures held { λ r. ⌜ Holding (now (waits .entry)) (now (left .entry)) (now (held .exit)) (placeOf r count) ⌝ }
-    ensures seen { λ r. ⌜ Seen (length (now (seen .entry))) (now (waits .entry)) (now (left .entry)) (now (seen .exit)) ⌝ }
 {
     let first = from.0 as usize;
     let mut p = first;
@@ -209,7 +200,7 @@ fn next_ready(
             break 'search Next::Circle;
         }
         if has(left, 0, GateId(p as u16)) {
-            let mut w = words::wide8(seen[p]);
+            let mut w: usize = 0;
             'waits: loop {
                 if w >= WORDS {
                     break 'search Next::Group(GateId(p as u16));
@@ -217,7 +208,6 @@ fn next_ready(
                 let x = waits[4 * p + w];
                 if !settings::excludes(x, left[w]) {
                     *held = settings::union(*held, x);
-                    seen[p] = w as u8;
                     break 'waits;
                 }
                 w = w + 1;
@@ -228,7 +218,7 @@ fn next_ready(
 }
 
 // The groups in the order of writing: again and again the next ready group. No group below `from` is ready; where the group that is written is one
-// for which those below it were held, they are searched again. `waits` and `seen` are clear tables.
+// for which those below it were held, they are searched again. `waits` is a clear table.
 fn order_in(
     quads: &[u32; 1024],
     count: usize,
@@ -237,10 +227,9 @@ fn order_in(
     group: &[u16; 256],
     places: &[u16; 256],
     waits: &mut [u64],
-    seen: &mut [u8],
     order: &mut [u16; 256],
 ) -> Order
-    requires { ⌜ Orderable (now quads) count (now conditions) (now group) (now places) × ((length (now order) ≡ 256) × ((now waits ≡ replicate (length (now waits)) 0) × ((4 * count ≤ length (now waits)) × ((now seen ≡ replicate (length (now seen)) 0) × (count ≤ length (now seen)))))) ⌝ }
+    requires { ⌜ Orderable (now quads) count (now conditions) (now group) (now places) × ((length (now order) ≡ 256) × ((now waits ≡ replicate (length (now waits)) 0) × (4 * count ≤ length (now waits)))) ⌝ }
     ensures answer { λ r. ⌜ r ≡ orderOf (gatesIn (now (quads .entry)) count) (now (needs .entry)) (λ x. getD (now (group .entry)) x 0) ⌝ }
     ensures written { λ r. ⌜ now (order .exit) ≡ over (reverse (plan.order (gatesIn (now (quads .entry)) count) (now (needs .entry)) (λ x. getD (now (group .entry)) x 0))) (now (order .entry)) ⌝ }
 {
@@ -251,7 +240,7 @@ fn order_in(
     let mut from: u16 = 0;
     let mut k: usize = 0;
     while k < n {
-        match next_ready(waits, &left, seen, &mut held, GateId(from), count) {
+        match next_ready(waits, &left, &mut held, GateId(from), count) {
             Next::Group(p) => {
                 order[k] = p.0;
                 strike(&mut left, p);
@@ -271,7 +260,7 @@ fn order_in(
     Order::Placed(k)
 }
 
-// The groups in the order of writing. Few gates have small tables, which are sooner cleared.
+// The groups in the order of writing. Few gates have a small table of waits, which is sooner cleared.
 pub fn order_groups(
     quads: &[u32; 1024],
     count: usize,
@@ -287,7 +276,6 @@ pub fn order_groups(
 {
     if count <= FEW {
         let mut few = [0u64; 128];
-        let mut seen_few = [0u8; 32];
         return order_in(
             quads,
             count,
@@ -296,12 +284,10 @@ pub fn order_groups(
             group,
             places,
             &mut few,
-            &mut seen_few,
             order,
         );
     }
     let mut waits = [0u64; 1024];
-    let mut seen = [0u8; 256];
     order_in(
         quads,
         count,
@@ -310,7 +296,6 @@ pub fn order_groups(
         group,
         places,
         &mut waits,
-        &mut seen,
         order,
     )
 }

@@ -1,115 +1,97 @@
 use borrow.Author.Needs.{needs}
 use mathlib.Core.Path.{_≡_, refl, sym, _∙_}
 use native.Mathlib.Omega.{arith}
-use Prim.Native.Nat.{ℕ, _-_, _≤_}
+use Prim.Native.Nat.{ℕ, _-_}
 use mathlib.Core.List.{List, []}
 use lib.ListN.{length, getD}
 use Rattle.plan.specs.Groups.{groups}
-use Rattle.ordering.specs.Search.{Seen}
-use Rattle.ordering.specs.SeenLaws.{seen-start}
-use Rattle.ordering.specs.PlacingLaws.{placing-room, placing-again, placing-on, placing-seen}
+use Rattle.ordering.specs.PlacingLaws.{placing-room, placing-again, placing-on}
 use Rattle.ordering.specs.OrderingLaws.{PlacingIn, ordering-start, ordering-circle, ordering-end}
 use Rattle.ordering.proofs.order_in.Statement.{statement}
 use Rattle.ordering.proofs.order_in.Tie as tie
 
 abbrev Inv-loop : tie.InvT-loop
-Inv-loop quads count needs conditions group places waits seen₀ order₀ left₀ n held₀ from₀ k₀ seen order left held from k = (n ≡ length (groups count (λ x. getD group x 0)))
-    × ((done : List ℕ) × PlacingIn quads count needs group waits order₀ order left held k from done) × ((count ≤ length seen₀) × Seen (length seen₀) waits left seen)
+Inv-loop quads count needs conditions group places waits order₀ left₀ n held₀ from₀ k₀ order left held from k = (n ≡ length (groups count (λ x. getD group x 0)))
+    × ((done : List ℕ) × PlacingIn quads count needs group waits order₀ order left held k from done)
 
 abbrev μ-loop : tie.MeasureT-loop
-μ-loop quads count needs conditions group places waits seen₀ order₀ left₀ n held₀ from₀ k₀ seen order left held from k = n - k
+μ-loop quads count needs conditions group places waits order₀ left₀ n held₀ from₀ k₀ order left held from k = n - k
 
 find-waits-requires : tie.Need-find-waits-requires Inv-loop μ-loop
-find-waits-requires c κs = let pre = c .before .before .before .pre in (pre .0, (pre .1 .1 .0, pre .1 .1 .1 .0))
+find-waits-requires c κs = (c .before .before .pre .0, c .before .before .pre .1 .1)
 
 slice-aggregate-find-left : tie.Need-slice-aggregate-find-left Inv-loop μ-loop
 slice-aggregate-find-left c = refl
 
 find-left-requires : tie.Need-find-left-requires Inv-loop μ-loop
-find-left-requires c κs = (c .before .before .before .before .before .before .before .pre .0 .room, refl)
+find-left-requires c κs = (c .before .before .before .before .before .before .pre .0 .room, refl)
 
 loop-holds : tie.Need-loop-holds Inv-loop μ-loop
 loop-holds c =
-    let pre = c .before .before .before .before .before .before .before .before .before .before .pre in
-    (c .before .before .find-left .ensures .0, ([], ordering-start _ _ _ _ _ _ _ _ _ _ (pre .0) (c .before .before .before .before .before .before .find-waits .ensures) (c .before .before .find-left .ensures .1) (pre .1 .0)), (pre .1 .1 .1 .1 .1, seen-start _ _ _ _ (pre .1 .1 .1 .1 .0)))
+    let pre = c .before .before .before .before .before .before .before .before .before .pre in
+    (c .before .before .find-left .ensures .0, ([], ordering-start _ _ _ _ _ _ _ _ _ _ (pre .0) (c .before .before .before .before .before .before .find-waits .ensures) (c .before .before .find-left .ensures .1) (pre .1 .0)))
 
 slice-aggregate-next-ready : tie.Need-slice-aggregate-next-ready Inv-loop μ-loop
 slice-aggregate-next-ready c = sym (c .before .before .before .loop .inv .1 .1 .tabled .lefts .size)
 
 next-ready-requires : tie.Need-next-ready-requires Inv-loop μ-loop
 next-ready-requires c κs =
-    let i = c .before .before .before .before .before .loop .inv .1 .1 in
-    let v = c .before .before .before .before .before .loop .inv .2 in
-    (i .tabled .room, (i .tabled .wide, (i .tabled .lefts .size, (i .below, (i .holding, rw (v .1 .size) v)))))
+    let i = c .before .before .before .before .loop .inv .1 .1 in (i .tabled .room, (i .tabled .wide, (i .tabled .lefts .size, (i .below, i .holding))))
 
 mul-order : tie.Need-mul-order Inv-loop μ-loop
 mul-order c =
-    let i = c .before .before .before .before .before .before .before .before .before .before .before .loop .inv .1 .1 in
-    let room = placing-room _ _ _ _ _ _ _ _ _ _ _ i _ (sym (c .before .p .given .1) ∙ c .before .before .before .before .before .next-ready .ensures .0) in
+    let i = c .before .before .before .before .before .before .before .before .loop .inv .1 .1 in
+    let room = placing-room _ _ _ _ _ _ _ _ _ _ _ i _ (sym (c .before .p .given .1) ∙ c .before .before .before .next-ready .ensures .0) in
     record { fits = omega (arith, room .1) }
 
 element-write-order : tie.Need-element-write-order Inv-loop μ-loop
 element-write-order c =
-    let i = c .before .before .before .before .before .before .before .before .before .before .before .loop .inv .1 .1 in
-    let room = placing-room _ _ _ _ _ _ _ _ _ _ _ i _ (sym (c .before .p .given .1) ∙ c .before .before .before .before .before .next-ready .ensures .0) in
+    let i = c .before .before .before .before .before .before .before .before .loop .inv .1 .1 in
+    let room = placing-room _ _ _ _ _ _ _ _ _ _ _ i _ (sym (c .before .p .given .1) ∙ c .before .before .before .next-ready .ensures .0) in
     room .1
 
 slice-aggregate-strike : tie.Need-slice-aggregate-strike Inv-loop μ-loop
-slice-aggregate-strike c = sym (c .before .before .before .before .before .before .before .before .before .before .before .before .loop .inv .1 .1 .tabled .lefts .size)
+slice-aggregate-strike c = sym (c .before .before .before .before .before .before .before .before .before .loop .inv .1 .1 .tabled .lefts .size)
 
 strike-requires : tie.Need-strike-requires Inv-loop μ-loop
 strike-requires c κs =
-    let i = c .before .before .before .before .before .before .before .before .before .before .before .before .loop .inv .1 .1 in
-    let room = placing-room _ _ _ _ _ _ _ _ _ _ _ i _ (sym (c .before .before .p .given .1) ∙ c .before .before .before .before .before .before .next-ready .ensures .0) in
+    let i = c .before .before .before .before .before .before .before .before .before .loop .inv .1 .1 in
+    let room = placing-room _ _ _ _ _ _ _ _ _ _ _ i _ (sym (c .before .before .p .given .1) ∙ c .before .before .before .before .next-ready .ensures .0) in
     (omega (arith, i .tabled .lefts .size), room .0)
 
 add-k : tie.Need-add-k Inv-loop μ-loop
 add-k c =
-    let i = c .before .before .before .before .before .before .before .before .before .before .before .before .before .before .loop .inv .1 .1 in
-    let room = placing-room _ _ _ _ _ _ _ _ _ _ _ i _ (sym (c .before .before .before .before .p .given .1) ∙ c .before .before .before .before .before .before .before .before .next-ready .ensures .0) in
+    let i = c .before .before .before .before .before .before .before .before .before .before .before .loop .inv .1 .1 in
+    let room = placing-room _ _ _ _ _ _ _ _ _ _ _ i _ (sym (c .before .before .before .before .p .given .1) ∙ c .before .before .before .before .before .before .next-ready .ensures .0) in
     record { fits = omega (arith, room .1) }
 
 loop-again : tie.Need-loop-again Inv-loop μ-loop
 loop-again c =
-    let i = c .before .before .before .before .before .before .before .before .before .before .before .before .before .before .before .before .before .before .loop .inv in
-    let n = c .before .before .before .before .before .before .before .before .before .before .before .before .next-ready .ensures in
-    let r = sym (c .before .before .before .before .before .before .before .before .p .given .1) ∙ n .0 in
-    let e = c .before .before .before .before .before .strike .ensures in
-    let v = placing-seen _ _ _ _ _ _ _ _ _ _ _ (i .1 .1) _ r _ _ _ (n .1 .1) e in
-    (i .0, (_, placing-again _ _ _ _ _ _ _ _ _ _ _ (i .1 .1) _ r _ _ _ refl e), (i .2 .0, rw (i .2 .1 .size) at v))
+    let i = c .before .before .before .before .before .before .before .before .before .before .before .before .before .before .before .loop .inv in
+    let r = sym (c .before .before .before .before .before .before .before .before .p .given .1) ∙ c .before .before .before .before .before .before .before .before .before .before .next-ready .ensures .0 in
+    (i .0, (_, placing-again _ _ _ _ _ _ _ _ _ _ _ (i .1 .1) _ r _ _ _ refl (c .before .before .before .before .before .strike .ensures)))
 
 add-from : tie.Need-add-from Inv-loop μ-loop
 add-from c =
-    let i = c .before .before .before .before .before .before .before .before .before .before .before .before .before .before .before .before .before .before .loop .inv .1 .1 in
-    let room = placing-room _ _ _ _ _ _ _ _ _ _ _ i _ (sym (c .before .before .before .before .before .before .before .before .p .given .1) ∙ c .before .before .before .before .before .before .before .before .before .before .before .before .next-ready .ensures .0) in
+    let i = c .before .before .before .before .before .before .before .before .before .before .before .before .before .before .before .loop .inv .1 .1 in
+    let room = placing-room _ _ _ _ _ _ _ _ _ _ _ i _ (sym (c .before .before .before .before .before .before .before .before .p .given .1) ∙ c .before .before .before .before .before .before .before .before .before .before .next-ready .ensures .0) in
     record { fits = omega (arith, room .0) }
 
 loop-again-2 : tie.Need-loop-again-2 Inv-loop μ-loop
 loop-again-2 c =
-    let i = c .before .before .before .before .before .before .before .before .before .before .before .before .before .before .before .before .before .before .loop .inv in
+    let i = c .before .before .before .before .before .before .before .before .before .before .before .before .before .before .before .loop .inv in
     let e = c .before .before .before .before .before .before .before .before .p .given .1 in
-    let n = c .before .before .before .before .before .before .before .before .before .before .before .before .next-ready .ensures in
-    let h = c .before .before .before .before .before .strike .ensures in
-    let v = placing-seen _ _ _ _ _ _ _ _ _ _ _ (i .1 .1) _ (sym e ∙ n .0) _ _ _ (n .1 .1) h in (
-      i .0,
-      (_, placing-on _ _ _ _ _ _ _ _ _ _ _ (i .1 .1) _ (sym e ∙ n .0) _ _ _ _ e (n .1 .0) (sym (c .before .before .has .ensures) ∙ c .before .if1 .left) refl h),
-      (i .2 .0, rw (i .2 .1 .size) at v),
-    )
-
-same-length-2 : tie.Need-same-length-2 Inv-loop μ-loop
-same-length-2 c = c .before .before .before .before .next-ready .ensures .1 .1 .size ∙ c .before .before .before .before .before .before .before .before .before .before .loop .inv .2 .1 .size
-
-same-length-4 : tie.Need-same-length-4 Inv-loop μ-loop
-same-length-4 c = c .before .loop .inv .2 .1 .size
+    let n = c .before .before .before .before .before .before .before .before .before .before .next-ready .ensures in
+    (i .0, (_, placing-on _ _ _ _ _ _ _ _ _ _ _ (i .1 .1) _ (sym e ∙ n .0) _ _ _ _ e (n .1) (sym (c .before .before .has .ensures) ∙ c .before .if1 .left) refl (c .before .before .before .before .before .strike .ensures)))
 
 returns : tie.Need-returns Inv-loop μ-loop
 returns c =
-    let i = c .before .before .before .before .before .before .before .before .before .before .loop .inv in
-    let group = c .before .before .before .before .before .before .before .before .before .before .before .before .before .before .before .before .before .before .before .before .before .args .group .now in
-    ordering-circle _ _ _ group _ _ _ _ _ _ _ _ (i .1 .1) _ (i .0) (sym (c .enum-told .given .1) ∙ c .before .before .before .before .next-ready .ensures .0) (c .before .before .before .before .before .before .before .before .before .loop-test .taken)
+    let i = c .before .before .before .before .before .before .before .loop .inv in
+    let group = c .before .before .before .before .before .before .before .before .before .before .before .before .before .before .before .before .before .args .group .now in
+    ordering-circle _ _ _ group _ _ _ _ _ _ _ _ (i .1 .1) _ (i .0) (sym (c .enum-told .given .1) ∙ c .before .before .next-ready .ensures .0) (c .before .before .before .before .before .before .loop-test .taken)
 
 returns-2 : tie.Need-returns-2 Inv-loop μ-loop
-returns-2 c = let i = c .before .loop .inv in ordering-end _ _ _ (c .before .before .before .before .before .before .before .before .before .before .before .before .args .group .now) _ _ _ _ _ _ _ _ (i .1 .1) _ (i .0) (c .loop-test .left)
+returns-2 c = let i = c .before .loop .inv in ordering-end _ _ _ (c .before .before .before .before .before .before .before .before .before .before .before .args .group .now) _ _ _ _ _ _ _ _ (i .1 .1) _ (i .0) (c .loop-test .left)
 
 pub order-in-spec : {M : Type 1} → statement M
 order-in-spec =
@@ -140,8 +122,6 @@ order-in-spec =
     loop-again-2
     (λ c. search needs)
     (λ c. search needs)
-    same-length-2
     returns
     (λ c. search needs)
-    same-length-4
     returns-2)
