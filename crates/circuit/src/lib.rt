@@ -41,14 +41,16 @@ fn whole(size: usize, quads: &[u32; 1024], count: u16, ranks: &mut [u16; 256]) -
 pub fn read_rule(rule: &[u8]) -> Answer
     ensures { λ r. ⌜ r ≡ ruleAnswer (now (rule .entry)) ⌝ }
 {
-    let a = reading::read_rule(rule);
+    // Of this copy the compiler keeps the place and the length apart, in registers.
+    let rest = rule;
+    let a = reading::read_rule(rest);
     if a.number != 0 {
         return a;
     }
     let mut quads = [0u32; 1024];
     let mut present = [0u16; 32];
     let mut ranks = [0u16; 256];
-    let count = making::make_rule(rule, &mut quads, &mut present);
+    let count = making::make_rule(rest, &mut quads, &mut present);
     whole(rule.len(), &quads, count, &mut ranks)
 }
 
@@ -68,12 +70,14 @@ pub fn build(
     ensures outputs { λ _. ⌜ now (outputs .exit) ≡ builtOutputs (now (rule .entry)) ⌝ }
     ensures conditions { λ _. ⌜ now (conditions .exit) ≡ builtConditions (now (rule .entry)) ⌝ }
 {
-    let a = reading::read_rule(rule);
+    // As in `read_rule`: the copy's two words are kept apart.
+    let rest = rule;
+    let a = reading::read_rule(rest);
     if a.number != 0 {
         return a;
     }
     let mut ranks = [0u16; 256];
-    let count = making::make_rule(rule, quads, outputs);
+    let count = making::make_rule(rest, quads, outputs);
     let answer = whole(rule.len(), quads, count, &mut ranks);
     if answer.number != 0 {
         *quads = [0u32; 1024];
