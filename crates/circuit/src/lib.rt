@@ -41,7 +41,7 @@ fn whole(size: usize, quads: &[u32; 1024], count: u16, ranks: &mut [u16; 256]) -
 pub fn read_rule(rule: &[u8]) -> Answer
     ensures { λ r. ⌜ r ≡ ruleAnswer (now (rule .entry)) ⌝ }
 {
-    // Of this copy the compiler keeps the place and the length apart, in registers.
+    // A copy is handed on: so the compiler takes the rule's place and length in two registers, not through memory.
     let rest = rule;
     let a = reading::read_rule(rest);
     if a.number != 0 {
@@ -70,14 +70,12 @@ pub fn build(
     ensures outputs { λ _. ⌜ now (outputs .exit) ≡ builtOutputs (now (rule .entry)) ⌝ }
     ensures conditions { λ _. ⌜ now (conditions .exit) ≡ builtConditions (now (rule .entry)) ⌝ }
 {
-    // As in `read_rule`: the copy's two words are kept apart.
-    let rest = rule;
-    let a = reading::read_rule(rest);
+    let a = reading::read_rule(rule);
     if a.number != 0 {
         return a;
     }
     let mut ranks = [0u16; 256];
-    let count = making::make_rule(rest, quads, outputs);
+    let count = making::make_rule(rule, quads, outputs);
     let answer = whole(rule.len(), quads, count, &mut ranks);
     if answer.number != 0 {
         *quads = [0u32; 1024];
