@@ -22,9 +22,10 @@ use Rattle.gates.specs.QuadLaws.{quads-length}
 use Rattle.gates.specs.StartLaws.{plain-sound}
 use Rattle.making.specs.RuleMade.{RuleMade}
 use Rattle.needed.specs.Held.{gatesIn}
-use Rattle.needed.specs.Ranks.{ranksOf}
+use Rattle.needed.specs.Ranks.{Marked, NumberedBelow}
 use Rattle.needed.specs.HeldLaws.{gates-length}
 use Rattle.needed.specs.HeldQuads.{rule-held}
+use Rattle.needed.specs.MarkSteps.{conditions-numbered}
 use Rattle.circuit.specs.Whole.{wholeWithin, ruleAnswer}
 use Rattle.circuit.specs.WholeLaws.{whole-gates, whole-conditions, whole-success, answer-read, answer-whole, accepted}
 use Rattle.circuit.specs.Making.{wholeIn, MadeWhole}
@@ -98,5 +99,17 @@ module _ (s : List ℕ) (a : Answer) (e : a ≡ answerOf (stepOf (readRule s))) 
   pub whole-answer : b ≡ ruleAnswer s
   whole-answer = let read = answer-read s a e zero in w ∙ made-whole s quads present count read made (length s) ∙ sym (answer-whole s read)
 
-  pub whole-ready : (ranks : List ℕ) → b .number ≡ 0 → (count ≤ mostGates → ranks ≡ ranksOf (gatesIn quads count) mostGates) → MadeWhole s quads present ranks count
-  whole-ready ranks h p = record { accepted = accepted s (ap (λ (x : Answer). x .number) (sym whole-answer) ∙ h); made = made; placed = p }
+  -- taken, it is within the limit of gates
+  pub whole-few : b .number ≡ 0 → count ≤ mostGates
+  whole-few h =
+      let few = accepted s (ap (λ (x : Answer). x .number) (sym whole-answer) ∙ h) .gates in
+      rw (made .counted few) few
+
+  pub whole-ready : b .number ≡ 0 → (marks ranks : List ℕ) → (count ≤ mostGates → Marked (gatesIn quads count) marks) → NumberedBelow marks ranks count
+      → MadeWhole s quads present ranks count
+  whole-ready h marks ranks m n =
+      record {
+        accepted = accepted s (ap (λ (x : Answer). x .number) (sym whole-answer) ∙ h);
+        made = made;
+        placed = λ l. conditions-numbered quads marks ranks count (l, made-earlier s quads present count (answer-read s a e zero) made l) (m l) n;
+      }

@@ -5,25 +5,25 @@ ghost use Prim.Native.Nat.{_≤_};
 ghost use lib.ListN.{replicate};
 ghost use Rattle.gates.specs.Gates.{Earlier};
 ghost use Rattle.needed.specs.Held.{gatesIn};
-ghost use Rattle.needed.specs.Ranks.{ranksOf};
+ghost use Rattle.needed.specs.Ranks.{Marked};
 ghost use Rattle.circuit.specs.Whole.{ruleAnswer};
 ghost use Rattle.circuit.specs.Built.{builtQuads, builtNeeds, builtOutputs, builtConditions};
 ghost use Rattle.circuit.specs.Making.{wholeIn};
 
 // The conditions of a plain circuit, at most.
-const MOST_CONDITIONS: usize = 6;
+const MOST_CONDITIONS: u16 = 6;
 
-// Rows 10 and 11, and the counts, of the gates that lie in `quads`; the conditions are numbered in `ranks`, which are lent clear.
+// Rows 10 and 11, and the counts, of the gates that lie in `quads`; the conditions are marked in `ranks`, which are lent clear.
 fn whole(size: usize, quads: &[u32; 1024], count: u16, ranks: &mut [u16; 256]) -> Answer
     requires { ⌜ (count ≤ 256 → Earlier (gatesIn (now quads) count)) × (now ranks ≡ replicate 256 0) ⌝ }
-    ensures { λ r. ⌜ (r ≡ wholeIn (now (quads .entry)) count size) × (count ≤ 256 → now (ranks .exit) ≡ ranksOf (gatesIn (now (quads .entry)) count) 256) ⌝ }
+    ensures { λ r. ⌜ (r ≡ wholeIn (now (quads .entry)) count size) × (count ≤ 256 → Marked (gatesIn (now (quads .entry)) count) (now (ranks .exit))) ⌝ }
 {
     if making::MOST_GATES < count {
         return answers::refused(10, size);
     }
     let n = count as usize;
-    let conditions = needed::number_conditions(quads, n, ranks);
-    if MOST_CONDITIONS < conditions {
+    let found = needed::survey(quads, n, ranks);
+    if MOST_CONDITIONS < found.conditions {
         return answers::refused(11, size);
     }
     Answer {
@@ -32,7 +32,7 @@ fn whole(size: usize, quads: &[u32; 1024], count: u16, ranks: &mut [u16; 256]) -
         gates: n,
         wires: 0,
         bytes: 0,
-        before: needed::cost(quads, n),
+        before: found.cost,
         after: 0,
     }
 }
@@ -41,14 +41,16 @@ fn whole(size: usize, quads: &[u32; 1024], count: u16, ranks: &mut [u16; 256]) -
 pub fn read_rule(rule: &[u8]) -> Answer
     ensures { λ r. ⌜ r ≡ ruleAnswer (now (rule .entry)) ⌝ }
 {
-    let a = reading::read_rule(rule);
+    // A copy is handed on: so the compiler takes the rule's place and length in two registers, not through memory.
+    let rest = rule;
+    let a = reading::read_rule(rest);
     if a.number != 0 {
         return a;
     }
     let mut quads = [0u32; 1024];
     let mut present = [0u16; 32];
     let mut ranks = [0u16; 256];
-    let count = making::make_rule(rule, &mut quads, &mut present);
+    let count = making::make_rule(rest, &mut quads, &mut present);
     whole(rule.len(), &quads, count, &mut ranks)
 }
 
@@ -82,6 +84,7 @@ pub fn build(
     }
     let n = count as usize;
     let v = rule[5] as usize;
+    needed::number_marked(n, &mut ranks);
     needed::find_needed(quads, n, &ranks, outputs, v, needs);
     needed::condition_gates(&ranks, n, conditions);
     answer

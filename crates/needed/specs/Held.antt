@@ -1,10 +1,11 @@
 -- Inner, for document 01, "The plain circuit (000 Def. 1 and App. C)": the gates that lie in a lent array, four numbers a gate, read back; and the costs of their codes.
 use Prim.Native.Nat.{ℕ, zero, suc, _+_, _*_}
 use mathlib.Core.Path.{_≡_}
-use mathlib.Core.List.{List, [], _∷_, _++_}
+use mathlib.Core.List.{List, [], _∷_, _++_, map}
 use mathlib.Core.Bool.{cond}
 use lib.ListN.{length, getD, take}
 use lib.Dec.{eqb}
+use Rattle.words.specs.Lists.{upto}
 use Rattle.codes.specs.Codes.{entryOf, codeOf}
 use Rattle.codes.specs.declared.Code.{Code}
 use Rattle.codes.specs.declared.Form.{Form}
@@ -60,6 +61,10 @@ gatesIn quads (suc n) = gatesIn quads n ++ (gateIn quads n ∷ [])
 -- "Cost of a circuit", by a gate's code: operations by the table, choice 3, others 0
 unfoldable pub codeCost : ℕ → ℕ
 codeCost code = cond (eqb code choiceCode) choiceCost (codeOf code .cost)
+
+-- the costs of all codes below 40, in hexadecimal
+unfoldable pub costTable : List ℕ
+costTable = map codeCost (upto 64)
 
 -- an operation has as many arguments as the table says
 abbrev pub ShapedGate : Gate → Type 0

@@ -4,12 +4,14 @@ use mathlib.Core.Path.{_≡_, refl, sym, ap, _∙_}
 use mathlib.Core.List.{List, [], _∷_, _++_}
 use mathlib.Core.Bool.{Bool, true, false, cond, _&&_}
 use mathlib.Core.Logic.{_⊎_, inl, inr}
+use native.Mathlib.Nat.{zero-add}
 use native.Mathlib.Omega.{arith}
 use lib.ListN.{length, getD, length-append, List·getD-append}
 use lib.Seq.{getD-at}
 use lib.Dec.{eqb, leb}
 use borrow.Author.Tests.{eq-eqb, ne-eqb}
 use Rattle.words.specs.Lists.{_∈_}
+use Rattle.words.specs.ListLaws.{getD-run}
 use Rattle.words.specs.TestLaws.{same?}
 use Rattle.codes.specs.Codes.{plain, entryOf, operationOf, codeOf}
 use Rattle.codes.specs.CodeLaws.{code-unknown}
@@ -20,7 +22,7 @@ use Rattle.codes.specs.declared.Operation.{Operation}
 use Rattle.codes.specs.declared.Operation.the-variants.{Sum, Difference, Product, LessThan, Equal, And, Or, Not}
 use Rattle.gates.specs.Gates.{word, choice, gateAt, arguments, Earlier, costOf, costs, choiceCost}
 use Rattle.gates.specs.CostLaws.{costs-add, costs-most}
-use Rattle.needed.specs.Held.{choiceCode, ofForm, argumentsOf, gateOf, gateIn, gatesIn, codeCost}
+use Rattle.needed.specs.Held.{choiceCode, ofForm, argumentsOf, gateOf, gateIn, gatesIn, codeCost, costTable}
 
 -- what holds of every entry of the table and of every plain code holds of the code of any number
 cond-each : (Q : Code → Type 0) (t : Bool) (a b : Code) → Q a → Q b → Q (cond t a b)
@@ -151,17 +153,29 @@ costs-none quads = refl
 pub costs-below : (quads : List ℕ) (i : ℕ) → costs (gatesIn quads i) ≤ 40 * i
 costs-below quads i = rw (gates-length quads i) at (costs-most (gatesIn quads i))
 
--- of a loop that adds them up: one turn, and its end
+-- of a loop that adds them up: one turn
 pub costs-step : (quads : List ℕ) (i n k : ℕ) → n ≡ costs (gatesIn quads i) → k ≡ codeCost (getD quads (4 * i) 0) → n + k ≡ costs (gatesIn quads (i + 1))
 costs-step quads i n k p q = rw (p, q) (sym (ap (λ (j : ℕ). costs (gatesIn quads j)) (omega arith) ∙ costs-more quads i))
 
-pub costs-end : (quads : List ℕ) (count n i : ℕ) → (i ≤ count) × ((count ≤ 256) × (n ≡ costs (gatesIn quads i))) → count ≤ i → n ≡ costs (gatesIn quads count)
-costs-end quads count n i h l = h .1 .1 ∙ ap (λ (j : ℕ). costs (gatesIn quads j)) (omega (arith, h .0))
+-- The costs by the table, and of a code past it.
 
-pub cost-choice : (code : ℕ) → code ≡ choiceCode → codeCost code ≡ choiceCost
+pub cost-listed : (costs : List ℕ) (code : ℕ) → costs ≡ costTable → code < 64 → getD costs code 0 ≡ codeCost code
+unfolding costTable
+cost-listed costs code e h = rw e (getD-run codeCost 0 0 64 code h ∙ ap codeCost (zero-add code))
+
+pub cost-past : (code : ℕ) → 64 ≤ code → 0 ≡ codeCost code
 unfolding codeCost
-cost-choice code h = rw (eq-eqb code choiceCode h)
+cost-past code h =
+    rw (
+      ne-eqb code choiceCode (λ e. omega arith),
+      code-unknown code (λ e. omega arith) (λ e. omega arith) (λ e. omega arith) (λ e. omega arith) (λ e. omega arith) (λ e. omega arith) (λ e. omega arith)
+          (inr (omega arith)),
+    ) refl
 
 pub cost-other : (code : ℕ) → (code ≡ choiceCode → ⊥) → codeCost code ≡ codeOf code .cost
 unfolding codeCost
 cost-other code h = rw (ne-eqb code choiceCode h)
+
+pub cost-choice : (code : ℕ) → code ≡ choiceCode → codeCost code ≡ choiceCost
+unfolding codeCost
+cost-choice code h = rw (eq-eqb code choiceCode h)

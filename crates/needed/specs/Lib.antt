@@ -8,6 +8,7 @@ pub mod ShapedLaws
 pub mod HeldQuads
 pub mod RankLaws
 pub mod MarkSteps
+pub mod SurveyLaws
 pub mod GatherLaws
 pub mod NeededLaws
 pub mod HandLaws

@@ -1,4 +1,4 @@
--- Laws of the conditions' numbers: where a gate stands in a list, which gates are marked, and the turns of the two loops that mark and number them.
+-- Laws of the conditions' numbers: where a gate stands in a list, which gates are marked, and the turns of the loop that numbers them.
 use Prim.Native.Nat.{ℕ, suc, _+_, _≤_, _<_}
 use mathlib.Core.Path.{_≡_, refl, sym, ap, _∙_}
 use mathlib.Core.List.{List, [], _∷_, _++_, append-nil}
@@ -157,6 +157,5 @@ numbering-none marks ranks new count g t u n l h q r =
     below k b (inl e) = rw (e, rank-none (markedIn marks g) g (λ m. omega (arith, marked-below marks g g m))) h
     below k b (inr m) = n .numbered .below k (omega arith)
 
-pub numbering-end : (marks ranks : List ℕ) (count g t r : ℕ) → Numbering marks ranks count g t → count ≤ g → r ≡ t
-    → (r ≡ length (markedIn marks count)) × NumberedBelow marks ranks count
-numbering-end marks ranks count g t r n l q = let e : count ≡ g = omega (arith, n .low) in rw e (q ∙ n .count-so-far, n .numbered)
+pub numbering-end : (marks ranks : List ℕ) (count g t : ℕ) → Numbering marks ranks count g t → count ≤ g → NumberedBelow marks ranks count
+numbering-end marks ranks count g t n l = let e : count ≡ g = omega (arith, n .low) in rw e (n .numbered)

@@ -23,7 +23,7 @@ module _ (s : List ℕ) (b : Block) (n : ℕ) (read : readRule s ≡ parsed b n)
   same : gatesIn quads (gateCount s) ≡ gatesOf s
   same = rule-held s b n read quads held
 
-  -- what number_conditions and find_needed ask
+  -- what survey and find_needed ask
   pub quads-earlier : Earlier (gatesIn quads (gateCount s))
   quads-earlier = rw same (rule-earlier s b n read)
 

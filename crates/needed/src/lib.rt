@@ -11,8 +11,8 @@ ghost use Rattle.settings.specs.Sets.{whole, given, without};
 ghost use Rattle.gates.specs.Gates.{Earlier, costs, conditions};
 ghost use Rattle.gates.specs.Limits.{mostGates, mostConditions};
 ghost use Rattle.gates.specs.EarlierLaws.{Inside};
-ghost use Rattle.needed.specs.Held.{firstAt, secondAt, gatesIn, codeCost};
-ghost use Rattle.needed.specs.Ranks.{ranksOf, Marked, markedIn, NumberedBelow};
+ghost use Rattle.needed.specs.Held.{firstAt, secondAt, gatesIn, codeCost, costTable};
+ghost use Rattle.needed.specs.Ranks.{Marked, markedIn, NumberedBelow};
 ghost use Rattle.needed.specs.Pass.{preconditionSets};
 ghost use Rattle.needed.specs.StepLaws.{addNumber};
 ghost use Rattle.needed.specs.Passing.{addNumbers, handGate, passGates, Passable};
@@ -40,50 +40,81 @@ fn code_entry(code: u32) -> codes::Code
 }
 
 // The cost of a gate, by its code.
-fn cost_of(code: u32) -> usize
+fn cost_of(code: u32) -> u8
     ensures { λ r. ⌜ r ≡ codeCost code ⌝ }
 {
     if code == gates::CHOICE {
-        CHOICE_COST
+        CHOICE_COST as u8
     } else {
-        code_entry(code).cost as usize
+        code_entry(code).cost
     }
 }
 
-// The cost of the circuit.
-pub fn cost(quads: &[u32; 1024], count: usize) -> usize
-    requires { ⌜ count ≤ mostGates ⌝ }
-    ensures { λ r. ⌜ r ≡ costs (gatesIn (now (quads .entry)) count) ⌝ }
+// The same of all codes below 40, in hexadecimal, to be looked up, since the tests take longer in a walk over mixed gates; the codes not named cost nothing.
+fn cost_table() -> [u8; 64]
+    ensures { λ r. ⌜ r ≡ costTable ⌝ }
 {
-    let mut sum: usize = 0;
-    let mut i: usize = 0;
-    while i < count {
-        sum = sum + cost_of(quads[4 * i]);
-        i = i + 1;
-    }
-    sum
+    let mut costs = [0u8; 64];
+    costs[0x22] = cost_of(0x22);
+    costs[0x23] = cost_of(0x23);
+    costs[0x24] = cost_of(0x24);
+    costs[0x25] = cost_of(0x25);
+    costs[0x26] = cost_of(0x26);
+    costs[0x30] = cost_of(gates::CHOICE);
+    costs
 }
 
-// Marks the gates that stand first in a choice gate, in ranks that are lent clear: the others are 0.
-fn mark(quads: &[u32; 1024], count: usize, ranks: &mut [u16; 256])
+// The cost of a gate, looked up.
+fn listed_cost(costs: &[u8; 64], code: u32) -> usize
+    requires { ⌜ now costs ≡ costTable ⌝ }
+    ensures { λ r. ⌜ r ≡ codeCost code ⌝ }
+{
+    if code < 64 {
+        let at = code as usize;
+        words::wide8(costs[at])
+    } else {
+        0
+    }
+}
+
+// What a walk over the gates finds: how many conditions they have, and what they cost.
+pub struct Surveyed {
+    pub conditions: u16,
+    pub cost: usize,
+}
+
+// Counts the conditions and adds up the costs in one walk; it marks the gates that stand first in a choice gate, in ranks that are lent clear: the others are 0.
+pub fn survey(quads: &[u32; 1024], count: usize, ranks: &mut [u16; 256]) -> Surveyed
     requires { ⌜ (count ≤ mostGates) × (Earlier (gatesIn (now quads) count) × (now ranks ≡ replicate 256 0)) ⌝ }
-    ensures { λ r. ⌜ Marked (gatesIn (now (quads .entry)) count) (now (ranks .exit)) ⌝ }
+    ensures counted { λ r. ⌜ r .conditions ≡ length (conditions (gatesIn (now (quads .entry)) count)) ⌝ }
+    ensures cost { λ r. ⌜ r .cost ≡ costs (gatesIn (now (quads .entry)) count) ⌝ }
+    ensures marked { λ r. ⌜ Marked (gatesIn (now (quads .entry)) count) (now (ranks .exit)) ⌝ }
 {
+    let table = cost_table();
+    let mut conditions: u16 = 0;
+    let mut cost: usize = 0;
     let mut i: usize = 0;
     while i < count {
-        if quads[4 * i] == gates::CHOICE {
+        let code = quads[4 * i];
+        if code == gates::CHOICE {
             let c = argument(quads, 4 * i + 1);
             let at = c.0 as usize;
+            conditions = conditions + (1 - ranks[at]);
             ranks[at] = 1;
         }
+        cost = cost + listed_cost(&table, code);
         i = i + 1;
+    }
+    Surveyed {
+        conditions: conditions,
+        cost: cost,
     }
 }
 
-// Numbers the marked gates from 1, rising; gives how many they are.
-fn number_marked(count: usize, ranks: &mut [u16; 256]) -> usize
+// Numbers the marked gates from 1, rising.
+pub fn number_marked(count: usize, ranks: &mut [u16; 256])
     requires { ⌜ (count ≤ mostGates) × (length (now ranks) ≡ 256) ⌝ }
-    ensures { λ r. ⌜ (r ≡ length (markedIn (now (ranks .entry)) count)) × NumberedBelow (now (ranks .entry)) (now (ranks .exit)) count ⌝ }
+    ensures { λ r. ⌜ NumberedBelow (now (ranks .entry)) (now (ranks .exit)) count ⌝ }
 {
     let mut t: u16 = 0;
     let mut g: usize = 0;
@@ -94,17 +125,6 @@ fn number_marked(count: usize, ranks: &mut [u16; 256]) -> usize
         }
         g = g + 1;
     }
-    words::wide16(t)
-}
-
-// Numbers the conditions, in ranks that are lent clear: t + 1 for the gate that is condition t, 0 for every other; gives how many they are.
-pub fn number_conditions(quads: &[u32; 1024], count: usize, ranks: &mut [u16; 256]) -> usize
-    requires { ⌜ (count ≤ mostGates) × (Earlier (gatesIn (now quads) count) × (now ranks ≡ replicate 256 0)) ⌝ }
-    ensures counted { λ r. ⌜ r ≡ length (conditions (gatesIn (now (quads .entry)) count)) ⌝ }
-    ensures placed { λ r. ⌜ now (ranks .exit) ≡ ranksOf (gatesIn (now (quads .entry)) count) mostGates ⌝ }
-{
-    mark(quads, count, ranks);
-    number_marked(count, ranks)
 }
 
 // The gates that have a number, in rising order, in an array that is lent clear: of ranks that number the conditions, condition t is element t.

@@ -8,24 +8,21 @@ use Rattle.circuit.proofs.whole.Tie as tie
 returns : tie.Need-returns
 returns c = (c .refused .ensures ∙ sym (whole-over _ _ _ (c .before .if1 .taken)), λ h. absurd (omega arith))
 
-number-conditions-requires : tie.Need-number-conditions-requires
-number-conditions-requires c κs =
+survey-requires : tie.Need-survey-requires
+survey-requires c κs =
     let p = c .before .before .pre in
     (c .before .if1 .left, (p .0 (c .before .if1 .left), p .1))
 
 returns-2 : tie.Need-returns-2
 returns-2 c = (
-  c .refused2 .ensures ∙ sym
-      (whole-eleven _ _ _ _ (c .before .before .before .before .if1 .left) (c .before .before .number-conditions .ensures .0) (c .before .if2 .taken)),
-  λ h.
-      c .before .before .number-conditions .ensures .1,
+  c .refused2 .ensures ∙ sym (whole-eleven _ _ _ _ (c .before .before .before .before .before .if1 .left) (c .before .before .before .survey .ensures .0) (c .before .if2 .taken)),
+  λ h. c .before .before .before .survey .ensures .1 .1,
 )
 
 returns-3 : tie.Need-returns-3
 returns-3 c = (
-  sym (whole-taken _ _ _ _ _ (c .before .before .before .before .if1 .left) (c .before .before .number-conditions .ensures .0) (c .before .if2 .left)
-      (c .cost .ensures)),
-  λ h. c .before .before .number-conditions .ensures .1,
+  sym (whole-taken _ _ _ _ _ (c .before .before .before .before .if1 .left) (c .before .before .survey .ensures .0) (c .if2 .left) (c .before .before .survey .ensures .1 .0)),
+  λ h. c .before .before .survey .ensures .1 .1,
 )
 
 pub whole-spec : {M : Type 1} → statement M
@@ -34,8 +31,7 @@ whole-spec =
     (tie.spec
     (λ c κs. search needs)
     returns
-    number-conditions-requires
+    survey-requires
     (λ c κs. search needs)
     returns-2
-    (λ c κs. search needs)
     returns-3)

@@ -9,13 +9,13 @@ returns : tie.Need-returns
 returns c = sym (cost-choice _ (c .if1 .taken))
 
 returns-2 : tie.Need-returns-2
-returns-2 c = ap (λ (r : Code). r .cost) (c .before .code-entry .ensures) ∙ sym (cost-other _ (c .before .before .if1 .left))
+returns-2 c = ap (λ (r : Code). r .cost) (c .code-entry .ensures) ∙ sym (cost-other _ (c .before .if1 .left))
 
 pub cost-of-spec : {M : Type 1} → statement M
 cost-of-spec =
     tie.close
     (tie.spec
-    (λ c κs. search needs)
     (λ c. search needs)
+    (λ c κs. search needs)
     returns
     returns-2)

@@ -28,7 +28,7 @@ loop-again c =
     (c .if1 .came)
 
 returns : tie.Need-returns Inv-loop μ-loop
-returns c = numbering-end _ _ _ _ _ _ (c .before .before .loop .inv) (c .before .loop-test .left) (c .wide16 .ensures .0)
+returns c = numbering-end _ _ _ _ _ (c .before .loop .inv) (c .loop-test .left)
 
 pub number-marked-spec : {M : Type 1} → statement M
 number-marked-spec =
@@ -45,5 +45,4 @@ number-marked-spec =
     (λ c. search needs)
     (λ c. search needs)
     loop-again
-    (λ c κs. search needs)
     returns)
