@@ -65,6 +65,17 @@ pub lowered-no : (g p : ℕ) (watch : List ℕ) → getD watch g 0 ≤ p → wat
 unfolding lowered
 lowered-no g p watch h = rw (le-ltb p (getD watch g 0) h)
 
+-- the same notes, but perhaps at p
+pub record SameElse (p : ℕ) (watch fresh : List ℕ) : Type 0 where
+  pub size : length fresh ≡ length watch
+  pub others : (a : ℕ) → (a ≡ p → ⊥) → getD fresh a 0 ≡ getD watch a 0
+
+pub same-all : (p : ℕ) (watch : List ℕ) → SameElse p watch watch
+same-all p watch = record { size = refl; others = λ a f. refl }
+
+pub same-else : (p v : ℕ) (watch fresh : List ℕ) → fresh ≡ set watch p v → SameElse p watch fresh
+same-else p v watch fresh e = record { size = rw e (length-set watch p v); others = λ a f. rw e (getD-set-other watch p a v 0 f) }
+
 module _ (waits left watch : List ℕ) (p : ℕ) (s : Holding waits left watch p) where
   -- a gate that names no group left
   pub holding-pass : bitIn 0 left p ≡ false → Holding waits left watch (p + 1)
@@ -131,10 +142,10 @@ module _ (waits left watch : List ℕ) (p : ℕ) (s : Holding waits left watch p
           let f : i + suc a ≡ (i + 1) + a = omega arith in
           rw (e, f, unready i (omega arith)) (skip a (i + 1) (omega arith))
 
--- p is struck: what was held up by others stays so, and p itself is not left
-pub holding-struck : (waits left new watch : List ℕ) (p next : ℕ) → length left ≡ 4 → p < 256 → bitIn 0 left p ≡ true
-    → Holding waits left watch p → next ≤ getD watch p 0 → next ≤ p + 1 → new ≡ strikeBit p left → Holding waits new watch next
-holding-struck waits left new watch p next z l b s x y e = record { size = s .size; passed = passed }
+-- p is struck: what was held up by others stays so, and p itself is not left; what is noted at p may be another number then
+pub holding-struck : (waits left new watch fresh : List ℕ) (p next : ℕ) → length left ≡ 4 → p < 256 → bitIn 0 left p ≡ true
+    → Holding waits left watch p → next ≤ getD watch p 0 → next ≤ p + 1 → new ≡ strikeBit p left → SameElse p watch fresh → Holding waits new fresh next
+holding-struck waits left new watch fresh p next z l b s x y e w = record { size = w .size ∙ s .size; passed = passed }
   where
     struck : (a : ℕ) → a < 256 → (a ≡ p → ⊥) → bitIn 0 new a ≡ bitIn 0 left a
     struck a k f = ap (λ (d : List ℕ). bitIn 0 d a) e ∙ strike-bit left z p l b a k ∙ rw (ne-eqb a p f)
@@ -142,14 +153,14 @@ holding-struck waits left new watch p next z l b s x y e = record { size = s .si
     none : bitIn 0 new p ≡ true → ⊥
     none g = true≢false (sym g ∙ ap (λ (d : List ℕ). bitIn 0 d p) e ∙ strike-bit left z p l b p l ∙ rw (eq-eqb p p refl))
 
-    still : (q : ℕ) → q < next → HeldUp waits left watch q → HeldUp waits new watch q
+    still : (q : ℕ) → q < next → HeldUp waits left watch q → HeldUp waits new fresh q
     still q i r =
         let o : r .0 ≡ p → ⊥ = λ f. omega (arith, ap (λ (a : ℕ). getD watch a 0) f, r .4) in
-        (r .0, r .1, r .2, struck (r .0) (r .1) o ∙ r .3, r .4)
+        (r .0, r .1, r .2, struck (r .0) (r .1) o ∙ r .3, rw (w .others (r .0) o) (r .4))
 
-    passed : (q : ℕ) → q < next → bitIn 0 new q ≡ true → HeldUp waits new watch q
+    passed : (q : ℕ) → q < next → bitIn 0 new q ≡ true → HeldUp waits new fresh q
     passed q i m = go (same? q p)
       where
-        go : (q ≡ p) ⊎ (q ≡ p → ⊥) → HeldUp waits new watch q
+        go : (q ≡ p) ⊎ (q ≡ p → ⊥) → HeldUp waits new fresh q
         go (inl f) = absurd (none (rw f at m))
         go (inr f) = still q i (s .passed q (omega arith) (sym (struck q (omega arith) f) ∙ m))

@@ -8,7 +8,7 @@ pub mod ReadLaws
 pub mod ArgumentLaws
 pub mod LeftLaws
 pub mod GatherLaws
-pub mod LowestLaws
+pub mod HighestLaws
 pub mod HoldLaws
 pub mod SearchLaws
 pub mod ReadyLaws

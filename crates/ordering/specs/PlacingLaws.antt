@@ -27,7 +27,7 @@ use Rattle.ordering.specs.Search.{nextReady, asNext, placeOf, Holding}
 use Rattle.ordering.specs.declared.Next.{Next}
 use Rattle.ordering.specs.declared.Next.the-variants.{Group, Circle}
 use Rattle.ordering.specs.TableLaws.{strike-words, strike-bit}
-use Rattle.ordering.specs.HoldLaws.{holding-start, holding-search, holding-struck}
+use Rattle.ordering.specs.HoldLaws.{holding-start, holding-search, holding-struck, SameElse}
 use Rattle.ordering.specs.SearchLaws.{as-none, as-some}
 use Rattle.ordering.specs.ReadyLaws.{Tabled, next-right}
 
@@ -128,12 +128,12 @@ module _ (W : ℕ → List ℕ) (group : ℕ → ℕ) (n : ℕ) (waits order₀ 
               rw z (turn W done (groups n group) (length (groups n group) - (k + 1)) (p .0) ready-group)
 
       -- the search goes on at the lowest that it held up, or behind it
-      pub placing-on : (order′ left′ held′ : List ℕ) (next : ℕ) (r : Next) → r ≡ Group p → Holding waits left held′ (placeOf r n) → next ≤ getD held′ (p .0) 0
-          → next ≤ p .0 + 1 → order′ ≡ set order k (p .0) → left′ ≡ strikeBit (p .0) left
-          → Placing W group n waits order₀ order′ left′ held′ (k + 1) next (p .0 ∷ done)
-      placing-on order′ left′ held′ next r x a b c f h =
-          take order′ left′ held′ next f h (omega (arith, group-of n group (p .0) (new-group .0) .0))
-          (holding-struck waits left left′ held′ (p .0) next (s .tabled .lefts .size) (placing-room .0) is (rw x at a) b c h)
+      pub placing-on : (order′ left′ held′ fresh : List ℕ) (next : ℕ) (r : Next) → r ≡ Group p → Holding waits left held′ (placeOf r n)
+          → next ≤ getD held′ (p .0) 0 → next ≤ p .0 + 1 → order′ ≡ set order k (p .0) → left′ ≡ strikeBit (p .0) left → SameElse (p .0) held′ fresh
+          → Placing W group n waits order₀ order′ left′ fresh (k + 1) next (p .0 ∷ done)
+      placing-on order′ left′ held′ fresh next r x a b c f h w =
+          take order′ left′ fresh next f h (omega (arith, group-of n group (p .0) (new-group .0) .0))
+          (holding-struck waits left left′ held′ fresh (p .0) next (s .tabled .lefts .size) (placing-room .0) is (rw x at a) b c h w)
 
     -- no group is ready though not all are written: a circle remains
     pub placing-circle : Circle ≡ nextReady waits left first n → k < length (groups n group)

@@ -25,13 +25,13 @@ search-holds c = let pre = c .before .before .before .pre in searching-start _ _
 waits-holds : tie.Need-waits-holds Inv-waits μ-waits Inv-search μ-search
 waits-holds c = testing-start _ _ _ _ _ _ (c .before .before .before .search .inv) (c .before .before .if1 .left) (sym (c .before .has .ensures) ∙ c .if2 .taken)
 
-lowest-requires : tie.Need-lowest-requires Inv-waits μ-waits Inv-search μ-search
-lowest-requires c κs = c .before .if4 .taken
+highest-requires : tie.Need-highest-requires Inv-waits μ-waits Inv-search μ-search
+highest-requires c κs = c .before .if4 .taken
 
 hold-requires : tie.Need-hold-requires Inv-waits μ-waits Inv-search μ-search
 hold-requires c κs =
     let i = c .before .before .before .before .before .before .waits .inv in
-    (omega (arith, c .before .before .before .before .before .if3 .left, c .lowest .ensures .0), i .search .holding .size)
+    (omega (arith, c .before .before .before .before .before .if3 .left, c .highest .ensures .0), i .search .holding .size)
 
 waits-again : tie.Need-waits-again Inv-waits μ-waits Inv-search μ-search
 waits-again c = testing-next _ _ _ _ _ _ _ (c .before .before .before .before .waits .inv) (c .before .before .before .if3 .left) (c .if4 .left)
@@ -70,7 +70,7 @@ next-ready-spec =
     (λ c. search needs)
     (λ c. search needs)
     (λ c. search needs)
-    lowest-requires
+    highest-requires
     (λ c. search needs)
     (λ c. search needs)
     hold-requires
