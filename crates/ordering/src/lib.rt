@@ -25,8 +25,8 @@ const WORDS: usize = 4;
 
 // Gates for which a table of 128 words is enough.
 const FEW: usize = 32;
-// No group: what is noted at a group that holds up none.
-const NONE: u16 = 256;
+// What is noted at a group that holds up none: no group comes behind this one, so that a note of it changes nothing.
+const NONE: u8 = 255;
 
 // What a search for a ready group yields: the first one, or that each unwritten group waits for one.
 pub enum Next {
@@ -205,12 +205,13 @@ fn highest(x: u64) -> usize
 }
 
 // Group p is held up by group q: it is noted there, unless a lower one is.
-fn hold(watch: &mut [u16; 256], q: usize, p: GateId)
-    requires { ⌜ (q < 256) × (length (now watch) ≡ 256) ⌝ }
+fn hold(watch: &mut [u8; 256], q: usize, p: GateId)
+    requires { ⌜ (q < 256) × ((p .0 < 256) × (length (now watch) ≡ 256)) ⌝ }
     ensures { λ r. ⌜ now (watch .exit) ≡ lowered q (p .0) (now (watch .entry)) ⌝ }
 {
-    if p.0 < watch[q] {
-        watch[q] = p.0;
+    let b = p.0 as u8;
+    if b < watch[q] {
+        watch[q] = b;
     }
 }
 
@@ -219,7 +220,7 @@ fn hold(watch: &mut [u16; 256], q: usize, p: GateId)
 fn next_ready(
     waits: &[u64],
     left: &[u64],
-    watch: &mut [u16; 256],
+    watch: &mut [u8; 256],
     from: GateId,
     count: usize,
 ) -> Next
@@ -251,6 +252,13 @@ fn next_ready(
     }
 }
 
+// A note as a number of a group.
+fn wide(x: u8) -> u16
+    ensures { λ r. ⌜ r ≡ x ⌝ }
+{
+    x as u16
+}
+
 // The groups in the order of writing: again and again the next ready group. No group below `from` is ready; the lowest that was held up by the
 // group written may be then, and the search goes on there. `waits` is a clear table. That its note is read before the group is written and cleared where
 // it is used keeps the step to `from` a branch, which is mostly foreseen: as a choice of two numbers it is slower by 5 % for 256 gates.
@@ -278,7 +286,7 @@ fn order_in(
         match next_ready(waits, &left, &mut watch, GateId(from), count) {
             Next::Group(p) => {
                 let i = p.0 as usize;
-                let lower = watch[i];
+                let lower = wide(watch[i]);
                 order[k] = p.0;
                 strike(&mut left, p);
                 k = k + 1;

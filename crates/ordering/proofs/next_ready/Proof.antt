@@ -31,7 +31,7 @@ highest-requires c κs = c .before .if4 .taken
 hold-requires : tie.Need-hold-requires Inv-waits μ-waits Inv-search μ-search
 hold-requires c κs =
     let i = c .before .before .before .before .before .before .waits .inv in
-    (omega (arith, c .before .before .before .before .before .if3 .left, c .highest .ensures .0), i .search .holding .size)
+    (omega (arith, c .before .before .before .before .before .if3 .left, c .highest .ensures .0), (omega (arith, i .inside, i .search .room), i .search .holding .size))
 
 waits-again : tie.Need-waits-again Inv-waits μ-waits Inv-search μ-search
 waits-again c = testing-next _ _ _ _ _ _ _ (c .before .before .before .before .waits .inv) (c .before .before .before .if3 .left) (c .if4 .left)
