@@ -8,6 +8,7 @@ pub mod ReadLaws
 pub mod ArgumentLaws
 pub mod LeftLaws
 pub mod GatherLaws
+pub mod HighestLaws
 pub mod HoldLaws
 pub mod SearchLaws
 pub mod ReadyLaws

@@ -19,7 +19,7 @@ use Rattle.ordering.specs.declared.Order.the-variants.{Placed, Circle}
 use Rattle.ordering.specs.PlacingLaws.{Placing, placing-start, placing-circle, placing-end}
 
 -- the loop's record for the gates of the quads
-abbrev pub PlacingIn : List ℕ → ℕ → List ℕ → List ℕ → List ℕ → List ℕ → List ℕ → List ℕ → ℕ → ℕ → ℕ → List ℕ → Type 0
+abbrev pub PlacingIn : List ℕ → ℕ → List ℕ → List ℕ → List ℕ → List ℕ → List ℕ → List ℕ → List ℕ → ℕ → ℕ → List ℕ → Type 0
 PlacingIn quads count needs group waits order₀ order left held k first done =
     Placing (waitsFor (gatesIn quads count) needs (λ x. getD group x 0)) (λ x. getD group x 0) count waits order₀ order left held k first done
 
@@ -30,10 +30,10 @@ module _ (quads : List ℕ) (count : ℕ) (needs group : List ℕ) where
   abbrev g : ℕ → ℕ
   g = λ x. getD group x 0
 
-  pub ordering-start : (conds places waits left order₀ : List ℕ) (held : ℕ) → Orderable quads count conds group places → Waiting C needs g waits → Left g count left
-      → length order₀ ≡ 256
+  pub ordering-start : (conds places waits left order₀ held : List ℕ) → Orderable quads count conds group places → Waiting C needs g waits → Left g count left
+      → length order₀ ≡ 256 → length held ≡ 256
       → PlacingIn quads count needs group waits order₀ order₀ left held 0 0 []
-  ordering-start conds places waits left order₀ held o w l s =
+  ordering-start conds places waits left order₀ held o w l s e =
       placing-start (waitsFor C needs g) g count waits order₀ left held
       record {
         room = o .room;
@@ -44,14 +44,14 @@ module _ (quads : List ℕ) (count : ℕ) (needs group : List ℕ) where
         remains = l .holds;
         closed = λ p q m. rw (gates-length quads count) at (waits-closed C (o .earlier) needs g (λ x h. o .named x (rw (gates-length quads count) at h)) p q m);
       }
-      s
+      s e
 
   -- the order in the loop's terms
   order-is : order C needs g ≡ schedule (waitsFor C needs g) (groups count g) (length (groups count g)) []
   unfolding order
   order-is = ap (λ (n : ℕ). schedule (waitsFor C needs g) (groups n g) (length (groups n g)) []) (gates-length quads count)
 
-  module _ (waits order₀ new left : List ℕ) (held k first : ℕ) (done : List ℕ) (s : PlacingIn quads count needs group waits order₀ new left held k first done)
+  module _ (waits order₀ new left held : List ℕ) (k first : ℕ) (done : List ℕ) (s : PlacingIn quads count needs group waits order₀ new left held k first done)
       (n : ℕ) (many : n ≡ length (groups count g)) where
     kept : schedule (waitsFor C needs g) (groups count g) (length (groups count g)) [] ≡ done → new ≡ over (reverse (order C needs g)) order₀
     kept e = s .written ∙ ap (λ (l : List ℕ). over (reverse l) order₀) (sym (order-is ∙ e))

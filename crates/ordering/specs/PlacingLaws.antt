@@ -1,5 +1,5 @@
 -- Laws of the loop that writes the groups in order, the next ready one at each turn. Assumes nothing.
-use Prim.Native.Nat.{ℕ, suc, _+_, _-_, _%_, _≤_, _<_}
+use Prim.Native.Nat.{ℕ, suc, _+_, _-_, _≤_, _<_}
 use mathlib.Core.Path.{_≡_, refl, sym, ap, _∙_}
 use mathlib.Core.Bool.{true, false, cond, true≢false}
 use mathlib.Core.List.{List, [], _∷_, reverse, reverse-cons}
@@ -7,14 +7,14 @@ use mathlib.Core.Logic.{_⊎_, inl, inr}
 use mathlib.Core.Option.{some}
 use native.Mathlib.Omega.{arith}
 use lib.Dec.{eqb}
-use lib.ListN.{length, set, length-reverse}
+use lib.ListN.{length, getD, set, length-reverse}
 use borrow.Author.Tests.{eq-eqb, ne-eqb}
 use Rattle.words.specs.Lists.{_∈_, elem}
 use Rattle.words.specs.MemberLaws.{elem→∈, ∈→elem}
 use Rattle.words.specs.TestLaws.{split, same?}
 use Rattle.words.specs.Buffers.{over}
 use Rattle.words.specs.BufferLaws.{over-nil, over-snoc}
-use Rattle.settings.specs.Settings.{Once, bit}
+use Rattle.settings.specs.Settings.{Once}
 use Rattle.gates.specs.declared.GateId.{GateId}
 use Rattle.plan.specs.Groups.{groups}
 use Rattle.plan.specs.GroupLaws.{group-of}
@@ -27,12 +27,12 @@ use Rattle.ordering.specs.Search.{nextReady, asNext, placeOf, Holding}
 use Rattle.ordering.specs.declared.Next.{Next}
 use Rattle.ordering.specs.declared.Next.the-variants.{Group, Circle}
 use Rattle.ordering.specs.TableLaws.{strike-words, strike-bit}
-use Rattle.ordering.specs.HoldLaws.{holding-start, holding-search, holding-struck}
+use Rattle.ordering.specs.HoldLaws.{holding-start, holding-search, holding-struck, SameElse}
 use Rattle.ordering.specs.SearchLaws.{as-none, as-some}
 use Rattle.ordering.specs.ReadyLaws.{Tabled, next-right}
 
 -- done is written, the last first, k groups; held holds up the groups below `first`; what the order places from the start it places from here
-pub record Placing (W : ℕ → List ℕ) (group : ℕ → ℕ) (n : ℕ) (waits order₀ order left : List ℕ) (held k first : ℕ) (done : List ℕ) : Type 0 where
+pub record Placing (W : ℕ → List ℕ) (group : ℕ → ℕ) (n : ℕ) (waits order₀ order left held : List ℕ) (k first : ℕ) (done : List ℕ) : Type 0 where
   pub tabled : Tabled W group n waits left done
   pub once : Once done
   pub inside : (p : ℕ) → p ∈ done → p ∈ groups n group
@@ -44,22 +44,22 @@ pub record Placing (W : ℕ → List ℕ) (group : ℕ → ℕ) (n : ℕ) (waits
   pub written : order ≡ over (reverse done) order₀
 
 module _ (W : ℕ → List ℕ) (group : ℕ → ℕ) (n : ℕ) (waits order₀ : List ℕ) where
-  pub placing-start : (left : List ℕ) (held : ℕ) → Tabled W group n waits left [] → length order₀ ≡ 256
+  pub placing-start : (left held : List ℕ) → Tabled W group n waits left [] → length order₀ ≡ 256 → length held ≡ 256
       → Placing W group n waits order₀ order₀ left held 0 0 []
-  placing-start left held t s =
+  placing-start left held t s e =
       record {
         tabled = t;
         once = tt;
         inside = λ p m. absurd m;
         below = omega arith;
-        holding = holding-start waits left held;
+        holding = holding-start waits left held e;
         counted = refl;
         same = let z : length (groups n group) ≡ length (groups n group) - 0 = omega arith in ap (λ (k : ℕ). schedule W (groups n group) k []) z;
         size = s;
         written = sym (over-nil order₀);
       }
 
-  module _ (order left : List ℕ) (held k first : ℕ) (done : List ℕ) (s : Placing W group n waits order₀ order left held k first done) where
+  module _ (order left held : List ℕ) (k first : ℕ) (done : List ℕ) (s : Placing W group n waits order₀ order left held k first done) where
     first-of : (r : Next) → r ≡ nextReady waits left first n → r ≡ asNext (firstReady W done (groups n group))
     first-of r e = e ∙ sym (holding-search waits left held first (s .holding) n (s .below)) ∙ next-right W group n waits left done (s .tabled)
 
@@ -97,7 +97,7 @@ module _ (W : ℕ → List ℕ) (group : ℕ → ℕ) (n : ℕ) (waits order₀ 
           go (inl f) = rw (eq-eqb q (p .0) f)
           go (inr f) = rw (ne-eqb q (p .0) f)
 
-      take : (order′ left′ : List ℕ) (held′ first′ : ℕ) → order′ ≡ set order k (p .0) → left′ ≡ strikeBit (p .0) left → first′ ≤ n
+      take : (order′ left′ held′ : List ℕ) (first′ : ℕ) → order′ ≡ set order k (p .0) → left′ ≡ strikeBit (p .0) left → first′ ≤ n
           → Holding waits left′ held′ first′ → Placing W group n waits order₀ order′ left′ held′ (k + 1) first′ (p .0 ∷ done)
       take order′ left′ held′ first′ f h a b =
           record {
@@ -127,17 +127,13 @@ module _ (W : ℕ → List ℕ) (group : ℕ → ℕ) (n : ℕ) (waits order₀ 
               let z : length (groups n group) - k ≡ suc (length (groups n group) - (k + 1)) = omega (arith, fuel) in
               rw z (turn W done (groups n group) (length (groups n group) - (k + 1)) (p .0) ready-group)
 
-      -- groups were held up by it: the search begins again
-      pub placing-again : (order′ left′ : List ℕ) (held′ : ℕ) → order′ ≡ set order k (p .0) → left′ ≡ strikeBit (p .0) left
-          → Placing W group n waits order₀ order′ left′ held′ (k + 1) 0 (p .0 ∷ done)
-      placing-again order′ left′ held′ f h = take order′ left′ held′ 0 f h (omega arith) (holding-start waits left′ held′)
-
-      -- none was: the search goes on behind it
-      pub placing-on : (order′ left′ : List ℕ) (held′ : ℕ) (r : Next) → r ≡ Group p → Holding waits left held′ (placeOf r n) → bit held′ (p .0 % 64) ≡ false
-          → order′ ≡ set order k (p .0) → left′ ≡ strikeBit (p .0) left → Placing W group n waits order₀ order′ left′ held′ (k + 1) (p .0 + 1) (p .0 ∷ done)
-      placing-on order′ left′ held′ r x a b f h =
-          take order′ left′ held′ (p .0 + 1) f h (omega (arith, group-of n group (p .0) (new-group .0) .0))
-          (holding-struck waits left left′ held′ (p .0) (s .tabled .fits) (s .tabled .lefts .size) (placing-room .0) is (rw x at a) b h)
+      -- the search goes on at the lowest that it held up, or behind it
+      pub placing-on : (order′ left′ held′ fresh : List ℕ) (next : ℕ) (r : Next) → r ≡ Group p → Holding waits left held′ (placeOf r n)
+          → next ≤ getD held′ (p .0) 0 → next ≤ p .0 + 1 → order′ ≡ set order k (p .0) → left′ ≡ strikeBit (p .0) left → SameElse (p .0) held′ fresh
+          → Placing W group n waits order₀ order′ left′ fresh (k + 1) next (p .0 ∷ done)
+      placing-on order′ left′ held′ fresh next r x a b c f h w =
+          take order′ left′ fresh next f h (omega (arith, group-of n group (p .0) (new-group .0) .0))
+          (holding-struck waits left left′ held′ fresh (p .0) next (s .tabled .lefts .size) (placing-room .0) is (rw x at a) b c h w)
 
     -- no group is ready though not all are written: a circle remains
     pub placing-circle : Circle ≡ nextReady waits left first n → k < length (groups n group)

@@ -1,11 +1,11 @@
 -- Inner: the search for the next ready group over the tables, in the form that the code goes.
-use Prim.Native.Nat.{ℕ, zero, suc, _+_, _-_, _*_, _<_}
+use Prim.Native.Nat.{ℕ, zero, suc, _+_, _-_, _*_, _≤_, _<_}
 use mathlib.Core.Path.{_≡_}
 use mathlib.Core.Bool.{Bool, true, false, cond}
 use mathlib.Core.List.{List}
 use mathlib.Core.Option.{Option, none, some}
-use lib.ListN.{getD}
-use Rattle.settings.specs.Settings.{bit}
+use lib.Dec.{ltb}
+use lib.ListN.{length, getD, set}
 use Rattle.settings.specs.Sets.{excludes}
 use Rattle.ordering.specs.Tables.{bitIn}
 use Rattle.ordering.specs.declared.Next.{Next}
@@ -39,11 +39,15 @@ abbrev pub placeOf : Next → ℕ → ℕ
 placeOf (Group p) n = p .0
 placeOf Circle n = n
 
--- one word of q's waits has some of what is left, and all of that word is in held
-abbrev pub HeldUp : List ℕ → List ℕ → ℕ → ℕ → Type 0
-HeldUp waits left held q = (w : ℕ) × (w < 4) × (excludes (getD waits (4 * q + w) 0) (getD left w 0) ≡ false)
-    × ((j : ℕ) → j < 64 → bit (getD waits (4 * q + w) 0) j ≡ true → bit held j ≡ true)
+-- p is noted at q, unless a lower number is
+unfoldable pub lowered : ℕ → ℕ → List ℕ → List ℕ
+lowered q p watch = cond (ltb p (getD watch q 0)) (set watch q p) watch
 
--- held holds up each group below p that is left
-abbrev pub Holding : List ℕ → List ℕ → ℕ → ℕ → Type 0
-Holding waits left held p = (q : ℕ) → q < p → bitIn 0 left q ≡ true → HeldUp waits left held q
+-- q waits for a group that is left, at which q or a lower one is noted
+abbrev pub HeldUp : List ℕ → List ℕ → List ℕ → ℕ → Type 0
+HeldUp waits left watch q = (g : ℕ) × (g < 256) × (bitIn (4 * q) waits g ≡ true) × (bitIn 0 left g ≡ true) × (getD watch g 0 ≤ q)
+
+-- so it is for each group below p that is left
+pub record Holding (waits left watch : List ℕ) (p : ℕ) : Type 0 where
+  pub size : length watch ≡ 256
+  pub passed : (q : ℕ) → q < p → bitIn 0 left q ≡ true → HeldUp waits left watch q

@@ -2,10 +2,12 @@
 // A set of groups is four words: group q is bit q % 64 of word q / 64. The waits are one such set for each group p, from word 4 * p on.
 use gates::GateId;
 ghost use mathlib.Core.Path.{_≡_};
+ghost use mathlib.Core.Bool.{true};
 ghost use mathlib.Core.List.{map, reverse};
 ghost use Prim.Native.Nat.{_+_, _*_, _%_, _^_, _<_, _≤_};
 ghost use lib.ListN.{length, getD, replicate};
 ghost use Rattle.words.specs.Buffers.{over};
+ghost use Rattle.settings.specs.Settings.{bit};
 ghost use Rattle.settings.specs.Sets.{rests};
 ghost use Rattle.needed.specs.Held.{gatesIn};
 ghost use Rattle.plan.specs.Groups.{groups};
@@ -13,7 +15,7 @@ ghost use Rattle.plan.specs.Order as plan;
 ghost use Rattle.ordering.specs.Tables.{bitIn, putBit, putEach, strikeBit};
 ghost use Rattle.ordering.specs.Reads.{arityOf, argumentsAt, Into, Orderable};
 ghost use Rattle.ordering.specs.Row.{orderOf, orderRow};
-ghost use Rattle.ordering.specs.Search.{nextReady, placeOf, Holding};
+ghost use Rattle.ordering.specs.Search.{nextReady, placeOf, lowered, Holding};
 ghost use Rattle.ordering.specs.Gathering.{Waiting, Left};
 
 // A choice has three arguments.
@@ -23,6 +25,8 @@ const WORDS: usize = 4;
 
 // Gates for which a table of 128 words is enough.
 const FEW: usize = 32;
+// What is noted at a group that holds up none: no group comes behind this one, so that a note of it changes nothing.
+const NONE: u8 = 255;
 
 // What a search for a ready group yields: the first one, or that each unwritten group waits for one.
 pub enum Next {
@@ -186,12 +190,43 @@ fn find_left(group: &[u16; 256], count: usize, left: &mut [u64]) -> usize
     n
 }
 
+// The highest number of a word that is not empty. Of the groups that hold one up it is mostly written last. The compiler makes the loop one instruction.
+fn highest(x: u64) -> usize
+    requires { ⌜ (x ≡ 0 → ⊥) ⌝ }
+    ensures { λ r. ⌜ (r < 64) × (bit x r ≡ true) ⌝ }
+{
+    let mut n: usize = 0;
+    let mut y = x / 2;
+    while y != 0 {
+        y = y / 2;
+        n = n + 1;
+    }
+    n
+}
+
+// Group p is held up by group q: it is noted there, unless a lower one is.
+fn hold(watch: &mut [u8; 256], q: usize, p: GateId)
+    requires { ⌜ (q < 256) × ((p .0 < 256) × (length (now watch) ≡ 256)) ⌝ }
+    ensures { λ r. ⌜ now (watch .exit) ≡ lowered q (p .0) (now (watch .entry)) ⌝ }
+{
+    let b = p.0 as u8;
+    if b < watch[q] {
+        watch[q] = b;
+    }
+}
+
 // The first group from `from` on that is left and waits for none that is left; or that a circle remains. Each group left that is passed by on the
-// way waits: the word that says so is put into `held`, group q as bit q % 64, so that it need not be asked again before one of `held` is struck.
-fn next_ready(waits: &[u64], left: &[u64], held: &mut u64, from: GateId, count: usize) -> Next
-    requires { ⌜ (count ≤ 256) × ((4 * count ≤ length (now waits)) × ((length (now left) ≡ 4) × ((from .0 ≤ count) × Holding (now waits) (now left) (now held) (from .0)))) ⌝ }
+// way waits for one that is left, and is noted in `watch` there: it need not be asked again before that one is struck.
+fn next_ready(
+    waits: &[u64],
+    left: &[u64],
+    watch: &mut [u8; 256],
+    from: GateId,
+    count: usize,
+) -> Next
+    requires { ⌜ (count ≤ 256) × ((4 * count ≤ length (now waits)) × ((length (now left) ≡ 4) × ((from .0 ≤ count) × Holding (now waits) (now left) (now watch) (from .0)))) ⌝ }
     ensures next { λ r. ⌜ r ≡ nextReady (now (waits .entry)) (now (left .entry)) (from .0) count ⌝ }
-    ensures held { λ r. ⌜ Holding (now (waits .entry)) (now (left .entry)) (now (held .exit)) (placeOf r count) ⌝ }
+    ensures held { λ r. ⌜ Holding (now (waits .entry)) (now (left .entry)) (now (watch .exit)) (placeOf r count) ⌝ }
 {
     let first = from.0 as usize;
     let mut p = first;
@@ -205,9 +240,9 @@ fn next_ready(waits: &[u64], left: &[u64], held: &mut u64, from: GateId, count: 
                 if w >= WORDS {
                     break 'search Next::Group(GateId(p as u16));
                 }
-                let x = waits[4 * p + w];
-                if !settings::excludes(x, left[w]) {
-                    *held = settings::union(*held, x);
+                let both = waits[4 * p + w] & left[w];
+                if both != 0 {
+                    hold(watch, 64 * w + highest(both), GateId(p as u16));
                     break 'waits;
                 }
                 w = w + 1;
@@ -217,8 +252,16 @@ fn next_ready(waits: &[u64], left: &[u64], held: &mut u64, from: GateId, count: 
     }
 }
 
-// The groups in the order of writing: again and again the next ready group. No group below `from` is ready; where the group that is written is one
-// for which those below it were held, they are searched again. `waits` is a clear table.
+// A note as a number of a group.
+fn wide(x: u8) -> u16
+    ensures { λ r. ⌜ r ≡ x ⌝ }
+{
+    x as u16
+}
+
+// The groups in the order of writing: again and again the next ready group. No group below `from` is ready; the lowest that was held up by the
+// group written may be then, and the search goes on there. `waits` is a clear table. That its note is read before the group is written and cleared where
+// it is used keeps the step to `from` a branch, which is mostly foreseen: as a choice of two numbers it is slower by 5 % for 256 gates.
 fn order_in(
     quads: &[u32; 1024],
     count: usize,
@@ -236,18 +279,20 @@ fn order_in(
     find_waits(quads, count, needs, conditions, group, places, waits);
     let mut left = [0u64; 4];
     let n = find_left(group, count, &mut left);
-    let mut held = settings::empty();
+    let mut watch = [NONE; 256];
     let mut from: u16 = 0;
     let mut k: usize = 0;
     while k < n {
-        match next_ready(waits, &left, &mut held, GateId(from), count) {
+        match next_ready(waits, &left, &mut watch, GateId(from), count) {
             Next::Group(p) => {
+                let i = p.0 as usize;
+                let lower = wide(watch[i]);
                 order[k] = p.0;
                 strike(&mut left, p);
                 k = k + 1;
-                if settings::has(held, (p.0 % 64) as u8) {
-                    held = settings::empty();
-                    from = 0;
+                if lower <= p.0 {
+                    watch[i] = NONE;
+                    from = lower;
                 } else {
                     from = p.0 + 1;
                 }

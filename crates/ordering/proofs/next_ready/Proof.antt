@@ -1,23 +1,23 @@
-use borrow.Author.Tests.{not-true, not-false}
 use mathlib.Core.Logic.{⊎-elim}
 use mathlib.Core.Path.{sym, _∙_}
 use borrow.Author.Needs.{needs}
+use native.Mathlib.Omega.{arith}
 use Prim.Native.Nat.{_-_}
 use Rattle.ordering.specs.SearchLaws.{Searching, TestingWords, searching-start, searching-past, searching-held, searching-end, testing-start, testing-next, testing-end}
 use Rattle.ordering.proofs.next_ready.Statement.{statement}
 use Rattle.ordering.proofs.next_ready.Tie as tie
 
 abbrev Inv-waits : tie.InvT-waits
-Inv-waits waits left held₀ count first p w₀ held w = TestingWords waits left first count held p w
+Inv-waits waits left watch₀ count first p w₀ watch w = TestingWords waits left first count watch p w
 
 abbrev μ-waits : tie.MeasureT-waits
-μ-waits waits left held₀ count first p w₀ held w = 4 - w
+μ-waits waits left watch₀ count first p w₀ watch w = 4 - w
 
 abbrev Inv-search : tie.InvT-search
-Inv-search waits left held₀ count first p₀ held p = Searching waits left first count held p
+Inv-search waits left watch₀ count first p₀ watch p = Searching waits left first count watch p
 
 abbrev μ-search : tie.MeasureT-search
-μ-search waits left held₀ count first p₀ held p = count - p
+μ-search waits left watch₀ count first p₀ watch p = count - p
 
 search-holds : tie.Need-search-holds Inv-waits μ-waits Inv-search μ-search
 search-holds c = let pre = c .before .before .before .pre in searching-start _ _ _ _ _ (pre .0) (pre .1 .0) (pre .1 .1 .0) (pre .1 .1 .1 .0) (pre .1 .1 .1 .1)
@@ -25,16 +25,21 @@ search-holds c = let pre = c .before .before .before .pre in searching-start _ _
 waits-holds : tie.Need-waits-holds Inv-waits μ-waits Inv-search μ-search
 waits-holds c = testing-start _ _ _ _ _ _ (c .before .before .before .search .inv) (c .before .before .if1 .left) (sym (c .before .has .ensures) ∙ c .if2 .taken)
 
+highest-requires : tie.Need-highest-requires Inv-waits μ-waits Inv-search μ-search
+highest-requires c κs = c .before .if4 .taken
+
+hold-requires : tie.Need-hold-requires Inv-waits μ-waits Inv-search μ-search
+hold-requires c κs =
+    let i = c .before .before .before .before .before .before .waits .inv in
+    (omega (arith, c .before .before .before .before .before .if3 .left, c .highest .ensures .0), (omega (arith, i .inside, i .search .room), i .search .holding .size))
+
 waits-again : tie.Need-waits-again Inv-waits μ-waits Inv-search μ-search
-waits-again c =
-    testing-next _ _ _ _ _ _ _ (c .before .before .before .before .before .waits .inv) (c .before .before .before .before .if3 .left)
-    (sym (c .before .excludes .ensures) ∙ not-false _ (c .if4 .left))
+waits-again c = testing-next _ _ _ _ _ _ _ (c .before .before .before .before .waits .inv) (c .before .before .before .if3 .left) (c .if4 .left)
 
 search-again : tie.Need-search-again Inv-waits μ-waits Inv-search μ-search
 search-again c =
     ⊎-elim
-    (λ w.
-    searching-held _ _ _ _ _ _ _ _ (w .1 .inv) (w .2 .left) (sym (w .5 .ensures) ∙ not-true _ (w .6 .taken)) (w .9 ∙ w .8 .ensures))
+    (λ w. searching-held _ _ _ _ _ _ _ _ _ (w .1 .inv) (w .2 .left) (w .5 .taken) (w .7 .ensures) (w .9 ∙ w .8 .ensures))
     (λ w. searching-past _ _ _ _ _ _ _ (c .before .before .before .search .inv) (c .before .before .if1 .left) (sym (c .before .has .ensures) ∙ w .0 .left) (w .1))
     (c .if2 .came)
 
@@ -64,8 +69,11 @@ next-ready-spec =
     (λ c. search needs)
     (λ c. search needs)
     (λ c. search needs)
-    (λ c κs. search needs)
-    (λ c κs. search needs)
+    (λ c. search needs)
+    highest-requires
+    (λ c. search needs)
+    (λ c. search needs)
+    hold-requires
     (λ c. search needs)
     (λ c. search needs)
     waits-again
