@@ -25,7 +25,7 @@ use Rattle.plan.specs.SameLaws.{order-same, placed-same, order-sets-same, place
 use Rattle.plan.specs.CountLaws.{placed-count}
 use Rattle.grouping.specs.Tables.{groupTable, placeTable}
 use Rattle.grouping.specs.TableLaws.{group-at}
-use Rattle.ordering.specs.Reads.{Orderable}
+use Rattle.waiting.specs.Reads.{Orderable}
 use Rattle.ordering.specs.Row.{orderOf, orderRow}
 use Rattle.ordering.specs.AnswerLaws.{answer-placed, order-row}
 use Rattle.ordering.specs.declared.Order.{Order}

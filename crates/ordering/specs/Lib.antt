@@ -1,14 +1,7 @@
-pub mod Tables
-pub mod Reads
 pub mod Row
 pub mod Search
-pub mod Gathering
-pub mod TableLaws
-pub mod ReadLaws
-pub mod ArgumentLaws
-pub mod LeftLaws
-pub mod GatherLaws
 pub mod HighestLaws
+pub mod SeenLaws
 pub mod HoldLaws
 pub mod SearchLaws
 pub mod ReadyLaws

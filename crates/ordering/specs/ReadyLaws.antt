@@ -18,7 +18,8 @@ use Rattle.plan.specs.Groups.{groups}
 use Rattle.plan.specs.GroupLaws.{group-of}
 use Rattle.plan.specs.Order.{allIn, ready, firstReady}
 use Rattle.plan.specs.CircleLaws.{allIn-each, allIn-back}
-use Rattle.ordering.specs.Tables.{HasWords, bitIn}
+use Rattle.waiting.specs.Tables.{HasWords, bitIn}
+use Rattle.waiting.specs.TableLaws.{bit-at}
 use Rattle.ordering.specs.Search.{freeFrom, readyIn, searchFrom, nextReady, asNext}
 
 -- the tables hold the waits W of the groups of n gates, and which of them are left after those of done
@@ -33,12 +34,7 @@ pub record Tabled (W : ℕ → List ℕ) (group : ℕ → ℕ) (n : ℕ) (waits 
 
 -- a group's bit by its word and place
 left-bit : (left : List ℕ) (q : ℕ) → bitIn 0 left q ≡ bit (getD left (q / 64) 0) (q % 64)
-unfolding bitIn
-left-bit left q = rw zero-add
-
-wait-bit : (waits : List ℕ) (p q : ℕ) → bitIn (4 * p) waits q ≡ bit (getD waits (4 * p + q / 64) 0) (q % 64)
-unfolding bitIn
-wait-bit waits p q = refl
+left-bit left q = bit-at 0 left q ∙ rw zero-add
 
 -- a run of words is free of what is left when each is
 free-word : (waits left : List ℕ) (p w k : ℕ) → freeFrom waits left p w k ≡ true → (v : ℕ) → w ≤ v → v < w + k → excludes (getD waits (4 * p + v) 0)
@@ -69,7 +65,7 @@ module _ (W : ℕ → List ℕ) (group : ℕ → ℕ) (n : ℕ) (waits left done
               (λ e.
               let g = t .closed p q m in
               let k : q < 256 = omega (arith, group-of n group q g .0, t .room) in
-              let a : bit (getD waits (4 * p + q / 64) 0) (q % 64) ≡ true = sym (wait-bit waits p q) ∙ t .holds p q l k ∙ ∈→elem q (W p) m in
+              let a : bit (getD waits (4 * p + q / 64) 0) (q % 64) ≡ true = sym (bit-at (4 * p) waits q) ∙ t .holds p q l k ∙ ∈→elem q (W p) m in
               let z : bitIn 0 left q ≡ true = t .remains q k ∙ rw (e, ∈→elem q (groups n group) g) in
               let b : bit (getD left (q / 64) 0) (q % 64) ≡ true = sym (left-bit left q) ∙ z in
               let x = free-word waits left p 0 4 f (q / 64) (omega arith) (omega arith) in
@@ -84,7 +80,7 @@ module _ (W : ℕ → List ℕ) (group : ℕ → ℕ) (n : ℕ) (waits left done
               (λ j k x y.
               let d : (64 * v + j) / 64 ≡ v = omega arith in
               let r : (64 * v + j) % 64 ≡ j = omega arith in
-              let i : elem (64 * v + j) (W p) ≡ true = sym (t .holds p (64 * v + j) l (omega arith)) ∙ wait-bit waits p (64 * v + j) ∙ rw (d, r) x in
+              let i : elem (64 * v + j) (W p) ≡ true = sym (t .holds p (64 * v + j) l (omega arith)) ∙ bit-at (4 * p) waits (64 * v + j) ∙ rw (d, r) x in
               let o : elem (64 * v + j) done ≡ true = ∈→elem (64 * v + j) done (allIn-each (W p) done h (64 * v + j) (elem→∈ (64 * v + j) (W p) i)) in
               let z : bitIn 0 left (64 * v + j) ≡ true = left-bit left (64 * v + j) ∙ rw (d, r) y in
               false≢true (sym (t .remains (64 * v + j) (omega arith) ∙ rw o) ∙ z))

@@ -5,9 +5,9 @@ use mathlib.Core.List.{map}
 use lib.ListN.{getD, length-map}
 use Rattle.settings.specs.Sets.{rests}
 use Rattle.settings.specs.PlaceLaws.{few-rests, rested-at}
-use Rattle.ordering.specs.ArgumentLaws.{Putting, putting-start, putting-into, putting-step, putting-end, rested-gate}
-use Rattle.ordering.proofs.wait_conditions.Statement.{statement}
-use Rattle.ordering.proofs.wait_conditions.Tie as tie
+use Rattle.waiting.specs.ArgumentLaws.{Putting, putting-start, putting-into, putting-step, putting-end, rested-gate}
+use Rattle.waiting.proofs.wait_conditions.Statement.{statement}
+use Rattle.waiting.proofs.wait_conditions.Tie as tie
 
 abbrev Inv-loop : tie.InvT-loop
 Inv-loop conditions group s p waits₀ r n i₀ waits i = Putting group (map (λ t. getD conditions t 0) (rests 6 s)) waits₀ (4 * p .0) waits i

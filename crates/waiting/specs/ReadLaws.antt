@@ -17,7 +17,7 @@ use Rattle.gates.specs.Gates.{arguments}
 use Rattle.needed.specs.Held.{choiceCode, gateIn, codeAt, firstAt, secondAt, thirdAt}
 use Rattle.needed.specs.HeldLaws.{EachCode, each-code, each-entry, code-above}
 use Rattle.needed.specs.QuadLaws.{choice-in, arguments-in}
-use Rattle.ordering.specs.Reads.{arityOf, argumentsAt}
+use Rattle.waiting.specs.Reads.{arityOf, argumentsAt}
 
 -- how many arguments, by the code
 pub arity-choice : (code : ℕ) → code ≡ choiceCode → 3 ≡ arityOf code

@@ -1,7 +1,7 @@
 use borrow.Author.Needs.{needs}
-use Rattle.ordering.specs.Tables.{bitIn}
-use Rattle.ordering.proofs.has.Statement.{statement}
-use Rattle.ordering.proofs.has.Tie as tie
+use Rattle.waiting.specs.Tables.{bitIn}
+use Rattle.waiting.proofs.has.Statement.{statement}
+use Rattle.waiting.proofs.has.Tie as tie
 
 returns : tie.Need-returns
 unfolding bitIn

@@ -3,10 +3,10 @@ use mathlib.Core.Path.{sym, _∙_}
 use borrow.Author.Needs.{needs}
 use native.Mathlib.Omega.{arith}
 use Prim.Native.Nat.{_-_}
-use Rattle.ordering.specs.TableLaws.{clear-words}
-use Rattle.ordering.specs.LeftLaws.{Listing, listing-start, listing-yes, listing-no, listing-end}
-use Rattle.ordering.proofs.find_left.Statement.{statement}
-use Rattle.ordering.proofs.find_left.Tie as tie
+use Rattle.waiting.specs.TableLaws.{clear-words}
+use Rattle.waiting.specs.LeftLaws.{Listing, listing-start, listing-yes, listing-no, listing-end}
+use Rattle.waiting.proofs.find_left.Statement.{statement}
+use Rattle.waiting.proofs.find_left.Tie as tie
 
 abbrev Inv-loop : tie.InvT-loop
 Inv-loop group count left₀ n₀ i₀ left n i = Listing group count left n i

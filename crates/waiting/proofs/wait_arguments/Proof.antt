@@ -2,11 +2,11 @@ use borrow.Author.Needs.{needs}
 use native.Mathlib.Omega.{arith}
 use Prim.Native.Nat.{_-_, _*_}
 use mathlib.Core.Path.{_∙_}
-use Rattle.ordering.specs.Reads.{argumentsAt}
-use Rattle.ordering.specs.ReadLaws.{arguments-length}
-use Rattle.ordering.specs.ArgumentLaws.{Putting, putting-start, putting-into, putting-step, putting-end, argument-of}
-use Rattle.ordering.proofs.wait_arguments.Statement.{statement}
-use Rattle.ordering.proofs.wait_arguments.Tie as tie
+use Rattle.waiting.specs.Reads.{argumentsAt}
+use Rattle.waiting.specs.ReadLaws.{arguments-length}
+use Rattle.waiting.specs.ArgumentLaws.{Putting, putting-start, putting-into, putting-step, putting-end, argument-of}
+use Rattle.waiting.proofs.wait_arguments.Statement.{statement}
+use Rattle.waiting.proofs.wait_arguments.Tie as tie
 
 abbrev Inv-loop : tie.InvT-loop
 Inv-loop quads group p waits₀ i n k₀ waits k = Putting group (argumentsAt quads i) waits₀ (4 * p .0) waits k

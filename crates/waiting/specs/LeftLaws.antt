@@ -10,9 +10,9 @@ use Rattle.words.specs.Lists.{elem, keep, upto}
 use Rattle.words.specs.MemberLaws.{elem-more}
 use Rattle.settings.specs.ListLaws.{keep-yes, keep-no}
 use Rattle.plan.specs.Groups.{groups}
-use Rattle.ordering.specs.Tables.{HasWords, bitIn, putBit}
-use Rattle.ordering.specs.Gathering.{Left}
-use Rattle.ordering.specs.TableLaws.{clear-words, clear-bit, put-words, put-bit}
+use Rattle.waiting.specs.Tables.{HasWords, bitIn, putBit}
+use Rattle.waiting.specs.Gathering.{Left}
+use Rattle.waiting.specs.TableLaws.{clear-words, clear-bit, put-words, put-bit}
 
 -- The set of groups left: those named by a gate below i, n of them.
 pub record Listing (group : List ℕ) (count : ℕ) (left : List ℕ) (n i : ℕ) : Type 0 where

@@ -19,7 +19,18 @@ use Rattle.settings.specs.Sets.{union, flipBit}
 use Rattle.settings.specs.BitLaws.{bit-zero, bit-suc, bit-pow, bit-none, bit-or, bit-xor}
 use Rattle.settings.specs.SetLaws.{union-below}
 use Rattle.settings.specs.FlipLaws.{flip-below}
-use Rattle.ordering.specs.Tables.{bitIn, putBit, putEach, strikeBit, HasWords}
+use Rattle.waiting.specs.Tables.{bitIn, putBit, putEach, strikeBit, HasWords}
+
+-- a group's bit by its word and place
+pub bit-at : (base : ℕ) (w : List ℕ) (q : ℕ) → bitIn base w q ≡ bit (getD w (base + q / 64) 0) (q % 64)
+unfolding bitIn
+bit-at base w q = refl
+
+pub at-word : (base : ℕ) (w : List ℕ) (i j : ℕ) → j < 64 → bitIn base w (64 * i + j) ≡ bit (getD w (base + i) 0) j
+at-word base w i j k =
+    let a : (64 * i + j) / 64 ≡ i = omega arith in
+    let c : (64 * i + j) % 64 ≡ j = omega arith in
+    bit-at base w (64 * i + j) ∙ rw (a, c)
 
 -- a power of two has no other bit
 bit-pow-other : (t j : ℕ) → (j ≡ t → ⊥) → bit (2 ^ t) j ≡ false

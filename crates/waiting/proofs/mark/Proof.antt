@@ -4,8 +4,8 @@ use native.Mathlib.Omega.{arith}
 use Prim.Native.Nat.{_%_}
 use lib.Pow.{shl-exact}
 use borrow.Author.Needs.{needs}
-use Rattle.ordering.proofs.mark.Statement.{statement}
-use Rattle.ordering.proofs.mark.Tie as tie
+use Rattle.waiting.proofs.mark.Statement.{statement}
+use Rattle.waiting.proofs.mark.Tie as tie
 
 returns : tie.Need-returns
 returns c = shl-exact {a = 1} 1 (c .before .args .q .0 % 64) 64 (omega arith) (omega arith) ∙ one-mul _

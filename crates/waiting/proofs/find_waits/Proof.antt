@@ -4,9 +4,9 @@ use borrow.Author.Needs.{needs}
 use native.Mathlib.Omega.{arith}
 use Prim.Native.Nat.{_-_}
 use lib.ListN.{length}
-use Rattle.ordering.specs.GatherLaws.{GatheringWaits, gathering-start, gathering-group, gathering-size, gathering-arguments, gathering-conditions, gathering-alone, gathering-joined, gathering-end}
-use Rattle.ordering.proofs.find_waits.Statement.{statement}
-use Rattle.ordering.proofs.find_waits.Tie as tie
+use Rattle.waiting.specs.GatherLaws.{GatheringWaits, gathering-start, gathering-group, gathering-size, gathering-arguments, gathering-conditions, gathering-alone, gathering-joined, gathering-end}
+use Rattle.waiting.proofs.find_waits.Statement.{statement}
+use Rattle.waiting.proofs.find_waits.Tie as tie
 
 abbrev Inv-loop : tie.InvT-loop
 Inv-loop quads count needs conditions group places waits₀ i₀ waits i = GatheringWaits quads count needs conditions group places waits (length waits₀) i

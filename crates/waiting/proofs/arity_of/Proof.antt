@@ -1,9 +1,9 @@
 use mathlib.Core.Path.{ap}
 use borrow.Author.Needs.{needs}
-use Rattle.ordering.specs.ReadLaws.{arity-choice, arity-other, arity-above}
+use Rattle.waiting.specs.ReadLaws.{arity-choice, arity-other, arity-above}
 use Rattle.codes.specs.declared.Code.{Code}
-use Rattle.ordering.proofs.arity_of.Statement.{statement}
-use Rattle.ordering.proofs.arity_of.Tie as tie
+use Rattle.waiting.proofs.arity_of.Statement.{statement}
+use Rattle.waiting.proofs.arity_of.Tie as tie
 
 returns : tie.Need-returns
 returns c = arity-choice _ (c .if1 .taken)

@@ -3,9 +3,9 @@ use lib.ListN.{set, getD}
 use Prim.Native.Nat.{ℕ, _/_}
 use mathlib.Core.Path.{ap}
 use borrow.Author.Needs.{needs}
-use Rattle.ordering.specs.Tables.{strikeBit}
-use Rattle.ordering.proofs.strike.Statement.{statement}
-use Rattle.ordering.proofs.strike.Tie as tie
+use Rattle.waiting.specs.Tables.{strikeBit}
+use Rattle.waiting.proofs.strike.Statement.{statement}
+use Rattle.waiting.proofs.strike.Tie as tie
 
 returns : tie.Need-returns
 unfolding strikeBit

@@ -2,10 +2,10 @@ use lib.ListN.{set, getD}
 use Prim.Native.Nat.{ℕ, _+_, _/_}
 use mathlib.Core.Path.{ap, _∙_}
 use borrow.Author.Needs.{needs}
-use Rattle.ordering.specs.Tables.{putBit}
+use Rattle.waiting.specs.Tables.{putBit}
 use Rattle.settings.specs.Sets.{union}
-use Rattle.ordering.proofs.put.Statement.{statement}
-use Rattle.ordering.proofs.put.Tie as tie
+use Rattle.waiting.proofs.put.Statement.{statement}
+use Rattle.waiting.proofs.put.Tie as tie
 
 returns : tie.Need-returns
 unfolding putBit

@@ -19,11 +19,11 @@ use Rattle.needed.specs.HeldLaws.{gates-length, gates-at}
 use Rattle.plan.specs.Groups.{members, restsOf, readsOf, waitsFor}
 use Rattle.plan.specs.RestLaws.{rests-inside, rests-held}
 use Rattle.plan.specs.ReadsLaws.{reads-inside}
-use Rattle.ordering.specs.Tables.{HasWords, bitIn, putEach}
-use Rattle.ordering.specs.Reads.{argumentsAt, Into, Orderable}
-use Rattle.ordering.specs.Gathering.{Waiting}
-use Rattle.ordering.specs.TableLaws.{clear-words, clear-bit, puts-words, puts-bit, puts-append}
-use Rattle.ordering.specs.ReadLaws.{arguments-at, elem-joined, flat-last}
+use Rattle.waiting.specs.Tables.{HasWords, bitIn, putEach}
+use Rattle.waiting.specs.Reads.{argumentsAt, Into, Orderable}
+use Rattle.waiting.specs.Gathering.{Waiting}
+use Rattle.waiting.specs.TableLaws.{clear-words, clear-bit, puts-words, puts-bit, puts-append}
+use Rattle.waiting.specs.ReadLaws.{arguments-at, elem-joined, flat-last}
 
 -- the groups that p waits for on account of the gates below i
 unfoldable pub waitsBelow : Gates → List ℕ → (ℕ → ℕ) → ℕ → ℕ → List ℕ

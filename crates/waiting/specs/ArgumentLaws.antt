@@ -12,10 +12,10 @@ use Rattle.settings.specs.Sets.{rests}
 use Rattle.settings.specs.PlaceLaws.{rested-at}
 use Rattle.gates.specs.FigureLaws.{map-at}
 use Rattle.needed.specs.Held.{codeAt}
-use Rattle.ordering.specs.Tables.{putBit, putEach}
-use Rattle.ordering.specs.Reads.{arityOf, argumentsAt, Into}
-use Rattle.ordering.specs.TableLaws.{puts-more}
-use Rattle.ordering.specs.ReadLaws.{arity-most, arguments-length, argument-at}
+use Rattle.waiting.specs.Tables.{putBit, putEach}
+use Rattle.waiting.specs.Reads.{arityOf, argumentsAt, Into}
+use Rattle.waiting.specs.TableLaws.{puts-more}
+use Rattle.waiting.specs.ReadLaws.{arity-most, arguments-length, argument-at}
 
 put-length : (base q : ℕ) (w new : List ℕ) → new ≡ putBit base q w → length new ≡ length w
 unfolding putBit
