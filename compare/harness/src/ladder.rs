@@ -1,5 +1,5 @@
 //! Rules and plans of just so many gates: ladders of nested ifs with costly operations in exclusive branches,
-//! a fifth of the gates joined, and two sorts of plan that are hard to order.
+//! a fifth of the gates joined, and three sorts of plan that are hard to order.
 
 use crate::subject::{Goal, Row, Subject};
 use compare::circuit::{accept, make, preconditions};
@@ -157,4 +157,38 @@ pub fn held_up(gates: usize) -> Row {
     let groups = vec![vec![4, 5 + 2 * sums]];
     let subject = subject(&if_v0(first, second, 3), &groups, vec![0, 3, 5, 7]);
     Row::one(format!("{gates} held up"), subject, Goal::None)
+}
+
+/// v1 := v0 × v0, which many sums v2 := v1 + v0 read; then products v1 := v0 × v0, a chain of as many v1 := v1 × v1 from
+/// v0 on, and after each of these v2 := v1 × v0; at last both are put back, so that nothing is needed and any products may
+/// be joined. The first of them is joined with those that read the chain, and the chain with the products before it,
+/// reversed: the first group waits for each of the pairs, which come in falling order, and the sums wait for it. So a
+/// search that goes back to the lowest group held up by the pair written passes all of the sums again, once a pair.
+pub fn passed_again(gates: usize) -> Row {
+    let pairs = gates / 5;
+    let sums = gates - 4 - 3 * pairs;
+    let mut block = vec![assign(1, PRODUCT, 0, 0)];
+    block.extend(vec![assign(2, SUM, 1, 0); sums]);
+    block.extend(vec![assign(1, PRODUCT, 0, 0); pairs]);
+    let back = |variable| Statement::Assign(variable, Expression::Variable(0));
+    block.push(back(1));
+    for _ in 0..pairs {
+        block.extend([assign(1, PRODUCT, 1, 1), assign(2, PRODUCT, 1, 0)]);
+    }
+    block.extend([1, 2].map(back));
+    let rule = Rule {
+        kinds: vec![Kind::Word; 3],
+        block,
+    };
+    let first = 4 + sums;
+    let chain = |turn| first + pairs + 2 * turn;
+    let mut waiting = vec![3];
+    waiting.extend((0..pairs).map(|turn| chain(turn) + 1));
+    let mut groups = vec![waiting];
+    groups.extend((0..pairs).map(|turn| vec![first + turn, chain(pairs - 1 - turn)]));
+    Row::one(
+        format!("{gates} passed again"),
+        subject(&rule, &groups, vec![3, 5, 7]),
+        Goal::None,
+    )
 }

@@ -28,12 +28,14 @@ the caller lends them, and lent again.
   allocates what it holds between, and gives a plain circuit in its own form.
 - tuned: `compare/tuned/`, Rust written for speed and proved by nobody: unsafe throughout, no allocation, one pass that
   reads and makes gates, one wide load for statements of the form \"variable := operation on two variables\". The
-  ladders are mostly made of these, the reversed and the held up rule wholly.
+  ladders are mostly made of these, the rules that are hard to order wholly.
 
 Rules, with the table at the end: R1 of document 01; ladders of nested ifs with products and comparisons in both blocks,
 a fifth of the gates joined; as many joined pairs as fit, each waiting for the one after it (reversed); half of the gates
-waiting for all of the other half (held up); and COUNT mixed rules, one call each in a row: the first COUNT accepted cases
-of operation 05 that the generator of `compare/run` makes from seed SEED, used for every operation.";
+waiting for all of the other half (held up); a group that waits for each of many such pairs, with as many sums that wait
+for it (passed again: the search goes back to that group after every pair, and past the sums, so that this one grows with
+the square of the gates); and COUNT mixed rules, one call each in a row: the first COUNT accepted cases of operation 05
+that the generator of `compare/run` makes from seed SEED, used for every operation.";
 
 /// The mixed rules are so many in a row that fewer turns do.
 pub fn mixed_turns(turns: usize) -> usize {

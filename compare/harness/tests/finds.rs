@@ -198,6 +198,16 @@ fn held_up_is_what_it_is_said_to_be() {
     assert!((130..253).all(|sum| waits(&row, sum, sum - 1)));
 }
 
+/// The sums, 4 to 102, wait for the first group; that waits for each of 51 pairs, and each pair for the one after it.
+#[test]
+fn passed_again_is_what_it_is_said_to_be() {
+    let row = ladder::passed_again(256);
+    assert_eq!(only(&row, 256).joined(), 1 + 3 * 51);
+    assert!((4..103).all(|sum| waits(&row, sum, 3)));
+    assert!((103..154).all(|pair| waits(&row, 3, pair)));
+    assert!((103..153).all(|pair| waits(&row, pair, pair + 1)));
+}
+
 #[test]
 fn mixed_rules_are_accepted() {
     let row = mixed::mixed();

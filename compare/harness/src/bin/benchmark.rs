@@ -62,7 +62,9 @@ fn arguments() -> Option<(usize, Option<u8>)> {
 fn rows() -> Vec<Row> {
     let mut rows = vec![r1()];
     rows.extend(ladder::ladders());
-    rows.extend([ladder::reversed(256), ladder::held_up(256), mixed::mixed()]);
+    rows.extend([ladder::reversed(256), ladder::held_up(256)]);
+    rows.extend([128, 256].map(ladder::passed_again));
+    rows.push(mixed::mixed());
     rows
 }
 
