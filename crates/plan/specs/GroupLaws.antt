@@ -8,7 +8,7 @@ use native.Mathlib.Omega.{arith}
 use lib.Dec.{eqb}
 use borrow.Author.Tests.{eqb-true, eq-eqb}
 use lib.ListN.{length}
-use Rattle.words.specs.Lists.{_∈_, elem, upto}
+use Rattle.words.specs.Lists.{_∈_, elem, keep, upto}
 use Rattle.words.specs.MemberLaws.{elem→∈, ∈→elem, keep-in, keep-from, from-in, from-below}
 use Rattle.words.specs.TestLaws.{split}
 use Rattle.plan.specs.PlanFile.{Plan, EachGroup, Above, Rising, Listed, Apart}
@@ -52,6 +52,11 @@ groupOf-named (G ∷ Gs) (s, o) (r, u) (d, a) g =
     out t (inr h) = split (elem (groupOf Gs g) G) (λ q. absurd (d (groupOf Gs g) (elem→∈ (groupOf Gs g) G q) h)) (λ q. q)
 
 module _ (n : ℕ) (group : ℕ → ℕ) where
+  -- of the gates those that name their own group
+  pub groups-kept : groups n group ≡ keep (λ p. eqb (group p) p) (upto n)
+  unfolding groups
+  groups-kept = refl
+
   pub group-of : (p : ℕ) → p ∈ groups n group → (p < n) × (group p ≡ p)
   unfolding groups
   group-of p m =

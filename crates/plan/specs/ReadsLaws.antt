@@ -1,8 +1,8 @@
 -- Laws of what a group reads, for any sets of settings: it is in the circuit, so what a group waits for is a group. Assumes nothing.
 use Prim.Native.Nat.{ℕ, _≤_, _<_}
-use mathlib.Core.Path.{_≡_}
+use mathlib.Core.Path.{_≡_, refl}
 use mathlib.Core.Bool.{cond}
-use mathlib.Core.List.{List, []}
+use mathlib.Core.List.{List, [], map}
 use mathlib.Core.Logic.{_⊎_, inl, inr}
 use native.Mathlib.Omega.{arith}
 use lib.Dec.{eqb, leb}
@@ -15,6 +15,12 @@ use Rattle.gates.specs.Gates.{Gates, gateAt, arguments, Earlier}
 use Rattle.plan.specs.Groups.{groups, members, restsOf, readsOf, waitsFor}
 use Rattle.plan.specs.GroupLaws.{of-member}
 use Rattle.plan.specs.RestLaws.{rests-inside}
+
+-- a group waits for the groups of what its members read
+pub waits-read : (C : Gates) (sets : List ℕ) (group : ℕ → ℕ) (p : ℕ)
+    → waitsFor C sets group p ≡ map group (flat (readsOf C sets (members (length C) group p)) (members (length C) group p))
+unfolding waitsFor
+waits-read C sets group p = refl
 
 module _ (C : Gates) (earlier : Earlier C) (sets : List ℕ) where
   -- what a group reads on account of its member m

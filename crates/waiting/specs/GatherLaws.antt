@@ -18,7 +18,7 @@ use Rattle.needed.specs.Held.{gatesIn}
 use Rattle.needed.specs.HeldLaws.{gates-length, gates-at}
 use Rattle.plan.specs.Groups.{members, restsOf, readsOf, waitsFor}
 use Rattle.plan.specs.RestLaws.{rests-inside, rests-held}
-use Rattle.plan.specs.ReadsLaws.{reads-inside}
+use Rattle.plan.specs.ReadsLaws.{waits-read, reads-inside}
 use Rattle.waiting.specs.Tables.{HasWords, bitIn, putEach}
 use Rattle.waiting.specs.Reads.{argumentsAt, Into, Orderable}
 use Rattle.waiting.specs.Gathering.{Waiting}
@@ -163,13 +163,14 @@ module _ (quads : List ℕ) (count : ℕ) (needs conds group places : List ℕ) 
         reads = rw (gates-length quads count, s .orderable .many i l, ne-eqb (getD places i 0) 0 z, ← rests-here, arguments-here)
 
   pub gathering-end : (waits : List ℕ) (size i : ℕ) → GatheringWaits quads count needs conds group places waits size i → count ≤ i → Waiting C needs g waits
-  unfolding waitsBelow waitsFor
+  unfolding waitsBelow
   gathering-end waits size i s l =
       record {
         wide = rw (gates-length quads count, s .words .size) (s .wide);
         fits = s .words .fits;
         holds = λ p q h k. s .holds p q h k ∙ ap
-            (λ (n : ℕ). elem q (map g (flat (readsOf C needs (members (length C) g p)) (keep (λ x. eqb (g x) p) (upto n))))) len;
+            (λ (n : ℕ). elem q (map g (flat (readsOf C needs (members (length C) g p)) (keep (λ x. eqb (g x) p) (upto n))))) len
+            ∙ ap (elem q) (sym (waits-read C needs g p));
       }
     where
       len : i ≡ length C

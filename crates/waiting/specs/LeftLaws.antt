@@ -10,6 +10,7 @@ use Rattle.words.specs.Lists.{elem, keep, upto}
 use Rattle.words.specs.MemberLaws.{elem-more}
 use Rattle.settings.specs.ListLaws.{keep-yes, keep-no}
 use Rattle.plan.specs.Groups.{groups}
+use Rattle.plan.specs.GroupLaws.{groups-kept}
 use Rattle.waiting.specs.Tables.{HasWords, bitIn, putBit}
 use Rattle.waiting.specs.Gathering.{Left}
 use Rattle.waiting.specs.TableLaws.{clear-words, clear-bit, put-words, put-bit}
@@ -60,6 +61,6 @@ module _ (group : List ℕ) (count : ℕ) where
 
   pub listing-end : (left : List ℕ) (n i : ℕ) → Listing group count left n i → count ≤ i
       → (n ≡ length (groups count (λ x. getD group x 0))) × Left (λ x. getD group x 0) count left
-  unfolding groups
   listing-end left n i s l =
-      let e : count ≡ i = omega (arith, s .below) in (rw e (s .counted), record { words = s .words; holds = λ q k. rw e (s .holds q k) })
+      let e : count ≡ i = omega (arith, s .below) in
+      (rw (groups-kept count (λ x. getD group x 0), e) (s .counted), record { words = s .words; holds = λ q k. rw (groups-kept count (λ x. getD group x 0), e) (s .holds q k) })
