@@ -15,9 +15,16 @@ unfoldable pub pieces : (ℕ → List ℕ) → ℕ → List ℕ
 pieces f zero = []
 pieces f (suc n) = pieces f n ++ f n
 
-pub pieces-more : (f : ℕ → List ℕ) (i : ℕ) → pieces f (i + 1) ≡ pieces f i ++ f i
+pub pieces-none : (f : ℕ → List ℕ) → pieces f 0 ≡ []
 unfolding pieces
-pieces-more f i = let e : i + 1 ≡ suc i = omega arith in rw e
+pieces-none f = refl
+
+pub pieces-next : (f : ℕ → List ℕ) (n : ℕ) → pieces f (suc n) ≡ pieces f n ++ f n
+unfolding pieces
+pieces-next f n = refl
+
+pub pieces-more : (f : ℕ → List ℕ) (i : ℕ) → pieces f (i + 1) ≡ pieces f i ++ f i
+pieces-more f i = let e : i + 1 ≡ suc i = omega arith in rw e (pieces-next f i)
 
 -- the first piece, then the others
 pub pieces-first : (f : ℕ → List ℕ) (n : ℕ) → pieces f (suc n) ≡ f 0 ++ pieces (λ i. f (suc i)) n

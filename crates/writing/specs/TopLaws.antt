@@ -38,7 +38,7 @@ use Rattle.fused.specs.SizeBounds.{plan-written}
 use Rattle.emitting.specs.Emitted.{wireIn, Writable, JoinWritable}
 use Rattle.emitting.specs.HeldLaws.{SmallGate, writable-held, joining-held}
 use Rattle.plan.specs.NumberLaws.{length-group}
-use Rattle.writing.specs.Staged.{Turnable}
+use Rattle.filing.specs.Staged.{Turnable}
 use Rattle.writing.specs.ArrayLaws.{rule-taken, plan-taken, gates-shaped, quads-held, members-two}
 use Rattle.writing.specs.DoneLaws.{doneAt, done-once, done-all, next-group}
 use Rattle.writing.specs.StageLaws.{checkedStage, stage-same}

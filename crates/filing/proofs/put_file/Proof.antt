@@ -1,5 +1,5 @@
-use Rattle.writing.specs.Staged.{stage}
-use Rattle.writing.specs.OutputLaws.{outputs-count, file-start, records-room, ends-room, file-put}
+use Rattle.filing.specs.Staged.{stage}
+use Rattle.filing.specs.OutputLaws.{outputs-count, file-start, records-room, ends-room, file-put}
 use Rattle.emitting.specs.Emitted.{wireIn}
 use mathlib.Core.Path.{refl, ap}
 use mathlib.Core.List.{List, map}
@@ -8,8 +8,8 @@ use Prim.Native.Nat.{ℕ, _≤_, _+_, _-_}
 use borrow.Rule.Slice.PartMut.{putMid}
 use native.Mathlib.Omega.{arith}
 use borrow.Author.Needs.{needs}
-use Rattle.writing.proofs.put_file.Statement.{statement}
-use Rattle.writing.proofs.put_file.Tie as tie
+use Rattle.filing.proofs.put_file.Statement.{statement}
+use Rattle.filing.proofs.put_file.Tie as tie
 
 put-head-requires : tie.Need-put-head-requires
 put-head-requires c κs = let a = c .before .before .before .args in

@@ -1,14 +1,15 @@
 -- Laws of a turn: what the code finds in the arrays at turn i, and what the turn adds to the stage. Assumes nothing.
-use Prim.Native.Nat.{ℕ, _+_, _≤_, _<_}
+use Prim.Native.Nat.{ℕ, suc, _+_, _≤_, _<_}
 use mathlib.Core.Path.{_≡_, refl, sym, ap, _∙_}
 use mathlib.Core.List.{List, [], _∷_, _++_, append-nil}
 use mathlib.Core.Logic.{_⊎_, inl, inr}
 use native.Mathlib.Numerals.{add-one}
 use native.Mathlib.Omega.{arith}
-use lib.ListN.{length, getD, length-append}
+use lib.ListN.{length, getD, replicate, length-append}
 use borrow.Author.Tests.{ne-eqb}
 use Rattle.words.specs.TestLaws.{same?}
 use Rattle.words.specs.Buffers.{over}
+use Rattle.gates.specs.Limits.{mostGates}
 use Rattle.gates.specs.EarlierLaws.{Inside}
 use Rattle.plan.specs.PlanFile.{groupAt}
 use Rattle.fused.specs.Records.{Record, recordsCost}
@@ -16,8 +17,8 @@ use Rattle.fused.specs.CircuitFile.{recordBytes, recordsBytes}
 use Rattle.fused.specs.SizeLaws.{size-append, cost-append}
 use Rattle.emitting.specs.Emitted.{wireIn, aloneIn, emitIn, Writable, JoinWritable, Measured}
 use Rattle.emitting.specs.JoinedSizes.{joined-sized}
-use Rattle.writing.specs.Staged.{Stage, membersOf, turnRecords, turn, stage, Turnable}
-use Rattle.writing.specs.Turns.{wiresOf, Measurable, Puttable, Sum}
+use Rattle.filing.specs.Staged.{Stage, membersOf, turnRecords, turn, stage, Turnable}
+use Rattle.filing.specs.Turns.{wiresOf, Measurable, Puttable, Sum}
 
 -- a group by its place
 pub members-alone : (p : List ℕ) (at q : ℕ) → at ≡ 0 → membersOf p at q ≡ q ∷ []
@@ -61,11 +62,20 @@ module _ (p quads : List ℕ) (count : ℕ) (needs : List ℕ) (wire : ℕ → �
 -- The turns.
 
 module _ (p quads : List ℕ) (count : ℕ) (needs group places ord : List ℕ) where
+  -- before the first turn
+  pub stage-none : stage p quads count needs group places ord 0 ≡ record { records = []; wires = replicate mostGates 0 }
+  unfolding stage
+  stage-none = refl
+
   -- one turn more
-  pub stage-more : (i : ℕ) → stage p quads count needs group places ord (i + 1) ≡ turn p quads count needs group places (stage p quads count needs group places ord i)
+  pub stage-next : (i : ℕ) → stage p quads count needs group places ord (suc i) ≡ turn p quads count needs group places (stage p quads count needs group places ord i)
       (getD ord i 0)
   unfolding stage
-  stage-more i = rw (add-one i)
+  stage-next i = refl
+
+  pub stage-more : (i : ℕ) → stage p quads count needs group places ord (i + 1) ≡ turn p quads count needs group places (stage p quads count needs group places ord i)
+      (getD ord i 0)
+  stage-more i = rw (add-one i) (stage-next i)
 
   -- the records of turn i, as the code has them in hand: the group g, at its place, over the wires w from wire n on
   pub turn-is : (i g at n : ℕ) (w : List ℕ) → g ≡ getD ord i 0 → at ≡ getD places g 0 → w ≡ stage p quads count needs group places ord i .wires

@@ -1,11 +1,11 @@
-use Rattle.writing.specs.LoopLaws.{PuttingGroups, putting-start, putting-fits, putting-room, putting-step, putting-same, putting-end}
-use Rattle.writing.specs.TurnLaws.{turn-listed, turn-fits, turn-puttable}
+use Rattle.filing.specs.LoopLaws.{PuttingGroups, putting-start, putting-fits, putting-room, putting-step, putting-same, putting-end}
+use Rattle.filing.specs.TurnLaws.{turn-listed, turn-fits, turn-puttable}
 use lib.ListN.{length}
 use Prim.Native.Nat.{_≤_, _+_, _-_}
 use native.Mathlib.Omega.{arith}
 use borrow.Author.Needs.{needs}
-use Rattle.writing.proofs.put_records.Statement.{statement}
-use Rattle.writing.proofs.put_records.Tie as tie
+use Rattle.filing.proofs.put_records.Statement.{statement}
+use Rattle.filing.proofs.put_records.Tie as tie
 
 abbrev Inv-loop : tie.InvT-loop
 Inv-loop out₀ plan quads count needs conditions group places order groups wires₀ at₀ first₀ i₀ out wires at first i = PuttingGroups plan quads count needs group places

@@ -1,21 +1,21 @@
 -- Laws of the loops that measure and write the groups in turn: start, room, step, end. Assumes nothing.
 use Prim.Native.Nat.{ℕ, zero, suc, _+_, _-_, _≤_, _<_}
 use mathlib.Core.Path.{_≡_, refl, sym, ap, _∙_}
-use mathlib.Core.List.{List, _++_}
+use mathlib.Core.List.{List, [], _++_}
 use native.Mathlib.Omega.{arith}
 use lib.ListN.{length, getD, set, take, drop, replicate}
 use borrow.Rule.Slice.PartMut.{putMid}
 use Rattle.words.specs.Buffers.{over}
 use Rattle.gates.specs.Limits.{mostGates}
-use Rattle.fused.specs.Records.{Record, recordsCost}
+use Rattle.fused.specs.Records.{Record}
 use Rattle.fused.specs.CircuitFile.{recordsBytes}
-use Rattle.fused.specs.SizeLaws.{bytes-append}
+use Rattle.fused.specs.SizeLaws.{bytes-append, cost-append}
 use Rattle.emitting.specs.Emitted.{wireIn, emitIn, Measured}
-use Rattle.emitting.specs.FillLaws.{pieces, Filling, filling-start, filling-room, filling-fits, filling-length, filling-step, filling-end}
+use Rattle.emitting.specs.FillLaws.{pieces, pieces-none, pieces-next, Filling, filling-start, filling-room, filling-fits, filling-length, filling-step, filling-end}
 use Rattle.emitting.specs.LoopLaws.{filling-same}
-use Rattle.writing.specs.Staged.{Stage, membersOf, turnRecords, stage, Turnable}
-use Rattle.writing.specs.Turns.{wiresOf, Measurable, Measures, Sum}
-use Rattle.writing.specs.TurnLaws.{stage-more, turn-is, turn-measurable, turn-wires, turn-length, turn-sum, turn-small}
+use Rattle.filing.specs.Staged.{Stage, membersOf, turnRecords, stage, Turnable}
+use Rattle.filing.specs.Turns.{wiresOf, Measurable, Measures, Sum}
+use Rattle.filing.specs.TurnLaws.{stage-more, turn-is, turn-measurable, turn-wires, turn-length, turn-sum, turn-small}
 
 -- Measuring.
 
@@ -28,8 +28,8 @@ pub record Measuring (p quads needs places ord : List ℕ) (groups wires bytes c
 
 module _ (p quads needs places ord : List ℕ) (groups : ℕ) where
   none : (count : ℕ) (group : List ℕ) → Sum p quads count needs group places ord 0 0 0 0
-  unfolding stage recordsCost
-  none count group = record { wired = refl; long = refl; costs = refl }
+  unfolding stage
+  none count group = record { wired = refl; long = refl; costs = omega (arith, cost-append [] []) }
 
   pub measuring-start : Measures p quads needs places ord groups → Measuring p quads needs places ord groups 0 0 0 0
   measuring-start m = record { below = omega arith; measures = m; summed = λ count group conds t. none count group }
@@ -74,10 +74,11 @@ module _ (p quads : List ℕ) (count : ℕ) (needs group places ord : List ℕ) 
   turnPiece i = recordsBytes (turnRecords p quads count needs group places (stage p quads count needs group places ord i) (getD ord i 0))
 
   pub turn-pieces : (i : ℕ) → pieces turnPiece i ≡ recordsBytes (stage p quads count needs group places ord i .records)
-  unfolding pieces stage
-  turn-pieces zero = refl
+  unfolding stage
+  turn-pieces zero = pieces-none turnPiece
   turn-pieces (suc i) =
-      ap (λ (b : List ℕ). b ++ turnPiece i) (turn-pieces i)
+      pieces-next turnPiece i
+      ∙ ap (λ (b : List ℕ). b ++ turnPiece i) (turn-pieces i)
       ∙ sym (bytes-append (stage p quads count needs group places ord i .records)
       (turnRecords p quads count needs group places (stage p quads count needs group places ord i) (getD ord i 0)))
 

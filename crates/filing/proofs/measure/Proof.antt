@@ -1,9 +1,9 @@
-use Rattle.writing.specs.LoopLaws.{Measuring, measuring-start, measuring-inside, measuring-group, measuring-small, measuring-step, measuring-end}
+use Rattle.filing.specs.LoopLaws.{Measuring, measuring-start, measuring-inside, measuring-group, measuring-small, measuring-step, measuring-end}
 use Prim.Native.Nat.{_-_}
 use native.Mathlib.Omega.{arith}
 use borrow.Author.Needs.{needs}
-use Rattle.writing.proofs.measure.Statement.{statement}
-use Rattle.writing.proofs.measure.Tie as tie
+use Rattle.filing.proofs.measure.Statement.{statement}
+use Rattle.filing.proofs.measure.Tie as tie
 
 abbrev Inv-loop : tie.InvT-loop
 Inv-loop plan quads needs places order groups wires₀ bytes₀ cost₀ i₀ wires bytes cost i = Measuring plan quads needs places order groups wires bytes cost i

@@ -8,7 +8,7 @@ use lib.ListN.{length, getD, take}
 use Rattle.fused.specs.Records.{recordsCost}
 use Rattle.fused.specs.CircuitFile.{recordsBytes, fileBytes}
 use Rattle.emitting.specs.Emitted.{wireIn, Grouped, Coded, Writable, Joinable, JoinWritable}
-use Rattle.writing.specs.Staged.{stage, Turnable}
+use Rattle.filing.specs.Staged.{stage, Turnable}
 
 -- how many wires a group has by its place: one alone; a guard for each member, two picks and the operation where it is joined
 abbrev pub wiresOf : List ℕ → ℕ → ℕ

@@ -13,7 +13,7 @@ use Rattle.words.specs.BufferLaws.{length-over, room-rest, sets-over}
 use Rattle.fused.specs.Records.{Record}
 use Rattle.fused.specs.CircuitFile.{mark, wiresBytes, recordsBytes, fileBytes}
 use Rattle.fused.specs.SizeLaws.{wires-size, wires-append, file-size}
-use Rattle.emitting.specs.FillLaws.{pieces, Filling, filling-start, filling-room, filling-fits, filling-length, filling-step, filling-end}
+use Rattle.emitting.specs.FillLaws.{pieces, pieces-none, pieces-next, Filling, filling-start, filling-room, filling-fits, filling-length, filling-step, filling-end}
 use Rattle.emitting.specs.ByteLaws.{behind}
 
 -- The outputs: piece x is the wire of variable x.
@@ -23,10 +23,10 @@ module _ (outputs : List ℕ) (wire : ℕ → ℕ) where
   outputPiece x = bytesOf 2 (wire (getD outputs x 0))
 
   output-pieces : (v : ℕ) → v ≤ length outputs → pieces outputPiece v ≡ wiresBytes (map wire (take v outputs))
-  unfolding pieces
-  output-pieces zero h = refl
+  output-pieces zero h = pieces-none outputPiece
   output-pieces (suc v) h =
-      ap (λ (b : List ℕ). b ++ outputPiece v) (output-pieces v (omega (arith, h)))
+      pieces-next outputPiece v
+      ∙ ap (λ (b : List ℕ). b ++ outputPiece v) (output-pieces v (omega (arith, h)))
       ∙ sym
       (ap (λ (l : List ℕ). wiresBytes (map wire l)) (take-suc outputs v 0 h) ∙ ap wiresBytes (map-append wire (take v outputs) (getD outputs v 0 ∷ []))
       ∙ wires-append (map wire (take v outputs)) (wire (getD outputs v 0) ∷ []) ∙ ap (λ (b : List ℕ). wiresBytes (map wire (take v outputs)) ++ b)

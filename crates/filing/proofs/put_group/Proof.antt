@@ -1,8 +1,8 @@
-use Rattle.writing.specs.TurnLaws.{alone-room, alone-put, joined-room, joined-put}
+use Rattle.filing.specs.TurnLaws.{alone-room, alone-put, joined-room, joined-put}
 use Rattle.emitting.specs.Emitted.{wireIn}
 use borrow.Author.Needs.{needs}
-use Rattle.writing.proofs.put_group.Statement.{statement}
-use Rattle.writing.proofs.put_group.Tie as tie
+use Rattle.filing.proofs.put_group.Statement.{statement}
+use Rattle.filing.proofs.put_group.Tie as tie
 
 put-alone-requires : tie.Need-put-alone-requires
 put-alone-requires c κs =

@@ -1,8 +1,8 @@
-use Rattle.writing.specs.TurnLaws.{wires-alone, wires-joined}
+use Rattle.filing.specs.TurnLaws.{wires-alone, wires-joined}
 use mathlib.Core.Path.{sym}
 use native.Mathlib.Omega.{arith}
-use Rattle.writing.proofs.wires_of.Statement.{statement}
-use Rattle.writing.proofs.wires_of.Tie as tie
+use Rattle.filing.proofs.wires_of.Statement.{statement}
+use Rattle.filing.proofs.wires_of.Tie as tie
 
 returns : tie.Need-returns
 returns c = sym (wires-alone (c .before .args .plan .now) _ (c .if1 .taken))

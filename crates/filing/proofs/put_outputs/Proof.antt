@@ -1,4 +1,4 @@
-use Rattle.writing.specs.OutputLaws.{outputPiece, outputs-start, outputs-fits, outputs-room, outputs-step, outputs-end}
+use Rattle.filing.specs.OutputLaws.{outputPiece, outputs-start, outputs-fits, outputs-room, outputs-step, outputs-end}
 use Rattle.emitting.specs.FillLaws.{Filling}
 use Rattle.emitting.specs.LoopLaws.{filling-same}
 use Rattle.emitting.specs.Emitted.{wireIn}
@@ -6,8 +6,8 @@ use lib.ListN.{length}
 use Prim.Native.Nat.{_-_, _*_, _≤_}
 use native.Mathlib.Omega.{arith}
 use borrow.Author.Needs.{needs}
-use Rattle.writing.proofs.put_outputs.Statement.{statement}
-use Rattle.writing.proofs.put_outputs.Tie as tie
+use Rattle.filing.proofs.put_outputs.Statement.{statement}
+use Rattle.filing.proofs.put_outputs.Tie as tie
 
 abbrev Inv-loop : tie.InvT-loop
 Inv-loop out₀ outputs v group wires x₀ out x = Filling (outputPiece outputs (wireIn group wires)) out out₀ v (2 * x) x

@@ -1,6 +1,6 @@
-use Rattle.writing.specs.TurnLaws.{members-alone, members-joined}
-use Rattle.writing.proofs.size_group.Statement.{statement}
-use Rattle.writing.proofs.size_group.Tie as tie
+use Rattle.filing.specs.TurnLaws.{members-alone, members-joined}
+use Rattle.filing.proofs.size_group.Statement.{statement}
+use Rattle.filing.proofs.size_group.Tie as tie
 
 size-alone-requires : tie.Need-size-alone-requires
 size-alone-requires c κs = c .before .before .pre .alone (c .if1 .taken)

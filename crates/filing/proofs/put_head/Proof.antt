@@ -1,10 +1,10 @@
-use Rattle.writing.specs.OutputLaws.{headStores, head-length, head-room, head-same, head-put}
+use Rattle.filing.specs.OutputLaws.{headStores, head-length, head-room, head-same, head-put}
 use lib.ListN.{length, length-set}
 use Prim.Native.Nat.{_≤_}
 use native.Mathlib.Omega.{arith}
 use borrow.Author.Needs.{needs}
-use Rattle.writing.proofs.put_head.Statement.{statement}
-use Rattle.writing.proofs.put_head.Tie as tie
+use Rattle.filing.proofs.put_head.Statement.{statement}
+use Rattle.filing.proofs.put_head.Tie as tie
 
 slice-write-out-2 : tie.Need-slice-write-out-2
 slice-write-out-2 c = simp length-set (omega (arith, c .before .pre))
