@@ -91,3 +91,7 @@ filling-end f out out₀ n at i l h =
     let e : i ≡ n = omega (arith, l .below) in
     let p : pieces f i ≡ pieces f n = ap (pieces f) e in
     (l .reached ∙ ap (λ (b : List ℕ). length b) p, l .held ∙ ap (λ (b : List ℕ). over b out₀) p)
+
+-- a filled buffer has its length
+pub filling-same : (f : ℕ → List ℕ) (out out₀ : List ℕ) (n at i : ℕ) → Filling f out out₀ n at i → n ≤ i → length out ≡ length out₀
+filling-same f out out₀ n at i l h = ap (λ (o : List ℕ). length o) (filling-end f out out₀ n at i l h .1) ∙ length-over (pieces f n) out₀ (l .room)

@@ -10,9 +10,11 @@ use Rattle.gates.specs.Limits.{mostGates}
 use Rattle.fused.specs.Records.{Record}
 use Rattle.fused.specs.CircuitFile.{recordsBytes}
 use Rattle.fused.specs.SizeLaws.{bytes-append, cost-append}
-use Rattle.emitting.specs.Emitted.{wireIn, emitIn, Measured}
+use Rattle.emitting.specs.Emitted.{wireIn}
+use Rattle.joining.specs.Joined.{emitIn}
+use Rattle.measuring.specs.Sizes.{Measured}
 use Rattle.emitting.specs.FillLaws.{pieces, pieces-none, pieces-next, Filling, filling-start, filling-room, filling-fits, filling-length, filling-step, filling-end}
-use Rattle.emitting.specs.LoopLaws.{filling-same}
+use Rattle.emitting.specs.FillLaws.{filling-same}
 use Rattle.filing.specs.Staged.{Stage, membersOf, turnRecords, stage, Turnable}
 use Rattle.filing.specs.Turns.{wiresOf, Measurable, Measures, Sum}
 use Rattle.filing.specs.TurnLaws.{stage-more, turn-is, turn-measurable, turn-wires, turn-length, turn-sum, turn-small}

@@ -9,7 +9,8 @@ use Rattle.gates.specs.Limits.{mostGates}
 use Rattle.plan.specs.PlanFile.{groupAt}
 use Rattle.fused.specs.Records.{Record, recordsCost}
 use Rattle.fused.specs.CircuitFile.{recordsBytes}
-use Rattle.emitting.specs.Emitted.{wireIn, emitIn, Writable, JoinWritable}
+use Rattle.emitting.specs.Emitted.{wireIn, Writable}
+use Rattle.joining.specs.Joined.{emitIn, JoinWritable}
 
 -- after some turns: the records written, and the wire of each group written, at the place of its name
 pub record Stage : Type 0 where

@@ -15,8 +15,10 @@ use Rattle.plan.specs.PlanFile.{groupAt}
 use Rattle.fused.specs.Records.{Record, recordsCost}
 use Rattle.fused.specs.CircuitFile.{recordBytes, recordsBytes}
 use Rattle.fused.specs.SizeLaws.{size-append, cost-append}
-use Rattle.emitting.specs.Emitted.{wireIn, aloneIn, emitIn, Writable, JoinWritable, Measured}
-use Rattle.emitting.specs.JoinedSizes.{joined-sized}
+use Rattle.emitting.specs.Emitted.{wireIn, aloneIn, Writable}
+use Rattle.joining.specs.Joined.{emitIn, JoinWritable}
+use Rattle.measuring.specs.Sizes.{Measured}
+use Rattle.measuring.specs.JoinedSizes.{joined-sized}
 use Rattle.filing.specs.Staged.{Stage, membersOf, turnRecords, turn, stage, Turnable}
 use Rattle.filing.specs.Turns.{wiresOf, Measurable, Puttable, Sum}
 

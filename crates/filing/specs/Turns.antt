@@ -7,7 +7,8 @@ use lib.Dec.{eqb}
 use lib.ListN.{length, getD, take}
 use Rattle.fused.specs.Records.{recordsCost}
 use Rattle.fused.specs.CircuitFile.{recordsBytes, fileBytes}
-use Rattle.emitting.specs.Emitted.{wireIn, Grouped, Coded, Writable, Joinable, JoinWritable}
+use Rattle.emitting.specs.Emitted.{wireIn, Grouped, Coded, Writable}
+use Rattle.joining.specs.Joined.{Joinable, JoinWritable}
 use Rattle.filing.specs.Staged.{stage, Turnable}
 
 -- how many wires a group has by its place: one alone; a guard for each member, two picks and the operation where it is joined

@@ -11,7 +11,9 @@ ghost use Rattle.words.specs.Numbers.{bytesOf};
 ghost use Rattle.words.specs.Buffers.{over};
 ghost use Rattle.gates.specs.Limits.{mostGates};
 ghost use Rattle.fused.specs.CircuitFile.{mark, wiresBytes, recordsBytes};
-ghost use Rattle.emitting.specs.Emitted.{wireIn, emitIn, Measured};
+ghost use Rattle.emitting.specs.Emitted.{wireIn};
+ghost use Rattle.joining.specs.Joined.{emitIn};
+ghost use Rattle.measuring.specs.Sizes.{Measured};
 ghost use Rattle.filing.specs.Staged.{membersOf, stage, Turnable};
 ghost use Rattle.filing.specs.Turns.{wiresOf, Measurable, Puttable, Measures, Sum, OutputsPlaced, fileIn};
 
@@ -92,7 +94,7 @@ fn put_group(
     if at == 0 {
         return emitting::put_alone(out, quads, group, wires, q);
     }
-    emitting::put_joined(
+    joining::put_joined(
         out,
         plan,
         at,

@@ -27,8 +27,9 @@ use Rattle.fused.specs.Records.{Record}
 use Rattle.fused.specs.Emission.{gateOperation, joined, guardOf, valuesAt, emit}
 use Rattle.fused.specs.FusedCircuit.{Written, groupRecords, written}
 use Rattle.fused.specs.WrittenLaws.{written-none, written-more, wire-last, wire-old}
-use Rattle.emitting.specs.Emitted.{wireIn, emitIn}
-use Rattle.emitting.specs.EmitLaws.{emit-in, emit-same}
+use Rattle.emitting.specs.Emitted.{wireIn}
+use Rattle.joining.specs.Joined.{emitIn}
+use Rattle.joining.specs.EmitLaws.{emit-in, emit-same}
 use Rattle.filing.specs.Staged.{Stage, turnRecords, turn, stage}
 use Rattle.filing.specs.TurnLaws.{stage-none, stage-next}
 use Rattle.writing.specs.ArrayLaws.{rule-taken, gates-shaped, quads-held, members-are, members-two}
