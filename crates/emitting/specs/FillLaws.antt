@@ -15,9 +15,16 @@ unfoldable pub pieces : (ℕ → List ℕ) → ℕ → List ℕ
 pieces f zero = []
 pieces f (suc n) = pieces f n ++ f n
 
-pub pieces-more : (f : ℕ → List ℕ) (i : ℕ) → pieces f (i + 1) ≡ pieces f i ++ f i
+pub pieces-none : (f : ℕ → List ℕ) → pieces f 0 ≡ []
 unfolding pieces
-pieces-more f i = let e : i + 1 ≡ suc i = omega arith in rw e
+pieces-none f = refl
+
+pub pieces-next : (f : ℕ → List ℕ) (n : ℕ) → pieces f (suc n) ≡ pieces f n ++ f n
+unfolding pieces
+pieces-next f n = refl
+
+pub pieces-more : (f : ℕ → List ℕ) (i : ℕ) → pieces f (i + 1) ≡ pieces f i ++ f i
+pieces-more f i = let e : i + 1 ≡ suc i = omega arith in rw e (pieces-next f i)
 
 -- the first piece, then the others
 pub pieces-first : (f : ℕ → List ℕ) (n : ℕ) → pieces f (suc n) ≡ f 0 ++ pieces (λ i. f (suc i)) n
@@ -84,3 +91,7 @@ filling-end f out out₀ n at i l h =
     let e : i ≡ n = omega (arith, l .below) in
     let p : pieces f i ≡ pieces f n = ap (pieces f) e in
     (l .reached ∙ ap (λ (b : List ℕ). length b) p, l .held ∙ ap (λ (b : List ℕ). over b out₀) p)
+
+-- a filled buffer has its length
+pub filling-same : (f : ℕ → List ℕ) (out out₀ : List ℕ) (n at i : ℕ) → Filling f out out₀ n at i → n ≤ i → length out ≡ length out₀
+filling-same f out out₀ n at i l h = ap (λ (o : List ℕ). length o) (filling-end f out out₀ n at i l h .1) ∙ length-over (pieces f n) out₀ (l .room)

@@ -3,12 +3,4 @@ pub mod FillLaws
 pub mod ByteLaws
 pub mod AloneLaws
 pub mod PutLaws
-pub mod PieceLaws
-pub mod GuardLaws
-pub mod LoopLaws
-pub mod JoinLaws
-pub mod JoinedLaws
-pub mod JoinedSizes
-pub mod SizeLaws
-pub mod EmitLaws
 pub mod HeldLaws

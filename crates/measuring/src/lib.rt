@@ -4,7 +4,9 @@ ghost use mathlib.Core.Path.{_≡_};
 ghost use mathlib.Core.List.{List, _∷_, []};
 ghost use Prim.Native.Nat.{ℕ};
 ghost use Rattle.plan.specs.PlanFile.{groupAt};
-ghost use Rattle.emitting.specs.Emitted.{restedBy, Coded, Lies, Joinable, Measured};
+ghost use Rattle.measuring.specs.Sizes.{restedBy, Measured};
+ghost use Rattle.emitting.specs.Emitted.{Coded};
+ghost use Rattle.joining.specs.Joined.{Lies, Joinable};
 
 // What the records of a group come to.
 pub struct Size {

@@ -5,7 +5,6 @@ use mathlib.Core.List.{List}
 use mathlib.Core.Logic.{_⊎_, inl, inr}
 use lib.ListN.{length, getD, take}
 use lib.Seq.{take-at}
-use borrow.Author.Tests.{eq-eqb, ne-eqb}
 use Rattle.words.specs.Lists.{_∈_}
 use Rattle.words.specs.TestLaws.{same?}
 use Rattle.gates.specs.Gates.{Gate, gateAt, arguments}
@@ -31,7 +30,8 @@ use Rattle.checking.specs.Checked.{checkedPlaces}
 use Rattle.checking.specs.CheckedLaws.{place-is}
 use Rattle.fused.specs.SizeEmit.{costly-two}
 use Rattle.fused.specs.PlannedLaws.{planned-read}
-use Rattle.writing.specs.Staged.{membersOf}
+use Rattle.filing.specs.Staged.{membersOf}
+use Rattle.filing.specs.TurnLaws.{members-alone, members-joined}
 
 module _ (s p : List ℕ) (h : planAnswer s p .number ≡ 0) where
   pub rule-taken : ruleAnswer s .number ≡ 0
@@ -55,8 +55,8 @@ module _ (s p : List ℕ) (h : planAnswer s p .number ≡ 0) where
   members-are q l e = go (same? (placeOf p q) 0)
     where
       go : (placeOf p q ≡ 0) ⊎ (placeOf p q ≡ 0 → ⊥) → membersOf p (getD (checkedPlaces s p) q 0) q ≡ members (gateCount s) (groupOf (groupsIn p)) q
-      go (inl z) = rw (place-is s p h q l, eq-eqb (placeOf p q) 0 z) (sym (group-alone s p plan-taken q l z))
-      go (inr z) = rw (place-is s p h q l, ne-eqb (placeOf p q) 0 z) (sym (group-listed s p plan-taken q e z .listed))
+      go (inl z) = rw (place-is s p h q l, members-alone p (placeOf p q) q z) (sym (group-alone s p plan-taken q l z))
+      go (inr z) = rw (place-is s p h q l, members-joined p (placeOf p q) q z) (sym (group-listed s p plan-taken q e z .listed))
 
   -- the gates of a group of two or more have two arguments each
   pub members-two : (q : ℕ) → 2 ≤ length (members (gateCount s) (groupOf (groupsIn p)) q) → (m : ℕ) → m ∈ members (gateCount s) (groupOf (groupsIn p)) q

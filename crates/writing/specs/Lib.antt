@@ -1,12 +1,7 @@
 pub mod Ready
-pub mod Staged
-pub mod Turns
 pub mod ArrayLaws
 pub mod DoneLaws
 pub mod StageLaws
 pub mod TopLaws
 pub mod PreparedLaws
 pub mod WriteLaws
-pub mod TurnLaws
-pub mod LoopLaws
-pub mod OutputLaws

@@ -30,8 +30,8 @@ use Rattle.fused.specs.Answers.{fusedCounts, fusedAnswer}
 use Rattle.fused.specs.AnswerLaws.{fused-refused, fused-plan, answer-bytes}
 use Rattle.fused.specs.SizeBounds.{fused-size, wires-bound, bytes-bound}
 use Rattle.emitting.specs.Emitted.{wireIn}
-use Rattle.writing.specs.Staged.{stage, Turnable}
-use Rattle.writing.specs.Turns.{Sum, OutputsPlaced, fileIn}
+use Rattle.filing.specs.Staged.{stage, Turnable}
+use Rattle.filing.specs.Turns.{Sum, OutputsPlaced, fileIn}
 use Rattle.writing.specs.ArrayLaws.{rule-taken}
 use Rattle.writing.specs.TopLaws.{plan-turnable, last-records, last-outputs, table-named}
 

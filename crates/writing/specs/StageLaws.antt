@@ -27,9 +27,11 @@ use Rattle.fused.specs.Records.{Record}
 use Rattle.fused.specs.Emission.{gateOperation, joined, guardOf, valuesAt, emit}
 use Rattle.fused.specs.FusedCircuit.{Written, groupRecords, written}
 use Rattle.fused.specs.WrittenLaws.{written-none, written-more, wire-last, wire-old}
-use Rattle.emitting.specs.Emitted.{wireIn, emitIn}
-use Rattle.emitting.specs.EmitLaws.{emit-in, emit-same}
-use Rattle.writing.specs.Staged.{Stage, turnRecords, stage}
+use Rattle.emitting.specs.Emitted.{wireIn}
+use Rattle.joining.specs.Joined.{emitIn}
+use Rattle.joining.specs.EmitLaws.{emit-in, emit-same}
+use Rattle.filing.specs.Staged.{Stage, turnRecords, turn, stage}
+use Rattle.filing.specs.TurnLaws.{stage-none, stage-next}
 use Rattle.writing.specs.ArrayLaws.{rule-taken, gates-shaped, quads-held, members-are, members-two}
 use Rattle.writing.specs.DoneLaws.{doneAt, done-next, next-group, next-waits, next-once}
 
@@ -116,8 +118,16 @@ module _ (s p : List ℕ) (h : planAnswer s p .number ≡ 0) where
           (next-waits s p i l (group a) (waits-rests C sets group q k a j many b))
 
   same-none : Same 0
-  unfolding stage
-  same-none = record { records = sym (written-none s C sets group); size = length-replicate {A = ℕ} mostGates 0; wires = λ q m. absurd m }
+  same-none =
+      let e = stage-none p (builtQuads s) (gateCount s) (builtNeeds s) table (checkedPlaces s p) (checkedOrder s p) in
+      record {
+        records = ap (λ (w : Stage). w .records) e ∙ sym (written-none s C sets group);
+        size = ap (λ (w : Stage). length (w .wires)) e ∙ length-replicate {A = ℕ} mostGates 0;
+        wires = λ q m. absurd m;
+      }
+
+  more : (i : ℕ) → turned (suc i) ≡ turn p (builtQuads s) (gateCount s) (builtNeeds s) table (checkedPlaces s p) (turned i) (getD (checkedOrder s p) i 0)
+  more i = stage-next p (builtQuads s) (gateCount s) (builtNeeds s) table (checkedPlaces s p) (checkedOrder s p) i
 
   -- one turn more, the groups done being d
   Next : ℕ → List ℕ → Type 0
@@ -126,8 +136,8 @@ module _ (s p : List ℕ) (h : planAnswer s p .number ≡ 0) where
       × ((q : ℕ) → q ∈ d → getD (turned (suc i) .wires) q 0 ≡ written s C sets group d .wire q)
 
   next-same : (i : ℕ) → i < length (writingOrder s p) → Same i → Next i (getD (writingOrder s p) i 0 ∷ doneAt s p i)
-  unfolding stage Next
-  next-same i l m = (grown, wires)
+  unfolding Next
+  next-same i l m = (ap (λ (w : Stage). w .records) (more i) ∙ grown, λ x d. ap (λ (w : Stage). getD (w .wires) x 0) (more i) ∙ wires x d)
     where
       q : ℕ
       q = getD (writingOrder s p) i 0
@@ -159,10 +169,10 @@ module _ (s p : List ℕ) (h : planAnswer s p .number ≡ 0) where
           sym (stored x) ∙ getD-set-other (turned i .wires) q x _ 0 n ∙ m .wires x d ∙ sym (wire-old s C sets group q (doneAt s p i) o x d)
 
   same-next : (i : ℕ) → i < length (writingOrder s p) → Same i → Same (suc i)
-  unfolding stage Next
+  unfolding Next
   same-next i l m =
       let r : Next i (doneAt s p (suc i)) = subst (Next i) (sym (done-next s p i l)) (next-same i l m) in
-      record { records = r .0; size = length-set (turned i .wires) _ _ ∙ m .size; wires = r .1 }
+      record { records = r .0; size = ap (λ (w : Stage). length (w .wires)) (more i) ∙ length-set (turned i .wires) _ _ ∙ m .size; wires = r .1 }
 
   -- after every turn
   pub stage-same : (i : ℕ) → i ≤ length (writingOrder s p) → Same i

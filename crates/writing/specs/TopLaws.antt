@@ -35,10 +35,12 @@ use Rattle.checking.specs.CheckedLaws.{group-is, place-is, turn-is}
 use Rattle.fused.specs.FusedCircuit.{written, fused, recordsOf, wireOf, outputWires}
 use Rattle.fused.specs.PlannedLaws.{planned-read, planned-named, planned-group}
 use Rattle.fused.specs.SizeBounds.{plan-written}
-use Rattle.emitting.specs.Emitted.{wireIn, Writable, JoinWritable}
-use Rattle.emitting.specs.HeldLaws.{SmallGate, writable-held, joining-held}
+use Rattle.emitting.specs.Emitted.{wireIn, Writable}
+use Rattle.joining.specs.Joined.{JoinWritable}
+use Rattle.emitting.specs.HeldLaws.{SmallGate, writable-held}
+use Rattle.joining.specs.HeldLaws.{joining-held}
 use Rattle.plan.specs.NumberLaws.{length-group}
-use Rattle.writing.specs.Staged.{Turnable}
+use Rattle.filing.specs.Staged.{Turnable}
 use Rattle.writing.specs.ArrayLaws.{rule-taken, plan-taken, gates-shaped, quads-held, members-two}
 use Rattle.writing.specs.DoneLaws.{doneAt, done-once, done-all, next-group}
 use Rattle.writing.specs.StageLaws.{checkedStage, stage-same}

@@ -1,7 +1,7 @@
 use lib.ListN.{getD}
 use Rattle.settings.specs.PlaceLaws.{few-rests}
-use Rattle.emitting.specs.LoopLaws.{member-inside}
-use Rattle.emitting.specs.PieceLaws.{Summing, summing-start, summing-step, summing-end}
+use Rattle.joining.specs.LoopLaws.{member-inside}
+use Rattle.measuring.specs.SumLaws.{Summing, summing-start, summing-step, summing-end}
 use Rattle.plan.specs.NumberLaws.{length-group}
 use Rattle.plan.specs.PlanFile.{groupAt}
 use native.Mathlib.Omega.{arith}

@@ -1,4 +1,4 @@
-use Rattle.emitting.specs.SizeLaws.{choice-sized, word-sized, short-sized, applied-sized}
+use Rattle.measuring.specs.SizeLaws.{choice-sized, word-sized, short-sized, applied-sized}
 use Rattle.emitting.specs.AloneLaws.{coded-byte}
 use native.Mathlib.Omega.{arith}
 use borrow.Author.Needs.{needs}

@@ -1,6 +1,6 @@
 use lib.ListN.{getD}
 use Prim.Native.Nat.{_<_}
-use Rattle.emitting.specs.JoinedSizes.{joined-first, rested-few, joined-sized}
+use Rattle.measuring.specs.JoinedSizes.{joined-first, rested-few, joined-sized}
 use native.Mathlib.Omega.{arith}
 use borrow.Author.Needs.{needs}
 use Rattle.measuring.proofs.size_joined.Statement.{statement}

@@ -1,0 +1,138 @@
+-- Laws of the output wires, the head and the whole file: room, and what is written. Assumes nothing.
+use Prim.Native.Nat.{ℕ, zero, suc, _+_, _-_, _*_, _≤_, _<_}
+use mathlib.Core.Path.{_≡_, refl, sym, ap, _∙_}
+use mathlib.Core.List.{List, [], _∷_, _++_, map, map-append, append-assoc, append-nil}
+use native.Mathlib.Omega.{arith}
+use lib.ListN.{length, getD, take, drop, length-append, length-map}
+use lib.Seq.{sets, take-suc, length-take-le}
+use borrow.Rule.Slice.PartMut.{putMid}
+use Rattle.words.specs.Numbers.{bytesOf}
+use Rattle.words.specs.NumberLaws.{length-bytes}
+use Rattle.words.specs.Buffers.{over}
+use Rattle.words.specs.BufferLaws.{length-over, room-rest, sets-over}
+use Rattle.fused.specs.Records.{Record}
+use Rattle.fused.specs.CircuitFile.{mark, wiresBytes, recordsBytes, fileBytes}
+use Rattle.fused.specs.SizeLaws.{wires-size, wires-append, file-size}
+use Rattle.emitting.specs.FillLaws.{pieces, pieces-none, pieces-next, Filling, filling-start, filling-room, filling-fits, filling-length, filling-step, filling-end}
+use Rattle.emitting.specs.ByteLaws.{behind}
+
+-- The outputs: piece x is the wire of variable x.
+
+module _ (outputs : List ℕ) (wire : ℕ → ℕ) where
+  abbrev pub outputPiece : ℕ → List ℕ
+  outputPiece x = bytesOf 2 (wire (getD outputs x 0))
+
+  output-pieces : (v : ℕ) → v ≤ length outputs → pieces outputPiece v ≡ wiresBytes (map wire (take v outputs))
+  output-pieces zero h = pieces-none outputPiece
+  output-pieces (suc v) h =
+      pieces-next outputPiece v
+      ∙ ap (λ (b : List ℕ). b ++ outputPiece v) (output-pieces v (omega (arith, h)))
+      ∙ sym
+      (ap (λ (l : List ℕ). wiresBytes (map wire l)) (take-suc outputs v 0 h) ∙ ap wiresBytes (map-append wire (take v outputs) (getD outputs v 0 ∷ []))
+      ∙ wires-append (map wire (take v outputs)) (wire (getD outputs v 0) ∷ []) ∙ ap (λ (b : List ℕ). wiresBytes (map wire (take v outputs)) ++ b)
+      (append-nil (outputPiece v)))
+
+  -- a wire for each variable
+  pub outputs-count : (v : ℕ) → v ≤ length outputs → length (map wire (take v outputs)) ≡ v
+  outputs-count v h = length-map (take v outputs) wire ∙ length-take-le v outputs h
+
+  pub outputs-start : (out : List ℕ) (v : ℕ) → v ≤ length outputs → 2 * v ≤ length out → Filling outputPiece out out v 0 0
+  outputs-start out v h room =
+      filling-start outputPiece out v (rw (output-pieces v h, wires-size (map wire (take v outputs)), outputs-count v h) room)
+
+  module _ (out out₀ : List ℕ) (v x : ℕ) (l : Filling outputPiece out out₀ v (2 * x) x) where
+    module _ (h : x < v) where
+      size : length (outputPiece x) ≡ 2
+      size = length-bytes 2 (wire (getD outputs x 0))
+
+      pub outputs-fits : (2 * x + 2 ≤ length out) × (length out ≡ length out₀)
+      outputs-fits = (omega (arith, filling-fits outputPiece out out₀ v (2 * x) x l h, size), filling-length outputPiece out out₀ v (2 * x) x l h)
+
+      pub outputs-room : 2 ≤ length (take (length out - 2 * x) (drop (2 * x) out))
+      outputs-room = omega (arith, filling-room outputPiece out out₀ v (2 * x) x l h, size)
+
+      pub outputs-step : (w : ℕ) (ys : List ℕ) → w ≡ wire (getD outputs x 0) → ys ≡ over (bytesOf 2 w) (take (length out - 2 * x) (drop (2 * x) out))
+          → Filling outputPiece (putMid (2 * x) (length out - 2 * x) out ys) out₀ v (2 * (x + 1)) (x + 1)
+      outputs-step w ys q r =
+          let e : 2 * (x + 1) ≡ 2 * x + 2 = omega arith in
+          rw e (filling-step outputPiece out out₀ v (2 * x) x l h 2 ys (sym size) (rw q at r))
+
+    pub outputs-end : v ≤ length outputs → v ≤ x → out ≡ over (wiresBytes (map wire (take v outputs))) out₀
+    outputs-end h e = filling-end outputPiece out out₀ v (2 * x) x l e .1 ∙ ap (λ (b : List ℕ). over b out₀) (output-pieces v h)
+
+-- The head.
+
+abbrev pub headBytes : ℕ → ℕ → List ℕ
+headBytes v count = mark ++ (v ∷ bytesOf 2 count)
+
+-- its first six bytes
+abbrev pub headStores : List ℕ → ℕ → List ℕ
+headStores d v = sets d 0 (mark ++ (v ∷ []))
+
+head-long : (v count : ℕ) → length (headBytes v count) ≡ 8
+head-long v count = omega (arith, length-bytes 2 count)
+
+module _ (d : List ℕ) (v : ℕ) (h : 8 ≤ length d) where
+  stored : headStores d v ≡ over (mark ++ (v ∷ [])) d
+  stored = sets-over (mark ++ (v ∷ [])) d (omega (arith, h))
+
+  pub head-length : length (headStores d v) ≡ length d
+  head-length = ap (λ (e : List ℕ). length e) stored ∙ length-over (mark ++ (v ∷ [])) d (omega (arith, h))
+
+  pub head-room : 2 ≤ length (take (length (headStores d v) - 6) (drop 6 (headStores d v)))
+  head-room = rw (room-rest (headStores d v) 6) (omega (arith, head-length, h))
+
+  pub head-put : (count : ℕ) (ys : List ℕ) → ys ≡ over (bytesOf 2 count) (take (length (headStores d v) - 6) (drop 6 (headStores d v)))
+      → putMid 6 (length (headStores d v) - 6) (headStores d v) ys ≡ over (headBytes v count) d
+  head-put count ys r =
+      behind (mark ++ (v ∷ [])) (bytesOf 2 count) (headBytes v count) d (headStores d v) ys 6 refl refl (rw (head-long v count) h) stored r
+
+  pub head-same : (count : ℕ) (ys : List ℕ) → ys ≡ over (bytesOf 2 count) (take (length (headStores d v) - 6) (drop 6 (headStores d v)))
+      → length (putMid 6 (length (headStores d v) - 6) (headStores d v) ys) ≡ length d
+  head-same count ys r = ap (λ (e : List ℕ). length e) (head-put count ys r) ∙ length-over (headBytes v count) d (rw (head-long v count) h)
+
+-- The file: its head, behind it the records, behind them the outputs.
+
+module _ (v : ℕ) (R : List Record) (outs d : List ℕ) (room : length (fileBytes v R outs) ≤ length d) where
+  fits : 8 + length (recordsBytes R) + 2 * length outs ≤ length d
+  fits = rw (file-size v R outs) at room
+
+  pub file-start : 8 ≤ length d
+  file-start = omega (arith, fits)
+
+  module _ (wired : ℕ) (ew : wired ≡ length R) (e : List ℕ) (w : e ≡ over (headBytes v wired) d) where
+    same : length e ≡ length d
+    same = ap (λ (k : List ℕ). length k) w ∙ length-over (headBytes v wired) d (omega (arith, head-long v wired, fits))
+
+    pub records-room : (8 ≤ length e) × (length (recordsBytes R) ≤ length (take (length e - 8) (drop 8 e)))
+    records-room = (omega (arith, same, fits), rw (room-rest e 8) (omega (arith, same, fits)))
+
+    module _ (n : ℕ) (ys : List ℕ) (en : n ≡ length (recordsBytes R)) (r : ys ≡ over (recordsBytes R) (take (length e - 8) (drop 8 e))) where
+      front : length (headBytes v wired ++ recordsBytes R) ≡ 8 + n
+      front = length-append (headBytes v wired) (recordsBytes R) ∙ omega (arith, head-long v wired, en)
+
+      records-put : putMid 8 (length e - 8) e ys ≡ over (headBytes v wired ++ recordsBytes R) d
+      records-put = behind (headBytes v wired) (recordsBytes R) (headBytes v wired ++ recordsBytes R) d e ys 8 (sym (head-long v wired)) refl
+          (omega (arith, front, en, fits)) w r
+
+      records-length : length (putMid 8 (length e - 8) e ys) ≡ length d
+      records-length = ap (λ (k : List ℕ). length k) records-put ∙ length-over (headBytes v wired ++ recordsBytes R) d (omega (arith, front, en, fits))
+
+      pub ends-room : length outs ≡ v → (8 + n ≤ length d) × (8 + n ≤ length (putMid 8 (length e - 8) e ys))
+          × (2 * v ≤ length (take (length (putMid 8 (length e - 8) e ys) - (8 + n)) (drop (8 + n) (putMid 8 (length e - 8) e ys))))
+      ends-room eo = (
+        omega (arith, en, fits),
+        omega (arith, records-length, en, fits),
+        rw (room-rest (putMid 8 (length e - 8) e ys) (8 + n)) (omega (arith, records-length, en, fits, eo)),
+      )
+
+      whole : fileBytes v R outs ≡ (headBytes v wired ++ recordsBytes R) ++ wiresBytes outs
+      whole = rw ew (sym (append-assoc (headBytes v (length R)) (recordsBytes R) (wiresBytes outs) ∙ append-assoc (mark ++ (v ∷ [])) (bytesOf 2 (length R))
+          (recordsBytes R ++ wiresBytes outs)))
+
+      pub file-put : (os zs : List ℕ) → os ≡ outs → zs ≡ over (wiresBytes os)
+          (take (length (putMid 8 (length e - 8) e ys) - (8 + n)) (drop (8 + n) (putMid 8 (length e - 8) e ys)))
+          → putMid (8 + n) (length (putMid 8 (length e - 8) e ys) - (8 + n)) (putMid 8 (length e - 8) e ys) zs ≡ over (fileBytes v R outs) d
+      file-put os zs eo z =
+          behind (headBytes v wired ++ recordsBytes R) (wiresBytes outs) (fileBytes v R outs) d (putMid 8 (length e - 8) e ys) zs (8 + n)
+          (sym front) whole room records-put (rw eo at z)

@@ -1,0 +1,52 @@
+-- Inner: one group in turn, and the whole file, as the code measures and writes them from lent arrays.
+use Prim.Native.Nat.{ℕ, _+_, _≤_, _<_}
+use mathlib.Core.Path.{_≡_}
+use mathlib.Core.List.{List, map}
+use mathlib.Core.Bool.{cond}
+use lib.Dec.{eqb}
+use lib.ListN.{length, getD, take}
+use Rattle.fused.specs.Records.{recordsCost}
+use Rattle.fused.specs.CircuitFile.{recordsBytes, fileBytes}
+use Rattle.emitting.specs.Emitted.{wireIn, Grouped, Coded, Writable}
+use Rattle.joining.specs.Joined.{Joinable, JoinWritable}
+use Rattle.filing.specs.Staged.{stage, Turnable}
+
+-- how many wires a group has by its place: one alone; a guard for each member, two picks and the operation where it is joined
+abbrev pub wiresOf : List ℕ → ℕ → ℕ
+wiresOf p at = cond (eqb at 0) 1 (getD p at 0 + 3)
+
+-- it can be measured
+pub record Measurable (quads p : List ℕ) (at q : ℕ) : Type 0 where
+  pub alone : at ≡ 0 → Coded quads q
+  pub joins : (at ≡ 0 → ⊥) → Joinable quads p at
+
+-- it can be written, the first of its records being wire n; conds: condition t's gate at place t
+pub record Puttable (quads p conds group : List ℕ) (count at q n : ℕ) : Type 0 where
+  pub alone : at ≡ 0 → Writable quads group q
+  pub joins : (at ≡ 0 → ⊥) → JoinWritable quads p conds group count at
+  pub narrow : (at ≡ 0 → ⊥) → n + getD p at 0 + 1 < 65536
+
+-- the arrays, with some number of gates, some groups and some conditions, can be written
+pub record Measures (p quads needs places ord : List ℕ) (groups : ℕ) : Type 0 where
+  pub count : ℕ
+  pub group : List ℕ
+  pub conds : List ℕ
+  pub turnable : Turnable p quads count needs group places conds ord groups
+
+-- the records of the first i groups have these wires, bytes and cost
+pub record Sum (p quads : List ℕ) (count : ℕ) (needs group places ord : List ℕ) (i wires bytes cost : ℕ) : Type 0 where
+  pub wired : wires ≡ length (stage p quads count needs group places ord i .records)
+  pub long : bytes ≡ length (recordsBytes (stage p quads count needs group places ord i .records))
+  pub costs : cost ≡ recordsCost (stage p quads count needs group places ord i .records)
+
+-- the first v of the 32 outputs can be written: the gates that give them have wires
+pub record OutputsPlaced (outputs : List ℕ) (v : ℕ) (group : List ℕ) : Type 0 where
+  pub held : length outputs ≡ 32
+  pub few : v ≤ 32
+  pub placed : (x : ℕ) → x < v → Grouped group (getD outputs x 0)
+
+-- the file of v variables: outputs: the gate that gives each variable's result
+abbrev pub fileIn : List ℕ → List ℕ → ℕ → List ℕ → List ℕ → List ℕ → List ℕ → ℕ → ℕ → List ℕ → List ℕ
+fileIn p quads count needs group places ord groups v outputs =
+    fileBytes v (stage p quads count needs group places ord groups .records)
+    (map (wireIn group (stage p quads count needs group places ord groups .wires)) (take v outputs))

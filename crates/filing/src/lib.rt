@@ -1,0 +1,231 @@
+// Document 01, "The fused circuit file": the whole file put together from lent arrays, its head, the records of the groups in the order of writing, each group's
+// behind the last record written, and the output wires; and what the records come to, before they are written.
+use fused::WireId;
+use gates::GateId;
+use measuring::Size;
+ghost use mathlib.Core.Path.{_≡_};
+ghost use mathlib.Core.List.{List, _∷_, _++_, map};
+ghost use Prim.Native.Nat.{ℕ, _*_, _≤_, _<_};
+ghost use lib.ListN.{length, take, replicate};
+ghost use Rattle.words.specs.Numbers.{bytesOf};
+ghost use Rattle.words.specs.Buffers.{over};
+ghost use Rattle.gates.specs.Limits.{mostGates};
+ghost use Rattle.fused.specs.CircuitFile.{mark, wiresBytes, recordsBytes};
+ghost use Rattle.emitting.specs.Emitted.{wireIn};
+ghost use Rattle.joining.specs.Joined.{emitIn};
+ghost use Rattle.measuring.specs.Sizes.{Measured};
+ghost use Rattle.filing.specs.Staged.{membersOf, stage, Turnable};
+ghost use Rattle.filing.specs.Turns.{wiresOf, Measurable, Puttable, Measures, Sum, OutputsPlaced, fileIn};
+
+// The bytes before the first record.
+pub const HEAD: usize = 8;
+
+// The size of group q, listed at the place `at` of the plan, or alone where the place is 0.
+fn size_group(plan: &[u8], at: usize, quads: &[u32; 1024], needs: &[u64; 256], q: GateId) -> Size
+    requires { ⌜ Measurable (now quads) (now plan) at (q .0) ⌝ }
+    ensures { λ r. ⌜ Measured (now (quads .entry)) (now (needs .entry)) (membersOf (now (plan .entry)) at (q .0)) (r .wires) (r .bytes) (r .cost) ⌝ }
+{
+    if at == 0 {
+        return measuring::size_alone(quads, q);
+    }
+    measuring::size_joined(plan, at, quads, needs)
+}
+
+// The size of the groups in the order of writing; `places` gives each one's place in the plan.
+pub fn measure(
+    plan: &[u8],
+    quads: &[u32; 1024],
+    needs: &[u64; 256],
+    places: &[u16; 256],
+    order: &[u16; 256],
+    groups: usize,
+) -> Size
+    requires { ⌜ Measures (now plan) (now quads) (now needs) (now places) (now order) groups ⌝ }
+    ensures { λ r. ⌜ ((count : ℕ) (group conds : List ℕ)
+        → Turnable (now (plan .entry)) (now (quads .entry)) count (now (needs .entry)) group (now (places .entry)) conds (now (order .entry)) groups
+        → Sum (now (plan .entry)) (now (quads .entry)) count (now (needs .entry)) group (now (places .entry)) (now (order .entry)) groups (r .wires) (r .bytes) (r .cost)) ⌝ }
+{
+    let mut wires: usize = 0;
+    let mut bytes: usize = 0;
+    let mut cost: usize = 0;
+    let mut i: usize = 0;
+    while i < groups {
+        let q = order[i];
+        let at = words::wide16(places[words::wide16(q)]);
+        let size = size_group(plan, at, quads, needs, GateId(q));
+        wires = wires + size.wires;
+        bytes = bytes + size.bytes;
+        cost = cost + size.cost;
+        i = i + 1;
+    }
+    Size { wires, bytes, cost }
+}
+
+// How many wires a group has, listed at the place `at` of the plan, or alone where the place is 0.
+fn wires_of(plan: &[u8], at: usize) -> u16
+    requires { ⌜ ((at ≡ 0 → ⊥) → at < length (now plan)) ⌝ }
+    ensures { λ r. ⌜ r ≡ wiresOf (now (plan .entry)) at ⌝ }
+{
+    if at == 0 {
+        return 1;
+    }
+    (plan[at] as u16) + 3
+}
+
+// The records of group q, listed at the place `at` of the plan, or alone where the place is 0; gives their bytes.
+fn put_group(
+    out: &mut [u8],
+    plan: &[u8],
+    at: usize,
+    q: GateId,
+    first: WireId,
+    quads: &[u32; 1024],
+    count: usize,
+    needs: &[u64; 256],
+    conditions: &[u16; 6],
+    group: &[u16; 256],
+    wires: &[u16; 256],
+) -> usize
+    requires { ⌜ (length (recordsBytes (emitIn (now quads) count (now needs) (wireIn (now group) (now wires)) (first .0) (membersOf (now plan) at (q .0)))) ≤ length (now out))
+        × Puttable (now quads) (now plan) (now conditions) (now group) count at (q .0) (first .0) ⌝ }
+    ensures counted { λ r. ⌜ r ≡ length (recordsBytes (emitIn (now (quads .entry)) count (now (needs .entry)) (wireIn (now (group .entry)) (now (wires .entry))) (first .0) (membersOf (now (plan .entry)) at (q .0)))) ⌝ }
+    ensures written { λ r. ⌜ now (out .exit) ≡ over (recordsBytes (emitIn (now (quads .entry)) count (now (needs .entry)) (wireIn (now (group .entry)) (now (wires .entry))) (first .0) (membersOf (now (plan .entry)) at (q .0)))) (now (out .entry)) ⌝ }
+{
+    if at == 0 {
+        return emitting::put_alone(out, quads, group, wires, q);
+    }
+    joining::put_joined(
+        out,
+        plan,
+        at,
+        first,
+        quads,
+        count,
+        needs,
+        conditions,
+        group,
+        wires,
+    )
+}
+
+// The records of the groups in the order of writing, each group's in the rest behind those written; gives their bytes, and each group's wire,
+// its last record's, at the place of its name.
+fn put_records(
+    out: &mut [u8],
+    plan: &[u8],
+    quads: &[u32; 1024],
+    count: usize,
+    needs: &[u64; 256],
+    conditions: &[u16; 6],
+    group: &[u16; 256],
+    places: &[u16; 256],
+    order: &[u16; 256],
+    groups: usize,
+    wires: &mut [u16; 256],
+) -> usize
+    requires { ⌜ (length (recordsBytes (stage (now plan) (now quads) count (now needs) (now group) (now places) (now order) groups .records)) ≤ length (now out))
+        × (Turnable (now plan) (now quads) count (now needs) (now group) (now places) (now conditions) (now order) groups × (now wires ≡ replicate mostGates 0)) ⌝ }
+    ensures counted { λ r. ⌜ r ≡ length (recordsBytes (stage (now (plan .entry)) (now (quads .entry)) count (now (needs .entry)) (now (group .entry)) (now (places .entry)) (now (order .entry)) groups .records)) ⌝ }
+    ensures written { λ r. ⌜ now (out .exit) ≡ over (recordsBytes (stage (now (plan .entry)) (now (quads .entry)) count (now (needs .entry)) (now (group .entry)) (now (places .entry)) (now (order .entry)) groups .records)) (now (out .entry)) ⌝ }
+    ensures wired { λ r. ⌜ now (wires .exit) ≡ stage (now (plan .entry)) (now (quads .entry)) count (now (needs .entry)) (now (group .entry)) (now (places .entry)) (now (order .entry)) groups .wires ⌝ }
+{
+    let mut at: usize = 0;
+    let mut first = WireId(0);
+    let mut i: usize = 0;
+    while i < groups {
+        let q = order[i];
+        let g = words::wide16(q);
+        let place = words::wide16(places[g]);
+        let k = put_group(
+            &mut out[at..],
+            plan,
+            place,
+            GateId(q),
+            first,
+            quads,
+            count,
+            needs,
+            conditions,
+            group,
+            wires,
+        );
+        at = at + k;
+        first = WireId(first.0 + wires_of(plan, place));
+        wires[g] = first.0 - 1;
+        i = i + 1;
+    }
+    at
+}
+
+// The wires of the first v outputs.
+fn put_outputs(
+    out: &mut [u8],
+    outputs: &[u16; 32],
+    v: usize,
+    group: &[u16; 256],
+    wires: &[u16; 256],
+)
+    requires { ⌜ OutputsPlaced (now outputs) v (now group) × (2 * v ≤ length (now out)) ⌝ }
+    ensures { λ r. ⌜ now (out .exit) ≡ over (wiresBytes (map (wireIn (now (group .entry)) (now (wires .entry))) (take v (now (outputs .entry))))) (now (out .entry)) ⌝ }
+{
+    let mut x: usize = 0;
+    while x < v {
+        let w = emitting::wire_of(group, wires, GateId(outputs[x]));
+        words::put16(&mut out[2 * x..], w.0);
+        x = x + 1;
+    }
+}
+
+// "CIR", the version, the variables, the wires.
+fn put_head(out: &mut [u8], v: u8, count: u16)
+    requires { ⌜ 8 ≤ length (now out) ⌝ }
+    ensures { λ r. ⌜ now (out .exit) ≡ over (mark ++ (v ∷ bytesOf 2 count)) (now (out .entry)) ⌝ }
+{
+    out[0] = 0x43;
+    out[1] = 0x49;
+    out[2] = 0x52;
+    out[3] = 0;
+    out[4] = 1;
+    out[5] = v;
+    words::put16(&mut out[6..], count);
+}
+
+// The whole file of v variables; `wired` is how many records it has.
+pub fn put_file(
+    out: &mut [u8],
+    v: u8,
+    wired: u16,
+    plan: &[u8],
+    quads: &[u32; 1024],
+    count: usize,
+    needs: &[u64; 256],
+    conditions: &[u16; 6],
+    outputs: &[u16; 32],
+    group: &[u16; 256],
+    places: &[u16; 256],
+    order: &[u16; 256],
+    groups: usize,
+)
+    requires { ⌜ (length (fileIn (now plan) (now quads) count (now needs) (now group) (now places) (now order) groups v (now outputs)) ≤ length (now out))
+        × (Turnable (now plan) (now quads) count (now needs) (now group) (now places) (now conditions) (now order) groups
+        × ((wired ≡ length (stage (now plan) (now quads) count (now needs) (now group) (now places) (now order) groups .records))
+        × OutputsPlaced (now outputs) v (now group))) ⌝ }
+    ensures { λ r. ⌜ now (out .exit) ≡ over (fileIn (now (plan .entry)) (now (quads .entry)) count (now (needs .entry)) (now (group .entry)) (now (places .entry)) (now (order .entry)) groups v (now (outputs .entry))) (now (out .entry)) ⌝ }
+{
+    put_head(out, v, wired);
+    let mut wires = [0u16; 256];
+    let n = put_records(
+        &mut out[HEAD..],
+        plan,
+        quads,
+        count,
+        needs,
+        conditions,
+        group,
+        places,
+        order,
+        groups,
+        &mut wires,
+    );
+    put_outputs(&mut out[HEAD + n..], outputs, v as usize, group, &wires);
+}

@@ -1,0 +1,4 @@
+pub mod Sizes
+pub mod SumLaws
+pub mod SizeLaws
+pub mod JoinedSizes
