@@ -7,23 +7,22 @@ use mathlib.Core.Logic.{inl, inr}
 use native.Mathlib.Nat.{add-zero}
 use native.Mathlib.Omega.{arith}
 use lib.ListN.{length, getD, take}
-use Rattle.words.specs.Lists.{_∈_, upto}
+use Rattle.words.specs.Lists.{_∈_, upto, Inside}
 use Rattle.words.specs.MemberLaws.{from-below, getD-in}
 use Rattle.words.specs.ListLaws.{map-same}
 use Rattle.settings.specs.Guards.{table}
-use Rattle.codes.specs.Codes.{kindOf}
+use Rattle.codes.specs.Codes.{kindOf, startCode}
 use Rattle.codes.specs.declared.Kind.{Kind}
 use Rattle.codes.specs.declared.Kind.the-variants as kind
 use Rattle.reading.specs.Header.{kindAt}
 use Rattle.gates.specs.Gates.{Gate, Gates, start, word, bit, operation, choice, gateAt, arguments}
 use Rattle.gates.specs.Limits.{mostConditions}
-use Rattle.gates.specs.Quads.{startCode, quadOf, quadsOf}
-use Rattle.gates.specs.EarlierLaws.{Inside}
+use Rattle.gates.specs.Quads.{quadOf, quadsOf}
 use Rattle.needed.specs.Held.{codeAt, Shaped}
 use Rattle.needed.specs.HeldQuads.{number-at, gate-held, gates-held}
 use Rattle.plan.specs.Groups.{restsOf}
-use Rattle.fused.specs.Records.{Record}
-use Rattle.fused.specs.Records as records
+use Rattle.records.specs.Records.{Record}
+use Rattle.records.specs.Records as records
 use Rattle.fused.specs.Emission.{alone, gateOperation, joined, guardOf, valuesAt, emit}
 use Rattle.emitting.specs.Emitted.{aloneOf, aloneIn, emitIn}
 

@@ -3,18 +3,17 @@ use Prim.Native.Nat.{ℕ, _+_, _*_, _≤_, _<_}
 use mathlib.Core.Path.{_≡_}
 use mathlib.Core.List.{List, [], _∷_, map}
 use lib.ListN.{length, getD}
-use Rattle.words.specs.Lists.{_∈_}
+use Rattle.words.specs.Lists.{_∈_, Inside}
 use Rattle.settings.specs.Sets.{rests}
 use Rattle.settings.specs.Guards.{table}
 use Rattle.codes.specs.Codes.{kindOf}
 use Rattle.gates.specs.Gates.{Gate, arguments, conditions}
 use Rattle.gates.specs.Gates as gate
 use Rattle.gates.specs.Limits.{mostGates, mostConditions}
-use Rattle.gates.specs.EarlierLaws.{Inside}
 use Rattle.needed.specs.Held.{codeAt, gateIn, gatesIn}
 use Rattle.plan.specs.PlanFile.{groupAt, after}
-use Rattle.fused.specs.Records.{Pair, Record, input, word, bit, operation, choice, guard, recordsCost}
-use Rattle.fused.specs.CircuitFile.{recordsBytes}
+use Rattle.records.specs.Records.{Pair, Record, input, word, bit, operation, choice, guard, recordsCost}
+use Rattle.records.specs.CircuitFile.{recordsBytes}
 use Rattle.fused.specs.Emission.{emit, pairs}
 
 -- the wire that stands for gate a: that of its group; group: each gate's group, wires: the wire of each group written

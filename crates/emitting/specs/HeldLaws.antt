@@ -6,7 +6,7 @@ use native.Mathlib.Omega.{arith}
 use lib.Dec.{ltb}
 use lib.ListN.{length, getD, take, List·getD-eq-default}
 use borrow.Author.Tests.{ltb-true, ltb-false}
-use Rattle.words.specs.Lists.{_∈_}
+use Rattle.words.specs.Lists.{_∈_, Inside}
 use Rattle.words.specs.MemberLaws.{getD-in}
 use Rattle.words.specs.TestLaws.{split}
 use Rattle.codes.specs.declared.Kind.{Kind}
@@ -15,8 +15,8 @@ use Rattle.reading.specs.Header.{kindAt}
 use Rattle.gates.specs.Gates.{Gate, Gates, start, word, bit, operation, choice, gateAt, arguments, conditions, Earlier}
 use Rattle.gates.specs.ConditionLaws.{condition-below}
 use Rattle.gates.specs.Limits.{mostGates, mostConditions}
-use Rattle.gates.specs.Quads.{startCode, quadOf, quadsOf}
-use Rattle.gates.specs.EarlierLaws.{Inside}
+use Rattle.codes.specs.Codes.{startCode}
+use Rattle.gates.specs.Quads.{quadOf, quadsOf}
 use Rattle.needed.specs.Held.{gateIn, Shaped}
 use Rattle.needed.specs.HeldQuads.{gate-held, gates-held}
 use Rattle.plan.specs.PlanFile.{groupAt, after}

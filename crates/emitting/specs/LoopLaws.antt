@@ -12,9 +12,9 @@ use Rattle.words.specs.BufferLaws.{length-over}
 use Rattle.settings.specs.Sets.{rests}
 use Rattle.gates.specs.Limits.{mostGates, mostConditions}
 use Rattle.plan.specs.PlanFile.{groupAt}
-use Rattle.fused.specs.Records.{pairWires}
-use Rattle.fused.specs.CircuitFile.{wiresBytes, recordBytes, recordsBytes}
-use Rattle.fused.specs.SizeLaws.{wires-size, pairs-size}
+use Rattle.records.specs.Records.{pairWires}
+use Rattle.records.specs.CircuitFile.{wiresBytes, recordBytes, recordsBytes}
+use Rattle.records.specs.SizeLaws.{wires-size, pairs-size}
 use Rattle.emitting.specs.Emitted.{guardIn, guardsIn, pairsIn, argumentAt, Grouped, Lies, Paired}
 use Rattle.emitting.specs.FillLaws.{pieces, Filling, filling-start, filling-room, filling-fits, filling-length, filling-step, filling-end}
 use Rattle.plan.specs.NumberLaws.{length-group, member-in}

@@ -9,10 +9,10 @@ use Rattle.words.specs.Numbers.{bytesOf}
 use Rattle.settings.specs.Sets.{rests}
 use Rattle.settings.specs.PlaceLaws.{few-rests}
 use Rattle.gates.specs.Limits.{mostConditions}
-use Rattle.fused.specs.Records.{Record, pairWires}
+use Rattle.records.specs.Records.{Record, pairWires}
 use Rattle.fused.specs.Emission.{pairs}
-use Rattle.fused.specs.CircuitFile.{wiresBytes, recordBytes, recordsBytes}
-use Rattle.fused.specs.SizeLaws.{wires-append}
+use Rattle.records.specs.CircuitFile.{wiresBytes, recordBytes, recordsBytes}
+use Rattle.records.specs.SizeLaws.{wires-append}
 use Rattle.emitting.specs.Emitted.{restedBy}
 use Rattle.emitting.specs.FillLaws.{pieces, pieces-more, pieces-first, pieces-same}
 

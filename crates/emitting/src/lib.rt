@@ -1,7 +1,7 @@
 // Document 01, "The fused circuit file": the records of one group, written at the start of a lent buffer.
 // The lent arrays hold plain numbers; a gate's number in hand is a `GateId`, a wire's a `WireId`.
-use fused::WireId;
 use gates::GateId;
+use records::WireId;
 use settings::ConditionList;
 ghost use mathlib.Core.Path.{_≡_};
 ghost use mathlib.Core.List.{_∷_, [], map};
@@ -14,8 +14,8 @@ ghost use Rattle.gates.specs.Limits.{mostConditions};
 ghost use Rattle.needed.specs.Held.{codeAt};
 ghost use Rattle.needed.specs.QuadLaws.{Applies};
 ghost use Rattle.plan.specs.PlanFile.{groupAt};
-ghost use Rattle.fused.specs.Records.{pick, pairWires};
-ghost use Rattle.fused.specs.CircuitFile.{wiresBytes, recordBytes, recordsBytes};
+ghost use Rattle.records.specs.Records.{pick, pairWires};
+ghost use Rattle.records.specs.CircuitFile.{wiresBytes, recordBytes, recordsBytes};
 ghost use Rattle.emitting.specs.Emitted.{wireIn, aloneIn, emitIn, guardIn, guardsIn, pairsIn, Grouped, Writable, Lies, Guarded, Paired, JoinWritable};
 ghost use Rattle.emitting.specs.JoinLaws.{Fusing, picksBytes, fusedBytes};
 

@@ -7,9 +7,9 @@ use lib.ListN.{length, getD, set, take, drop, replicate}
 use borrow.Rule.Slice.PartMut.{putMid}
 use Rattle.words.specs.Buffers.{over}
 use Rattle.gates.specs.Limits.{mostGates}
-use Rattle.fused.specs.Records.{Record, recordsCost}
-use Rattle.fused.specs.CircuitFile.{recordsBytes}
-use Rattle.fused.specs.SizeLaws.{bytes-append}
+use Rattle.records.specs.Records.{Record, recordsCost}
+use Rattle.records.specs.CircuitFile.{recordsBytes}
+use Rattle.records.specs.SizeLaws.{bytes-append}
 use Rattle.emitting.specs.Emitted.{wireIn, emitIn, Measured}
 use Rattle.emitting.specs.FillLaws.{pieces, Filling, filling-start, filling-room, filling-fits, filling-length, filling-step, filling-end}
 use Rattle.emitting.specs.LoopLaws.{filling-same}

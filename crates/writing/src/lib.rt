@@ -1,8 +1,8 @@
 // Writes the fused circuit of a rule and a plan: the groups in the order of writing, each behind the last record written.
 use answers::Answer;
-use fused::WireId;
 use gates::GateId;
 use measuring::Size;
+use records::WireId;
 ghost use mathlib.Core.Path.{_≡_};
 ghost use mathlib.Core.List.{List, _∷_, _++_, map};
 ghost use Prim.Native.Nat.{ℕ, _*_, _≤_, _<_};
@@ -11,7 +11,8 @@ ghost use Rattle.words.specs.Numbers.{bytesOf};
 ghost use Rattle.words.specs.Buffers.{over};
 ghost use Rattle.gates.specs.Limits.{mostGates};
 ghost use Rattle.answers.specs.Answers.{success};
-ghost use Rattle.fused.specs.CircuitFile.{mark, wiresBytes, recordsBytes, fusedFile};
+ghost use Rattle.records.specs.CircuitFile.{mark, wiresBytes, recordsBytes};
+ghost use Rattle.fused.specs.FusedCircuit.{fusedFile};
 ghost use Rattle.fused.specs.Answers.{writeAnswer, writtenOver};
 ghost use Rattle.emitting.specs.Emitted.{wireIn, emitIn, Measured};
 ghost use Rattle.writing.specs.Ready.{Ready};
