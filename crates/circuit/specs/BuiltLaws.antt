@@ -15,7 +15,7 @@ use Rattle.reading.specs.Rule.{readRule}
 use Rattle.gates.specs.Limits.{mostGates, mostConditions}
 use Rattle.gates.specs.Gates.{conditions}
 use Rattle.gates.specs.PlainCircuit.{gatesOf, outputsOf, gateCount}
-use Rattle.gates.specs.EarlierLaws.{Inside}
+use Rattle.words.specs.Lists.{Inside}
 use Rattle.gates.specs.Quads.{quadsOf}
 use Rattle.making.specs.RuleMade.{RuleMade}
 use Rattle.needed.specs.Pass.{preconditionSets, rulePreconditions}

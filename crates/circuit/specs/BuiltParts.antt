@@ -16,7 +16,7 @@ use Rattle.gates.specs.Limits.{mostGates, mostConditions}
 use Rattle.gates.specs.Gates.{Earlier, conditions}
 use Rattle.gates.specs.PlainCircuit.{plainCircuit, gatesOf, outputsOf, gateCount}
 use Rattle.gates.specs.QuadLaws.{quads-length}
-use Rattle.gates.specs.EarlierLaws.{Inside}
+use Rattle.words.specs.Lists.{Inside}
 use Rattle.gates.specs.SoundLaws.{Sound}
 use Rattle.gates.specs.StartLaws.{plain-sound}
 use Rattle.gates.specs.Quads.{quadsOf}

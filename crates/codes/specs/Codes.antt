@@ -1,4 +1,4 @@
--- Document 01, "The rule file": kinds, code bytes and the operation table.
+-- Document 01, "The rule file": kinds, code bytes and the operation table; "The fused circuit file": the code of an input, the cost of a choice.
 use Prim.Native.Nat.{ℕ}
 use mathlib.Core.Bool.{Bool, true, false, _&&_, cond}
 use lib.Dec.{eqb, leb, ltb}
@@ -88,3 +88,12 @@ codeOf b =
     (cond (eqb b 0x12) (plain Bit kind.Bit)
     (cond (leb 0x20 b && leb b 0x27) (entryOf (operationOf b))
     (plain Unknown kind.Word))))))))
+
+-- in a circuit file: 00 a variable's starting value that is a word, 01 one that is a bit
+abbrev pub startCode : Kind → ℕ
+startCode kind.Word = 0x00
+startCode kind.Bit = 0x01
+
+-- "Cost of a circuit: operations as above, choice 3"
+abbrev pub choiceCost : ℕ
+choiceCost = 3

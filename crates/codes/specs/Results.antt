@@ -1,7 +1,9 @@
 -- Document 01, "The rule file": what the operations of the table give.
 use Prim.Native.Nat.{ℕ}
 use mathlib.Core.Bool.{Bool, true, false, _&&_, _||_, not}
+use mathlib.Core.List.{List}
 use lib.Dec.{ltb, eqb}
+use lib.ListN.{getD}
 use Rattle.words.specs.Numbers.{sumOf, differenceOf, productOf}
 use Rattle.codes.specs.declared.Operation.{Operation}
 use Rattle.codes.specs.declared.Operation.the-variants.{Sum, Difference, Product, LessThan, Equal, And, Or, Not}
@@ -9,6 +11,10 @@ use Rattle.codes.specs.declared.Operation.the-variants.{Sum, Difference,
 abbrev pub bitOf : Bool → ℕ
 bitOf true = 1
 bitOf false = 0
+
+-- a bit's figure is 1
+abbrev pub isOne : ℕ → Bool
+isOne n = eqb n 1
 
 -- the result on the arguments' figures; an operation of one argument ignores the second
 unfoldable pub resultOf : Operation → ℕ → ℕ → ℕ
@@ -20,3 +26,7 @@ resultOf Equal a b = bitOf (eqb a b)
 resultOf And a b = bitOf (eqb a 1 && eqb b 1)
 resultOf Or a b = bitOf (eqb a 1 || eqb b 1)
 resultOf Not a b = bitOf (not (eqb a 1))
+
+-- an operation on the list of its arguments' figures: one of one argument has no second
+abbrev pub resultOn : Operation → List ℕ → ℕ
+resultOn op l = resultOf op (getD l 0 0) (getD l 1 0)

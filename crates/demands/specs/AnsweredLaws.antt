@@ -20,7 +20,7 @@ use Rattle.direct.specs.DirectLaws.{rule-answer, inputs-answer, run-answer}
 use Rattle.plan.specs.Rows.{planRow, planAnswer}
 use Rattle.plan.specs.AcceptedLaws.{answer-rule, answer-row, answer-accepted}
 use Rattle.plan.specs.RangeLaws.{row-range}
-use Rattle.fused.specs.CircuitFile.{fusedFile}
+use Rattle.fused.specs.FusedCircuit.{fusedFile}
 use Rattle.fused.specs.Answers.{fusedAnswer, writeAnswer, writtenOver}
 use Rattle.fused.specs.AnswerLaws.{fused-refused, fused-taken, write-refused, write-short, write-taken}
 use Rattle.running.specs.FusedRun.{fusedResults}

@@ -29,9 +29,9 @@ use Rattle.direct.specs.DirectLaws as direct
 use Rattle.plan.specs.Rows.{planAnswer}
 use Rattle.plan.specs.Accepted.{Acceptable}
 use Rattle.plan.specs.AcceptedLaws as laws
-use Rattle.fused.specs.Records.{ReadsEarlier}
-use Rattle.fused.specs.CircuitFile.{fusedFile}
-use Rattle.fused.specs.FileFigures.{fileRecords, fileFigures}
+use Rattle.records.specs.Records.{ReadsEarlier}
+use Rattle.fused.specs.FusedCircuit.{fusedFile}
+use Rattle.records.specs.FileFigures.{fileRecords, fileFigures}
 use Rattle.fused.specs.Answers.{fusedAnswer, writeAnswer, writtenOver}
 use Rattle.fused.specs.FusedFigures as figures
 use Rattle.fused.specs.OnlyOrderLaws as files

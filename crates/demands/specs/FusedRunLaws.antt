@@ -26,9 +26,9 @@ use Rattle.direct.specs.Direct.{runAnswer, runResults}
 use Rattle.direct.specs.DirectLaws.{rule-answer, inputs-answer, run-answer, answered-results, refused-results}
 use Rattle.plan.specs.Rows.{planAnswer}
 use Rattle.plan.specs.AcceptedLaws.{plan-accepted}
-use Rattle.fused.specs.CircuitFile.{fusedFile}
-use Rattle.fused.specs.Records.{ReadsEarlier}
-use Rattle.fused.specs.FileFigures.{fileRecords}
+use Rattle.fused.specs.FusedCircuit.{fusedFile}
+use Rattle.records.specs.Records.{ReadsEarlier}
+use Rattle.records.specs.FileFigures.{fileRecords}
 use Rattle.fused.specs.FitPlan.{fused-found}
 use Rattle.fused.specs.FusedFigures.{reads-earlier, output-earlier}
 use Rattle.fused.specs.Answers.{fusedAnswer, writeAnswer, writtenOver}

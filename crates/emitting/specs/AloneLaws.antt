@@ -8,15 +8,14 @@ use lib.ListN.{length, take}
 use Rattle.words.specs.Lists.{_∈_}
 use Rattle.words.specs.TestLaws.{same?}
 use Rattle.words.specs.Numbers.{bytesOf}
-use Rattle.codes.specs.Codes.{kindOf, entryOf, operationOf, codeOf}
+use Rattle.codes.specs.Codes.{kindOf, entryOf, operationOf, codeOf, startCode}
 use Rattle.codes.specs.CodeLaws.{kind-bit, kind-word, code-operation, one-or-two, byte-back}
 use Rattle.codes.specs.declared.Code.{Code}
 use Rattle.gates.specs.Gates.{start, bit, arguments}
-use Rattle.gates.specs.Quads.{startCode}
 use Rattle.needed.specs.Held.{choiceCode, gateIn, codeAt, firstAt, secondAt, thirdAt}
 use Rattle.needed.specs.QuadLaws.{Applies, KindIn, chooses, is-word, is-bit, applies, starts, kind-in, choice-in, word-in, bit-in, start-in, applied-in}
-use Rattle.fused.specs.CircuitFile.{wiresBytes, recordBytes}
-use Rattle.fused.specs.SizeLaws.{wires-size, input-size, word-size, bit-size, choice-size}
+use Rattle.records.specs.CircuitFile.{wiresBytes, recordBytes}
+use Rattle.records.specs.SizeLaws.{wires-size, input-size, word-size, bit-size, choice-size}
 use Rattle.emitting.specs.Emitted.{aloneIn, Grouped, FitsGate, Coded, Writable}
 
 module _ (quads : List ℕ) (g : ℕ) where

@@ -9,8 +9,8 @@ use Rattle.words.specs.Numbers.{bytesOf}
 use Rattle.words.specs.NumberLaws.{length-bytes}
 use Rattle.words.specs.Buffers.{over}
 use Rattle.words.specs.BufferLaws.{over-rest}
-use Rattle.fused.specs.CircuitFile.{wiresBytes}
-use Rattle.fused.specs.SizeLaws.{wires-size, wires-append}
+use Rattle.records.specs.CircuitFile.{wiresBytes}
+use Rattle.records.specs.SizeLaws.{wires-size, wires-append}
 
 -- a, and behind it b, are the bytes r
 pub behind : (a b r d e ys : List ℕ) (n : ℕ) → n ≡ length a → r ≡ a ++ b → length r ≤ length d → e ≡ over a d → ys ≡ over b (take (length e - n) (drop n e))

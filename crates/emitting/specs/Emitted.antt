@@ -8,7 +8,7 @@ use Rattle.gates.specs.Gates.{Gate, arguments}
 use Rattle.gates.specs.Gates as gate
 use Rattle.gates.specs.Limits.{mostGates}
 use Rattle.needed.specs.Held.{codeAt, gateIn}
-use Rattle.fused.specs.Records.{Record, input, word, bit, operation, choice}
+use Rattle.records.specs.Records.{Record, input, word, bit, operation, choice}
 
 -- the wire that stands for gate a: that of its group; group: each gate's group, wires: the wire of each group written
 abbrev pub wireIn : List ℕ → List ℕ → ℕ → ℕ

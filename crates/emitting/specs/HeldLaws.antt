@@ -15,10 +15,11 @@ use Rattle.codes.specs.declared.Kind.the-variants as kind
 use Rattle.reading.specs.Header.{kindAt}
 use Rattle.gates.specs.Gates.{Gate, Gates, start, word, bit, operation, choice, gateAt, arguments, Earlier}
 use Rattle.gates.specs.Limits.{mostGates}
-use Rattle.gates.specs.Quads.{startCode, quadOf, quadsOf}
+use Rattle.gates.specs.Quads.{quadOf, quadsOf}
+use Rattle.codes.specs.Codes.{startCode}
 use Rattle.needed.specs.Held.{codeAt, gateIn, Shaped}
 use Rattle.needed.specs.HeldQuads.{number-at, gate-held}
-use Rattle.fused.specs.Records as records
+use Rattle.records.specs.Records as records
 use Rattle.fused.specs.Emission.{alone}
 use Rattle.emitting.specs.Emitted.{aloneOf, aloneIn, Grouped, FitsGate, Coded, Writable}
 

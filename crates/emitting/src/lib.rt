@@ -1,7 +1,7 @@
 // Document 01, "The fused circuit file": the record of a gate alone, written at the start of a lent buffer; and what every record is written with, a gate's wire and a
 // code with its wires. The lent arrays hold plain numbers; a gate's number in hand is a `GateId`, a wire's a `WireId`.
-use fused::WireId;
 use gates::GateId;
+use records::WireId;
 ghost use mathlib.Core.Path.{_≡_};
 ghost use mathlib.Core.List.{_∷_, []};
 ghost use Prim.Native.Nat.{_<_, _≤_};
@@ -10,7 +10,7 @@ ghost use Rattle.words.specs.Numbers.{bytesOf};
 ghost use Rattle.words.specs.Buffers.{over};
 ghost use Rattle.needed.specs.Held.{codeAt};
 ghost use Rattle.needed.specs.QuadLaws.{Applies};
-ghost use Rattle.fused.specs.CircuitFile.{wiresBytes, recordBytes};
+ghost use Rattle.records.specs.CircuitFile.{wiresBytes, recordBytes};
 ghost use Rattle.emitting.specs.Emitted.{wireIn, aloneIn, Grouped, Writable};
 
 // The wire that stands for gate g: that of its group.

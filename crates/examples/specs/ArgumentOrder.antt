@@ -28,12 +28,12 @@ use Rattle.plan.specs.Groups.{groups, restsOf, waitsFor}
 use Rattle.plan.specs.Order.{order}
 use Rattle.plan.specs.Rows.{planRow, planAnswer}
 use Rattle.plan.specs.Examples.{p1}
-use Rattle.fused.specs.Records.{recordsCost}
-use Rattle.fused.specs.Records as records
-use Rattle.fused.specs.FusedCircuit.{written, fused, recordsOf}
-use Rattle.fused.specs.CircuitFile.{fusedFile}
+use Rattle.records.specs.Records.{recordsCost}
+use Rattle.records.specs.Records as records
+use Rattle.fused.specs.FusedCircuit.{written, fused, recordsOf, fusedFile}
 use Rattle.fused.specs.Answers.{fusedCounts, writeAnswer}
-use Rattle.fused.specs.Examples.{file3, example-3}
+use Rattle.records.specs.Examples.{file3}
+use Rattle.fused.specs.Examples.{example-3}
 use Rattle.fused.specs.OnlyOrderLaws.{same-file}
 
 -- R1 with the product of its first block the other way round: v2 × v1

@@ -27,7 +27,7 @@ use Rattle.circuit.specs.WholeLaws.{accepted}
 use Rattle.plan.specs.Groups.{RestsOn, restsOf, Waits, waitsFor}
 use Rattle.plan.specs.RestLaws.{rests-right}
 use Rattle.plan.specs.WaitLaws.{waits-right}
-use Rattle.fused.specs.CircuitFile.{fusedFile}
+use Rattle.fused.specs.FusedCircuit.{fusedFile}
 use Rattle.fused.specs.Answers.{writeAnswer, writtenOver}
 use Rattle.examples.specs.Starred.{Precondition, Unneeded}
 

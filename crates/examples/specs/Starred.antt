@@ -30,9 +30,9 @@ use Rattle.plan.specs.Layout.{planBytes}
 use Rattle.plan.specs.Groups.{groupOf, RestsOn, restsOf, Waits}
 use Rattle.plan.specs.Rows.{planAnswer}
 use Rattle.plan.specs.Examples.{p1}
-use Rattle.fused.specs.CircuitFile.{fusedFile}
+use Rattle.fused.specs.FusedCircuit.{fusedFile}
 use Rattle.fused.specs.Answers.{writeAnswer, writtenOver}
-use Rattle.fused.specs.Examples.{file3}
+use Rattle.records.specs.Examples.{file3}
 use Rattle.direct.specs.Direct.{runAnswer, runResults}
 
 -- the precondition of gate g of the rule s, held as 64 bits: bit j is 1 exactly when setting j needs the gate

@@ -24,7 +24,8 @@ use Rattle.plan.specs.Groups.{groups, restsOf, waitsFor}
 use Rattle.plan.specs.Order.{order}
 use Rattle.plan.specs.Rows.{planRow, planAnswer}
 use Rattle.plan.specs.Examples.{p1, example-5}
-use Rattle.fused.specs.Examples.{file3, example-3, example-3-answer, example-3-short}
+use Rattle.records.specs.Examples.{file3}
+use Rattle.fused.specs.Examples.{example-3, example-3-answer, example-3-short}
 use Rattle.direct.specs.Inputs.{someAbove, inputRow}
 use Rattle.direct.specs.Direct.{runAnswer, runResults}
 use Rattle.examples.specs.Starred.{Starred, bothGroup}

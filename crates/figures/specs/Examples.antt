@@ -8,16 +8,16 @@ use mathlib.Core.List.{List, [], _∷_}
 use mathlib.Core.Logic.{_⊎_, inl, inr}
 use lib.Dec.{ltb, lit<, lit≤}
 use borrow.Author.Tests.{ltb-true}
-use Rattle.words.specs.Lists.{_∈_}
+use Rattle.words.specs.Lists.{_∈_, Inside}
 use Rattle.words.specs.MemberLaws.{elem→∈}
 use Rattle.words.specs.TestLaws.{split, same?}
-use Rattle.words.specs.Numbers.{number}
+use Rattle.words.specs.Numbers.{number, bytesOf}
 use Rattle.codes.specs.Codes.{operationOf, codeOf}
-use Rattle.gates.specs.EarlierLaws.{Inside}
-use Rattle.fused.specs.Records.{Record, reads, recordIn}
-use Rattle.fused.specs.FileFigures.{recordAt, sizeAt, fileRecords, fileOutputs}
-use Rattle.fused.specs.Examples.{file3}
-use Rattle.figures.specs.Runnable.{recordCodes, Runnable}
+use Rattle.records.specs.Records.{Record, reads, recordIn}
+use Rattle.records.specs.FileFigures.{recordAt, sizeAt, fileRecords, fileOutputs}
+use Rattle.records.specs.Examples.{file3}
+use Rattle.records.specs.LaidOut.{recordCodes}
+use Rattle.figures.specs.Runnable.{Runnable}
 
 -- a statement of every number below n, as a list of statements
 abbrev Each : (ℕ → Type 0) → ℕ → Type 0
@@ -54,7 +54,7 @@ earlier-by n (r ∷ R) h (suc i) w m =
     split (allBelow n (reads r)) (λ t. omega (arith, earlier-by (suc n) R (rw t at h) i w m)) (λ t. absurd (false≢true (rw t at h)))
 
 pub example-3-runnable : Runnable file3 3
-unfolding number operationOf codeOf recordAt sizeAt fileRecords fileOutputs
+unfolding number bytesOf operationOf codeOf recordAt sizeAt fileRecords fileOutputs
 example-3-runnable = record {
   headed = lit≤ tt;
   wires = lit≤ tt;

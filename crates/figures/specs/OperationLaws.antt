@@ -8,14 +8,13 @@ use lib.ListN.{length, getD}
 use Rattle.words.specs.Numbers.{numberAt}
 use Rattle.codes.specs.Codes.{entryOf, operationOf, codeOf}
 use Rattle.codes.specs.CodeLaws.{code-operation, one-or-two, entry-form}
-use Rattle.codes.specs.Results.{resultOf}
+use Rattle.codes.specs.Results.{resultOf, resultOn}
 use Rattle.codes.specs.declared.Code.{Code}
 use Rattle.codes.specs.declared.Form.the-variants.{Apply}
 use Rattle.codes.specs.declared.Operation.{Operation}
-use Rattle.gates.specs.Gates.{resultOn}
-use Rattle.gates.specs.EarlierLaws.{Inside}
-use Rattle.fused.specs.FileFigures.{wiresAt}
-use Rattle.figures.specs.Runnable.{mostWires}
+use Rattle.words.specs.Lists.{Inside}
+use Rattle.records.specs.FileFigures.{wiresAt}
+use Rattle.records.specs.Limits.{mostWires}
 use Rattle.figures.specs.Working.{held}
 
 module _ (f figures : List ℕ) (at : ℕ) (l : 0x20 ≤ getD f at 0) (h : getD f at 0 ≤ 0x27) (c : Code) (e : c ≡ codeOf (getD f at 0)) where

@@ -5,16 +5,15 @@ use mathlib.Core.List.{List, [], _∷_}
 use mathlib.Core.Logic.{inl, inr}
 use native.Mathlib.Omega.{arith}
 use lib.ListN.{length, getD}
-use Rattle.words.specs.Lists.{_∈_}
+use Rattle.words.specs.Lists.{_∈_, Inside}
 use Rattle.words.specs.Numbers.{numberAt}
 use Rattle.codes.specs.Codes.{codeOf}
 use Rattle.codes.specs.declared.Kind.the-variants as kind
-use Rattle.gates.specs.EarlierLaws.{Inside}
-use Rattle.gates.specs.Limits.{mostConditions}
-use Rattle.fused.specs.Records.{Record, pairWires, reads, recordFigure}
-use Rattle.fused.specs.FileFigures.{wiresAt, pairsAt, recordAt, sizeAt}
-use Rattle.fused.specs.FoundForms.{OtherByte, form-input, form-word, form-bit, form-choice, form-pick, form-guard, form-other, size-some}
-use Rattle.figures.specs.Runnable.{mostWires, recordCodes}
+use Rattle.records.specs.Records.{Record, pairWires, reads, recordFigure}
+use Rattle.records.specs.FileFigures.{wiresAt, pairsAt, recordAt, sizeAt}
+use Rattle.records.specs.FoundForms.{OtherByte, form-input, form-word, form-bit, form-choice, form-pick, form-guard, form-other, size-some}
+use Rattle.records.specs.Limits.{mostWires, mostGuardWires}
+use Rattle.records.specs.LaidOut.{recordCodes}
 use Rattle.figures.specs.Working.{held, Workable}
 
 -- any other byte, as the last arm of a decision over the bytes is told it
@@ -79,7 +78,7 @@ module _ (f : List ℕ) (v at : ℕ) (k : Workable f v mostWires at) where
   pick-takes h = (omega (arith, k .inside, form-pick f at h .1), wires-as _ (form-pick f at h .0))
 
   pub guard-takes : getD f at 0 ≡ 0x32
-      → (getD f (at + 1) 0 ≤ mostConditions) × (at + 2 + 2 * getD f (at + 1) 0 + 8 ≤ length f) × Inside mostWires (wiresAt (getD f (at + 1) 0) f (at + 2))
+      → (getD f (at + 1) 0 ≤ mostGuardWires) × (at + 2 + 2 * getD f (at + 1) 0 + 8 ≤ length f) × Inside mostWires (wiresAt (getD f (at + 1) 0) f (at + 2))
   guard-takes h = (k .counted h, omega (arith, k .inside, form-guard f at h .1), wires-as _ (form-guard f at h .0))
 
   pub operation-takes : OtherByte (getD f at 0)

@@ -12,13 +12,12 @@ use Rattle.words.specs.Numbers.{numberAt}
 use Rattle.settings.specs.Settings.{bitOf, numberOf}
 use Rattle.settings.specs.SettingLaws.{numberOf-below}
 use Rattle.settings.specs.Sets.{has}
-use Rattle.gates.specs.Running.{isOne}
-use Rattle.gates.specs.EarlierLaws.{Inside}
-use Rattle.gates.specs.Limits.{mostConditions}
-use Rattle.fused.specs.Records.{pairWires, pickFigure, guardFigure}
-use Rattle.fused.specs.FileFigures.{wiresAt, pairsAt}
-use Rattle.fused.specs.FilePartLaws.{wires-length, wire-of}
-use Rattle.figures.specs.Runnable.{mostWires}
+use Rattle.codes.specs.Results.{isOne}
+use Rattle.words.specs.Lists.{Inside}
+use Rattle.records.specs.Records.{pairWires, pickFigure, guardFigure}
+use Rattle.records.specs.FileFigures.{wiresAt, pairsAt}
+use Rattle.records.specs.FilePartLaws.{wires-length, wire-of}
+use Rattle.records.specs.Limits.{mostWires, mostGuardWires}
 use Rattle.figures.specs.Working.{held}
 
 -- a choice: its condition is 1, or it is not
@@ -75,20 +74,20 @@ none-picked f figures at count here left p h =
 
 -- amid the wires of a guard: j is the number of the wires from t on
 pub record CountingWires (f figures : List ℕ) (at count t j : ℕ) : Type 0 where
-  pub few : count ≤ mostConditions
+  pub few : count ≤ mostGuardWires
   pub below : t ≤ count
   pub inside : at + 2 * count ≤ length f
   pub wires : Inside mostWires (wiresAt count f at)
   pub same : j ≡ numberOf (wiresAt (count - t) f (at + 2 * t)) (λ w. isOne (held figures w))
 
-pub counting-start : (f figures : List ℕ) (at count t : ℕ) → count ≤ mostConditions → at + 2 * count ≤ length f → Inside mostWires (wiresAt count f at)
+pub counting-start : (f figures : List ℕ) (at count t : ℕ) → count ≤ mostGuardWires → at + 2 * count ≤ length f → Inside mostWires (wiresAt count f at)
     → t ≡ count → CountingWires f figures at count t 0
 counting-start f figures at count t few h w e =
     let z : count - t ≡ 0 = omega arith in
     record { few = few; below = omega arith; inside = h; wires = w; same = sym (ap (λ (n : ℕ). numberOf (wiresAt n f (at + 2 * t)) (λ w. isOne (held figures w))) z) }
 
 -- six bits make a number below 64
-number-few : (f : List ℕ) (at n : ℕ) (σ : ℕ → Bool) → n ≤ mostConditions → numberOf (wiresAt n f at) σ < 64
+number-few : (f : List ℕ) (at n : ℕ) (σ : ℕ → Bool) → n ≤ mostGuardWires → numberOf (wiresAt n f at) σ < 64
 number-few f at n σ h =
     let l : numberOf (wiresAt n f at) σ < 2 ^ n = rw (wires-length n f at) at (numberOf-below (wiresAt n f at) σ) in
     let k : 2 ^ n ≤ 2 ^ 6 = pow-mono h in omega (arith, l, k)

@@ -3,14 +3,14 @@ use Prim.Native.Nat.{ℕ, _+_, _≤_, _<_}
 use mathlib.Core.Path.{_≡_}
 use mathlib.Core.List.{List, []}
 use lib.ListN.{length, getD}
-use Rattle.words.specs.Lists.{_∈_}
+use Rattle.words.specs.Lists.{_∈_, Inside}
 use Rattle.words.specs.Buffers.{over}
-use Rattle.gates.specs.Gates.{run}
-use Rattle.gates.specs.EarlierLaws.{Inside}
-use Rattle.gates.specs.Limits.{mostConditions}
-use Rattle.fused.specs.Records.{reads, recordFigure}
-use Rattle.fused.specs.FileFigures.{recordAt, sizeAt, recordsFrom, firstRecord, wireCount}
-use Rattle.figures.specs.Runnable.{mostWires, recordCodes, recordPlace, Runnable}
+use Rattle.words.specs.Runs.{run}
+use Rattle.records.specs.Records.{reads, recordFigure}
+use Rattle.records.specs.FileFigures.{recordAt, sizeAt, recordsFrom, firstRecord, wireCount}
+use Rattle.records.specs.Limits.{mostWires, mostGuardWires}
+use Rattle.records.specs.LaidOut.{recordCodes, recordPlace}
+use Rattle.figures.specs.Runnable.{Runnable}
 
 -- the figure that an array holds for a wire
 abbrev pub held : List ℕ → ℕ → ℕ
@@ -20,7 +20,7 @@ held figures w = getD figures w 0
 pub record Workable (f : List ℕ) (v n at : ℕ) : Type 0 where
   pub inside : at + sizeAt f at ≤ length f
   pub known : getD f at 0 ∈ recordCodes
-  pub counted : getD f at 0 ≡ 0x32 → getD f (at + 1) 0 ≤ mostConditions
+  pub counted : getD f at 0 ≡ 0x32 → getD f (at + 1) 0 ≤ mostGuardWires
   pub inputs : getD f at 0 ≤ 0x01 → getD f (at + 1) 0 < v
   pub earlier : Inside n (reads (recordAt f at))
 

@@ -6,20 +6,21 @@ use native.Mathlib.Nat.{zero-add}
 use native.Mathlib.Numerals.{add-one}
 use native.Mathlib.Omega.{arith}
 use lib.ListN.{length, set, length-map, List·getD-append}
-use Rattle.words.specs.Lists.{_∈_}
+use Rattle.words.specs.Lists.{_∈_, Inside}
 use Rattle.words.specs.Numbers.{numberAt}
 use Rattle.words.specs.Buffers.{over}
 use Rattle.words.specs.BufferLaws.{over-nil, over-snoc, length-over}
 use Rattle.words.specs.ListLaws.{map-same}
-use Rattle.gates.specs.Gates.{run}
-use Rattle.gates.specs.FigureLaws.{run-length, run-append}
-use Rattle.gates.specs.EarlierLaws.{Inside}
-use Rattle.fused.specs.Records.{Record, reads, recordFigure}
-use Rattle.fused.specs.FileFigures.{wiresAt, recordAt, sizeAt, recordsFrom, firstRecord, fileVariables, wireCount, fileOutputs, fileFigures}
-use Rattle.fused.specs.RecordLaws.{record-same}
-use Rattle.fused.specs.FilePartLaws.{wires-next, wires-length, wire-of, records-next, records-length, record-of, outputs-of, figures-of}
-use Rattle.fused.specs.FileLaws.{place-next}
-use Rattle.figures.specs.Runnable.{mostWires, recordPlace, Runnable}
+use Rattle.words.specs.Runs.{run}
+use Rattle.words.specs.RunLaws.{run-length, run-append}
+use Rattle.records.specs.Records.{Record, reads, recordFigure}
+use Rattle.records.specs.FileFigures.{wiresAt, recordAt, sizeAt, recordsFrom, firstRecord, fileVariables, wireCount, fileOutputs, fileFigures}
+use Rattle.records.specs.RecordLaws.{record-same}
+use Rattle.records.specs.FilePartLaws.{wires-next, wires-length, wire-of, records-next, records-length, record-of, outputs-of, figures-of}
+use Rattle.records.specs.FileLaws.{place-next}
+use Rattle.records.specs.Limits.{mostWires}
+use Rattle.records.specs.LaidOut.{recordPlace}
+use Rattle.figures.specs.Runnable.{Runnable}
 use Rattle.figures.specs.Working.{held, Workable, figuresOf, AmidRecords}
 
 -- the figures of the first wires: so many, and the next one

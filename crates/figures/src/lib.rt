@@ -1,7 +1,7 @@
 // Document 01, "The fused circuit file": the figures of a circuit file, worked out from its bytes record by record.
 // The figures lie in an array of plain numbers; a wire's number in hand is a `WireId`.
 use codes::Form;
-use fused::WireId;
+use records::WireId;
 ghost use mathlib.Core.Path.{_≡_};
 ghost use mathlib.Core.Bool.{cond};
 ghost use mathlib.Core.List.{map, [], _∷_};
@@ -11,13 +11,13 @@ ghost use Rattle.words.specs.Numbers.{numberAt};
 ghost use Rattle.words.specs.Buffers.{over};
 ghost use Rattle.settings.specs.Settings.{numberOf};
 ghost use Rattle.codes.specs.Codes.{operationOf, codeOf};
-ghost use Rattle.gates.specs.Running.{isOne};
-ghost use Rattle.gates.specs.Gates.{resultOn};
-ghost use Rattle.gates.specs.EarlierLaws.{Inside};
-ghost use Rattle.gates.specs.Limits.{mostConditions};
-ghost use Rattle.fused.specs.Records.{pairWires, pickFigure, guardFigure, recordFigure};
-ghost use Rattle.fused.specs.FileFigures.{wiresAt, pairsAt, recordAt, sizeAt, fileVariables, wireCount, fileFigures};
-ghost use Rattle.figures.specs.Runnable.{mostWires, recordPlace, Runnable};
+ghost use Rattle.codes.specs.Results.{isOne, resultOn};
+ghost use Rattle.words.specs.Lists.{Inside};
+ghost use Rattle.records.specs.Records.{pairWires, pickFigure, guardFigure, recordFigure};
+ghost use Rattle.records.specs.FileFigures.{wiresAt, pairsAt, recordAt, sizeAt, fileVariables, wireCount, fileFigures};
+ghost use Rattle.records.specs.Limits.{mostWires, mostGuardWires};
+ghost use Rattle.records.specs.LaidOut.{recordPlace};
+ghost use Rattle.figures.specs.Runnable.{Runnable};
 ghost use Rattle.figures.specs.Working.{held, Workable, figuresOf};
 
 // The wire whose number stands at a place.
@@ -107,7 +107,7 @@ fn pick_figure(file: &[u8], at: usize, count: u8, figures: &[u32; 640]) -> u32
 // The number whose bit t is the wire t of `count` wires from `at` on; the last wire is read first, so each moves those after it up.
 fn guard_number(file: &[u8], at: usize, count: u8, figures: &[u32; 640]) -> u8
     requires { ⌜
-        (count ≤ mostConditions)
+        (count ≤ mostGuardWires)
         × (at + 2 * count ≤ length (now file))
         × Inside mostWires (wiresAt count (now file) at)
         ⌝ }
@@ -129,7 +129,7 @@ fn guard_number(file: &[u8], at: usize, count: u8, figures: &[u32; 640]) -> u8
 // A guard, 32: bit j of its table.
 fn guard_figure(file: &[u8], at: usize, count: u8, figures: &[u32; 640]) -> u32
     requires { ⌜
-        (count ≤ mostConditions)
+        (count ≤ mostGuardWires)
         × (at + 2 * count + 8 ≤ length (now file))
         × Inside mostWires (wiresAt count (now file) at)
         ⌝ }

@@ -7,9 +7,9 @@ use lib.ListN.{length, getD, set, take, drop, replicate}
 use borrow.Rule.Slice.PartMut.{putMid}
 use Rattle.words.specs.Buffers.{over}
 use Rattle.gates.specs.Limits.{mostGates}
-use Rattle.fused.specs.Records.{Record}
-use Rattle.fused.specs.CircuitFile.{recordsBytes}
-use Rattle.fused.specs.SizeLaws.{bytes-append, cost-append}
+use Rattle.records.specs.Records.{Record}
+use Rattle.records.specs.CircuitFile.{recordsBytes}
+use Rattle.records.specs.SizeLaws.{bytes-append, cost-append}
 use Rattle.emitting.specs.Emitted.{wireIn}
 use Rattle.joining.specs.Joined.{emitIn}
 use Rattle.measuring.specs.Sizes.{Measured}

@@ -10,9 +10,9 @@ use Rattle.words.specs.Numbers.{bytesOf}
 use Rattle.words.specs.NumberLaws.{length-bytes}
 use Rattle.words.specs.Buffers.{over}
 use Rattle.words.specs.BufferLaws.{length-over, room-rest, sets-over}
-use Rattle.fused.specs.Records.{Record}
-use Rattle.fused.specs.CircuitFile.{mark, wiresBytes, recordsBytes, fileBytes}
-use Rattle.fused.specs.SizeLaws.{wires-size, wires-append, file-size}
+use Rattle.records.specs.Records.{Record}
+use Rattle.records.specs.CircuitFile.{mark, wiresBytes, recordsBytes, fileBytes}
+use Rattle.records.specs.SizeLaws.{wires-size, wires-append, file-size}
 use Rattle.emitting.specs.FillLaws.{pieces, pieces-none, pieces-next, Filling, filling-start, filling-room, filling-fits, filling-length, filling-step, filling-end}
 use Rattle.emitting.specs.ByteLaws.{behind}
 

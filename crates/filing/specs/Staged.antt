@@ -7,8 +7,8 @@ use lib.Dec.{eqb}
 use lib.ListN.{length, getD, set, replicate}
 use Rattle.gates.specs.Limits.{mostGates}
 use Rattle.plan.specs.PlanFile.{groupAt}
-use Rattle.fused.specs.Records.{Record, recordsCost}
-use Rattle.fused.specs.CircuitFile.{recordsBytes}
+use Rattle.records.specs.Records.{Record, recordsCost}
+use Rattle.records.specs.CircuitFile.{recordsBytes}
 use Rattle.emitting.specs.Emitted.{wireIn, Writable}
 use Rattle.joining.specs.Joined.{emitIn, JoinWritable}
 

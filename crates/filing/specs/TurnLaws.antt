@@ -10,11 +10,11 @@ use borrow.Author.Tests.{ne-eqb}
 use Rattle.words.specs.TestLaws.{same?}
 use Rattle.words.specs.Buffers.{over}
 use Rattle.gates.specs.Limits.{mostGates}
-use Rattle.gates.specs.EarlierLaws.{Inside}
+use Rattle.words.specs.Lists.{Inside}
 use Rattle.plan.specs.PlanFile.{groupAt}
-use Rattle.fused.specs.Records.{Record, recordsCost}
-use Rattle.fused.specs.CircuitFile.{recordBytes, recordsBytes}
-use Rattle.fused.specs.SizeLaws.{size-append, cost-append}
+use Rattle.records.specs.Records.{Record, recordsCost}
+use Rattle.records.specs.CircuitFile.{recordBytes, recordsBytes}
+use Rattle.records.specs.SizeLaws.{size-append, cost-append}
 use Rattle.emitting.specs.Emitted.{wireIn, aloneIn, Writable}
 use Rattle.joining.specs.Joined.{emitIn, JoinWritable}
 use Rattle.measuring.specs.Sizes.{Measured}

@@ -5,8 +5,8 @@ use mathlib.Core.List.{List, map}
 use mathlib.Core.Bool.{cond}
 use lib.Dec.{eqb}
 use lib.ListN.{length, getD, take}
-use Rattle.fused.specs.Records.{recordsCost}
-use Rattle.fused.specs.CircuitFile.{recordsBytes, fileBytes}
+use Rattle.records.specs.Records.{recordsCost}
+use Rattle.records.specs.CircuitFile.{recordsBytes, fileBytes}
 use Rattle.emitting.specs.Emitted.{wireIn, Grouped, Coded, Writable}
 use Rattle.joining.specs.Joined.{Joinable, JoinWritable}
 use Rattle.filing.specs.Staged.{stage, Turnable}

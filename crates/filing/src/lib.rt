@@ -1,8 +1,8 @@
 // Document 01, "The fused circuit file": the whole file put together from lent arrays, its head, the records of the groups in the order of writing, each group's
 // behind the last record written, and the output wires; and what the records come to, before they are written.
-use fused::WireId;
 use gates::GateId;
 use measuring::Size;
+use records::WireId;
 ghost use mathlib.Core.Path.{_≡_};
 ghost use mathlib.Core.List.{List, _∷_, _++_, map};
 ghost use Prim.Native.Nat.{ℕ, _*_, _≤_, _<_};
@@ -10,7 +10,7 @@ ghost use lib.ListN.{length, take, replicate};
 ghost use Rattle.words.specs.Numbers.{bytesOf};
 ghost use Rattle.words.specs.Buffers.{over};
 ghost use Rattle.gates.specs.Limits.{mostGates};
-ghost use Rattle.fused.specs.CircuitFile.{mark, wiresBytes, recordsBytes};
+ghost use Rattle.records.specs.CircuitFile.{mark, wiresBytes, recordsBytes};
 ghost use Rattle.emitting.specs.Emitted.{wireIn};
 ghost use Rattle.joining.specs.Joined.{emitIn};
 ghost use Rattle.measuring.specs.Sizes.{Measured};

@@ -9,7 +9,7 @@ use Rattle.words.specs.TestLaws.{split}
 use Rattle.answers.specs.Answers.{refusal}
 use Rattle.answers.specs.declared.Answer.{Answer}
 use Rattle.plan.specs.Rows.{planAnswer}
-use Rattle.fused.specs.CircuitFile.{fusedFile}
+use Rattle.fused.specs.FusedCircuit.{fusedFile}
 use Rattle.fused.specs.Answers.{fusedCounts, fusedAnswer, writeAnswer}
 use Rattle.fused.specs.SizeBounds.{bytes-bound}
 

@@ -9,8 +9,7 @@ use Rattle.answers.specs.Answers.{success, refusal}
 use Rattle.answers.specs.declared.Answer.{Answer}
 use Rattle.gates.specs.PlainCircuit.{gateCount, costBefore}
 use Rattle.plan.specs.Rows.{planAnswer}
-use Rattle.fused.specs.FusedCircuit.{recordsOf, costAfter}
-use Rattle.fused.specs.CircuitFile.{fusedFile}
+use Rattle.fused.specs.FusedCircuit.{recordsOf, costAfter, fusedFile}
 
 -- the five counts of an accepted plan: gates, wires, bytes of the file, cost before, cost after
 unfoldable pub fusedCounts : List ℕ → List ℕ → Answer

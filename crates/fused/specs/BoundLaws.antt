@@ -12,7 +12,6 @@ use Rattle.reading.specs.Header.{variables}
 use Rattle.reading.specs.Rule.{readRule}
 use Rattle.gates.specs.Gates.{Gate, Gates, gateAt, arguments}
 use Rattle.gates.specs.Gates as gate
-use Rattle.gates.specs.Limits.{mostConditions}
 use Rattle.gates.specs.PlainCircuit.{gatesOf, gateCount}
 use Rattle.gates.specs.EachGateLaws.{StartGate, Starting, rule-starting}
 use Rattle.needed.specs.Pass.{rulePreconditions}
@@ -22,10 +21,12 @@ use Rattle.plan.specs.Groups.{groupOf, members, restsOf}
 use Rattle.plan.specs.Order.{order}
 use Rattle.plan.specs.Rows.{planAnswer}
 use Rattle.plan.specs.AcceptedLaws.{plan-accepted}
-use Rattle.fused.specs.Records.{Record, input, word, bit, operation, choice, pick, guard, recordIn}
+use Rattle.records.specs.Records.{Record, recordIn}
+use Rattle.records.specs.Limits.{mostGuardWires}
+use Rattle.records.specs.FitRecords.{Bounded}
 use Rattle.fused.specs.Emission.{alone, gateOperation, guardOf, valuesAt, emit}
 use Rattle.fused.specs.FusedCircuit.{groupRecords, written, fused, recordsOf}
-use Rattle.fused.specs.RecordLaws.{Along, along-append, along-at, along-map}
+use Rattle.records.specs.RecordLaws.{Along, along-append, along-at, along-map}
 use Rattle.fused.specs.EmitLaws.{joined-along}
 use Rattle.fused.specs.WrittenLaws.{written-none, written-more}
 use Rattle.plan.specs.RestLaws.{rests-few}
@@ -49,16 +50,7 @@ fused-along s p P h =
     let group = groupOf (groupsIn p) in
     written-along s (gatesOf s) (rulePreconditions s) group P h (order (gatesOf s) (rulePreconditions s) group)
 
--- of v variables: an input is one of them, a guard has at most six condition wires
-abbrev pub Bounded : ℕ → Record → Type 0
-Bounded v (input k x) = x < v
-Bounded v (word n) = Unit {0}
-Bounded v (bit b) = Unit {0}
-Bounded v (operation op l) = Unit {0}
-Bounded v (choice c a b) = Unit {0}
-Bounded v (pick l) = Unit {0}
-Bounded v (guard cs t) = length cs ≤ mostConditions
-
+-- an input of a gate alone is a variable's
 alone-bounded : (s : List ℕ) (wire : ℕ → ℕ) (v : ℕ) (k : Gate) → StartGate v k → Bounded v (alone s wire k)
 alone-bounded s wire v (gate.start x) h = h
 alone-bounded s wire v (gate.word n) h = tt
@@ -74,7 +66,7 @@ emit-bounded v s C sets starts wire n (m ∷ k ∷ l) =
     joined-along (λ i. Bounded v) n (gateOperation (gateAt C m)) (map (guardOf s C sets wire) (m ∷ k ∷ l)) (valuesAt s C sets wire (m ∷ k ∷ l))
     (upto (length (arguments (gateAt C m))))
     (along-map (λ i. Bounded v) (guardOf s C sets wire) (m ∷ k ∷ l) n n (omega arith)
-    (λ i _ _ _. let few : length (map wire (restsOf C sets i)) ≤ mostConditions = omega (arith, length-map (restsOf C sets i) wire, rests-few C sets i) in few))
+    (λ i _ _ _. let few : length (map wire (restsOf C sets i)) ≤ mostGuardWires = omega (arith, length-map (restsOf C sets i) wire, rests-few C sets i) in few))
     (λ _ _ _ _. tt) tt
 
 -- every record of the fused circuit of an accepted plan

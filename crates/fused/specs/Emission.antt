@@ -12,7 +12,7 @@ use Rattle.gates.specs.Gates.{Gate, Gates, gateAt, arguments}
 use Rattle.gates.specs.Gates as gate
 use Rattle.gates.specs.Limits.{mostConditions}
 use Rattle.plan.specs.Groups.{restsOf}
-use Rattle.fused.specs.Records.{Pair, Record, input, word, bit, operation, choice, pick, guard}
+use Rattle.records.specs.Records.{Pair, Record, input, word, bit, operation, choice, pick, guard}
 
 -- a gate alone, its arguments read from the wires of their groups; s is the rule, for the kind of a starting value
 abbrev pub alone : List ℕ → (ℕ → ℕ) → Gate → Record

@@ -11,9 +11,9 @@ use Rattle.codes.specs.declared.Operation.{Operation}
 use Rattle.gates.specs.Gates.{Gate, Gates, gateAt, arguments}
 use Rattle.gates.specs.Gates as gate
 use Rattle.plan.specs.Groups.{restsOf}
-use Rattle.fused.specs.Records.{Record, operation, pick, pairWires, reads}
+use Rattle.records.specs.Records.{Record, operation, pick, pairWires, reads}
 use Rattle.fused.specs.Emission.{alone, gateOperation, pairs, joined, guardOf, valuesAt, emit}
-use Rattle.fused.specs.RecordLaws.{Along, ReadsBefore, Below, along-append, along-map}
+use Rattle.records.specs.RecordLaws.{Along, ReadsBefore, Below, along-append, along-map}
 
 -- a gate alone reads the wires of its arguments
 pub alone-reads : (s : List ℕ) (wire : ℕ → ℕ) (k : Gate) → reads (alone s wire k) ≡ map wire (arguments k)

@@ -1,9 +1,6 @@
--- Document 01, "Examples": 3, R1 with P1, whole, computed from the definitions.
-use Prim.Native.Nat.{ℕ}
+-- Examples of document 01, "Examples": 3, R1 with P1, whole, computed from the definitions.
 use mathlib.Core.Path.{_≡_, refl}
-use mathlib.Core.List.{List, [], _∷_, map}
 use Rattle.words.specs.Numbers.{number, bytesOf}
-use Rattle.codes.specs.Results.{resultOf}
 use Rattle.codes.specs.Codes.{kindOf, operationOf, codeOf}
 use Rattle.answers.specs.Answers.{success, refusal}
 use Rattle.answers.specs.Parsing.{readMark}
@@ -24,27 +21,10 @@ use Rattle.plan.specs.Order.{order}
 use Rattle.plan.specs.Rows.{planRow, planAnswer}
 use Rattle.settings.specs.Guards.{spread, tableOver, table}
 use Rattle.plan.specs.Examples.{p1}
-use Rattle.fused.specs.FusedCircuit.{written, fused}
-use Rattle.fused.specs.Records.{recordsCost, wireFigure}
-use Rattle.fused.specs.CircuitFile.{fusedFile}
-use Rattle.fused.specs.FileFigures.{recordAt, sizeAt, fileRecords, fileOutputs, fileFigures}
+use Rattle.fused.specs.FusedCircuit.{written, fused, fusedFile}
+use Rattle.records.specs.Records.{recordsCost}
+use Rattle.records.specs.Examples.{file3}
 use Rattle.fused.specs.Answers.{fusedCounts, writeAnswer}
-
--- the file of R1 with P1, a record a line
-abbrev pub file3 : List ℕ
-file3 =
-    0x43 ∷ 0x49 ∷ 0x52 ∷ 0x00 ∷ 0x01 ∷ 0x03 ∷ 0x00 ∷ 0x09
-    ∷ 0x01 ∷ 0x00
-    ∷ 0x00 ∷ 0x01
-    ∷ 0x00 ∷ 0x02
-    ∷ 0x32 ∷ 0x01 ∷ 0x00 ∷ 0x00 ∷ 0x00 ∷ 0x00 ∷ 0x00 ∷ 0x00 ∷ 0x00 ∷ 0x00 ∷ 0x00 ∷ 0x02
-    ∷ 0x32 ∷ 0x01 ∷ 0x00 ∷ 0x00 ∷ 0x00 ∷ 0x00 ∷ 0x00 ∷ 0x00 ∷ 0x00 ∷ 0x00 ∷ 0x00 ∷ 0x01
-    ∷ 0x31 ∷ 0x02 ∷ 0x00 ∷ 0x03 ∷ 0x00 ∷ 0x01 ∷ 0x00 ∷ 0x04 ∷ 0x00 ∷ 0x02
-    ∷ 0x31 ∷ 0x02 ∷ 0x00 ∷ 0x03 ∷ 0x00 ∷ 0x02 ∷ 0x00 ∷ 0x04 ∷ 0x00 ∷ 0x02
-    ∷ 0x22 ∷ 0x00 ∷ 0x05 ∷ 0x00 ∷ 0x06
-    ∷ 0x30 ∷ 0x00 ∷ 0x00 ∷ 0x00 ∷ 0x07 ∷ 0x00 ∷ 0x07
-    ∷ 0x00 ∷ 0x00 ∷ 0x00 ∷ 0x08 ∷ 0x00 ∷ 0x02
-    ∷ []
 
 -- example 3, whole
 pub example-3 : fusedFile r1 p1 ≡ file3
@@ -67,8 +47,3 @@ unfolding number kindOf operationOf codeOf readMark readCount readKinds readHead
     preconditions preconditionSets costs wholeWithin ruleAnswer restsOn rests groupsIn groups restsOf waitsFor order planRow planAnswer bytesOf spread tableOver table
     written fused fusedFile recordsCost fusedCounts writeAnswer
 example-3-short = refl
-
--- and its figures, from its bytes
-pub example-3-run : map (λ x. fileFigures file3 (x ∷ 6 ∷ 7 ∷ [])) (0 ∷ 1 ∷ []) ≡ (0 ∷ 49 ∷ 7 ∷ []) ∷ (1 ∷ 42 ∷ 7 ∷ []) ∷ []
-unfolding number operationOf codeOf resultOf recordAt sizeAt fileRecords fileOutputs wireFigure fileFigures
-example-3-run = refl

@@ -29,14 +29,15 @@ use Rattle.plan.specs.GroupLaws.{member-of}
 use Rattle.plan.specs.Rows.{planAnswer}
 use Rattle.plan.specs.AcceptedLaws.{plan-accepted}
 use Rattle.plan.specs.JoinedLaws.{members-costly}
-use Rattle.fused.specs.Records.{Record, word, reads, recordIn, ReadsEarlier, wireFigure}
-use Rattle.fused.specs.FusedCircuit.{recordsOf, wireOf, outputWires}
-use Rattle.fused.specs.CircuitFile.{recordBytes, recordsBytes, fusedFile}
-use Rattle.fused.specs.FileFigures.{recordAt, sizeAt, placeAfter, firstRecord, fileVariables, wireCount, fileRecords, fileOutputs, fileFigures}
-use Rattle.fused.specs.FitRecords.{Wires, AllReadBack}
-use Rattle.fused.specs.FitLaws.{FieldsFit, AllFieldsFit, all-fit, members-few, emit-sized}
+use Rattle.records.specs.Records.{Record, word, reads, recordIn, ReadsEarlier, wireFigure}
+use Rattle.fused.specs.FusedCircuit.{recordsOf, wireOf, outputWires, fusedFile}
+use Rattle.records.specs.CircuitFile.{recordBytes, recordsBytes}
+use Rattle.records.specs.FileFigures.{recordAt, sizeAt, placeAfter, firstRecord, fileVariables, wireCount, fileRecords, fileOutputs, fileFigures}
+use Rattle.records.specs.FitRecords.{Wires, AllReadBack, FieldsFit, AllFieldsFit, all-fit}
+use Rattle.fused.specs.FitLaws.{members-few, emit-sized}
 use Rattle.fused.specs.SizeBounds.{wires-bound, outputs-count}
-use Rattle.fused.specs.FileLaws.{file-place, file-record, file-part, file-inside, file-found}
+use Rattle.records.specs.FileLaws.{file-place, file-record, file-part, file-inside, file-found}
+use Rattle.records.specs.FileBytes.{file-bytes}
 use Rattle.fused.specs.BoundLaws.{fused-along}
 
 -- a starting value is no operation
@@ -124,3 +125,8 @@ module _ (s p : List ℕ) (h : planAnswer s p .number ≡ 0) where
       fused-file-figures inside inputs =
           let f = fused-found inside in
           ap₂ (λ (R : List Record) (l : List ℕ). map (wireFigure inputs R) l) (f .0) (f .1)
+
+-- the file of an accepted plan consists of bytes
+pub fused-bytes : (s p : List ℕ) → planAnswer s p .number ≡ 0 → Bytes s → ReadsEarlier (recordsOf s p) → Bytes (fusedFile s p)
+unfolding fusedFile
+fused-bytes s p h bytes earlier = file-bytes (variables s) (recordsOf s p) (outputWires s p) (omega (arith, outputs-count s p h .1)) (fused-fits s p h bytes earlier)

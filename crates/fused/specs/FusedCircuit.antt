@@ -1,16 +1,18 @@
--- Document 01, "The fused circuit file": the records of an accepted plan in the order of writing, and the wire that stands for each gate.
+-- Document 01, "The fused circuit file": the records of an accepted plan in the order of writing, the wire that stands for each gate, and the file.
 use Prim.Native.Nat.{ℕ, _+_, _-_}
 use mathlib.Core.List.{List, [], _∷_, _++_, map}
 use mathlib.Core.Bool.{cond}
 use lib.Dec.{eqb}
 use lib.ListN.{length}
+use Rattle.reading.specs.Header.{variables}
 use Rattle.gates.specs.Gates.{Gates}
 use Rattle.gates.specs.PlainCircuit.{gatesOf, outputsOf}
 use Rattle.needed.specs.Pass.{rulePreconditions}
 use Rattle.plan.specs.PlanFile.{groupsIn}
 use Rattle.plan.specs.Groups.{groupOf, members}
 use Rattle.plan.specs.Order.{order}
-use Rattle.fused.specs.Records.{Record, recordsCost}
+use Rattle.records.specs.Records.{Record, recordsCost}
+use Rattle.records.specs.CircuitFile.{fileBytes}
 use Rattle.fused.specs.Emission.{emit}
 
 -- the records written so far, and the wire of each group written: its last record's
@@ -55,3 +57,7 @@ outputWires s p = map (wireOf s p) (outputsOf s)
 -- the cost after fusing
 abbrev pub costAfter : List ℕ → List ℕ → ℕ
 costAfter s p = recordsCost (recordsOf s p)
+
+-- the file that the rules fix for a rule and its plan
+unfoldable pub fusedFile : List ℕ → List ℕ → List ℕ
+fusedFile s p = fileBytes (variables s) (recordsOf s p) (outputWires s p)

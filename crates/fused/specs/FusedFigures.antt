@@ -16,10 +16,9 @@ use Rattle.gates.specs.StartLaws.{read-run}
 use Rattle.gates.specs.OutputLaws.{output-figures}
 use Rattle.needed.specs.Needed.{from-start}
 use Rattle.plan.specs.Rows.{planAnswer}
-use Rattle.fused.specs.Records.{ReadsEarlier, wireFigure}
-use Rattle.fused.specs.FusedCircuit.{recordsOf, wireOf, outputWires}
-use Rattle.fused.specs.CircuitFile.{fusedFile}
-use Rattle.fused.specs.FileFigures.{fileFigures}
+use Rattle.records.specs.Records.{ReadsEarlier, wireFigure}
+use Rattle.fused.specs.FusedCircuit.{recordsOf, wireOf, outputWires, fusedFile}
+use Rattle.records.specs.FileFigures.{fileFigures}
 use Rattle.fused.specs.FitPlan.{fused-file-figures}
 use Rattle.fused.specs.PlannedLaws.{planned-read, planned-wanted, planned-earlier, planned-wire, planned-figure}
 

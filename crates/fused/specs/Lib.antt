@@ -1,11 +1,6 @@
-pub mod Records
 pub mod Emission
 pub mod FusedCircuit
-pub mod CircuitFile
-pub mod FileFigures
 pub mod Answers
-pub mod Sums
-pub mod RecordLaws
 pub mod EmitLaws
 pub mod WrittenLaws
 pub mod PickLaws
@@ -16,13 +11,6 @@ pub mod SumLaws
 pub mod PlannedLaws
 pub mod PickSums
 pub mod Examples
-pub mod SizeLaws
-pub mod FitRecords
-pub mod FoundWires
-pub mod FoundForms
-pub mod FilePartLaws
-pub mod FoundRecords
-pub mod FileLaws
 pub mod SizeJoined
 pub mod SizeEmit
 pub mod SizeTotal
@@ -31,6 +19,5 @@ pub mod BoundLaws
 pub mod AnswerLaws
 pub mod FitLaws
 pub mod FitPlan
-pub mod FileBytes
 pub mod OnlyOrderLaws
 pub mod FusedFigures

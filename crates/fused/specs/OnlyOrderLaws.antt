@@ -22,10 +22,9 @@ use Rattle.plan.specs.Groups.{groupOf, members}
 use Rattle.plan.specs.Order.{order}
 use Rattle.plan.specs.Rows.{planAnswer}
 use Rattle.plan.specs.SameLaws.{row-same}
-use Rattle.fused.specs.Records.{Record, input}
+use Rattle.records.specs.Records.{Record, input}
 use Rattle.fused.specs.Emission.{alone, emit}
-use Rattle.fused.specs.FusedCircuit.{Written, written, fused, recordsOf, outputWires, costAfter}
-use Rattle.fused.specs.CircuitFile.{fusedFile}
+use Rattle.fused.specs.FusedCircuit.{Written, written, fused, recordsOf, outputWires, costAfter, fusedFile}
 use Rattle.fused.specs.Answers.{fusedCounts, writeAnswer, writtenOver}
 
 -- a rule's bytes are asked only for the kinds of starting values

@@ -13,7 +13,7 @@ use Rattle.answers.specs.ParsingLaws.{is-read}
 use Rattle.answers.specs.declared.Answer.{Answer}
 use Rattle.reading.specs.Tree.{Block}
 use Rattle.reading.specs.Rule.{readRule}
-use Rattle.gates.specs.Running.{isOne}
+use Rattle.codes.specs.Results.{isOne}
 use Rattle.gates.specs.Gates.{Gate, operation, gateAt, arguments, Earlier, figureAt, conditions}
 use Rattle.gates.specs.Limits.{mostConditions}
 use Rattle.gates.specs.PlainCircuit.{gatesOf}
@@ -33,13 +33,14 @@ use Rattle.plan.specs.AcceptedLaws.{plan-accepted}
 use Rattle.plan.specs.GroupLaws.{groupOf-named, group-in}
 use Rattle.plan.specs.JoinedLaws.{members-costly, members-exclude}
 use Rattle.plan.specs.WaitLaws.{order-places, order-ordered, order-from, order-once}
-use Rattle.fused.specs.Records.{recordIn, ReadsEarlier, wireFigure}
+use Rattle.records.specs.Records.{recordIn, ReadsEarlier, wireFigure}
 use Rattle.fused.specs.Emission.{gateOperation}
 use Rattle.fused.specs.FusedCircuit.{fused, recordsOf, wireOf}
-use Rattle.fused.specs.RecordLaws.{along-each, along-at, run-figured}
+use Rattle.records.specs.RecordLaws.{along-each, along-at, run-figured}
 use Rattle.fused.specs.WrittenLaws.{Level, wire-below, written-earlier}
 use Rattle.fused.specs.JoinedLaws.{Joined}
-use Rattle.fused.specs.SumLaws.{GivesGuard, OneGuard, written-one}
+use Rattle.records.specs.SumLaws.{GivesGuard, OneGuard}
+use Rattle.fused.specs.SumLaws.{written-one}
 use Rattle.fused.specs.RightLaws.{written-right}
 
 -- gates of one operation have equally many arguments, where the table says how many

@@ -28,10 +28,10 @@ use Rattle.plan.specs.Accepted.{OneCostly}
 use Rattle.plan.specs.AcceptedLaws.{plan-accepted}
 use Rattle.plan.specs.JoinedLaws.{members-costly}
 use Rattle.plan.specs.WaitLaws.{order-once}
-use Rattle.fused.specs.Records.{recordsCost}
-use Rattle.fused.specs.FusedCircuit.{groupRecords, written, fused, recordsOf, wireOf, outputWires, costAfter}
-use Rattle.fused.specs.CircuitFile.{recordsBytes, fusedFile}
-use Rattle.fused.specs.SizeLaws.{size-append, cost-append, file-size}
+use Rattle.records.specs.Records.{recordsCost}
+use Rattle.fused.specs.FusedCircuit.{groupRecords, written, fused, recordsOf, wireOf, outputWires, costAfter, fusedFile}
+use Rattle.records.specs.CircuitFile.{recordsBytes}
+use Rattle.records.specs.SizeLaws.{size-append, cost-append, file-size}
 use Rattle.fused.specs.SizeEmit.{emit-most}
 use Rattle.fused.specs.SizeTotal.{total, total-le}
 

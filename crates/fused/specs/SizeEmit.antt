@@ -16,10 +16,10 @@ use Rattle.gates.specs.Gates as gate
 use Rattle.gates.specs.CostLaws.{cost-most}
 use Rattle.needed.specs.Held.{ShapedGate, Shaped}
 use Rattle.plan.specs.Accepted.{OneCostly}
-use Rattle.fused.specs.Records.{Record, recordCost, recordsCost}
+use Rattle.records.specs.Records.{Record, recordCost, recordsCost}
 use Rattle.fused.specs.Emission.{alone, gateOperation, joined, guardOf, valuesAt, emit}
-use Rattle.fused.specs.CircuitFile.{recordBytes, recordsBytes}
-use Rattle.fused.specs.SizeLaws.{word-size, operation-size, choice-size, size-one, cost-one}
+use Rattle.records.specs.CircuitFile.{recordBytes, recordsBytes}
+use Rattle.records.specs.SizeLaws.{word-size, operation-size, choice-size, size-one, cost-one}
 use Rattle.fused.specs.SizeJoined.{guards-most, group-count, group-size, group-cost}
 
 -- a costly operation has two arguments

@@ -1,62 +1,36 @@
--- Laws of picks as sums: whatever figures the other wires hold, at most one guard of a pick is 1, so a pick is the sum of the values whose guards are 1.
--- Assumes nothing.
+-- Laws of the guards of picks: whatever figures the other wires hold, at most one guard of a pick is 1. Assumes nothing.
 use Prim.Native.Nat.{ℕ, zero, suc, _+_, _≤_, _<_}
 use mathlib.Core.Path.{_≡_, refl, ap, _∙_}
 use mathlib.Core.Bool.{Bool, true, false}
 use mathlib.Core.List.{List, [], _∷_, _++_, map}
 use mathlib.Core.Logic.{inl, inr}
-use native.Mathlib.Nat.{zero-add, add-zero}
+use native.Mathlib.Nat.{zero-add}
 use native.Mathlib.Omega.{arith}
 use lib.ListN.{length, getD}
 use Rattle.words.specs.Lists.{_∈_, upto}
 use Rattle.words.specs.TestLaws.{split}
 use Rattle.settings.specs.Settings.{Once}
 use Rattle.codes.specs.declared.Operation.{Operation}
-use Rattle.gates.specs.Running.{isOne}
+use Rattle.codes.specs.Results.{isOne}
 use Rattle.gates.specs.Gates.{Gate, Gates, gateAt, arguments, Earlier, conditions}
 use Rattle.gates.specs.Gates as gate
 use Rattle.gates.specs.Limits.{mostConditions}
 use Rattle.needed.specs.Pass.{needed, preconditionSets}
 use Rattle.needed.specs.PassLaws.{needed-sound}
 use Rattle.plan.specs.Groups.{members}
-use Rattle.fused.specs.Records.{Pair, Record, input, word, bit, operation, choice, pick, guard, recordIn, pickFigure, guardFigure}
+use Rattle.records.specs.Records.{Record}
 use Rattle.fused.specs.Emission.{alone, gateOperation, pairs, guardOf, valuesAt, emit}
 use Rattle.fused.specs.FusedCircuit.{Written, groupRecords, written}
-use Rattle.fused.specs.Sums.{guardsAtOne, sumFigure}
-use Rattle.fused.specs.RecordLaws.{Along, along-append, along-left, along-right, along-map}
+use Rattle.records.specs.Sums.{guardsAtOne}
+use Rattle.records.specs.SumLaws.{GivesGuard, OneGuard}
+use Rattle.records.specs.RecordLaws.{Along, along-append, along-left, along-right, along-map}
 use Rattle.fused.specs.EmitLaws.{joined-along}
 use Rattle.fused.specs.PickLaws.{is-bit, Guarding, guards-hold, joined-guards}
 use Rattle.fused.specs.JoinedLaws.{Joined, members-once, joined-one}
 use Rattle.fused.specs.GuardLaws.{guard-figure}
 use Rattle.fused.specs.WrittenLaws.{written-none, written-more}
 
--- a pick and a guard are records, not past the end
-pub pick-inside : (R : List Record) (i : ℕ) (l : List Pair) → recordIn R i ≡ pick l → i < length R
-pick-inside [] i l e = let z : _≡_ {A = ℕ} 0 1 = cc in absurd (omega arith)
-pick-inside (r ∷ R) zero l e = omega arith
-pick-inside (r ∷ R) (suc i) l e = omega (arith, pick-inside R i l e)
-
-pub guard-inside : (R : List Record) (i : ℕ) (cs : List ℕ) (t : ℕ) → recordIn R i ≡ guard cs t → i < length R
-guard-inside [] i cs t e = let z : _≡_ {A = ℕ} 0 1 = cc in absurd (omega arith)
-guard-inside (r ∷ R) zero cs t e = omega arith
-guard-inside (r ∷ R) (suc i) cs t e = omega (arith, guard-inside R i cs t e)
-
 module _ (W : ℕ → ℕ) where
-  sum-none : (l : List Pair) → guardsAtOne W l ≡ 0 → sumFigure W l ≡ 0
-  sum-none [] h = refl
-  sum-none (p ∷ l) h =
-      split (isOne (W (p .guarding)))
-      (λ t. let z : 1 + guardsAtOne W l ≡ 0 = rw t at h in absurd (omega arith))
-      (λ t. let z : 0 + guardsAtOne W l ≡ 0 = rw t at h in rw (t, zero-add) (sum-none l (omega arith)))
-
-  -- with at most one guard at 1 the sum is the pick
-  pub sum-pick : (l : List Pair) → guardsAtOne W l ≤ 1 → sumFigure W l ≡ pickFigure W l
-  sum-pick [] h = refl
-  sum-pick (p ∷ l) h =
-      split (isOne (W (p .guarding)))
-      (λ t. let z : 1 + guardsAtOne W l ≤ 1 = rw t at h in rw (t, sum-none l (omega arith)) (add-zero _))
-      (λ t. let z : 0 + guardsAtOne W l ≤ 1 = rw t at h in rw (t, zero-add) (sum-pick l (omega arith)))
-
   module _ (on : ℕ → Bool) (value : ℕ → ℕ) where
     guards-none : (ms : List ℕ) (n : ℕ) → Guarding W on n ms → ((m : ℕ) → m ∈ ms → on m ≡ false) → guardsAtOne W (pairs n (map value ms)) ≡ 0
     guards-none [] n g h = refl
@@ -77,21 +51,7 @@ module _ (W : ℕ → ℕ) where
         let u : isOne (W n) ≡ false = ap isOne e ∙ is-bit (on m) ∙ t in
         rw (u, zero-add) (guards-one ms (suc n) g o (λ i k x y. h i k (inr x) (inr y))))
 
-  -- if record i is a guard, its wire holds its figure
-  abbrev pub GivesGuard : ℕ → Record → Type 0
-  GivesGuard i r = (cs : List ℕ) (t : ℕ) → r ≡ guard cs t → W i ≡ guardFigure W cs t
-
-  -- if it is a pick, one guard at most is 1
-  abbrev pub OneGuard : ℕ → Record → Type 0
-  OneGuard i (input k x) = Unit {0}
-  OneGuard i (word n) = Unit {0}
-  OneGuard i (bit b) = Unit {0}
-  OneGuard i (operation op l) = Unit {0}
-  OneGuard i (choice c a b) = Unit {0}
-  OneGuard i (pick l) = guardsAtOne W l ≤ 1
-  OneGuard i (guard cs t) = Unit {0}
-
-  alone-one : (s : List ℕ) (wire : ℕ → ℕ) (i : ℕ) (k : Gate) → OneGuard i (alone s wire k)
+  alone-one : (s : List ℕ) (wire : ℕ → ℕ) (i : ℕ) (k : Gate) → OneGuard W i (alone s wire k)
   alone-one s wire i (gate.start x) = tt
   alone-one s wire i (gate.word n) = tt
   alone-one s wire i (gate.bit b) = tt
@@ -103,18 +63,18 @@ module _ (W : ℕ → ℕ) where
     abbrev sets : List ℕ
     sets = preconditionSets mostConditions C wanted
 
-    group-one : (wire : ℕ → ℕ) (n p : ℕ) → Along GivesGuard n (emit s C sets wire n (members (length C) group p))
-        → Along OneGuard n (emit s C sets wire n (members (length C) group p))
+    group-one : (wire : ℕ → ℕ) (n p : ℕ) → Along (GivesGuard W) n (emit s C sets wire n (members (length C) group p))
+        → Along (OneGuard W) n (emit s C sets wire n (members (length C) group p))
     group-one wire n p = go (members (length C) group p) refl
       where
         on : ℕ → Bool
         on m = needed C wanted m (λ c. isOne (W (wire c)))
 
-        go : (ms : List ℕ) → members (length C) group p ≡ ms → Along GivesGuard n (emit s C sets wire n ms) → Along OneGuard n (emit s C sets wire n ms)
+        go : (ms : List ℕ) → members (length C) group p ≡ ms → Along (GivesGuard W) n (emit s C sets wire n ms) → Along (OneGuard W) n (emit s C sets wire n ms)
         go [] e h = tt
         go (a ∷ []) e h = (alone-one s wire n (gateAt C a), tt)
         go (a ∷ j ∷ l) e h =
-            joined-along OneGuard n op guards (valuesAt s C sets wire ms) ks (along-map OneGuard (guardOf s C sets wire) ms n n (omega arith) (λ i m k b. tt))
+            joined-along (OneGuard W) n op guards (valuesAt s C sets wire ms) ks (along-map (OneGuard W) (guardOf s C sets wire) ms n n (omega arith) (λ i m k b. tt))
             (λ i m k b. guards-one on (λ q. wire (getD (arguments (gateAt C q)) i 0)) ms n held (rw e at (members-once (length C) group p))
             (λ q r x y f t. joined-one C wanted group joins p (rw e (omega arith)) q r (rw e x) (rw e y) f (λ c. isOne (W (wire c)))
             (needed-sound C wanted (λ c. isOne (W (wire c))) q t)))
@@ -134,20 +94,20 @@ module _ (W : ℕ → ℕ) where
 
             held : Guarding W on n ms
             held =
-                guards-hold W on GivesGuard (guardOf s C sets wire) (λ i m k. k _ _ refl ∙ guard-figure C wanted earlier inside few W wire m) ms n
-                (joined-guards GivesGuard n op guards (map (valuesAt s C sets wire ms) ks) h)
+                guards-hold W on (GivesGuard W) (guardOf s C sets wire) (λ i m k. k _ _ refl ∙ guard-figure C wanted earlier inside few W wire m) ms n
+                (joined-guards (GivesGuard W) n op guards (map (valuesAt s C sets wire ms) ks) h)
 
     -- so it is of every pick that is written
-    pub written-one : (done : List ℕ) → Along GivesGuard 0 (written s C (preconditionSets mostConditions C wanted) group done .records)
-        → Along OneGuard 0 (written s C (preconditionSets mostConditions C wanted) group done .records)
+    pub written-one : (done : List ℕ) → Along (GivesGuard W) 0 (written s C (preconditionSets mostConditions C wanted) group done .records)
+        → Along (OneGuard W) 0 (written s C (preconditionSets mostConditions C wanted) group done .records)
     written-one [] h = rw (written-none s C sets group) tt
     written-one (p ∷ done) h =
         rw (written-more s C sets group p done)
-        (along-append OneGuard (w .records) _ 0 (written-one done (along-left GivesGuard (w .records) _ 0 parts))
-        (rw zero-add (group-one (λ a. w .wire (group a)) (length (w .records)) p (rw zero-add at (along-right GivesGuard (w .records) _ 0 parts)))))
+        (along-append (OneGuard W) (w .records) _ 0 (written-one done (along-left (GivesGuard W) (w .records) _ 0 parts))
+        (rw zero-add (group-one (λ a. w .wire (group a)) (length (w .records)) p (rw zero-add at (along-right (GivesGuard W) (w .records) _ 0 parts)))))
       where
         w : Written
         w = written s C sets group done
 
-        parts : Along GivesGuard 0 (w .records ++ groupRecords s C sets group w p)
+        parts : Along (GivesGuard W) 0 (w .records ++ groupRecords s C sets group w p)
         parts = rw (written-more s C sets group p done) at h

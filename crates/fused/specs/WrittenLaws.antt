@@ -17,9 +17,9 @@ use Rattle.plan.specs.Groups.{groups, members, waitsFor}
 use Rattle.plan.specs.Order.{Ordered}
 use Rattle.plan.specs.GroupLaws.{group-of, member-of}
 use Rattle.plan.specs.ReadsLaws.{waits-argument, waits-rests}
-use Rattle.fused.specs.Records.{ReadsEarlier}
+use Rattle.records.specs.Records.{ReadsEarlier}
 use Rattle.fused.specs.FusedCircuit.{Written, groupRecords, written}
-use Rattle.fused.specs.RecordLaws.{ReadsBefore, Below, along-append, below-earlier}
+use Rattle.records.specs.RecordLaws.{ReadsBefore, Below, along-append, below-earlier}
 use Rattle.fused.specs.EmitLaws.{emit-some, emit-below}
 
 -- a group has a member: its name

@@ -4,43 +4,13 @@ use mathlib.Core.Path.{_≡_, refl, ap}
 use mathlib.Core.List.{List, [], _∷_, _++_}
 use mathlib.Core.Logic.{_⊎_, inl, inr}
 use native.Mathlib.Omega.{arith}
-use lib.ListN.{length, getD, set, List·getD-eq-default}
+use lib.ListN.{length, getD, List·getD-eq-default}
 use lib.Dec.{ltb}
 use borrow.Author.Tests.{ltb-true, ltb-false}
-use Rattle.words.specs.Lists.{_∈_}
-use Rattle.words.specs.MemberLaws.{getD-in}
+use Rattle.words.specs.Lists.{_∈_, Inside}
 use Rattle.words.specs.TestLaws.{split}
 use Rattle.gates.specs.Gates.{Gate, Gates, gateAt, arguments, Earlier}
 use Rattle.gates.specs.Gates as gate
-
--- each of these lies below n
-abbrev pub Inside : ℕ → List ℕ → Type 0
-Inside n l = (a : ℕ) → a ∈ l → a < n
-
-set-in : (l : List ℕ) (i b a : ℕ) → a ∈ set l i b → (a ≡ b) ⊎ (a ∈ l)
-set-in [] i b a h = absurd h
-set-in (y ∷ l) zero b a (inl e) = inl e
-set-in (y ∷ l) zero b a (inr m) = inr (inr m)
-set-in (y ∷ l) (suc i) b a (inl e) = inr (inl e)
-set-in (y ∷ l) (suc i) b a (inr m) = go (set-in l i b a m)
-  where
-    go : (a ≡ b) ⊎ (a ∈ l) → (a ≡ b) ⊎ (a ∈ (y ∷ l))
-    go (inl e) = inl e
-    go (inr k) = inr (inr k)
-
-pub inside-set : (n : ℕ) (l : List ℕ) (i b : ℕ) → Inside n l → b < n → Inside n (set l i b)
-inside-set n l i b h k a m = go (set-in l i b a m)
-  where
-    go : (a ≡ b) ⊎ (a ∈ l) → a < n
-    go (inl e) = rw e k
-    go (inr r) = h a r
-
-pub inside-more : {n k : ℕ} (l : List ℕ) → n ≤ k → Inside n l → Inside k l
-inside-more l h i a m = omega (arith, i a m)
-
--- a variable's present gate lies inside
-pub inside-at : (n : ℕ) (l : List ℕ) (x : ℕ) → Inside n l → x < length l → getD l x 0 < n
-inside-at n l x i h = i _ (getD-in l x h)
 
 -- gate j of one gate more: as before, or the new one
 pub gate-add : (C : Gates) (k : Gate) (j : ℕ) → (gateAt (C ++ (k ∷ [])) j ≡ gateAt C j) ⊎ ((j ≡ length C) × (gateAt (C ++ (k ∷ [])) j ≡ k))

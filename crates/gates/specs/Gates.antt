@@ -1,14 +1,14 @@
 -- Document 01, "The plain circuit (000 Def. 1 and App. C)": gates, and the figures that they are worked out to, gate by gate.
 use Prim.Native.Nat.{ℕ, _+_, _<_}
 use mathlib.Core.Path.{_≡_}
-use mathlib.Core.List.{List, [], _∷_, _++_, map}
+use mathlib.Core.List.{List, [], _∷_, map}
 use mathlib.Core.Bool.{cond}
 use lib.ListN.{length, getD}
 use Rattle.words.specs.Lists.{_∈_, elem, keep, upto}
-use Rattle.codes.specs.Codes.{entryOf}
-use Rattle.codes.specs.Results.{resultOf}
+use Rattle.words.specs.Runs.{runAt}
+use Rattle.codes.specs.Codes.{entryOf, choiceCost}
+use Rattle.codes.specs.Results.{isOne, resultOn}
 use Rattle.codes.specs.declared.Operation.{Operation}
-use Rattle.gates.specs.Running.{isOne}
 
 -- gates name their arguments by gate number
 pub data Gate : Type 0 where
@@ -38,10 +38,6 @@ arguments (choice c a b) = c ∷ a ∷ b ∷ []
 abbrev pub Earlier : Gates → Type 0
 Earlier C = (i a : ℕ) → a ∈ arguments (gateAt C i) → a < i
 
--- an operation on the list of its arguments' figures: one of one argument has no second
-abbrev pub resultOn : Operation → List ℕ → ℕ
-resultOn op l = resultOf op (getD l 0 0) (getD l 1 0)
-
 -- the figure of a gate, from the variables' inputs and the figures v of other gates
 abbrev pub figure : List ℕ → (ℕ → ℕ) → Gate → ℕ
 figure inputs v (start x) = getD inputs x 0
@@ -50,23 +46,11 @@ figure inputs v (bit b) = b
 figure inputs v (operation op l) = resultOn op (map v l)
 figure inputs v (choice c a b) = cond (isOne (v c)) (v a) (v b)
 
--- a run, gate by gate (or record by record): `value v k` is what k gives from what those before it gave; f: what was given so far; d stands past its end
-abbrev pub run : {K A : Type 0} → A → ((ℕ → A) → K → A) → List K → List A → List A
-run d value [] f = f
-run d value (k ∷ C) f = run d value C (f ++ (value (λ i. getD f i d) k ∷ []))
-
--- what a run from nothing gives at i
-abbrev pub runAt : {K A : Type 0} → A → ((ℕ → A) → K → A) → List K → ℕ → A
-runAt d value C i = getD (run d value C []) i d
-
 -- the figure of gate i on the inputs
 unfoldable pub figureAt : List ℕ → Gates → ℕ → ℕ
 figureAt inputs C i = runAt 0 (figure inputs) C i
 
 -- "Cost of a circuit", of a plain one: operations by the table, choice 3, others 0
-abbrev pub choiceCost : ℕ
-choiceCost = 3
-
 abbrev pub costOf : Gate → ℕ
 costOf (start x) = 0
 costOf (word n) = 0

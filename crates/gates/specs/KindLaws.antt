@@ -13,14 +13,14 @@ use Rattle.words.specs.Lists.{_∈_}
 use Rattle.words.specs.TestLaws.{split, same?}
 use Rattle.words.specs.NumberLaws.{word-below}
 use Rattle.codes.specs.Codes.{entryOf}
-use Rattle.codes.specs.Results.{bitOf, resultOf}
+use Rattle.codes.specs.Results.{bitOf, resultOf, isOne}
 use Rattle.codes.specs.declared.Kind.{Kind}
 use Rattle.codes.specs.declared.Kind.the-variants as kind
 use Rattle.codes.specs.declared.Operation.{Operation}
 use Rattle.codes.specs.declared.Operation.the-variants.{Sum, Difference, Product, LessThan, Equal, And, Or, Not}
 use Rattle.reading.specs.Tree.{Expr, variable, word, bit, one, two, Statement, assign, skip, branch, Block, end, then}
 use Rattle.reading.specs.Kinds.{Fits, Typed, TypedStatement, TypedBlock, WordsFit, WordsStatement, WordsBlock}
-use Rattle.gates.specs.Running.{isOne, figureOf, runStatement, runBlock}
+use Rattle.gates.specs.Running.{figureOf, runStatement, runBlock}
 use Rattle.gates.specs.Gates.{Gate, start, operation, choice, Gates, gateAt, arguments, Earlier, figure, figureAt}
 use Rattle.gates.specs.Gates as gate
 use Rattle.gates.specs.GateKinds.{gateKind, kindOfGate, GateFits, GatesFit}

@@ -4,17 +4,10 @@
 use Prim.Native.Nat.{ℕ}
 use mathlib.Core.List.{List, [], _∷_, _++_}
 use lib.ListN.{getD}
-use Rattle.codes.specs.Codes.{byteOf}
-use Rattle.codes.specs.declared.Kind.{Kind}
-use Rattle.codes.specs.declared.Kind.the-variants as kind
+use Rattle.codes.specs.Codes.{byteOf, startCode}
 use Rattle.reading.specs.Header.{kindAt}
 use Rattle.gates.specs.Gates.{Gate, start, operation, choice, Gates}
 use Rattle.gates.specs.Gates as gate
-
--- 00 a word's starting value, 01 a bit's
-abbrev pub startCode : Kind → ℕ
-startCode kind.Word = 0x00
-startCode kind.Bit = 0x01
 
 -- the four numbers of a gate; s is the rule, for the kind of a starting value
 abbrev pub quadOf : List ℕ → Gate → List ℕ

@@ -8,10 +8,10 @@ use borrow.Author.Tests.{eqb-false}
 use lib.ListN.{length, getD, set, length-set, List·getD-append}
 use lib.Seq.{getD-set-other, set-append-left}
 use Rattle.words.specs.TestLaws.{split, or-none}
-use Rattle.codes.specs.Results.{resultOf}
+use Rattle.codes.specs.Results.{resultOf, isOne}
 use Rattle.codes.specs.declared.Kind.{Kind}
 use Rattle.reading.specs.Tree.{Expr, variable, word, bit, one, two, Statement, assign, skip, branch, Block, end, then}
-use Rattle.gates.specs.Running.{isOne, figureOf, runStatement, runBlock}
+use Rattle.gates.specs.Running.{figureOf, runStatement, runBlock}
 use Rattle.reading.specs.Kinds.{Typed, TypedStatement, TypedBlock}
 use Rattle.gates.specs.PlainCircuit.{assignsIn, assigns}
 

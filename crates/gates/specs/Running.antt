@@ -2,17 +2,12 @@
 -- A figure is a word or a bit as a number; a run holds one figure for each variable, at first its input.
 use Prim.Native.Nat.{ℕ}
 use mathlib.Core.List.{List, []}
-use mathlib.Core.Bool.{Bool, cond}
+use mathlib.Core.Bool.{cond}
 use lib.ListN.{getD, set}
-use lib.Dec.{eqb}
-use Rattle.codes.specs.Results.{resultOf}
+use Rattle.codes.specs.Results.{isOne, resultOf}
 use Rattle.answers.specs.Parsing.{Parsed, parsed, refused}
 use Rattle.reading.specs.Rule.{readRule}
 use Rattle.reading.specs.Tree.{Expr, variable, word, bit, one, two, Statement, assign, skip, branch, Block, end, then}
-
--- a bit's figure is 1
-abbrev pub isOne : ℕ → Bool
-isOne n = eqb n 1
 
 -- 10 gives the variable's figure, 11 and 12 their constant, an operation its result on its arguments' figures
 unfoldable pub figureOf : List ℕ → Expr → ℕ

@@ -5,8 +5,8 @@ use mathlib.Core.List.{List, [], _∷_, _++_}
 use mathlib.Core.Logic.{_⊎_, inl, inr}
 use native.Mathlib.Omega.{arith}
 use lib.ListN.{length, getD, length-append, length-set}
-use Rattle.words.specs.Lists.{_∈_, upto}
-use Rattle.words.specs.MemberLaws.{keep-from, from-below}
+use Rattle.words.specs.Lists.{_∈_, upto, Inside}
+use Rattle.words.specs.MemberLaws.{keep-from, from-below, inside-set, inside-more, inside-at}
 use Rattle.codes.specs.declared.Kind.{Kind}
 use Rattle.codes.specs.declared.Kind.the-variants as kind
 use Rattle.codes.specs.declared.Operation.{Operation}
@@ -17,7 +17,7 @@ use Rattle.gates.specs.Gates as gate
 use Rattle.gates.specs.PlainCircuit.{Making, Made, add, applyGate, makeExpr, choose, choices, assignedIn, asBefore, makeStatement, makeBlock, conditionMade, firstMade, secondMade}
 use Rattle.gates.specs.PlainLaws.{Extends, extends-trans, extends-length, expr-extends, block-extends}
 use Rattle.gates.specs.ApplyLaws.{apply-arguments}
-use Rattle.gates.specs.EarlierLaws.{Inside, inside-set, inside-more, inside-at, earlier-add}
+use Rattle.gates.specs.EarlierLaws.{earlier-add}
 
 -- what making keeps: V present gates, all of the circuit, and arguments made before their gates
 pub record Sound (v : ℕ) (m : Making) : Type 0 where

@@ -4,10 +4,10 @@ use mathlib.Core.Path.{_≡_, refl}
 use mathlib.Core.List.{List}
 use mathlib.Core.Bool.{true, false}
 use lib.ListN.{length, getD, set}
-use Rattle.codes.specs.Results.{resultOf}
+use Rattle.codes.specs.Results.{resultOf, isOne}
 use Rattle.codes.specs.declared.Operation.{Operation}
 use Rattle.reading.specs.Tree.{Expr, variable, word, bit, one, two, Statement, assign, skip, branch, Block, end, then}
-use Rattle.gates.specs.Running.{isOne, figureOf, runStatement, runBlock}
+use Rattle.gates.specs.Running.{figureOf, runStatement, runBlock}
 use Rattle.gates.specs.Gates as gate
 use Rattle.gates.specs.PlainCircuit.{Making, makeExpr, choices, assignedIn, asBefore, makeStatement, conditionMade, firstMade, secondMade}
 

@@ -13,12 +13,12 @@ use Rattle.settings.specs.Guards.{table}
 use Rattle.gates.specs.Gates.{Gates, gateAt, arguments}
 use Rattle.gates.specs.Limits.{mostConditions}
 use Rattle.gates.specs.Quads.{quadsOf}
-use Rattle.gates.specs.EarlierLaws.{Inside}
+use Rattle.words.specs.Lists.{Inside}
 use Rattle.needed.specs.Held.{Shaped}
 use Rattle.needed.specs.HeldQuads.{gates-held}
 use Rattle.plan.specs.Groups.{restsOf}
-use Rattle.fused.specs.Records.{Record}
-use Rattle.fused.specs.Records as records
+use Rattle.records.specs.Records.{Record}
+use Rattle.records.specs.Records as records
 use Rattle.fused.specs.Emission.{gateOperation, joined, guardOf, valuesAt, emit}
 use Rattle.emitting.specs.HeldLaws.{alone-held, alone-same}
 use Rattle.joining.specs.Joined.{emitIn}

@@ -12,9 +12,9 @@ use Rattle.words.specs.BufferLaws.{length-over, room-rest}
 use Rattle.settings.specs.Sets.{rests}
 use Rattle.settings.specs.Guards.{table}
 use Rattle.gates.specs.Limits.{mostConditions}
-use Rattle.fused.specs.Records.{Pair, pick, pairWires}
-use Rattle.fused.specs.CircuitFile.{wiresBytes, recordBytes}
-use Rattle.fused.specs.SizeLaws.{wires-size, pick-size}
+use Rattle.records.specs.Records.{Pair, pick, pairWires}
+use Rattle.records.specs.CircuitFile.{wiresBytes, recordBytes}
+use Rattle.records.specs.SizeLaws.{wires-size, pick-size}
 use Rattle.joining.specs.Joined.{guardIn}
 use Rattle.emitting.specs.ByteLaws.{behind}
 

@@ -13,7 +13,7 @@ use Rattle.gates.specs.Gates.{Gate, Gates, gateAt, arguments, conditions, Earli
 use Rattle.gates.specs.ConditionLaws.{condition-below}
 use Rattle.gates.specs.Limits.{mostGates, mostConditions}
 use Rattle.gates.specs.Quads.{quadsOf}
-use Rattle.gates.specs.EarlierLaws.{Inside}
+use Rattle.words.specs.Lists.{Inside}
 use Rattle.needed.specs.Held.{Shaped}
 use Rattle.needed.specs.HeldQuads.{gate-held, gates-held}
 use Rattle.plan.specs.PlanFile.{groupAt, after}

@@ -13,18 +13,18 @@ use Rattle.codes.specs.Codes.{entryOf, operationOf}
 use Rattle.codes.specs.declared.Operation.{Operation}
 use Rattle.codes.specs.CodeLaws.{one-or-two, byte-back}
 use Rattle.gates.specs.Gates.{Gate, start, word, bit, operation, choice, gateAt, arguments, conditions}
-use Rattle.gates.specs.EarlierLaws.{Inside}
+use Rattle.words.specs.Lists.{Inside}
 use Rattle.gates.specs.Limits.{mostConditions}
 use Rattle.needed.specs.Held.{gateIn, gatesIn, codeAt, firstAt, secondAt, thirdAt}
 use Rattle.needed.specs.HeldLaws.{gates-at}
 use Rattle.needed.specs.QuadLaws.{Applies, KindIn, chooses, is-word, is-bit, applies, starts, kind-in, choice-in, word-in, bit-in, applied-in}
 use Rattle.plan.specs.PlanFile.{groupAt}
 use Rattle.plan.specs.RestLaws.{rests-held}
-use Rattle.fused.specs.Records.{Record, pick}
-use Rattle.fused.specs.Records as records
+use Rattle.records.specs.Records.{Record, pick}
+use Rattle.records.specs.Records as records
 use Rattle.fused.specs.Emission as emission
-use Rattle.fused.specs.CircuitFile.{wiresBytes, recordBytes, recordsBytes}
-use Rattle.fused.specs.SizeLaws.{bytes-append}
+use Rattle.records.specs.CircuitFile.{wiresBytes, recordBytes, recordsBytes}
+use Rattle.records.specs.SizeLaws.{bytes-append}
 use Rattle.joining.specs.Joined.{emitIn, guardIn, guardsIn, argumentAt, pairsIn, Paired}
 
 -- the bytes of the two picks, and with the operation behind them: it reads the two picks, whose wires follow those of the k guards

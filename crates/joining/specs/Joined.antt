@@ -8,10 +8,10 @@ use Rattle.settings.specs.Sets.{rests}
 use Rattle.settings.specs.Guards.{table}
 use Rattle.gates.specs.Gates.{arguments, conditions}
 use Rattle.gates.specs.Limits.{mostGates, mostConditions}
-use Rattle.gates.specs.EarlierLaws.{Inside}
+use Rattle.words.specs.Lists.{Inside}
 use Rattle.needed.specs.Held.{gateIn, gatesIn}
 use Rattle.plan.specs.PlanFile.{groupAt, after}
-use Rattle.fused.specs.Records.{Pair, Record, guard}
+use Rattle.records.specs.Records.{Pair, Record, guard}
 use Rattle.fused.specs.Emission.{emit, pairs}
 use Rattle.emitting.specs.Emitted.{aloneIn, Grouped}
 

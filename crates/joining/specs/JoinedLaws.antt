@@ -11,9 +11,9 @@ use Rattle.words.specs.BufferLaws.{length-over, room-rest}
 use Rattle.needed.specs.Held.{codeAt}
 use Rattle.needed.specs.QuadLaws.{Applies}
 use Rattle.plan.specs.PlanFile.{groupAt}
-use Rattle.fused.specs.Records.{Record, pick}
-use Rattle.fused.specs.CircuitFile.{wiresBytes, recordBytes, recordsBytes}
-use Rattle.fused.specs.SizeLaws.{wires-size, pick-size}
+use Rattle.records.specs.Records.{Record, pick}
+use Rattle.records.specs.CircuitFile.{wiresBytes, recordBytes, recordsBytes}
+use Rattle.records.specs.SizeLaws.{wires-size, pick-size}
 use Rattle.joining.specs.Joined.{emitIn, guardsIn, argumentAt, pairsIn, JoinWritable}
 use Rattle.emitting.specs.ByteLaws.{behind}
 use Rattle.plan.specs.NumberLaws.{length-group, member-in}

@@ -6,10 +6,10 @@ use native.Mathlib.Nat.{add-zero}
 use native.Mathlib.Omega.{arith}
 use lib.ListN.{length, getD}
 use Rattle.words.specs.Numbers.{bytesOf}
-use Rattle.fused.specs.Records.{Record, pairWires}
+use Rattle.records.specs.Records.{Record, pairWires}
 use Rattle.fused.specs.Emission.{pairs}
-use Rattle.fused.specs.CircuitFile.{wiresBytes, recordBytes, recordsBytes}
-use Rattle.fused.specs.SizeLaws.{wires-append}
+use Rattle.records.specs.CircuitFile.{wiresBytes, recordBytes, recordsBytes}
+use Rattle.records.specs.SizeLaws.{wires-append}
 use Rattle.emitting.specs.FillLaws.{pieces, pieces-none, pieces-first, pieces-same}
 
 -- The wires of a guard: piece i is the wire of condition i of those in a list.

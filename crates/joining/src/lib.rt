@@ -1,7 +1,7 @@
 // Document 01, "The fused circuit file": the records of a joined group, written at the start of a lent buffer: a guard for each member, a pick for each argument place,
 // the operation.
-use fused::WireId;
 use gates::GateId;
+use records::WireId;
 use settings::ConditionList;
 ghost use mathlib.Core.Path.{_≡_};
 ghost use mathlib.Core.List.{_∷_, [], map};
@@ -11,8 +11,8 @@ ghost use Rattle.words.specs.Buffers.{over, padded};
 ghost use Rattle.settings.specs.Sets.{rests};
 ghost use Rattle.gates.specs.Limits.{mostConditions};
 ghost use Rattle.plan.specs.PlanFile.{groupAt};
-ghost use Rattle.fused.specs.Records.{pick, pairWires};
-ghost use Rattle.fused.specs.CircuitFile.{wiresBytes, recordBytes, recordsBytes};
+ghost use Rattle.records.specs.Records.{pick, pairWires};
+ghost use Rattle.records.specs.CircuitFile.{wiresBytes, recordBytes, recordsBytes};
 ghost use Rattle.emitting.specs.Emitted.{wireIn};
 ghost use Rattle.joining.specs.Joined.{emitIn, guardIn, guardsIn, pairsIn, Lies, Guarded, Paired, JoinWritable};
 ghost use Rattle.joining.specs.JoinLaws.{Fusing, picksBytes, fusedBytes};

@@ -18,7 +18,8 @@ use Rattle.settings.specs.BitLaws.{bit-zero, bit-suc, bit-none}
 use Rattle.reading.specs.Header.{variables, kindAt}
 use Rattle.gates.specs.Gates.{Gate, start, choice, Gates}
 use Rattle.gates.specs.PlainCircuit.{Making, choose, choices, starts}
-use Rattle.gates.specs.Quads.{startCode, quadOf, quadsOf}
+use Rattle.codes.specs.Codes.{startCode}
+use Rattle.gates.specs.Quads.{quadOf, quadsOf}
 use Rattle.making.specs.Holding.{Stored, StandsFor, Held, Pushed, Chose, Chosen, ChosenTo, Started}
 
 -- the bit of one variable alone

@@ -16,8 +16,7 @@ ghost use Rattle.reading.specs.Rule.{readRule};
 ghost use Rattle.settings.specs.Sets.{has};
 ghost use Rattle.gates.specs.Gates.{choice};
 ghost use Rattle.gates.specs.PlainCircuit.{turned, applyGate, assignsIn, assigns, makeStatement, makeBlock, starts};
-ghost use Rattle.codes.specs.Codes.{byteOf};
-ghost use Rattle.gates.specs.Quads.{startCode};
+ghost use Rattle.codes.specs.Codes.{byteOf, startCode};
 ghost use Rattle.making.specs.RuleMade.{RuleMade};
 ghost use Rattle.making.specs.Holding.{Held, Pushed, Applied, ExprMade, Chose, Chosen, Done};
 

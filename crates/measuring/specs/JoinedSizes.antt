@@ -11,14 +11,14 @@ use Rattle.codes.specs.Codes.{entryOf, operationOf, codeOf}
 use Rattle.codes.specs.CodeLaws.{code-operation}
 use Rattle.codes.specs.declared.Code.{Code}
 use Rattle.gates.specs.Gates.{conditions}
-use Rattle.gates.specs.EarlierLaws.{Inside}
+use Rattle.words.specs.Lists.{Inside}
 use Rattle.gates.specs.Limits.{mostConditions}
 use Rattle.needed.specs.Held.{gatesIn, codeAt}
 use Rattle.needed.specs.QuadLaws.{Applies}
 use Rattle.plan.specs.PlanFile.{groupAt}
-use Rattle.fused.specs.Records.{Record, recordsCost}
-use Rattle.fused.specs.CircuitFile.{recordBytes, recordsBytes}
-use Rattle.fused.specs.SizeLaws.{cost-append}
+use Rattle.records.specs.Records.{Record, recordsCost}
+use Rattle.records.specs.CircuitFile.{recordBytes, recordsBytes}
+use Rattle.records.specs.SizeLaws.{cost-append}
 use Rattle.joining.specs.Joined.{emitIn, guardIn, guardsIn, argumentAt, pairsIn, Joinable}
 use Rattle.measuring.specs.Sizes.{restedBy, Measured}
 use Rattle.plan.specs.NumberLaws.{length-group, member-in}

@@ -13,8 +13,8 @@ use Rattle.codes.specs.declared.Code.{Code}
 use Rattle.gates.specs.Gates.{Gate, start, word, bit, operation, choice, costOf}
 use Rattle.needed.specs.Held.{choiceCode, gateIn, codeAt, firstAt}
 use Rattle.needed.specs.QuadLaws.{Applies, KindIn, chooses, is-word, is-bit, applies, starts, kind-in, choice-in, word-in, bit-in, start-in, applied-in}
-use Rattle.fused.specs.Records.{recordCost, recordsCost}
-use Rattle.fused.specs.CircuitFile.{recordBytes}
+use Rattle.records.specs.Records.{recordCost, recordsCost}
+use Rattle.records.specs.CircuitFile.{recordBytes}
 use Rattle.emitting.specs.Emitted.{aloneOf, aloneIn, FitsGate, Coded}
 use Rattle.measuring.specs.Sizes.{Measured}
 use Rattle.emitting.specs.AloneLaws.{choice-long, word-long, bit-long, start-long, unary-long, binary-long}

@@ -5,9 +5,9 @@ use mathlib.Core.List.{List, [], _∷_}
 use lib.ListN.{length, getD}
 use Rattle.settings.specs.Sets.{rests}
 use Rattle.gates.specs.Limits.{mostConditions}
-use Rattle.gates.specs.EarlierLaws.{Inside}
-use Rattle.fused.specs.Records.{recordsCost}
-use Rattle.fused.specs.CircuitFile.{recordsBytes}
+use Rattle.words.specs.Lists.{Inside}
+use Rattle.records.specs.Records.{recordsCost}
+use Rattle.records.specs.CircuitFile.{recordsBytes}
 use Rattle.joining.specs.Joined.{emitIn}
 
 -- how many conditions the members rest on, counted for each member

@@ -5,7 +5,7 @@ use mathlib.Core.List.{List, [], _∷_}
 use mathlib.Core.Logic.{inl, inr}
 use native.Mathlib.Omega.{arith}
 use lib.ListN.{getD, take}
-use Rattle.words.specs.Lists.{_∈_}
+use Rattle.words.specs.Lists.{_∈_, Inside}
 use Rattle.codes.specs.Codes.{codeOf}
 use Rattle.codes.specs.declared.Code.{Code}
 use Rattle.codes.specs.declared.Form.{Form}
@@ -13,7 +13,6 @@ use Rattle.codes.specs.declared.Form.the-variants.{End, Assign, Skip, Branch, V
 use Rattle.settings.specs.Sets.{given, without}
 use Rattle.settings.specs.Numbers.{numbers}
 use Rattle.gates.specs.Gates.{Gate, choice, gateAt, arguments, conditions}
-use Rattle.gates.specs.EarlierLaws.{Inside}
 use Rattle.gates.specs.ConditionLaws.{condition-in}
 use Rattle.needed.specs.Pass.{addAll, hand}
 use Rattle.needed.specs.PreconditionLaws.{conditions-once}

@@ -6,11 +6,11 @@ use mathlib.Core.Bool.{cond}
 use lib.ListN.{length, getD, take}
 use lib.Dec.{eqb}
 use Rattle.words.specs.Lists.{upto}
-use Rattle.codes.specs.Codes.{entryOf, codeOf}
+use Rattle.codes.specs.Codes.{entryOf, codeOf, choiceCost}
 use Rattle.codes.specs.declared.Code.{Code}
 use Rattle.codes.specs.declared.Form.{Form}
 use Rattle.codes.specs.declared.Form.the-variants.{End, Assign, Skip, Branch, Variable, Word, Bit, Apply, Unknown}
-use Rattle.gates.specs.Gates.{Gate, start, word, bit, operation, choice, Gates, gateAt, choiceCost}
+use Rattle.gates.specs.Gates.{Gate, start, word, bit, operation, choice, Gates, gateAt}
 
 -- a choice's code
 abbrev pub choiceCode : ℕ

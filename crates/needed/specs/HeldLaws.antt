@@ -13,14 +13,14 @@ use borrow.Author.Tests.{eq-eqb, ne-eqb}
 use Rattle.words.specs.Lists.{_∈_}
 use Rattle.words.specs.ListLaws.{getD-run}
 use Rattle.words.specs.TestLaws.{same?}
-use Rattle.codes.specs.Codes.{plain, entryOf, operationOf, codeOf}
+use Rattle.codes.specs.Codes.{plain, entryOf, operationOf, codeOf, choiceCost}
 use Rattle.codes.specs.CodeLaws.{code-unknown}
 use Rattle.codes.specs.declared.Code.{Code}
 use Rattle.codes.specs.declared.Kind.the-variants as kind
 use Rattle.codes.specs.declared.Form.the-variants.{End, Assign, Skip, Branch, Variable, Word, Bit, Unknown}
 use Rattle.codes.specs.declared.Operation.{Operation}
 use Rattle.codes.specs.declared.Operation.the-variants.{Sum, Difference, Product, LessThan, Equal, And, Or, Not}
-use Rattle.gates.specs.Gates.{word, choice, gateAt, arguments, Earlier, costOf, costs, choiceCost}
+use Rattle.gates.specs.Gates.{word, choice, gateAt, arguments, Earlier, costOf, costs}
 use Rattle.gates.specs.CostLaws.{costs-add, costs-most}
 use Rattle.needed.specs.Held.{choiceCode, ofForm, argumentsOf, gateOf, gateIn, gatesIn, codeCost, costTable}
 

@@ -6,7 +6,7 @@ use native.Mathlib.Nat.{add-zero}
 use native.Mathlib.Omega.{arith}
 use lib.ListN.{length, getD, take, List·getD-append}
 use lib.Seq.{getD-append-add, getD-take, take-suc, take-length}
-use Rattle.codes.specs.Codes.{entryOf, operationOf, codeOf, byteOf}
+use Rattle.codes.specs.Codes.{entryOf, operationOf, codeOf, byteOf, startCode}
 use Rattle.codes.specs.declared.Kind.{Kind}
 use Rattle.codes.specs.declared.Kind.the-variants as kind
 use Rattle.codes.specs.declared.Operation.{Operation}
@@ -16,7 +16,7 @@ use Rattle.reading.specs.Header.{kindAt}
 use Rattle.reading.specs.Tree.{Block}
 use Rattle.reading.specs.Rule.{readRule}
 use Rattle.gates.specs.Gates.{Gate, start, word, bit, operation, choice, Gates, gateAt}
-use Rattle.gates.specs.Quads.{startCode, quadOf, quadsOf}
+use Rattle.gates.specs.Quads.{quadOf, quadsOf}
 use Rattle.gates.specs.QuadLaws.{quad-length}
 use Rattle.gates.specs.PlainCircuit.{gatesOf, gateCount}
 use Rattle.needed.specs.Held.{gateOf, gateIn, gatesIn, ShapedGate, Shaped}

@@ -11,7 +11,7 @@ use Rattle.words.specs.MemberLaws.{getD-in}
 use Rattle.settings.specs.Sets.{whole, given, without}
 use Rattle.settings.specs.Numbers.{numbers}
 use Rattle.gates.specs.Gates.{Gates, conditions}
-use Rattle.gates.specs.EarlierLaws.{Inside}
+use Rattle.words.specs.Lists.{Inside}
 use Rattle.needed.specs.Pass.{addAll, passSets, preconditions, preconditionSets}
 use Rattle.needed.specs.HandLaws.{addAll-length}
 use Rattle.needed.specs.PassLaws.{pass-length}

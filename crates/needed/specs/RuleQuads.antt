@@ -10,7 +10,7 @@ use Rattle.gates.specs.Limits.{mostGates, mostConditions}
 use Rattle.gates.specs.Gates.{Gates, Earlier, conditions}
 use Rattle.gates.specs.Quads.{quadsOf}
 use Rattle.gates.specs.PlainCircuit.{gatesOf, outputsOf, gateCount}
-use Rattle.gates.specs.EarlierLaws.{Inside}
+use Rattle.words.specs.Lists.{Inside}
 use Rattle.needed.specs.Pass.{preconditionSets, rulePreconditions}
 use Rattle.needed.specs.RulePreconditions.{rule-earlier, wanted-inside}
 use Rattle.needed.specs.Held.{gatesIn}

@@ -10,7 +10,7 @@ ghost use Rattle.codes.specs.Codes.{codeOf};
 ghost use Rattle.settings.specs.Sets.{whole, given, without};
 ghost use Rattle.gates.specs.Gates.{Earlier, costs, conditions};
 ghost use Rattle.gates.specs.Limits.{mostGates, mostConditions};
-ghost use Rattle.gates.specs.EarlierLaws.{Inside};
+ghost use Rattle.words.specs.Lists.{Inside};
 ghost use Rattle.needed.specs.Held.{firstAt, secondAt, gatesIn, codeCost, costTable};
 ghost use Rattle.needed.specs.Ranks.{Marked, markedIn, NumberedBelow};
 ghost use Rattle.needed.specs.Pass.{preconditionSets};

@@ -4,11 +4,11 @@ use mathlib.Core.List.{List, _∷_, _++_, append-assoc}
 use Prim.Native.Nat.{ℕ, zero, suc, _+_, _*_, _≤_, _<_}
 use native.Mathlib.Omega.{arith}
 use native.Mathlib.Numerals.{add-one}
-use lib.ListN.{length, take, drop, getD, take-append-drop, length-drop}
-use lib.Seq.{length-take-le, drop-length, drop-cons, drop-drop, getD-take, getD-drop}
+use lib.ListN.{length, take, drop, getD, take-append-drop}
+use lib.Seq.{drop-length, drop-cons}
 use Rattle.words.specs.Lists.{flat}
 use Rattle.words.specs.Numbers.{bytesOf, numberAt, Bytes}
-use Rattle.words.specs.NumberLaws.{bytes-number}
+use Rattle.words.specs.NumberLaws.{number-back}
 use Rattle.gates.specs.PlainCircuit.{gateCount}
 use Rattle.plan.specs.PlanFile.{leastBytes, groupsCounted, numbersAt, groupAt, after, groupsFrom, groupsIn, Ends}
 use Rattle.plan.specs.Accepted.{LaidOut}
@@ -26,18 +26,7 @@ length-groups (suc n) p at = ap suc (length-groups n p (after p at))
 module _ (p : List ℕ) (bytes : Bytes p) where
   -- two bytes, read and written again
   two-bytes : (at : ℕ) → at + 2 ≤ length p → drop at p ≡ bytesOf 2 (numberAt 2 p at) ++ drop (at + 2) p
-  two-bytes at h =
-      sym (take-append-drop 2 (drop at p))
-      ∙ ap₂ (λ (a b : List ℕ). a ++ b) (sym written) (drop-drop 2 at p)
-    where
-      size : length (take 2 (drop at p)) ≡ 2
-      size = length-take-le 2 (drop at p) (simp length-drop (omega arith))
-
-      written : bytesOf 2 (numberAt 2 p at) ≡ take 2 (drop at p)
-      written =
-          ap (λ (w : ℕ). bytesOf w (numberAt 2 p at)) (sym size)
-          ∙ bytes-number (take 2 (drop at p))
-          (λ i l. let m : i < 2 = rw size at l in rw (getD-take 2 (drop at p) i 0 m, getD-drop at p i 0) (bytes (at + i) (omega arith)))
+  two-bytes at h = number-back 2 p at bytes h
 
   numbers-bytes : (n at : ℕ) → at + 2 * n ≤ length p → drop at p ≡ flat (bytesOf 2) (numbersAt n p at) ++ drop (at + 2 * n) p
   numbers-bytes zero at h = let e : at ≡ at + 2 * 0 = omega arith in ap (λ (k : ℕ). drop k p) e

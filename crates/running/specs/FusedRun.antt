@@ -7,8 +7,8 @@ use lib.Dec.{eqb}
 use lib.ListN.{length}
 use Rattle.words.specs.Buffers.{over}
 use Rattle.direct.specs.Direct.{runAnswer}
-use Rattle.fused.specs.CircuitFile.{fusedFile}
-use Rattle.fused.specs.FileFigures.{fileFigures}
+use Rattle.fused.specs.FusedCircuit.{fusedFile}
+use Rattle.records.specs.FileFigures.{fileFigures}
 use Rattle.fused.specs.Answers.{fusedAnswer}
 
 -- the result places after it: the figures of the file's own bytes in the first V, nothing after; a refusal writes to none

@@ -1,5 +1,4 @@
 pub mod FusedRun
-pub mod RecordBounds
 pub mod RunnableLaws
 pub mod ResultLaws
 pub mod StepLaws

@@ -15,8 +15,8 @@ use Rattle.reading.specs.FirstStatement.{rule-read}
 use Rattle.circuit.specs.WholeLaws.{accepted}
 use Rattle.plan.specs.Rows.{planAnswer}
 use Rattle.plan.specs.AcceptedLaws.{plan-accepted}
-use Rattle.fused.specs.CircuitFile.{fusedFile}
-use Rattle.fused.specs.FileFigures.{fileVariables, fileFigures}
+use Rattle.fused.specs.FusedCircuit.{fusedFile}
+use Rattle.records.specs.FileFigures.{fileVariables, fileFigures}
 use Rattle.fused.specs.Answers.{fusedAnswer}
 use Rattle.fused.specs.SizeBounds.{plan-most, outputs-count, fused-size}
 use Rattle.fused.specs.AnswerLaws.{fused-plan, answer-bytes}

@@ -6,4 +6,6 @@ pub mod Lists
 pub mod TestLaws
 pub mod MemberLaws
 pub mod ListLaws
+pub mod Runs
+pub mod RunLaws
 pub mod Examples

@@ -1,9 +1,9 @@
--- Document 01, throughout: lists of numbers, membership as a type and as a test, the members that pass a test, runs of numbers, joined lists.
+-- Document 01, throughout: lists of numbers, membership as a type and as a test, numbers below a bound, the members that pass a test, runs of numbers, joined lists.
 use mathlib.Core.Path.{_≡_}
 use mathlib.Core.Bool.{Bool, true, false, cond}
 use mathlib.Core.List.{List, [], _∷_, _++_}
 use mathlib.Core.Logic.{_⊎_}
-use Prim.Native.Nat.{ℕ, zero, suc, _+_}
+use Prim.Native.Nat.{ℕ, zero, suc, _+_, _<_}
 use lib.Dec.{eqb}
 
 infix 40 _∈_
@@ -16,6 +16,10 @@ a ∈ (x ∷ l) = (a ≡ x) ⊎ (a ∈ l)
 abbrev pub elem : ℕ → List ℕ → Bool
 elem a [] = false
 elem a (x ∷ l) = cond (eqb a x) true (elem a l)
+
+-- each of these lies below n
+abbrev pub Inside : ℕ → List ℕ → Type 0
+Inside n l = (a : ℕ) → a ∈ l → a < n
 
 -- the members of a list that pass a test, in order
 abbrev pub keep : (ℕ → Bool) → List ℕ → List ℕ

@@ -1,4 +1,4 @@
--- Laws of membership: of the members that pass a test, of runs, of joined and mapped lists.
+-- Laws of membership: of the members that pass a test, of runs, of joined and mapped lists; of numbers that all lie below a bound.
 use mathlib.Core.Path.{_≡_, refl, sym, ap, _∙_}
 use mathlib.Core.Bool.{Bool, true, cond, false≢true}
 use mathlib.Core.List.{List, [], _∷_, _++_, map}
@@ -7,8 +7,8 @@ use Prim.Native.Nat.{ℕ, zero, suc, _+_, _≤_, _<_}
 use native.Mathlib.Omega.{arith}
 use lib.Dec.{eqb}
 use borrow.Author.Tests.{eqb-true, eq-eqb}
-use lib.ListN.{length, getD}
-use Rattle.words.specs.Lists.{_∈_, elem, keep, from, flat}
+use lib.ListN.{length, getD, set}
+use Rattle.words.specs.Lists.{_∈_, elem, Inside, keep, from, flat}
 use Rattle.words.specs.TestLaws.{split, same?}
 
 -- the test says what the type says
@@ -104,3 +104,28 @@ pub getD-in : (l : List ℕ) (k : ℕ) → k < length l → getD l k 0 ∈ l
 getD-in [] k h = absurd (omega arith)
 getD-in (a ∷ l) zero h = inl refl
 getD-in (a ∷ l) (suc k) h = inr (getD-in l k (omega arith))
+
+-- of numbers that all lie below n: one of them changed, a larger bound, one that is read at a place
+set-in : (l : List ℕ) (i b a : ℕ) → a ∈ set l i b → (a ≡ b) ⊎ (a ∈ l)
+set-in [] i b a h = absurd h
+set-in (y ∷ l) zero b a (inl e) = inl e
+set-in (y ∷ l) zero b a (inr m) = inr (inr m)
+set-in (y ∷ l) (suc i) b a (inl e) = inr (inl e)
+set-in (y ∷ l) (suc i) b a (inr m) = go (set-in l i b a m)
+  where
+    go : (a ≡ b) ⊎ (a ∈ l) → (a ≡ b) ⊎ (a ∈ (y ∷ l))
+    go (inl e) = inl e
+    go (inr k) = inr (inr k)
+
+pub inside-set : (n : ℕ) (l : List ℕ) (i b : ℕ) → Inside n l → b < n → Inside n (set l i b)
+inside-set n l i b h k a m = go (set-in l i b a m)
+  where
+    go : (a ≡ b) ⊎ (a ∈ l) → a < n
+    go (inl e) = rw e k
+    go (inr r) = h a r
+
+pub inside-more : {n k : ℕ} (l : List ℕ) → n ≤ k → Inside n l → Inside k l
+inside-more l h i a m = omega (arith, i a m)
+
+pub inside-at : (n : ℕ) (l : List ℕ) (x : ℕ) → Inside n l → x < length l → getD l x 0 < n
+inside-at n l x i h = i _ (getD-in l x h)

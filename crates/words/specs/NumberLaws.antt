@@ -1,13 +1,13 @@
 -- Laws of `number` and `bytesOf`, over the width.
-use mathlib.Core.Path.{_≡_, refl, sym, ap, subst⁻¹, _∙_}
+use mathlib.Core.Path.{_≡_, refl, sym, ap, ap₂, subst⁻¹, _∙_}
 use mathlib.Core.List.{List, [], _∷_, _++_}
 use Prim.Native.Nat.{ℕ, zero, suc, _+_, _*_, _/_, _%_, _^_, _≤_, _<_}
 use native.Mathlib.Nat.{zero-add, suc-add, add-assoc, zero-mul, add-mul, mul-assoc, mul-comm, pow-succ', one-le-pow, le-of-lt, lt-of-le-of-lt, mul-le-mul-left, mul-lt-mul-of-pos-right, mod-eq-of-lt, div-add-mod', div-div-eq-div-mul, mul-add-div-right, mul-add-mod-self-right}
 use native.Mathlib.Omega.{arith}
 use lib.Arith.{digits-lt, digits-div, mod-mul}
-use lib.ListN.{length, take, drop, getD, length-append, length-drop}
+use lib.ListN.{length, take, drop, getD, length-append, length-drop, take-append-drop}
 use lib.Pow.{pow-pos, pow-add}
-use lib.Seq.{take-add, take-at, drop-drop, drop-cons, drop-append-seam, length-take-le}
+use lib.Seq.{take-add, take-at, drop-drop, drop-cons, drop-append-seam, length-take-le, getD-take, getD-drop}
 use Rattle.words.specs.Numbers.{number, bytesOf, numberAt, Bytes}
 
 -- a product fits twice the width
@@ -93,6 +93,19 @@ bytes-number [] h = refl
 bytes-number (b ∷ s) h =
     let t : Bytes s = λ i l. h (suc i) (omega arith) in
     rw (digits-div b (number-below s t), mod-eq-of-lt (h 0 (omega arith)), bytes-high (length s) b (number s), bytes-number s t)
+
+-- reading a number of bytes from a place on, then writing it there
+pub number-back : (w : ℕ) (s : List ℕ) (at : ℕ) → Bytes s → at + w ≤ length s → drop at s ≡ bytesOf w (numberAt w s at) ++ drop (at + w) s
+number-back w s at bytes h = sym (take-append-drop w (drop at s)) ∙ ap₂ (λ (a b : List ℕ). a ++ b) (sym written) (drop-drop w at s)
+  where
+    size : length (take w (drop at s)) ≡ w
+    size = length-take-le w (drop at s) (simp length-drop (omega arith))
+
+    written : bytesOf w (numberAt w s at) ≡ take w (drop at s)
+    written =
+        ap (λ (k : ℕ). bytesOf k (numberAt w s at)) (sym size)
+        ∙ bytes-number (take w (drop at s))
+        (λ i l. let m : i < w = rw size at l in rw (getD-take w (drop at s) i 0 m, getD-drop at s i 0) (bytes (at + i) (omega arith)))
 
 -- the number that a buffer holds where it was written
 pub number-found : (w n : ℕ) (a b : List ℕ) → n < 256 ^ w → numberAt w (a ++ (bytesOf w n ++ b)) (length a) ≡ n

@@ -23,9 +23,9 @@ use Rattle.plan.specs.AcceptedLaws.{answer-accepted, plan-accepted, row-right}
 use Rattle.checking.specs.Checked.{writingOrder}
 use Rattle.checking.specs.Handed.{Handed}
 use Rattle.checking.specs.CheckedLaws.{accepted-lists}
-use Rattle.fused.specs.Records.{Record, recordsCost}
-use Rattle.fused.specs.FusedCircuit.{recordsOf, outputWires, costAfter}
-use Rattle.fused.specs.CircuitFile.{recordsBytes, fileBytes, fusedFile}
+use Rattle.records.specs.Records.{Record, recordsCost}
+use Rattle.fused.specs.FusedCircuit.{recordsOf, outputWires, costAfter, fusedFile}
+use Rattle.records.specs.CircuitFile.{recordsBytes, fileBytes}
 use Rattle.fused.specs.Answers.{fusedCounts, fusedAnswer}
 use Rattle.fused.specs.AnswerLaws.{fused-refused, fused-plan, answer-bytes}
 use Rattle.fused.specs.SizeBounds.{fused-size, wires-bound, bytes-bound}

@@ -6,10 +6,9 @@ use mathlib.Core.List.{List, [], _∷_, _++_, map}
 use mathlib.Core.Logic.{inl, inr}
 use lib.ListN.{length, getD, set, length-append, length-set, length-replicate}
 use lib.Seq.{getD-set-same, getD-set-other}
-use Rattle.words.specs.Lists.{_∈_, upto}
+use Rattle.words.specs.Lists.{_∈_, upto, Inside}
 use Rattle.gates.specs.Gates.{Gates, gateAt, arguments}
 use Rattle.gates.specs.Limits.{mostGates}
-use Rattle.gates.specs.EarlierLaws.{Inside}
 use Rattle.gates.specs.PlainCircuit.{gatesOf, gateCount}
 use Rattle.needed.specs.Pass.{rulePreconditions}
 use Rattle.circuit.specs.Built.{builtQuads, builtNeeds}
@@ -23,7 +22,7 @@ use Rattle.plan.specs.ReadsLaws.{waits-argument, waits-rests}
 use Rattle.plan.specs.SameLaws.{rests-same}
 use Rattle.checking.specs.Checked.{writingOrder, checkedGroups, checkedPlaces, checkedOrder}
 use Rattle.checking.specs.CheckedLaws.{group-is, turn-is}
-use Rattle.fused.specs.Records.{Record}
+use Rattle.records.specs.Records.{Record}
 use Rattle.fused.specs.Emission.{gateOperation, joined, guardOf, valuesAt, emit}
 use Rattle.fused.specs.FusedCircuit.{Written, groupRecords, written}
 use Rattle.fused.specs.WrittenLaws.{written-none, written-more, wire-last, wire-old}

@@ -9,7 +9,7 @@ use Rattle.words.specs.Buffers.{over}
 use Rattle.answers.specs.Answers.{refusal}
 use Rattle.answers.specs.declared.Answer.{Answer}
 use Rattle.plan.specs.Rows.{planAnswer}
-use Rattle.fused.specs.CircuitFile.{fusedFile}
+use Rattle.fused.specs.FusedCircuit.{fusedFile}
 use Rattle.fused.specs.Answers.{fusedAnswer, writeAnswer, writtenOver}
 use Rattle.fused.specs.AnswerLaws.{fused-refused, fused-taken, fused-plan, answer-bytes, write-refused, write-short, write-taken}
 

@@ -7,7 +7,7 @@ ghost use Prim.Native.Nat.{_≤_};
 ghost use lib.ListN.{length, replicate};
 ghost use Rattle.words.specs.Buffers.{over};
 ghost use Rattle.answers.specs.Answers.{success};
-ghost use Rattle.fused.specs.CircuitFile.{fusedFile};
+ghost use Rattle.fused.specs.FusedCircuit.{fusedFile};
 ghost use Rattle.fused.specs.Answers.{writeAnswer, writtenOver};
 ghost use Rattle.writing.specs.Ready.{Ready};
 

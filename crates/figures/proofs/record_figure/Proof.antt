@@ -5,7 +5,7 @@ use denote.Ref.{now}
 use mathlib.Core.Path.{refl, ap}
 use borrow.Author.Needs.{needs}
 use Rattle.codes.specs.declared.Kind.the-variants as kind
-use Rattle.fused.specs.FoundForms.{form-input, form-word, form-bit, form-choice, form-pick, form-guard, form-other}
+use Rattle.records.specs.FoundForms.{form-input, form-word, form-bit, form-choice, form-pick, form-guard, form-other}
 use Rattle.figures.specs.RecordLaws.{first-inside, other, input-word-takes, input-bit-takes, word-takes, bit-takes, choice-takes, pick-takes, guard-takes, operation-takes, figure-by}
 use Rattle.figures.proofs.record_figure.Statement.{statement}
 use Rattle.figures.proofs.record_figure.Tie as tie

@@ -5,7 +5,7 @@ use native.Mathlib.Omega.{arith}
 use borrow.Author.Needs.{needs}
 use Rattle.codes.specs.declared.Code.{Code}
 use Rattle.codes.specs.declared.Kind.the-variants as kind
-use Rattle.fused.specs.FoundForms.{form-input, form-word, form-bit, form-choice, form-pick, form-guard, form-other}
+use Rattle.records.specs.FoundForms.{form-input, form-word, form-bit, form-choice, form-pick, form-guard, form-other}
 use Rattle.figures.specs.RecordLaws.{first-inside, other}
 use Rattle.figures.proofs.record_size.Statement.{statement}
 use Rattle.figures.proofs.record_size.Tie as tie

@@ -4,7 +4,7 @@ use native.Mathlib.Omega.{arith}
 use mathlib.Core.Path.{_≡_, _∙_}
 use Rattle.figures.specs.WorkingLaws.{amid-start, amid-workable, amid-below, amid-inside, amid-more, amid-end}
 use Rattle.figures.specs.Working.{AmidRecords}
-use Rattle.fused.specs.FileFigures.{wireCount}
+use Rattle.records.specs.FileFigures.{wireCount}
 use Rattle.figures.proofs.work_out.Statement.{statement}
 use Rattle.figures.proofs.work_out.Tie as tie
 

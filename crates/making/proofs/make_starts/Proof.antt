@@ -4,7 +4,7 @@ use Prim.Native.Nat.{_-_}
 use borrow.Author.Needs.{needs}
 use denote.Ref.{now}
 use Rattle.reading.specs.Header.{variables}
-use Rattle.gates.specs.Quads.{startCode}
+use Rattle.codes.specs.Codes.{startCode}
 use Rattle.making.specs.Holding.{Started}
 use Rattle.making.specs.ChoiceLaws.{started-none, started-more, started-all}
 use Rattle.making.proofs.make_starts.Statement.{statement}

@@ -8,10 +8,10 @@ use lib.ListN.{length, getD, length-append}
 use lib.Seq.{getD-at}
 use Rattle.words.specs.Numbers.{bytesOf, numberAt}
 use Rattle.words.specs.NumberLaws.{length-bytes, number-found}
-use Rattle.fused.specs.Records.{Pair, pairWires}
-use Rattle.fused.specs.CircuitFile.{wiresBytes}
-use Rattle.fused.specs.FileFigures.{wiresAt, pairsAt}
-use Rattle.fused.specs.FitRecords.{Wires}
+use Rattle.records.specs.Records.{Pair, pairWires}
+use Rattle.records.specs.CircuitFile.{wiresBytes}
+use Rattle.records.specs.FileFigures.{wiresAt, pairsAt}
+use Rattle.records.specs.FitRecords.{Wires}
 
 -- what is read at a place of a file x, when x is a, of that many bytes, and then what stands there
 module _ (x : List ℕ) (at : ℕ) (a : List ℕ) (place : at ≡ length a) where

@@ -3,11 +3,12 @@ use Prim.Native.Nat.{ℕ, zero, suc, _+_, _*_}
 use mathlib.Core.List.{List, [], _∷_, map}
 use mathlib.Core.Bool.{cond}
 use lib.Dec.{eqb}
-use lib.ListN.{getD}
+use lib.ListN.{length, getD}
 use Rattle.words.specs.Numbers.{numberAt}
 use Rattle.codes.specs.Codes.{operationOf, codeOf}
 use Rattle.codes.specs.declared.Kind.the-variants as kind
-use Rattle.fused.specs.Records.{Pair, Record, input, word, bit, operation, choice, pick, guard, wireFigure}
+use Rattle.records.specs.Records.{Pair, Record, input, word, bit, operation, choice, pick, guard, wireFigure}
+use Rattle.records.specs.CircuitFile.{recordBytes}
 
 -- n two-byte wires from the place at on
 abbrev pub wiresAt : ℕ → List ℕ → ℕ → List ℕ
@@ -19,7 +20,7 @@ abbrev pub pairsAt : ℕ → List ℕ → ℕ → List Pair
 pairsAt zero f at = []
 pairsAt (suc n) f at = record { guarding = numberAt 2 f at; value = numberAt 2 f (at + 2) } ∷ pairsAt n f (at + 4)
 
--- the record that begins at a place: by its first byte, 20 to 27 what is none of the others
+-- the record that begins at a place, as `recordBytes` writes it: by its first byte, 20 to 27 what is none of the others
 unfoldable pub recordAt : List ℕ → ℕ → Record
 recordAt f at =
     let b = getD f at 0 in
@@ -32,18 +33,9 @@ recordAt f at =
     (cond (eqb b 0x32) (guard (wiresAt (getD f (at + 1) 0) f (at + 2)) (numberAt 8 f (at + 2 + 2 * getD f (at + 1) 0)))
     (operation (operationOf b) (wiresAt (codeOf b .arity) f (at + 1)))))))))
 
--- the bytes of the record that begins at a place
+-- how many bytes it has: those of the record that is read there
 unfoldable pub sizeAt : List ℕ → ℕ → ℕ
-sizeAt f at =
-    let b = getD f at 0 in
-    cond (eqb b 0x00) 2
-    (cond (eqb b 0x01) 2
-    (cond (eqb b 0x11) 5
-    (cond (eqb b 0x12) 2
-    (cond (eqb b 0x30) 7
-    (cond (eqb b 0x31) (2 + 4 * getD f (at + 1) 0)
-    (cond (eqb b 0x32) (10 + 2 * getD f (at + 1) 0)
-    (1 + 2 * codeOf b .arity)))))))
+sizeAt f at = length (recordBytes (recordAt f at))
 
 -- n records from the place at on, and the place after them
 abbrev pub recordsFrom : ℕ → List ℕ → ℕ → List Record

@@ -3,8 +3,8 @@ use Prim.Native.Nat.{ℕ, _+_}
 use mathlib.Core.List.{List, [], _∷_}
 use mathlib.Core.Bool.{cond}
 use Rattle.settings.specs.Settings.{bitOf}
-use Rattle.gates.specs.Running.{isOne}
-use Rattle.fused.specs.Records.{Pair}
+use Rattle.codes.specs.Results.{isOne}
+use Rattle.records.specs.Records.{Pair}
 
 -- how many of a pick's guards are 1, from the figures W of the wires
 abbrev pub guardsAtOne : (ℕ → ℕ) → List Pair → ℕ

@@ -6,21 +6,14 @@ use native.Mathlib.Omega.{arith}
 use lib.ListN.{length}
 use Rattle.words.specs.Numbers.{bytesOf, Bytes}
 use Rattle.words.specs.NumberLaws.{bytes-below}
-use Rattle.codes.specs.Codes.{byteOf}
+use Rattle.codes.specs.Codes.{byteOf, startCode}
 use Rattle.codes.specs.declared.Kind.{Kind}
 use Rattle.codes.specs.declared.Kind.the-variants as kind
 use Rattle.codes.specs.declared.Operation.{Operation}
 use Rattle.codes.specs.declared.Operation.the-variants.{Sum, Difference, Product, LessThan, Equal, And, Or, Not}
-use Rattle.answers.specs.declared.Answer.{Answer}
-use Rattle.reading.specs.Header.{variables}
-use Rattle.gates.specs.Quads.{startCode}
-use Rattle.plan.specs.Rows.{planAnswer}
-use Rattle.fused.specs.Records.{Record, input, word, bit, operation, choice, pick, guard, pairWires, ReadsEarlier}
-use Rattle.fused.specs.FusedCircuit.{recordsOf, outputWires}
-use Rattle.fused.specs.CircuitFile.{mark, wiresBytes, recordBytes, recordsBytes, fileBytes, fusedFile}
-use Rattle.fused.specs.FitRecords.{ReadsBack, AllReadBack}
-use Rattle.fused.specs.FitPlan.{fused-fits}
-use Rattle.fused.specs.SizeBounds.{outputs-count}
+use Rattle.records.specs.Records.{Record, input, word, bit, operation, choice, pick, guard, pairWires}
+use Rattle.records.specs.CircuitFile.{mark, wiresBytes, recordBytes, recordsBytes, fileBytes}
+use Rattle.records.specs.FitRecords.{ReadsBack, AllReadBack}
 
 -- no byte, one byte more, and two runs of bytes
 nothing : Bytes []
@@ -82,8 +75,3 @@ file-bytes v R outputs h f =
         (bytes-cons 0x52 (0x00 ∷ 0x01 ∷ []) (omega arith)
         (bytes-cons 0x00 (0x01 ∷ []) (omega arith)
         (bytes-cons 0x01 [] (omega arith) nothing))))
-
--- so does the file of an accepted plan
-pub fused-bytes : (s p : List ℕ) → planAnswer s p .number ≡ 0 → Bytes s → ReadsEarlier (recordsOf s p) → Bytes (fusedFile s p)
-unfolding fusedFile
-fused-bytes s p h bytes earlier = file-bytes (variables s) (recordsOf s p) (outputWires s p) (omega (arith, outputs-count s p h .1)) (fused-fits s p h bytes earlier)

@@ -3,11 +3,8 @@ use Prim.Native.Nat.{ℕ}
 use mathlib.Core.List.{List, [], _∷_, _++_}
 use lib.ListN.{length}
 use Rattle.words.specs.Numbers.{bytesOf}
-use Rattle.codes.specs.Codes.{byteOf}
-use Rattle.reading.specs.Header.{variables}
-use Rattle.gates.specs.Quads.{startCode}
-use Rattle.fused.specs.Records.{Record, input, word, bit, operation, choice, pick, guard, pairWires}
-use Rattle.fused.specs.FusedCircuit.{recordsOf, outputWires}
+use Rattle.codes.specs.Codes.{byteOf, startCode}
+use Rattle.records.specs.Records.{Record, input, word, bit, operation, choice, pick, guard, pairWires}
 
 -- "CIR" and the version
 abbrev pub mark : List ℕ
@@ -18,6 +15,7 @@ abbrev pub wiresBytes : List ℕ → List ℕ
 wiresBytes [] = []
 wiresBytes (w ∷ l) = bytesOf 2 w ++ wiresBytes l
 
+-- the bytes of each form of record: the one place that says them. Reading (`recordAt`) is the inverse of it (InverseLaws), a record's size its length.
 abbrev pub recordBytes : Record → List ℕ
 recordBytes (input k x) = startCode k ∷ x ∷ []
 recordBytes (word n) = 0x11 ∷ bytesOf 4 n
@@ -35,7 +33,3 @@ recordsBytes (r ∷ R) = recordBytes r ++ recordsBytes R
 -- a circuit file of v variables
 abbrev pub fileBytes : ℕ → List Record → List ℕ → List ℕ
 fileBytes v R outputs = mark ++ (v ∷ (bytesOf 2 (length R) ++ (recordsBytes R ++ wiresBytes outputs)))
-
--- the file that the rules fix for a rule and its plan
-unfoldable pub fusedFile : List ℕ → List ℕ → List ℕ
-fusedFile s p = fileBytes (variables s) (recordsOf s p) (outputWires s p)

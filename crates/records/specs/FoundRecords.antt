@@ -5,15 +5,14 @@ use Prim.Native.Nat.{ℕ, _+_, _*_}
 use native.Mathlib.Omega.{arith}
 use lib.ListN.{length, getD, length-append}
 use Rattle.words.specs.Numbers.{bytesOf, numberAt}
-use Rattle.codes.specs.Codes.{byteOf}
-use Rattle.gates.specs.Quads.{startCode}
-use Rattle.fused.specs.Records.{Record, input, word, bit, operation, choice, pick, guard, pairWires}
-use Rattle.fused.specs.CircuitFile.{wiresBytes, recordBytes}
-use Rattle.fused.specs.FileFigures.{wiresAt, pairsAt, recordAt, sizeAt}
-use Rattle.fused.specs.FitRecords.{ReadsBack}
-use Rattle.fused.specs.SizeLaws.{wires-size, word-size, operation-size, choice-size, pick-size, guard-size}
-use Rattle.fused.specs.FoundWires.{byte-at, number-at, wires-found, pairs-found}
-use Rattle.fused.specs.FoundForms.{form-input, form-word, form-bit, form-operation, form-choice, form-pick, form-guard}
+use Rattle.codes.specs.Codes.{byteOf, startCode}
+use Rattle.records.specs.Records.{Record, input, word, bit, operation, choice, pick, guard, pairWires}
+use Rattle.records.specs.CircuitFile.{wiresBytes, recordBytes}
+use Rattle.records.specs.FileFigures.{wiresAt, pairsAt, recordAt, sizeAt}
+use Rattle.records.specs.FitRecords.{ReadsBack}
+use Rattle.records.specs.SizeLaws.{wires-size, word-size, operation-size, choice-size, pick-size, guard-size}
+use Rattle.records.specs.FoundWires.{byte-at, number-at, wires-found, pairs-found}
+use Rattle.records.specs.FoundForms.{form-input, form-word, form-bit, form-operation, form-choice, form-pick, form-guard}
 
 -- a record r at the place at of a file x: before it a, behind it b
 module _ (x : List ℕ) (at : ℕ) (a b : List ℕ) (place : at ≡ length a) where

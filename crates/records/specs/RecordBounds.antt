@@ -10,11 +10,11 @@ use Rattle.codes.specs.Codes.{byteOf}
 use Rattle.codes.specs.declared.Kind.the-variants as kind
 use Rattle.codes.specs.declared.Operation.{Operation}
 use Rattle.codes.specs.declared.Operation.the-variants.{Sum, Difference, Product, LessThan, Equal, And, Or, Not}
-use Rattle.gates.specs.Limits.{mostConditions}
-use Rattle.fused.specs.Records.{Record, input, word, bit, operation, choice, pick, guard}
-use Rattle.fused.specs.CircuitFile.{recordBytes}
-use Rattle.fused.specs.BoundLaws.{Bounded}
-use Rattle.figures.specs.Runnable.{recordCodes}
+use Rattle.records.specs.Records.{Record, input, word, bit, operation, choice, pick, guard}
+use Rattle.records.specs.CircuitFile.{recordBytes}
+use Rattle.records.specs.Limits.{mostGuardWires}
+use Rattle.records.specs.FitRecords.{Bounded}
+use Rattle.records.specs.LaidOut.{recordCodes}
 
 -- the first bytes of a record
 operation-code : (op : Operation) → (byteOf op ∈ recordCodes) × (0x20 ≤ byteOf op) × (byteOf op ≤ 0x27)
@@ -37,7 +37,7 @@ known-byte (choice c a b) = inr (inr (inr (inr (inr (inr (inr (inr (inr (inr (in
 known-byte (pick l) = inr (inr (inr (inr (inr (inr (inr (inr (inr (inr (inr (inr (inr (inl refl)))))))))))))
 known-byte (guard cs t) = inr (inr (inr (inr (inr (inr (inr (inr (inr (inr (inr (inr (inr (inr (inl refl))))))))))))))
 
-pub counted-byte : (v : ℕ) (r : Record) → Bounded v r → getD (recordBytes r) 0 0 ≡ 0x32 → getD (recordBytes r) 1 0 ≤ mostConditions
+pub counted-byte : (v : ℕ) (r : Record) → Bounded v r → getD (recordBytes r) 0 0 ≡ 0x32 → getD (recordBytes r) 1 0 ≤ mostGuardWires
 counted-byte v (input kind.Word x) b h = absurd (omega arith)
 counted-byte v (input kind.Bit x) b h = absurd (omega arith)
 counted-byte v (word n) b h = absurd (omega arith)

@@ -10,8 +10,8 @@ use Rattle.words.specs.Numbers.{bytesOf}
 use Rattle.words.specs.NumberLaws.{length-bytes}
 use Rattle.codes.specs.declared.Kind.{Kind}
 use Rattle.codes.specs.declared.Operation.{Operation}
-use Rattle.fused.specs.Records.{Pair, Record, input, word, bit, operation, choice, pick, guard, pairWires, recordCost, recordsCost}
-use Rattle.fused.specs.CircuitFile.{wiresBytes, recordBytes, recordsBytes, fileBytes}
+use Rattle.records.specs.Records.{Pair, Record, input, word, bit, operation, choice, pick, guard, pairWires, recordCost, recordsCost}
+use Rattle.records.specs.CircuitFile.{wiresBytes, recordBytes, recordsBytes, fileBytes}
 
 -- two bytes a wire, two wires a pair
 pub wires-size : (l : List ℕ) → length (wiresBytes l) ≡ 2 * length l

@@ -4,13 +4,12 @@ use mathlib.Core.Path.{_≡_, refl, ap, subst, _∙_}
 use mathlib.Core.List.{List, [], _∷_, _++_, map}
 use native.Mathlib.Omega.{arith}
 use lib.ListN.{length, getD}
-use Rattle.words.specs.Lists.{_∈_}
+use Rattle.words.specs.Lists.{_∈_, Inside}
 use Rattle.words.specs.MemberLaws.{getD-in}
 use Rattle.words.specs.Numbers.{numberAt}
-use Rattle.gates.specs.Gates.{run}
-use Rattle.gates.specs.EarlierLaws.{Inside}
-use Rattle.fused.specs.Records.{Record, word, recordIn, recordFigure, wireFigure}
-use Rattle.fused.specs.FileFigures.{wiresAt, recordAt, sizeAt, recordsFrom, placeAfter, firstRecord, fileVariables, wireCount, fileRecords, fileOutputs, fileFigures}
+use Rattle.words.specs.Runs.{run}
+use Rattle.records.specs.Records.{Record, word, recordIn, recordFigure, wireFigure}
+use Rattle.records.specs.FileFigures.{wiresAt, pairsAt, recordAt, sizeAt, recordsFrom, placeAfter, firstRecord, fileVariables, wireCount, fileRecords, fileOutputs, fileFigures}
 
 -- one wire more
 pub wires-next : (n : ℕ) (f : List ℕ) (at : ℕ) → wiresAt (suc n) f at ≡ wiresAt n f at ++ (numberAt 2 f (at + 2 * n) ∷ [])
@@ -23,6 +22,10 @@ wires-next (suc n) f at =
 pub wires-length : (n : ℕ) (f : List ℕ) (at : ℕ) → length (wiresAt n f at) ≡ n
 wires-length zero f at = refl
 wires-length (suc n) f at = ap suc (wires-length n f (at + 2))
+
+pub pairs-length : (n : ℕ) (f : List ℕ) (at : ℕ) → length (pairsAt n f at) ≡ n
+pairs-length zero f at = refl
+pairs-length (suc n) f at = ap suc (pairs-length n f (at + 4))
 
 wires-at : (n : ℕ) (f : List ℕ) (at k : ℕ) → k < n → getD (wiresAt n f at) k 0 ≡ numberAt 2 f (at + 2 * k)
 wires-at zero f at k h = absurd (omega arith)

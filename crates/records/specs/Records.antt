@@ -6,11 +6,11 @@ use lib.ListN.{length, getD}
 use Rattle.words.specs.Lists.{_∈_}
 use Rattle.settings.specs.Settings.{bitOf, numberOf}
 use Rattle.settings.specs.Sets.{has}
-use Rattle.codes.specs.Codes.{entryOf}
+use Rattle.codes.specs.Codes.{entryOf, choiceCost}
 use Rattle.codes.specs.declared.Kind.{Kind}
 use Rattle.codes.specs.declared.Operation.{Operation}
-use Rattle.gates.specs.Running.{isOne}
-use Rattle.gates.specs.Gates.{resultOn, choiceCost, runAt}
+use Rattle.codes.specs.Results.{isOne, resultOn}
+use Rattle.words.specs.Runs.{runAt}
 
 -- a pair of a pick: the wire of the guard and the wire of the value
 pub record Pair : Type 0 where

@@ -11,10 +11,9 @@ use Rattle.words.specs.ListLaws.{map-same}
 use Rattle.settings.specs.Settings.{bitOf}
 use Rattle.settings.specs.Sets.{has}
 use Rattle.settings.specs.SettingLaws.{numberOf-agree}
-use Rattle.gates.specs.Running.{isOne}
-use Rattle.gates.specs.Gates.{resultOn}
-use Rattle.gates.specs.FigureLaws.{run-right}
-use Rattle.fused.specs.Records.{Pair, Record, input, word, bit, operation, choice, pick, guard, pairWires, reads, recordIn, ReadsEarlier, pickFigure, recordFigure, wireFigure}
+use Rattle.codes.specs.Results.{isOne, resultOn}
+use Rattle.words.specs.RunLaws.{run-right}
+use Rattle.records.specs.Records.{Pair, Record, input, word, bit, operation, choice, pick, guard, pairWires, reads, recordIn, ReadsEarlier, pickFigure, recordFigure, wireFigure}
 
 pick-same : (v w : ℕ → ℕ) (l : List Pair) → ((a : ℕ) → a ∈ pairWires l → v a ≡ w a) → pickFigure v l ≡ pickFigure w l
 pick-same v w [] h = refl

@@ -8,13 +8,13 @@ use lib.ListN.{length, take, drop, length-append, take-append-drop}
 use lib.Seq.{take-length, take-at, drop-at}
 use Rattle.words.specs.Numbers.{bytesOf}
 use Rattle.words.specs.NumberLaws.{length-bytes, number-found}
-use Rattle.fused.specs.Records.{Record, recordIn}
-use Rattle.fused.specs.CircuitFile.{mark, wiresBytes, recordBytes, recordsBytes, fileBytes}
-use Rattle.fused.specs.FileFigures.{wiresAt, recordAt, sizeAt, recordsFrom, placeAfter, firstRecord, fileVariables, wireCount, fileRecords, fileOutputs}
-use Rattle.fused.specs.FitRecords.{Wires, AllReadBack}
-use Rattle.fused.specs.SizeLaws.{size-append, file-size}
-use Rattle.fused.specs.FoundWires.{wires-found}
-use Rattle.fused.specs.FoundRecords.{record-found}
+use Rattle.records.specs.Records.{Record, recordIn}
+use Rattle.records.specs.CircuitFile.{mark, wiresBytes, recordBytes, recordsBytes, fileBytes}
+use Rattle.records.specs.FileFigures.{wiresAt, recordAt, sizeAt, recordsFrom, placeAfter, firstRecord, fileVariables, wireCount, fileRecords, fileOutputs}
+use Rattle.records.specs.FitRecords.{Wires, AllReadBack}
+use Rattle.records.specs.SizeLaws.{size-append, file-size}
+use Rattle.records.specs.FoundWires.{wires-found}
+use Rattle.records.specs.FoundRecords.{record-found}
 
 -- records from the place at of a file x on: before them a, behind them b
 module _ (x : List ℕ) where

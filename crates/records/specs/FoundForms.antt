@@ -1,0 +1,105 @@
+-- Laws of what the first byte of a record says of it, and of its bytes; one for each form. Assumes nothing.
+use mathlib.Core.Path.{_≡_, refl, ap, _∙_}
+use mathlib.Core.List.{List}
+use Prim.Native.Nat.{ℕ, _+_, _*_, _≤_}
+use lib.ListN.{length, getD}
+use borrow.Author.Tests.{ne-eqb}
+use Rattle.words.specs.Numbers.{numberAt}
+use Rattle.codes.specs.Codes.{entryOf, operationOf, byteOf, codeOf, startCode}
+use Rattle.codes.specs.declared.Kind.{Kind}
+use Rattle.codes.specs.declared.Kind.the-variants as kind
+use Rattle.codes.specs.declared.Operation.{Operation}
+use Rattle.codes.specs.declared.Operation.the-variants.{Sum, Difference, Product, LessThan, Equal, And, Or, Not}
+use Rattle.records.specs.Records.{Record, input, word, bit, operation, choice, pick, guard}
+use Rattle.records.specs.FileFigures.{wiresAt, pairsAt, recordAt, sizeAt}
+use Rattle.records.specs.CircuitFile.{recordBytes}
+use Rattle.records.specs.SizeLaws.{input-size, word-size, bit-size, operation-size, choice-size, pick-size, guard-size}
+use Rattle.records.specs.FilePartLaws.{wires-length, pairs-length}
+use Rattle.records.specs.RecordBounds.{some-byte}
+
+module _ (x : List ℕ) (at : ℕ) where
+  -- the record that is read, and how many bytes it has
+  read-as : (r : Record) (n : ℕ) → recordAt x at ≡ r → length (recordBytes r) ≡ n → (recordAt x at ≡ r) × (sizeAt x at ≡ n)
+  unfolding sizeAt
+  read-as r n e s = (e, ap (λ (q : Record). length (recordBytes q)) e ∙ s)
+
+  operation-as : (op : Operation) (n : ℕ) → recordAt x at ≡ operation op (wiresAt n x (at + 1))
+      → (recordAt x at ≡ operation op (wiresAt n x (at + 1))) × (sizeAt x at ≡ 1 + 2 * n)
+  operation-as op n e =
+      read-as (operation op (wiresAt n x (at + 1))) (1 + 2 * n) e (operation-size op (wiresAt n x (at + 1)) ∙ ap (λ (k : ℕ). 1 + 2 * k) (wires-length n x (at + 1)))
+
+  pub form-input : (k : Kind) → getD x at 0 ≡ startCode k → (recordAt x at ≡ input k (getD x (at + 1) 0)) × (sizeAt x at ≡ 2)
+  unfolding recordAt
+  form-input kind.Word h = read-as (input kind.Word (getD x (at + 1) 0)) 2 (rw h) (input-size kind.Word (getD x (at + 1) 0))
+  form-input kind.Bit h = read-as (input kind.Bit (getD x (at + 1) 0)) 2 (rw h) (input-size kind.Bit (getD x (at + 1) 0))
+
+  pub form-word : getD x at 0 ≡ 0x11 → (recordAt x at ≡ word (numberAt 4 x (at + 1))) × (sizeAt x at ≡ 5)
+  unfolding recordAt
+  form-word h = read-as (word (numberAt 4 x (at + 1))) 5 (rw h) (word-size (numberAt 4 x (at + 1)))
+
+  pub form-bit : getD x at 0 ≡ 0x12 → (recordAt x at ≡ bit (getD x (at + 1) 0)) × (sizeAt x at ≡ 2)
+  unfolding recordAt
+  form-bit h = read-as (bit (getD x (at + 1) 0)) 2 (rw h) (bit-size (getD x (at + 1) 0))
+
+  pub form-operation : (op : Operation) → getD x at 0 ≡ byteOf op
+      → (recordAt x at ≡ operation op (wiresAt (entryOf op .arity) x (at + 1))) × (sizeAt x at ≡ 1 + 2 * entryOf op .arity)
+  unfolding recordAt codeOf operationOf
+  form-operation Sum h = operation-as Sum 2 (rw h)
+  form-operation Difference h = operation-as Difference 2 (rw h)
+  form-operation Product h = operation-as Product 2 (rw h)
+  form-operation LessThan h = operation-as LessThan 2 (rw h)
+  form-operation Equal h = operation-as Equal 2 (rw h)
+  form-operation And h = operation-as And 2 (rw h)
+  form-operation Or h = operation-as Or 2 (rw h)
+  form-operation Not h = operation-as Not 1 (rw h)
+
+  pub form-choice : getD x at 0 ≡ 0x30
+      → (recordAt x at ≡ choice (numberAt 2 x (at + 1)) (numberAt 2 x (at + 3)) (numberAt 2 x (at + 5))) × (sizeAt x at ≡ 7)
+  unfolding recordAt
+  form-choice h =
+      read-as (choice (numberAt 2 x (at + 1)) (numberAt 2 x (at + 3)) (numberAt 2 x (at + 5))) 7 (rw h)
+      (choice-size (numberAt 2 x (at + 1)) (numberAt 2 x (at + 3)) (numberAt 2 x (at + 5)))
+
+  pub form-pick : getD x at 0 ≡ 0x31 → (recordAt x at ≡ pick (pairsAt (getD x (at + 1) 0) x (at + 2))) × (sizeAt x at ≡ 2 + 4 * getD x (at + 1) 0)
+  unfolding recordAt
+  form-pick h =
+      let n = getD x (at + 1) 0 in
+      read-as (pick (pairsAt n x (at + 2))) (2 + 4 * n) (rw h) (pick-size (pairsAt n x (at + 2)) ∙ ap (λ (k : ℕ). 2 + 4 * k) (pairs-length n x (at + 2)))
+
+  pub form-guard : getD x at 0 ≡ 0x32
+      → (recordAt x at ≡ guard (wiresAt (getD x (at + 1) 0) x (at + 2)) (numberAt 8 x (at + 2 + 2 * getD x (at + 1) 0)))
+      × (sizeAt x at ≡ 10 + 2 * getD x (at + 1) 0)
+  unfolding recordAt
+  form-guard h =
+      let n = getD x (at + 1) 0 in
+      read-as (guard (wiresAt n x (at + 2)) (numberAt 8 x (at + 2 + 2 * n))) (10 + 2 * n) (rw h)
+      (guard-size (wiresAt n x (at + 2)) (numberAt 8 x (at + 2 + 2 * n)) ∙ ap (λ (k : ℕ). 10 + 2 * k) (wires-length n x (at + 2)))
+
+-- any other byte
+pub record OtherByte (b : ℕ) : Type 0 where
+  pub no-word : b ≡ 0x00 → ⊥
+  pub no-bit : b ≡ 0x01 → ⊥
+  pub no-word-constant : b ≡ 0x11 → ⊥
+  pub no-bit-constant : b ≡ 0x12 → ⊥
+  pub no-choice : b ≡ 0x30 → ⊥
+  pub no-pick : b ≡ 0x31 → ⊥
+  pub no-guard : b ≡ 0x32 → ⊥
+
+pub form-other : (x : List ℕ) (at : ℕ) → OtherByte (getD x at 0)
+    → (recordAt x at ≡ operation (operationOf (getD x at 0)) (wiresAt (codeOf (getD x at 0) .arity) x (at + 1))) × (sizeAt x at ≡ 1 + 2 * codeOf (getD x at 0) .arity)
+unfolding recordAt
+form-other x at o =
+    operation-as x at (operationOf (getD x at 0)) (codeOf (getD x at 0) .arity) (simp (
+      ne-eqb _ 0x00 (o .no-word),
+      ne-eqb _ 0x01 (o .no-bit),
+      ne-eqb _ 0x11 (o .no-word-constant),
+      ne-eqb _ 0x12 (o .no-bit-constant),
+      ne-eqb _ 0x30 (o .no-choice),
+      ne-eqb _ 0x31 (o .no-pick),
+      ne-eqb _ 0x32 (o .no-guard),
+    ) refl)
+
+-- every record has a byte at least
+pub size-some : (x : List ℕ) (at : ℕ) → 1 ≤ sizeAt x at
+unfolding sizeAt
+size-some x at = some-byte (recordAt x at)
