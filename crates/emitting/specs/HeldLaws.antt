@@ -9,14 +9,13 @@ use native.Mathlib.Omega.{arith}
 use lib.ListN.{length, getD, take}
 use Rattle.words.specs.Lists.{_∈_}
 use Rattle.words.specs.ListLaws.{map-same}
-use Rattle.codes.specs.Codes.{kindOf}
+use Rattle.codes.specs.Codes.{kindOf, startCode}
 use Rattle.codes.specs.declared.Kind.{Kind}
 use Rattle.codes.specs.declared.Kind.the-variants as kind
 use Rattle.reading.specs.Header.{kindAt}
 use Rattle.gates.specs.Gates.{Gate, Gates, start, word, bit, operation, choice, gateAt, arguments, Earlier}
 use Rattle.gates.specs.Limits.{mostGates}
 use Rattle.gates.specs.Quads.{quadOf, quadsOf}
-use Rattle.codes.specs.Codes.{startCode}
 use Rattle.needed.specs.Held.{codeAt, gateIn, Shaped}
 use Rattle.needed.specs.HeldQuads.{number-at, gate-held}
 use Rattle.records.specs.Records as records

@@ -13,8 +13,7 @@ use Rattle.records.specs.SizeLaws.{bytes-append, cost-append}
 use Rattle.emitting.specs.Emitted.{wireIn}
 use Rattle.joining.specs.Joined.{emitIn}
 use Rattle.measuring.specs.Sizes.{Measured}
-use Rattle.emitting.specs.FillLaws.{pieces, pieces-none, pieces-next, Filling, filling-start, filling-room, filling-fits, filling-length, filling-step, filling-end}
-use Rattle.emitting.specs.FillLaws.{filling-same}
+use Rattle.emitting.specs.FillLaws.{pieces, pieces-none, pieces-next, Filling, filling-start, filling-room, filling-fits, filling-length, filling-step, filling-end, filling-same}
 use Rattle.filing.specs.Staged.{Stage, membersOf, turnRecords, stage, Turnable}
 use Rattle.filing.specs.Turns.{wiresOf, Measurable, Measures, Sum}
 use Rattle.filing.specs.TurnLaws.{stage-more, turn-is, turn-measurable, turn-wires, turn-length, turn-sum, turn-small}

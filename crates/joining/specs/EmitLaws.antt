@@ -6,14 +6,13 @@ use mathlib.Core.List.{List, [], _∷_, map}
 use mathlib.Core.Logic.{inl}
 use native.Mathlib.Omega.{arith}
 use lib.ListN.{length, getD, take}
-use Rattle.words.specs.Lists.{_∈_, upto}
+use Rattle.words.specs.Lists.{_∈_, upto, Inside}
 use Rattle.words.specs.MemberLaws.{from-below, getD-in}
 use Rattle.words.specs.ListLaws.{map-same}
 use Rattle.settings.specs.Guards.{table}
 use Rattle.gates.specs.Gates.{Gates, gateAt, arguments}
 use Rattle.gates.specs.Limits.{mostConditions}
 use Rattle.gates.specs.Quads.{quadsOf}
-use Rattle.words.specs.Lists.{Inside}
 use Rattle.needed.specs.Held.{Shaped}
 use Rattle.needed.specs.HeldQuads.{gates-held}
 use Rattle.plan.specs.Groups.{restsOf}

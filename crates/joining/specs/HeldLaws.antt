@@ -6,14 +6,13 @@ use native.Mathlib.Omega.{arith}
 use lib.Dec.{ltb}
 use lib.ListN.{length, getD, take, List·getD-eq-default}
 use borrow.Author.Tests.{ltb-true, ltb-false}
-use Rattle.words.specs.Lists.{_∈_}
+use Rattle.words.specs.Lists.{_∈_, Inside}
 use Rattle.words.specs.MemberLaws.{getD-in}
 use Rattle.words.specs.TestLaws.{split}
 use Rattle.gates.specs.Gates.{Gate, Gates, gateAt, arguments, conditions, Earlier}
 use Rattle.gates.specs.ConditionLaws.{condition-below}
 use Rattle.gates.specs.Limits.{mostGates, mostConditions}
 use Rattle.gates.specs.Quads.{quadsOf}
-use Rattle.words.specs.Lists.{Inside}
 use Rattle.needed.specs.Held.{Shaped}
 use Rattle.needed.specs.HeldQuads.{gate-held, gates-held}
 use Rattle.plan.specs.PlanFile.{groupAt, after}

@@ -5,7 +5,7 @@ use mathlib.Core.List.{List, [], _∷_, _++_, map, append-assoc, append-nil, map
 use mathlib.Core.Logic.{_⊎_, inl, inr}
 use native.Mathlib.Omega.{arith}
 use lib.ListN.{length, getD, length-map}
-use Rattle.words.specs.Lists.{_∈_, from, upto}
+use Rattle.words.specs.Lists.{_∈_, from, upto, Inside}
 use Rattle.words.specs.ListLaws.{map-same}
 use Rattle.settings.specs.Sets.{rests}
 use Rattle.settings.specs.Guards.{table}
@@ -13,7 +13,6 @@ use Rattle.codes.specs.Codes.{entryOf, operationOf}
 use Rattle.codes.specs.declared.Operation.{Operation}
 use Rattle.codes.specs.CodeLaws.{one-or-two, byte-back}
 use Rattle.gates.specs.Gates.{Gate, start, word, bit, operation, choice, gateAt, arguments, conditions}
-use Rattle.words.specs.Lists.{Inside}
 use Rattle.gates.specs.Limits.{mostConditions}
 use Rattle.needed.specs.Held.{gateIn, gatesIn, codeAt, firstAt, secondAt, thirdAt}
 use Rattle.needed.specs.HeldLaws.{gates-at}

@@ -3,12 +3,11 @@ use Prim.Native.Nat.{ℕ, _+_, _*_, _≤_, _<_}
 use mathlib.Core.Path.{_≡_}
 use mathlib.Core.List.{List, [], _∷_, map}
 use lib.ListN.{length, getD}
-use Rattle.words.specs.Lists.{_∈_}
+use Rattle.words.specs.Lists.{_∈_, Inside}
 use Rattle.settings.specs.Sets.{rests}
 use Rattle.settings.specs.Guards.{table}
 use Rattle.gates.specs.Gates.{arguments, conditions}
 use Rattle.gates.specs.Limits.{mostGates, mostConditions}
-use Rattle.words.specs.Lists.{Inside}
 use Rattle.needed.specs.Held.{gateIn, gatesIn}
 use Rattle.plan.specs.PlanFile.{groupAt, after}
 use Rattle.records.specs.Records.{Pair, Record, guard}

@@ -4,14 +4,13 @@ use mathlib.Core.Path.{_≡_, refl, sym, ap, _∙_}
 use mathlib.Core.List.{List, [], _∷_, map}
 use native.Mathlib.Omega.{arith}
 use lib.ListN.{length, getD, length-append, length-map}
-use Rattle.words.specs.Lists.{_∈_}
+use Rattle.words.specs.Lists.{_∈_, Inside}
 use Rattle.settings.specs.Sets.{rests}
 use Rattle.settings.specs.PlaceLaws.{few-rests}
 use Rattle.codes.specs.Codes.{entryOf, operationOf, codeOf}
 use Rattle.codes.specs.CodeLaws.{code-operation}
 use Rattle.codes.specs.declared.Code.{Code}
 use Rattle.gates.specs.Gates.{conditions}
-use Rattle.words.specs.Lists.{Inside}
 use Rattle.gates.specs.Limits.{mostConditions}
 use Rattle.needed.specs.Held.{gatesIn, codeAt}
 use Rattle.needed.specs.QuadLaws.{Applies}

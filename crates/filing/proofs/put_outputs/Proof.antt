@@ -1,6 +1,5 @@
 use Rattle.filing.specs.OutputLaws.{outputPiece, outputs-start, outputs-fits, outputs-room, outputs-step, outputs-end}
-use Rattle.emitting.specs.FillLaws.{Filling}
-use Rattle.emitting.specs.FillLaws.{filling-same}
+use Rattle.emitting.specs.FillLaws.{Filling, filling-same}
 use Rattle.emitting.specs.Emitted.{wireIn}
 use lib.ListN.{length}
 use Prim.Native.Nat.{_-_, _*_, _≤_}

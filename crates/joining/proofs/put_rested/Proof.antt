@@ -3,8 +3,7 @@ use Prim.Native.Nat.{_≤_, _+_, _-_}
 use borrow.Author.Needs.{needs}
 use Rattle.settings.specs.PlaceLaws.{few-rests, rested-at}
 use Rattle.joining.specs.LoopLaws.{restPiece, rests-start, rests-fits, rests-room, rests-step, rests-end}
-use Rattle.emitting.specs.FillLaws.{filling-same}
-use Rattle.emitting.specs.FillLaws.{Filling}
+use Rattle.emitting.specs.FillLaws.{filling-same, Filling}
 use Rattle.emitting.specs.Emitted.{wireIn}
 use native.Mathlib.Omega.{arith}
 use Rattle.joining.proofs.put_rested.Statement.{statement}
