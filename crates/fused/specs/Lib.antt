@@ -20,4 +20,7 @@ pub mod AnswerLaws
 pub mod FitLaws
 pub mod FitPlan
 pub mod OnlyOrderLaws
+pub mod KindedLaws
+pub mod KindWritten
+pub mod FusedKinds
 pub mod FusedFigures

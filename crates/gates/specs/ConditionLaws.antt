@@ -6,7 +6,7 @@ use mathlib.Core.Logic.{inl, inr}
 use native.Mathlib.Omega.{arith}
 use lib.ListN.{length}
 use Rattle.words.specs.Lists.{_∈_, elem, upto}
-use Rattle.words.specs.MemberLaws.{∈→elem, keep-in, keep-from, from-in, from-below}
+use Rattle.words.specs.MemberLaws.{elem→∈, ∈→elem, keep-in, keep-from, from-in, from-below}
 use Rattle.gates.specs.Gates.{Gate, start, word, bit, operation, choice, Gates, gateAt, Earlier, Condition, heads, conditions}
 
 heads-tail : (k : Gate) (C : Gates) (c : ℕ) → c ∈ heads C → c ∈ heads (k ∷ C)
@@ -48,3 +48,8 @@ unfolding conditions
 condition-below C c m =
     let r : (0 ≤ c) × (c < 0 + length C) = from-below 0 (length C) c (keep-from (λ d. elem d (heads C)) (upto (length C)) c m .0) in
     omega arith
+
+-- and stands first in a choice gate
+pub condition-from : (C : Gates) (c : ℕ) → c ∈ conditions C → Condition C c
+unfolding conditions
+condition-from C c m = heads-from C c (elem→∈ c (heads C) (keep-from (λ d. elem d (heads C)) (upto (length C)) c m .1))

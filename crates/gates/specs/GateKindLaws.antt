@@ -20,7 +20,7 @@ use Rattle.reading.specs.FoundRuleLaws.{read-typed, read-words}
 use Rattle.gates.specs.Running.{runBlock}
 use Rattle.gates.specs.Gates.{start, Gates, gateAt, figureAt}
 use Rattle.gates.specs.GateKinds.{gateKind, kindOfGate, GateFits, GatesFit}
-use Rattle.gates.specs.PlainCircuit.{Making, Made, makeExpr, choices, assignedIn, asBefore, makeStatement, makeBlock, conditionMade, firstMade, secondMade, starts, plainCircuit, gatesOf}
+use Rattle.gates.specs.PlainCircuit.{Making, Made, makeExpr, choices, assignedIn, asBefore, makeStatement, makeBlock, conditionMade, firstMade, secondMade, starts, plainCircuit, gatesOf, outputsOf}
 use Rattle.gates.specs.PlainLaws.{extends-trans, expr-extends}
 use Rattle.gates.specs.SoundLaws.{Sound, sound-again, assigned-below, Parts, parts-ready, parts-of, statement-sound}
 use Rattle.gates.specs.HoldLaws.{PresentGives, holds-extends, condition-stays, first-stays, before-stays, parts-hold}
@@ -106,6 +106,11 @@ module _ (s : List ℕ) (bytes : Bytes s) (b : Block) (n : ℕ) (read : readRule
   pub plain-fits : GatesFit (kindAt s) (gatesOf s)
   unfolding kindOfGate
   plain-fits = plain-kept .fit
+
+  -- each output is of its variable's kind
+  pub output-kinds : (x : ℕ) → x < length (outputsOf s) → kindOfGate (kindAt s) (gatesOf s) (getD (outputsOf s) x 0) ≡ kindAt s x
+  unfolding kindOfGate
+  output-kinds = plain-kept .present-kinds
 
   -- on inputs that fit, every gate's figure fits its kind: bits are 0 or 1, words below 2 ^ 32
   pub plain-figures-fit : (inputs : List ℕ) → length inputs ≡ variables s → FiguresFit (variables s) (kindAt s) inputs

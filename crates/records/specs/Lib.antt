@@ -5,6 +5,8 @@ pub mod Limits
 pub mod LaidOut
 pub mod Sums
 pub mod RecordLaws
+pub mod WireKinds
+pub mod WireKindLaws
 pub mod SizeLaws
 pub mod FilePartLaws
 pub mod FitRecords

@@ -1,0 +1,56 @@
+-- Laws of the kinds of the fused circuit of an accepted plan: every record reads wires of the right kinds, a gate's wire is of the gate's kind, an output of its variable's. Assumes nothing.
+use Prim.Native.Nat.{ℕ, _<_}
+use mathlib.Core.Path.{_≡_, ap, _∙_}
+use mathlib.Core.List.{List}
+use lib.ListN.{length, getD}
+use Rattle.words.specs.MemberLaws.{getD-in}
+use Rattle.words.specs.Numbers.{Bytes}
+use Rattle.gates.specs.FigureLaws.{map-at}
+use Rattle.answers.specs.declared.Answer.{Answer}
+use Rattle.reading.specs.Header.{kindAt}
+use Rattle.gates.specs.PlainCircuit.{gatesOf, outputsOf}
+use Rattle.gates.specs.GateKinds.{kindOfGate}
+use Rattle.gates.specs.GateKindLaws.{plain-fits, output-kinds}
+use Rattle.needed.specs.Needed.{wantedOf}
+use Rattle.needed.specs.Pass.{rulePreconditions}
+use Rattle.plan.specs.PlanFile.{groupsIn}
+use Rattle.plan.specs.Groups.{groupOf}
+use Rattle.plan.specs.Order.{order}
+use Rattle.plan.specs.Rows.{planAnswer}
+use Rattle.plan.specs.WaitLaws.{order-ordered, order-once}
+use Rattle.records.specs.Records.{recordIn}
+use Rattle.records.specs.WireKinds.{wireKind, RecordFits}
+use Rattle.records.specs.WireKindLaws.{run-kinds}
+use Rattle.records.specs.RecordLaws.{Along, along-at}
+use Rattle.fused.specs.FusedCircuit.{fused, recordsOf, wireOf, outputWires}
+use Rattle.fused.specs.KindedLaws.{FitsAt}
+use Rattle.fused.specs.KindWritten.{written-kinds}
+use Rattle.fused.specs.PlannedLaws.{planned-read, planned-gates, planned-wanted, planned-few, planned-joined, planned-group, planned-earlier}
+
+module _ (s p : List ℕ) (bytes : Bytes s) (h : planAnswer s p .number ≡ 0) where
+  both : Along (FitsAt (wireKind (recordsOf s p))) 0 (recordsOf s p)
+      × ((g : ℕ) → g < length (gatesOf s) → wireKind (recordsOf s p) (wireOf s p g) ≡ kindOfGate (kindAt s) (gatesOf s) g)
+  unfolding fused
+  both =
+      let group = groupOf (groupsIn p) in
+      let r = planned-read s p h in
+      let w = written-kinds s (gatesOf s) (wantedOf s) (planned-gates s p h) (planned-wanted s p h) (planned-few s p h) (plain-fits s bytes (r .0) (r .1) (r .2))
+      group (planned-joined s p h) (wireKind (recordsOf s p)) (order (gatesOf s) (rulePreconditions s) group) (order-once (gatesOf s) (rulePreconditions s) group)
+      (order-ordered (gatesOf s) (rulePreconditions s) group) (run-kinds (recordsOf s p) (planned-earlier s p h)) in
+      (w .0, λ g l. w .1 g l (planned-group s p h g l))
+
+  -- every record reads wires of the right kinds
+  pub fused-fits : (i : ℕ) → i < length (recordsOf s p) → RecordFits (wireKind (recordsOf s p)) (recordIn (recordsOf s p) i)
+  fused-fits i l = along-at (FitsAt (wireKind (recordsOf s p))) (recordsOf s p) 0 (both .0) i l
+
+  -- the wire of a gate is of the gate's kind
+  pub fused-kinds : (g : ℕ) → g < length (gatesOf s) → wireKind (recordsOf s p) (wireOf s p g) ≡ kindOfGate (kindAt s) (gatesOf s) g
+  fused-kinds = both .1
+
+  -- an output wire is of its variable's kind
+  pub output-wire-kinds : (x : ℕ) → x < length (outputsOf s) → wireKind (recordsOf s p) (getD (outputWires s p) x 0) ≡ kindAt s x
+  output-wire-kinds x l =
+      let r = planned-read s p h in
+      ap (wireKind (recordsOf s p)) (map-at (wireOf s p) (outputsOf s) x l)
+      ∙ fused-kinds (getD (outputsOf s) x 0) (planned-wanted s p h (getD (outputsOf s) x 0) (getD-in (outputsOf s) x l))
+      ∙ output-kinds s bytes (r .0) (r .1) (r .2) x l
