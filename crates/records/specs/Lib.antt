@@ -15,4 +15,6 @@ pub mod FoundRecords
 pub mod FileLaws
 pub mod FileBytes
 pub mod SumLaws
+pub mod BackLaws
+pub mod InverseLaws
 pub mod Examples
