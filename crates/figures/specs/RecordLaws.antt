@@ -2,18 +2,16 @@
 use Prim.Native.Nat.{ℕ, _+_, _*_, _≤_, _<_}
 use mathlib.Core.Path.{_≡_, sym, ap, subst, _∙_}
 use mathlib.Core.List.{List, [], _∷_}
-use mathlib.Core.Logic.{inl, inr}
 use native.Mathlib.Omega.{arith}
 use lib.ListN.{length, getD}
-use Rattle.words.specs.Lists.{_∈_, Inside}
+use Rattle.words.specs.Lists.{Inside}
 use Rattle.words.specs.Numbers.{numberAt}
 use Rattle.codes.specs.Codes.{codeOf}
 use Rattle.codes.specs.declared.Kind.the-variants as kind
 use Rattle.records.specs.Records.{Record, pairWires, reads, recordFigure}
 use Rattle.records.specs.FileFigures.{wiresAt, pairsAt, recordAt, sizeAt}
-use Rattle.records.specs.FoundForms.{OtherByte, form-input, form-word, form-bit, form-choice, form-pick, form-guard, form-other, size-some}
+use Rattle.records.specs.FoundForms.{OtherByte, form-input, form-word, form-bit, form-choice, form-pick, form-guard, form-other, operation-byte, size-some}
 use Rattle.records.specs.Limits.{mostWires, mostGuardWires}
-use Rattle.records.specs.LaidOut.{recordCodes}
 use Rattle.figures.specs.Working.{held, Workable}
 
 -- any other byte, as the last arm of a decision over the bytes is told it
@@ -29,25 +27,6 @@ other b r = record {
   no-pick = r .0 .1;
   no-guard = r .1;
 }
-
--- a byte of a record that is none of the others is an operation's
-operation-byte : (b : ℕ) → b ∈ recordCodes → OtherByte b → (0x20 ≤ b) × (b ≤ 0x27)
-operation-byte b (inl e) o = absurd (o .no-word e)
-operation-byte b (inr (inl e)) o = absurd (o .no-bit e)
-operation-byte b (inr (inr (inl e))) o = absurd (o .no-word-constant e)
-operation-byte b (inr (inr (inr (inl e)))) o = absurd (o .no-bit-constant e)
-operation-byte b (inr (inr (inr (inr (inl e))))) o = omega arith
-operation-byte b (inr (inr (inr (inr (inr (inl e)))))) o = omega arith
-operation-byte b (inr (inr (inr (inr (inr (inr (inl e))))))) o = omega arith
-operation-byte b (inr (inr (inr (inr (inr (inr (inr (inl e)))))))) o = omega arith
-operation-byte b (inr (inr (inr (inr (inr (inr (inr (inr (inl e))))))))) o = omega arith
-operation-byte b (inr (inr (inr (inr (inr (inr (inr (inr (inr (inl e)))))))))) o = omega arith
-operation-byte b (inr (inr (inr (inr (inr (inr (inr (inr (inr (inr (inl e))))))))))) o = omega arith
-operation-byte b (inr (inr (inr (inr (inr (inr (inr (inr (inr (inr (inr (inl e)))))))))))) o = omega arith
-operation-byte b (inr (inr (inr (inr (inr (inr (inr (inr (inr (inr (inr (inr (inl e))))))))))))) o = absurd (o .no-choice e)
-operation-byte b (inr (inr (inr (inr (inr (inr (inr (inr (inr (inr (inr (inr (inr (inl e)))))))))))))) o = absurd (o .no-pick e)
-operation-byte b (inr (inr (inr (inr (inr (inr (inr (inr (inr (inr (inr (inr (inr (inr (inl e))))))))))))))) o = absurd (o .no-guard e)
-operation-byte b (inr (inr (inr (inr (inr (inr (inr (inr (inr (inr (inr (inr (inr (inr (inr e))))))))))))))) o = absurd e
 
 -- what the figure of a record needs, by its first byte
 pub first-inside : (f : List ℕ) (at : ℕ) → at + sizeAt f at ≤ length f → at < length f

@@ -33,10 +33,13 @@ use Rattle.records.specs.Records.{Record, word, reads, recordIn, ReadsEarlier, 
 use Rattle.fused.specs.FusedCircuit.{recordsOf, wireOf, outputWires, fusedFile}
 use Rattle.records.specs.CircuitFile.{recordBytes, recordsBytes}
 use Rattle.records.specs.FileFigures.{recordAt, sizeAt, placeAfter, firstRecord, fileVariables, wireCount, fileRecords, fileOutputs, fileFigures}
-use Rattle.records.specs.FitRecords.{Wires, AllReadBack, FieldsFit, AllFieldsFit, all-fit}
+use Rattle.records.specs.FitRecords.{Wires, AllReadBack, FileFits, FieldsFit, AllFieldsFit, all-fit}
 use Rattle.fused.specs.FitLaws.{members-few, emit-sized}
 use Rattle.fused.specs.SizeBounds.{wires-bound, outputs-count}
 use Rattle.records.specs.FileLaws.{file-place, file-record, file-part, file-inside, file-found}
+use Rattle.records.specs.LaidOut.{LaidOut}
+use Rattle.records.specs.InverseLaws.{file-laid}
+use Rattle.records.specs.FilePartLaws.{figures-at}
 use Rattle.records.specs.FileBytes.{file-bytes}
 use Rattle.fused.specs.BoundLaws.{fused-along}
 
@@ -109,22 +112,34 @@ module _ (s p : List ℕ) (h : planAnswer s p .number ≡ 0) where
       unfolding fusedFile
       fused-inside i l = omega (arith, file-inside (variables s) (recordsOf s p) (outputWires s p) fused-fits i l)
 
-      -- and every output wire is a wire: the file, taken apart, gives its records and its output wires
+      -- and every output wire is a wire, so the file fits its bytes
+      fused-file-fits : ((w : ℕ) → w ∈ outputWires s p → w < length (recordsOf s p)) → FileFits (variables s) (recordsOf s p) (outputWires s p)
+      fused-file-fits inside = record {
+        each = fused-fits;
+        few = omega (arith, wires-bound s p h);
+        wires = λ w m. omega (arith, inside w m, wires-bound s p h);
+        count = length-map (outputsOf s) (wireOf s p) ∙ outputs-count s p h .0;
+      }
+
+      -- taken apart, it gives its records and its output wires
       pub fused-found : ((w : ℕ) → w ∈ outputWires s p → w < length (recordsOf s p))
           → (fileRecords (fusedFile s p) ≡ recordsOf s p) × (fileOutputs (fusedFile s p) ≡ outputWires s p)
           × (fileVariables (fusedFile s p) ≡ variables s) × (wireCount (fusedFile s p) ≡ length (recordsOf s p))
       unfolding fusedFile
-      fused-found inside =
-          file-found (variables s) (recordsOf s p) (outputWires s p) (omega (arith, wires-bound s p h)) fused-fits
-          (λ w m. omega (arith, inside w m, wires-bound s p h)) (length-map (outputsOf s) (wireOf s p) ∙ outputs-count s p h .0)
+      fused-found inside = file-found (variables s) (recordsOf s p) (outputWires s p) (fused-file-fits inside)
+
+      -- and it is laid out as a circuit file
+      pub fused-laid : ((w : ℕ) → w ∈ outputWires s p → w < length (recordsOf s p)) → LaidOut (fusedFile s p)
+      unfolding fusedFile
+      fused-laid inside = file-laid (variables s) (recordsOf s p) (outputWires s p) (fused-file-fits inside)
 
       -- so its figures, worked out from its bytes, are those of its records at its output wires
       pub fused-file-figures : ((w : ℕ) → w ∈ outputWires s p → w < length (recordsOf s p)) → (inputs : List ℕ)
           → fileFigures (fusedFile s p) inputs ≡ map (wireFigure inputs (recordsOf s p)) (outputWires s p)
-      unfolding fileFigures
       fused-file-figures inside inputs =
           let f = fused-found inside in
-          ap₂ (λ (R : List Record) (l : List ℕ). map (wireFigure inputs R) l) (f .0) (f .1)
+          figures-at (fusedFile s p) inputs
+          ∙ ap₂ (λ (R : List Record) (l : List ℕ). map (wireFigure inputs R) l) (f .0) (f .1)
 
 -- the file of an accepted plan consists of bytes
 pub fused-bytes : (s p : List ℕ) → planAnswer s p .number ≡ 0 → Bytes s → ReadsEarlier (recordsOf s p) → Bytes (fusedFile s p)

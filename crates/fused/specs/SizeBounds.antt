@@ -31,7 +31,7 @@ use Rattle.plan.specs.WaitLaws.{order-once}
 use Rattle.records.specs.Records.{recordsCost}
 use Rattle.fused.specs.FusedCircuit.{groupRecords, written, fused, recordsOf, wireOf, outputWires, costAfter, fusedFile}
 use Rattle.records.specs.CircuitFile.{recordsBytes}
-use Rattle.records.specs.SizeLaws.{size-append, cost-append, file-size}
+use Rattle.records.specs.SizeLaws.{size-append, cost-none, cost-append, file-size}
 use Rattle.fused.specs.SizeEmit.{emit-most}
 use Rattle.fused.specs.SizeTotal.{total, total-le}
 
@@ -42,8 +42,8 @@ module _ (s : List ℕ) (C : Gates) (shaped : Shaped C) (sets : List ℕ) (group
       → (2 * length (written s C sets group done .records) ≤ 5 * total group (upto (length C)) done)
       × (2 * length (recordsBytes (written s C sets group done .records)) ≤ 69 * total group (upto (length C)) done)
       × (recordsCost (written s C sets group done .records) ≤ 40 * total group (upto (length C)) done)
-  unfolding written recordsCost
-  by-group [] = (omega arith, omega arith, omega arith)
+  unfolding written
+  by-group [] = (omega arith, omega arith, omega (arith, cost-none))
   by-group (q ∷ done) =
       let w = written s C sets group done in
       let new = groupRecords s C sets group w q in

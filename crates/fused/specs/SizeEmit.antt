@@ -19,7 +19,7 @@ use Rattle.plan.specs.Accepted.{OneCostly}
 use Rattle.records.specs.Records.{Record, recordCost, recordsCost}
 use Rattle.fused.specs.Emission.{alone, gateOperation, joined, guardOf, valuesAt, emit}
 use Rattle.records.specs.CircuitFile.{recordBytes, recordsBytes}
-use Rattle.records.specs.SizeLaws.{word-size, operation-size, choice-size, size-one, cost-one}
+use Rattle.records.specs.SizeLaws.{word-size, operation-size, choice-size, size-one, cost-none, cost-one}
 use Rattle.fused.specs.SizeJoined.{guards-most, group-count, group-size, group-cost}
 
 -- a costly operation has two arguments
@@ -85,8 +85,7 @@ module _ (s : List ℕ) (C : Gates) (sets : List ℕ) (wire : ℕ → ℕ) (n : 
   pub emit-most : Shaped C → (ms : List ℕ) → (2 ≤ length ms → OneCostly C ms)
       → (2 * length (emit s C sets wire n ms) ≤ 5 * length ms) × (2 * length (recordsBytes (emit s C sets wire n ms)) ≤ 69 * length ms)
       × (recordsCost (emit s C sets wire n ms) ≤ 40 * length ms)
-  unfolding recordsCost
-  emit-most shaped [] h = (omega arith, omega arith, omega arith)
+  emit-most shaped [] h = (omega arith, omega arith, omega (arith, cost-none))
   emit-most shaped (m ∷ []) h = (
     omega arith,
     omega (arith, size-one (alone s wire (gateAt C m)), alone-most s wire (gateAt C m) (shaped m)),

@@ -16,7 +16,7 @@ use Rattle.plan.specs.RestLaws.{rests-few}
 use Rattle.records.specs.Records.{Record, operation, pick, recordsCost}
 use Rattle.fused.specs.Emission.{pairs, joined, guardOf, valuesAt}
 use Rattle.records.specs.CircuitFile.{recordBytes, recordsBytes}
-use Rattle.records.specs.SizeLaws.{operation-size, pick-size, guard-size, size-append, size-one, cost-append, cost-one}
+use Rattle.records.specs.SizeLaws.{operation-size, pick-size, guard-size, size-append, size-one, cost-none, cost-more, cost-append, cost-one}
 
 -- a pair for each value
 pub length-pairs : (n : ℕ) (values : List ℕ) → length (pairs n values) ≡ length values
@@ -36,10 +36,10 @@ picks-size n k (values ∷ places) (e, f) =
     ∙ rw (suc-mul (length places) (2 + 4 * k)) (omega arith)
 
 pub picks-cost : (n k : ℕ) (places : List (List ℕ)) → EachGroup (λ values. length values ≡ k) places → recordsCost (picks n places) ≡ length places * (2 * k)
-unfolding recordsCost
-picks-cost n k [] e = omega arith
+picks-cost n k [] e = omega (arith, cost-none)
 picks-cost n k (values ∷ places) (e, f) =
-    ap₂ (λ (x y : ℕ). x + y) (ap (λ (i : ℕ). 2 * i) (length-pairs n values ∙ e)) (picks-cost n k places f)
+    cost-more (pick (pairs n values)) (picks n places)
+    ∙ ap₂ (λ (x y : ℕ). x + y) (ap (λ (i : ℕ). 2 * i) (length-pairs n values ∙ e)) (picks-cost n k places f)
     ∙ rw (suc-mul (length places) (2 * k)) (omega arith)
 
 -- a joined group: its guards, a pick for each place, the operation
@@ -80,9 +80,8 @@ module _ (s : List ℕ) (C : Gates) (sets : List ℕ) (wire : ℕ → ℕ) where
 
   -- a guard costs 1
   pub guards-cost : (ms : List ℕ) → recordsCost (map (guardOf s C sets wire) ms) ≡ length ms
-  unfolding recordsCost
-  guards-cost [] = refl
-  guards-cost (m ∷ ms) = rw (guards-cost ms) (omega arith)
+  guards-cost [] = cost-none
+  guards-cost (m ∷ ms) = cost-more (guardOf s C sets wire m) (map (guardOf s C sets wire) ms) ∙ rw (guards-cost ms) (omega arith)
 
   -- at each place as many wires as members
   pub values-each : (ms l : List ℕ) → EachGroup (λ values. length values ≡ length ms) (map (valuesAt s C sets wire ms) l)

@@ -1,17 +1,16 @@
 -- Laws of what reading finds, expressions: what was read is typed, not too deep, and its bytes stand in the file from its first place to the place after it.
 use Prim.Native.Nat.{ℕ, zero, suc, _+_, _-_, _≤_, _<_}
 use native.Mathlib.Omega.{arith}
-use native.Mathlib.Numerals.{add-one}
 use mathlib.Core.Path.{_≡_, refl, sym, ap, _∙_}
 use mathlib.Core.List.{List, _∷_, _++_, append-assoc}
 use mathlib.Core.Bool.{Bool, true, false}
 use mathlib.Core.Logic.{⊎-elim}
 use borrow.Author.Tests.{ltb-true, leb-true, eqb-true, eqb-false}
 use lib.Dec.{ltb, leb, eqb}
-use lib.ListN.{length, getD, take, drop, length-drop, take-append-drop}
-use lib.Seq.{drop-cons, drop-drop, getD-take, getD-drop, length-take-le}
+use lib.ListN.{length, getD, take, drop}
 use Rattle.words.specs.Numbers.{numberAt, bytesOf, Bytes}
-use Rattle.words.specs.NumberLaws.{number-below, bytes-number}
+use Rattle.words.specs.NumberLaws.{number-small, number-back}
+use Rattle.words.specs.ListLaws.{drop-one, drop-two}
 use Rattle.codes.specs.Codes.{codeOf, entryOf, byteOf, sameKind}
 use Rattle.codes.specs.CodeLaws.{same-kind, one-or-two, Opens, code-opens}
 use Rattle.codes.specs.declared.Kind.{Kind}
@@ -26,32 +25,6 @@ use Rattle.reading.specs.Tree.{Expr, one, two}
 use Rattle.reading.specs.Expressions.{readVariable, readWord, readBit, secondWith, operationWith, exprForm, exprWith, readExpr}
 use Rattle.reading.specs.Kinds.{Typed, WordsFit}
 use Rattle.reading.specs.Format.{exprBytes, depth}
-
--- one byte, or two, then the rest of the file
-pub drop-one : (s : List ℕ) (at x : ℕ) → at < length s → getD s at 0 ≡ x → drop at s ≡ x ∷ drop (at + 1) s
-drop-one s at x h e = rw (drop-cons s at 0 h, e, add-one at)
-
-pub drop-two : (s : List ℕ) (at x : ℕ) → at + 1 < length s → getD s at 0 ≡ x → drop at s ≡ x ∷ (getD s (at + 1) 0 ∷ drop (at + 2) s)
-drop-two s at x h e =
-    let q : at + 1 + 1 ≡ at + 2 = omega arith in
-    drop-one s at x (omega arith) e
-    ∙ ap (λ (l : List ℕ). x ∷ l) (drop-one s (at + 1) (getD s (at + 1) 0) h refl ∙ ap (λ (k : ℕ). getD s (at + 1) 0 ∷ drop k s) q)
-
--- four bytes are a word's
-module _ (s : List ℕ) (bytes : Bytes s) (at : ℕ) (inside : at + 4 ≤ length s) where
-  four : length (take 4 (drop at s)) ≡ 4
-  four = length-take-le 4 (drop at s) (rw length-drop (omega arith))
-
-  each-byte : Bytes (take 4 (drop at s))
-  each-byte i h = rw (getD-take 4 (drop at s) i 0 (omega (arith, four)), getD-drop) (bytes (at + i) (omega (arith, four)))
-
-  word-fits : numberAt 4 s at < 4294967296
-  word-fits = rw four at (number-below (take 4 (drop at s)) each-byte)
-
-  word-bytes : drop at s ≡ bytesOf 4 (numberAt 4 s at) ++ drop (at + 4) s
-  word-bytes =
-      let t : bytesOf 4 (numberAt 4 s at) ≡ take 4 (drop at s) = rw four at (bytes-number (take 4 (drop at s)) each-byte) in
-      rw (t, ← drop-drop 4 at s) (sym (take-append-drop 4 (drop at s)))
 
 -- an operation that has not one argument has two
 arity-two : (op : Operation) → (entryOf op .arity ≡ 1 → ⊥) → entryOf op .arity ≡ 2
@@ -93,10 +66,10 @@ module _ (s : List ℕ) where
       let q : at + 1 + 4 ≡ at + 5 = omega arith in
       found (record {
         typed = same-kind _ _ k;
-        words = λ b. word-fits s b (at + 1) inside;
+        words = λ b. number-small 4 s (at + 1) b inside;
         shallow = ltb-true _ _ d;
         bytes = λ b. drop-one s at 0x11 l c ∙ ap (λ (r : List ℕ). 0x11 ∷ r)
-            (word-bytes s b (at + 1) inside ∙ ap (λ (n : ℕ). bytesOf 4 (numberAt 4 s (at + 1)) ++ drop n s) q);
+            (number-back 4 s (at + 1) b inside ∙ ap (λ (n : ℕ). bytesOf 4 (numberAt 4 s (at + 1)) ++ drop n s) q);
       }))))
 
   of-bit : (want : Kind) (deep at : ℕ) → getD s at 0 ≡ 0x12 → Finds (ExprFound s want deep at) (readBit s want deep at)

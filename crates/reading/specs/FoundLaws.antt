@@ -8,6 +8,7 @@ use borrow.Author.Tests.{ltb-true, eqb-true}
 use lib.Dec.{ltb, eqb}
 use lib.ListN.{length, getD, drop}
 use Rattle.words.specs.Numbers.{Bytes}
+use Rattle.words.specs.ListLaws.{drop-one, drop-two}
 use Rattle.codes.specs.Codes.{codeOf}
 use Rattle.codes.specs.CodeLaws.{Opens, code-opens}
 use Rattle.codes.specs.declared.Kind.{Kind}
@@ -23,7 +24,7 @@ use Rattle.reading.specs.Expressions.{readExpr}
 use Rattle.reading.specs.Blocks.{readAssign, branchWith, statementForm, statementWith, closedOr, blockWith, blockFuel, readBlock}
 use Rattle.reading.specs.Kinds.{Typed, WordsFit, EachExprIn, EachExpr}
 use Rattle.reading.specs.Format.{exprBytes, statementBytes, blockBytes, depth, nestingIn, nesting}
-use Rattle.reading.specs.FoundExprLaws.{ExprFound, expr-found, drop-one, drop-two}
+use Rattle.reading.specs.FoundExprLaws.{ExprFound, expr-found}
 
 -- what is found of every expression
 pub record Good (s : List ℕ) (e : Expr) (k : Kind) : Type 0 where

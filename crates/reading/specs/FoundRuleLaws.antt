@@ -8,6 +8,7 @@ use borrow.Author.Tests.{leb-true}
 use lib.ListN.{length, getD, drop, length-drop, take-append-drop, drop-of-length-le}
 use lib.Seq.{drop-drop, getD-take, getD-drop, length-take-le}
 use Rattle.words.specs.Numbers.{Bytes}
+use Rattle.words.specs.ListLaws.{drop-one}
 use Rattle.codes.specs.Codes.{kindOf}
 use Rattle.codes.specs.declared.Kind.{Kind}
 use Rattle.answers.specs.Parsing.{Parsed, parsed, refused, _>>=_}
@@ -20,7 +21,6 @@ use Rattle.reading.specs.Rule.{nothingAfter, readRule}
 use Rattle.reading.specs.Kinds.{Typed, WordsFit, EachExpr, TypedBlock, WordsBlock}
 use Rattle.reading.specs.Format.{blockBytes, ruleBytes, kindBytes, kindIn, Shallow, WellFormed}
 use Rattle.reading.specs.EachLaws.{each-same, typed-same}
-use Rattle.reading.specs.FoundExprLaws.{drop-one}
 use Rattle.reading.specs.FoundLaws.{Good, BlockFound, block-found}
 use Rattle.reading.specs.FirstStatement.{RuleRead, rule-read}
 

@@ -4,14 +4,14 @@ use mathlib.Core.Path.{_≡_, refl, sym, ap, ap₂, _∙_}
 use mathlib.Core.List.{List, [], _∷_, _++_, append-assoc, append-nil}
 use Prim.Native.Nat.{ℕ, zero, suc, _+_, _*_, _^_, _≤_, _<_}
 use native.Mathlib.Omega.{arith}
-use lib.ListN.{length, take, drop, length-append, take-append-drop}
-use lib.Seq.{take-length, take-at, drop-at}
+use lib.ListN.{length, take, drop, getD, length-append, take-append-drop}
+use lib.Seq.{take-length, take-at, drop-at, getD-take, getD-drop}
 use Rattle.words.specs.Numbers.{bytesOf}
 use Rattle.words.specs.NumberLaws.{length-bytes, number-found}
 use Rattle.records.specs.Records.{Record, recordIn}
 use Rattle.records.specs.CircuitFile.{mark, wiresBytes, recordBytes, recordsBytes, fileBytes}
 use Rattle.records.specs.FileFigures.{wiresAt, recordAt, sizeAt, recordsFrom, placeAfter, firstRecord, fileVariables, wireCount, fileRecords, fileOutputs}
-use Rattle.records.specs.FitRecords.{Wires, AllReadBack}
+use Rattle.records.specs.FitRecords.{Wires, AllReadBack, FileFits}
 use Rattle.records.specs.SizeLaws.{size-append, file-size}
 use Rattle.records.specs.FoundWires.{wires-found}
 use Rattle.records.specs.FoundRecords.{record-found}
@@ -107,6 +107,16 @@ module _ (v : ℕ) (R : List Record) (outputs : List ℕ) where
         ≡ recordBytes (recordIn R i)
     file-part i h = part-found (fileBytes v R outputs) i R firstRecord head (wiresBytes outputs) lie h
 
+    -- byte j of it
+    pub file-byte : (i j : ℕ) → i < length R → j < length (recordBytes (recordIn R i))
+        → getD (fileBytes v R outputs) (placeAfter i (fileBytes v R outputs) firstRecord + j) 0 ≡ getD (recordBytes (recordIn R i)) j 0
+    file-byte i j l k =
+        let f = fileBytes v R outputs in
+        let at = placeAfter i f firstRecord in
+        sym (getD-drop at f j 0)
+        ∙ sym (getD-take (sizeAt f at) (drop at f) j 0 (omega (arith, file-record i l .1)))
+        ∙ ap (λ (x : List ℕ). getD x j 0) (file-part i l)
+
     pub file-inside : (i : ℕ) → i < length R
         → placeAfter i (fileBytes v R outputs) firstRecord + sizeAt (fileBytes v R outputs) (placeAfter i (fileBytes v R outputs) firstRecord) + 2 * length outputs
         ≤ length (fileBytes v R outputs)
@@ -131,8 +141,12 @@ module _ (v : ℕ) (R : List Record) (outputs : List ℕ) where
           (rw append-nil (sym (append-assoc head (recordsBytes R) (wiresBytes outputs))))
 
 -- a file put together and taken apart again
-pub file-found : (v : ℕ) (R : List Record) (outputs : List ℕ) → length R < 256 ^ 2 → AllReadBack R → Wires outputs → length outputs ≡ v
+pub file-found : (v : ℕ) (R : List Record) (outputs : List ℕ) → FileFits v R outputs
     → (fileRecords (fileBytes v R outputs) ≡ R) × (fileOutputs (fileBytes v R outputs) ≡ outputs)
     × (fileVariables (fileBytes v R outputs) ≡ v) × (wireCount (fileBytes v R outputs) ≡ length R)
-file-found v R outputs few fit w e =
-    (file-records v R outputs fit few, file-outputs v R outputs fit few w e, variables-found v R outputs, count-found v R outputs few)
+file-found v R outputs f = (
+  file-records v R outputs (f .each) (f .few),
+  file-outputs v R outputs (f .each) (f .few) (f .wires) (f .count),
+  variables-found v R outputs,
+  count-found v R outputs (f .few),
+)

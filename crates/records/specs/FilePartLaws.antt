@@ -61,6 +61,10 @@ pub outputs-of : (f : List ℕ) → fileOutputs f ≡ wiresAt (fileVariables f) 
 unfolding fileOutputs
 outputs-of f = refl
 
+pub figures-at : (f inputs : List ℕ) → fileFigures f inputs ≡ map (wireFigure inputs (fileRecords f)) (fileOutputs f)
+unfolding fileFigures
+figures-at f inputs = refl
+
 pub figures-of : (f inputs : List ℕ)
     → fileFigures f inputs ≡ map (λ w. getD (run 0 (recordFigure inputs) (recordsFrom (wireCount f) f firstRecord) []) w 0) (fileOutputs f)
 unfolding fileFigures wireFigure fileRecords

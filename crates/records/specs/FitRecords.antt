@@ -29,6 +29,13 @@ abbrev pub AllReadBack : List Record → Type 0
 AllReadBack [] = Unit {0}
 AllReadBack (r ∷ R) = ReadsBack r × AllReadBack R
 
+-- a file of them, with v variables, is read back: the wire count and the output wires fit two bytes, and there is an output for each variable
+pub record FileFits (v : ℕ) (R : List Record) (outputs : List ℕ) : Type 0 where
+  pub each : AllReadBack R
+  pub few : length R < 256 ^ 2
+  pub wires : Wires outputs
+  pub count : length outputs ≡ v
+
 -- what a record needs besides the wires that it reads
 abbrev pub FieldsFit : Record → Type 0
 FieldsFit (input k x) = x < 256

@@ -1,21 +1,63 @@
 -- Laws of what the first byte of a record says of it, and of its bytes; one for each form. Assumes nothing.
-use mathlib.Core.Path.{_≡_, refl, ap, _∙_}
+use mathlib.Core.Path.{_≡_, refl, sym, ap, ap₂, subst, _∙_}
 use mathlib.Core.List.{List}
 use Prim.Native.Nat.{ℕ, _+_, _*_, _≤_}
+use native.Mathlib.Omega.{arith}
 use lib.ListN.{length, getD}
 use borrow.Author.Tests.{ne-eqb}
+use Rattle.words.specs.Lists.{_∈_}
 use Rattle.words.specs.Numbers.{numberAt}
 use Rattle.codes.specs.Codes.{entryOf, operationOf, byteOf, codeOf, startCode}
 use Rattle.codes.specs.declared.Kind.{Kind}
 use Rattle.codes.specs.declared.Kind.the-variants as kind
 use Rattle.codes.specs.declared.Operation.{Operation}
-use Rattle.codes.specs.declared.Operation.the-variants.{Sum, Difference, Product, LessThan, Equal, And, Or, Not}
+use Rattle.codes.specs.declared.Code.{Code}
+use Rattle.codes.specs.CodeLaws.{byte-operation, code-back}
 use Rattle.records.specs.Records.{Record, input, word, bit, operation, choice, pick, guard}
 use Rattle.records.specs.FileFigures.{wiresAt, pairsAt, recordAt, sizeAt}
 use Rattle.records.specs.CircuitFile.{recordBytes}
 use Rattle.records.specs.SizeLaws.{input-size, word-size, bit-size, operation-size, choice-size, pick-size, guard-size}
 use Rattle.records.specs.FilePartLaws.{wires-length, pairs-length}
-use Rattle.records.specs.RecordBounds.{some-byte}
+use Rattle.records.specs.RecordBounds.{operation-code, Coded, is-input, is-word, is-bit, is-operation, is-choice, is-pick, is-guard, known-coded, some-byte}
+use Rattle.records.specs.LaidOut.{recordCodes}
+
+-- a byte that begins no input, constant, choice, pick or guard
+pub record OtherByte (b : ℕ) : Type 0 where
+  pub no-word : b ≡ 0x00 → ⊥
+  pub no-bit : b ≡ 0x01 → ⊥
+  pub no-word-constant : b ≡ 0x11 → ⊥
+  pub no-bit-constant : b ≡ 0x12 → ⊥
+  pub no-choice : b ≡ 0x30 → ⊥
+  pub no-pick : b ≡ 0x31 → ⊥
+  pub no-guard : b ≡ 0x32 → ⊥
+
+-- an operation's byte is such a byte
+operation-other : (op : Operation) → OtherByte (byteOf op)
+operation-other op =
+    let (known, low, high) = operation-code op in
+    record {
+      no-word = λ e. omega arith;
+      no-bit = λ e. omega arith;
+      no-word-constant = λ e. omega arith;
+      no-bit-constant = λ e. omega arith;
+      no-choice = λ e. omega arith;
+      no-pick = λ e. omega arith;
+      no-guard = λ e. omega arith;
+    }
+
+-- and of the codes of records only an operation's is
+pub operation-byte : (b : ℕ) → b ∈ recordCodes → OtherByte b → (0x20 ≤ b) × (b ≤ 0x27)
+operation-byte b m o = go (known-coded b m)
+  where
+    go : Coded b → (0x20 ≤ b) × (b ≤ 0x27)
+    go (is-input kind.Word e) = absurd (o .no-word e)
+    go (is-input kind.Bit e) = absurd (o .no-bit e)
+    go (is-word e) = absurd (o .no-word-constant e)
+    go (is-bit e) = absurd (o .no-bit-constant e)
+    go (is-operation op e) = rw e (operation-code op .1, operation-code op .2)
+    go (is-choice e) = absurd (o .no-choice e)
+    go (is-pick e) = absurd (o .no-pick e)
+    go (is-guard e) = absurd (o .no-guard e)
 
 module _ (x : List ℕ) (at : ℕ) where
   -- the record that is read, and how many bytes it has
@@ -41,18 +83,6 @@ module _ (x : List ℕ) (at : ℕ) where
   unfolding recordAt
   form-bit h = read-as (bit (getD x (at + 1) 0)) 2 (rw h) (bit-size (getD x (at + 1) 0))
 
-  pub form-operation : (op : Operation) → getD x at 0 ≡ byteOf op
-      → (recordAt x at ≡ operation op (wiresAt (entryOf op .arity) x (at + 1))) × (sizeAt x at ≡ 1 + 2 * entryOf op .arity)
-  unfolding recordAt codeOf operationOf
-  form-operation Sum h = operation-as Sum 2 (rw h)
-  form-operation Difference h = operation-as Difference 2 (rw h)
-  form-operation Product h = operation-as Product 2 (rw h)
-  form-operation LessThan h = operation-as LessThan 2 (rw h)
-  form-operation Equal h = operation-as Equal 2 (rw h)
-  form-operation And h = operation-as And 2 (rw h)
-  form-operation Or h = operation-as Or 2 (rw h)
-  form-operation Not h = operation-as Not 1 (rw h)
-
   pub form-choice : getD x at 0 ≡ 0x30
       → (recordAt x at ≡ choice (numberAt 2 x (at + 1)) (numberAt 2 x (at + 3)) (numberAt 2 x (at + 5))) × (sizeAt x at ≡ 7)
   unfolding recordAt
@@ -75,29 +105,27 @@ module _ (x : List ℕ) (at : ℕ) where
       read-as (guard (wiresAt n x (at + 2)) (numberAt 8 x (at + 2 + 2 * n))) (10 + 2 * n) (rw h)
       (guard-size (wiresAt n x (at + 2)) (numberAt 8 x (at + 2 + 2 * n)) ∙ ap (λ (k : ℕ). 10 + 2 * k) (wires-length n x (at + 2)))
 
--- any other byte
-pub record OtherByte (b : ℕ) : Type 0 where
-  pub no-word : b ≡ 0x00 → ⊥
-  pub no-bit : b ≡ 0x01 → ⊥
-  pub no-word-constant : b ≡ 0x11 → ⊥
-  pub no-bit-constant : b ≡ 0x12 → ⊥
-  pub no-choice : b ≡ 0x30 → ⊥
-  pub no-pick : b ≡ 0x31 → ⊥
-  pub no-guard : b ≡ 0x32 → ⊥
+  pub form-other : OtherByte (getD x at 0)
+      → (recordAt x at ≡ operation (operationOf (getD x at 0)) (wiresAt (codeOf (getD x at 0) .arity) x (at + 1))) × (sizeAt x at ≡ 1 + 2 * codeOf (getD x at 0) .arity)
+  unfolding recordAt
+  form-other o =
+      operation-as (operationOf (getD x at 0)) (codeOf (getD x at 0) .arity) (simp (
+        ne-eqb _ 0x00 (o .no-word),
+        ne-eqb _ 0x01 (o .no-bit),
+        ne-eqb _ 0x11 (o .no-word-constant),
+        ne-eqb _ 0x12 (o .no-bit-constant),
+        ne-eqb _ 0x30 (o .no-choice),
+        ne-eqb _ 0x31 (o .no-pick),
+        ne-eqb _ 0x32 (o .no-guard),
+      ) refl)
 
-pub form-other : (x : List ℕ) (at : ℕ) → OtherByte (getD x at 0)
-    → (recordAt x at ≡ operation (operationOf (getD x at 0)) (wiresAt (codeOf (getD x at 0) .arity) x (at + 1))) × (sizeAt x at ≡ 1 + 2 * codeOf (getD x at 0) .arity)
-unfolding recordAt
-form-other x at o =
-    operation-as x at (operationOf (getD x at 0)) (codeOf (getD x at 0) .arity) (simp (
-      ne-eqb _ 0x00 (o .no-word),
-      ne-eqb _ 0x01 (o .no-bit),
-      ne-eqb _ 0x11 (o .no-word-constant),
-      ne-eqb _ 0x12 (o .no-bit-constant),
-      ne-eqb _ 0x30 (o .no-choice),
-      ne-eqb _ 0x31 (o .no-pick),
-      ne-eqb _ 0x32 (o .no-guard),
-    ) refl)
+  pub form-operation : (op : Operation) → getD x at 0 ≡ byteOf op
+      → (recordAt x at ≡ operation op (wiresAt (entryOf op .arity) x (at + 1))) × (sizeAt x at ≡ 1 + 2 * entryOf op .arity)
+  form-operation op h =
+      let f = form-other (subst OtherByte (sym h) (operation-other op)) in
+      let o : operationOf (getD x at 0) ≡ op = ap operationOf h ∙ byte-operation op in
+      let n : codeOf (getD x at 0) .arity ≡ entryOf op .arity = ap (λ (b : ℕ). codeOf b .arity) h ∙ ap (λ (c : Code). c .arity) (code-back op) in
+      (f .0 ∙ ap₂ (λ (q : Operation) (k : ℕ). operation q (wiresAt k x (at + 1))) o n, f .1 ∙ ap (λ (k : ℕ). 1 + 2 * k) n)
 
 -- every record has a byte at least
 pub size-some : (x : List ℕ) (at : ℕ) → 1 ≤ sizeAt x at

@@ -17,4 +17,6 @@ pub mod FoundRecords
 pub mod FileLaws
 pub mod FileBytes
 pub mod SumLaws
+pub mod BackLaws
+pub mod InverseLaws
 pub mod Examples

@@ -1,12 +1,12 @@
--- Laws of a record's first bytes, as a run relies on them: which they are, an input's variable, a guard's count of condition wires. Assumes nothing.
+-- Laws of a record's first bytes: which codes there are, an input's variable, a guard's count of condition wires. Assumes nothing.
 use mathlib.Core.Path.{_≡_, refl}
 use mathlib.Core.Logic.{inl, inr}
 use Prim.Native.Nat.{ℕ, _≤_, _<_}
 use native.Mathlib.Omega.{arith}
 use lib.ListN.{length, getD}
 use Rattle.words.specs.Lists.{_∈_}
-use Rattle.words.specs.Numbers.{bytesOf}
-use Rattle.codes.specs.Codes.{byteOf}
+use Rattle.codes.specs.Codes.{byteOf, startCode}
+use Rattle.codes.specs.declared.Kind.{Kind}
 use Rattle.codes.specs.declared.Kind.the-variants as kind
 use Rattle.codes.specs.declared.Operation.{Operation}
 use Rattle.codes.specs.declared.Operation.the-variants.{Sum, Difference, Product, LessThan, Equal, And, Or, Not}
@@ -14,10 +14,11 @@ use Rattle.records.specs.Records.{Record, input, word, bit, operation, c
 use Rattle.records.specs.CircuitFile.{recordBytes}
 use Rattle.records.specs.Limits.{mostGuardWires}
 use Rattle.records.specs.FitRecords.{Bounded}
+use Rattle.records.specs.SizeLaws.{word-size, choice-size}
 use Rattle.records.specs.LaidOut.{recordCodes}
 
 -- the first bytes of a record
-operation-code : (op : Operation) → (byteOf op ∈ recordCodes) × (0x20 ≤ byteOf op) × (byteOf op ≤ 0x27)
+pub operation-code : (op : Operation) → (byteOf op ∈ recordCodes) × (0x20 ≤ byteOf op) × (byteOf op ≤ 0x27)
 operation-code Sum = (inr (inr (inr (inr (inl refl)))), omega arith, omega arith)
 operation-code Difference = (inr (inr (inr (inr (inr (inl refl))))), omega arith, omega arith)
 operation-code Product = (inr (inr (inr (inr (inr (inr (inl refl)))))), omega arith, omega arith)
@@ -36,6 +37,34 @@ known-byte (operation op l) = operation-code op .0
 known-byte (choice c a b) = inr (inr (inr (inr (inr (inr (inr (inr (inr (inr (inr (inr (inl refl))))))))))))
 known-byte (pick l) = inr (inr (inr (inr (inr (inr (inr (inr (inr (inr (inr (inr (inr (inl refl)))))))))))))
 known-byte (guard cs t) = inr (inr (inr (inr (inr (inr (inr (inr (inr (inr (inr (inr (inr (inr (inl refl))))))))))))))
+
+-- what a record can be, by the byte that it begins with
+pub data Coded (b : ℕ) : Type 0 where
+  is-input : (k : Kind) → b ≡ startCode k → Coded b
+  is-word : b ≡ 0x11 → Coded b
+  is-bit : b ≡ 0x12 → Coded b
+  is-operation : (op : Operation) → b ≡ byteOf op → Coded b
+  is-choice : b ≡ 0x30 → Coded b
+  is-pick : b ≡ 0x31 → Coded b
+  is-guard : b ≡ 0x32 → Coded b
+
+pub known-coded : (b : ℕ) → b ∈ recordCodes → Coded b
+known-coded b (inl e) = is-input kind.Word e
+known-coded b (inr (inl e)) = is-input kind.Bit e
+known-coded b (inr (inr (inl e))) = is-word e
+known-coded b (inr (inr (inr (inl e)))) = is-bit e
+known-coded b (inr (inr (inr (inr (inl e))))) = is-operation Sum e
+known-coded b (inr (inr (inr (inr (inr (inl e)))))) = is-operation Difference e
+known-coded b (inr (inr (inr (inr (inr (inr (inl e))))))) = is-operation Product e
+known-coded b (inr (inr (inr (inr (inr (inr (inr (inl e)))))))) = is-operation LessThan e
+known-coded b (inr (inr (inr (inr (inr (inr (inr (inr (inl e))))))))) = is-operation Equal e
+known-coded b (inr (inr (inr (inr (inr (inr (inr (inr (inr (inl e)))))))))) = is-operation And e
+known-coded b (inr (inr (inr (inr (inr (inr (inr (inr (inr (inr (inl e))))))))))) = is-operation Or e
+known-coded b (inr (inr (inr (inr (inr (inr (inr (inr (inr (inr (inr (inl e)))))))))))) = is-operation Not e
+known-coded b (inr (inr (inr (inr (inr (inr (inr (inr (inr (inr (inr (inr (inl e))))))))))))) = is-choice e
+known-coded b (inr (inr (inr (inr (inr (inr (inr (inr (inr (inr (inr (inr (inr (inl e)))))))))))))) = is-pick e
+known-coded b (inr (inr (inr (inr (inr (inr (inr (inr (inr (inr (inr (inr (inr (inr (inl e))))))))))))))) = is-guard e
+known-coded b (inr (inr (inr (inr (inr (inr (inr (inr (inr (inr (inr (inr (inr (inr (inr e))))))))))))))) = absurd e
 
 pub counted-byte : (v : ℕ) (r : Record) → Bounded v r → getD (recordBytes r) 0 0 ≡ 0x32 → getD (recordBytes r) 1 0 ≤ mostGuardWires
 counted-byte v (input kind.Word x) b h = absurd (omega arith)
@@ -59,12 +88,11 @@ input-byte v (guard cs t) b h = absurd (omega arith)
 
 -- a record has two bytes or more, but for an operation of no wires
 pub two-bytes : (r : Record) → (0x20 ≤ getD (recordBytes r) 0 0 → getD (recordBytes r) 0 0 ≤ 0x27 → ⊥) → 2 ≤ length (recordBytes r)
-unfolding bytesOf
 two-bytes (input k x) h = omega arith
-two-bytes (word n) h = omega arith
+two-bytes (word n) h = omega (arith, word-size n)
 two-bytes (bit b) h = omega arith
 two-bytes (operation op l) h = absurd (h (operation-code op .1) (operation-code op .2))
-two-bytes (choice c a b) h = omega arith
+two-bytes (choice c a b) h = omega (arith, choice-size c a b)
 two-bytes (pick l) h = omega arith
 two-bytes (guard cs t) h = omega arith
 

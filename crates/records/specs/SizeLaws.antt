@@ -62,17 +62,23 @@ bytes-append (r ∷ A) B = rw (bytes-append A B) (sym (append-assoc (recordBytes
 pub size-append : (A B : List Record) → length (recordsBytes (A ++ B)) ≡ length (recordsBytes A) + length (recordsBytes B)
 size-append A B = rw (bytes-append A B, length-append)
 
-pub cost-append : (A B : List Record) → recordsCost (A ++ B) ≡ recordsCost A + recordsCost B
+pub cost-none : recordsCost [] ≡ 0
 unfolding recordsCost
-cost-append [] B = omega arith
-cost-append (r ∷ A) B = rw (cost-append A B) (omega arith)
+cost-none = refl
+
+pub cost-more : (r : Record) (R : List Record) → recordsCost (r ∷ R) ≡ recordCost r + recordsCost R
+unfolding recordsCost
+cost-more r R = refl
+
+pub cost-append : (A B : List Record) → recordsCost (A ++ B) ≡ recordsCost A + recordsCost B
+cost-append [] B = omega (arith, cost-none)
+cost-append (r ∷ A) B = omega (arith, cost-more r (A ++ B), cost-more r A, cost-append A B)
 
 pub size-one : (r : Record) → length (recordsBytes (r ∷ [])) ≡ length (recordBytes r)
 size-one r = rw length-append (omega arith)
 
 pub cost-one : (r : Record) → recordsCost (r ∷ []) ≡ recordCost r
-unfolding recordsCost
-cost-one r = omega arith
+cost-one r = omega (arith, cost-more r [], cost-none)
 
 -- a file: 8 bytes, its records, two bytes an output
 pub file-size : (v : ℕ) (R : List Record) (outputs : List ℕ) → length (fileBytes v R outputs) ≡ 8 + length (recordsBytes R) + 2 * length outputs

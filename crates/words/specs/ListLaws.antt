@@ -1,12 +1,14 @@
--- Laws of lists that crates above cite: mapped lists, the members that pass a test, runs of numbers, places inside a list.
+-- Laws of lists that crates above cite: mapped lists, the members that pass a test, runs of numbers, places inside a list, the rest from a place on.
 use mathlib.Core.Path.{_≡_, refl, sym, ap, _∙_}
 use mathlib.Core.Bool.{Bool, cond}
 use mathlib.Core.List.{List, [], _∷_, _++_, map}
 use mathlib.Core.Logic.{_⊎_, inl, inr}
 use Prim.Native.Nat.{ℕ, zero, suc, _+_, _-_, _≤_, _<_}
 use native.Mathlib.Nat.{add-zero}
+use native.Mathlib.Numerals.{add-one}
 use native.Mathlib.Omega.{arith}
 use lib.ListN.{length, getD, take, drop, replicate}
+use lib.Seq.{drop-cons}
 use Rattle.words.specs.Lists.{_∈_, keep, from}
 use Rattle.words.specs.TestLaws.{split}
 
@@ -68,3 +70,13 @@ inside-list (s ∷ M) (suc a) = go (inside-list M a)
 -- the part of a list up to v, as code that lends it writes it
 pub front : (v : ℕ) (l : List ℕ) → take (v - 0) (drop 0 l) ≡ take v l
 front v l = let n : v - 0 ≡ v = omega arith in ap (λ (k : ℕ). take k l) n
+
+-- one element from a place on, or two, then the rest
+pub drop-one : (s : List ℕ) (at x : ℕ) → at < length s → getD s at 0 ≡ x → drop at s ≡ x ∷ drop (at + 1) s
+drop-one s at x h e = rw (drop-cons s at 0 h, e, add-one at)
+
+pub drop-two : (s : List ℕ) (at x : ℕ) → at + 1 < length s → getD s at 0 ≡ x → drop at s ≡ x ∷ (getD s (at + 1) 0 ∷ drop (at + 2) s)
+drop-two s at x h e =
+    let q : at + 1 + 1 ≡ at + 2 = omega arith in
+    drop-one s at x (omega arith) e
+    ∙ ap (λ (l : List ℕ). x ∷ l) (drop-one s (at + 1) (getD s (at + 1) 0) h refl ∙ ap (λ (k : ℕ). getD s (at + 1) 0 ∷ drop k s) q)

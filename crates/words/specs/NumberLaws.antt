@@ -94,18 +94,24 @@ bytes-number (b ∷ s) h =
     let t : Bytes s = λ i l. h (suc i) (omega arith) in
     rw (digits-div b (number-below s t), mod-eq-of-lt (h 0 (omega arith)), bytes-high (length s) b (number s), bytes-number s t)
 
--- reading a number of bytes from a place on, then writing it there
-pub number-back : (w : ℕ) (s : List ℕ) (at : ℕ) → Bytes s → at + w ≤ length s → drop at s ≡ bytesOf w (numberAt w s at) ++ drop (at + w) s
-number-back w s at bytes h = sym (take-append-drop w (drop at s)) ∙ ap₂ (λ (a b : List ℕ). a ++ b) (sym written) (drop-drop w at s)
-  where
-    size : length (take w (drop at s)) ≡ w
-    size = length-take-le w (drop at s) (simp length-drop (omega arith))
+-- w bytes from a place on
+module _ (w : ℕ) (s : List ℕ) (at : ℕ) (bytes : Bytes s) (h : at + w ≤ length s) where
+  part-length : length (take w (drop at s)) ≡ w
+  part-length = length-take-le w (drop at s) (simp length-drop (omega arith))
 
-    written : bytesOf w (numberAt w s at) ≡ take w (drop at s)
-    written =
-        ap (λ (k : ℕ). bytesOf k (numberAt w s at)) (sym size)
-        ∙ bytes-number (take w (drop at s))
-        (λ i l. let m : i < w = rw size at l in rw (getD-take w (drop at s) i 0 m, getD-drop at s i 0) (bytes (at + i) (omega arith)))
+  part-bytes : Bytes (take w (drop at s))
+  part-bytes i l = let m : i < w = rw part-length at l in rw (getD-take w (drop at s) i 0 m, getD-drop at s i 0) (bytes (at + i) (omega arith))
+
+  -- their number fits w bytes
+  pub number-small : numberAt w s at < 256 ^ w
+  number-small = rw part-length at (number-below (take w (drop at s)) part-bytes)
+
+  -- and written again it is the same bytes
+  pub number-back : drop at s ≡ bytesOf w (numberAt w s at) ++ drop (at + w) s
+  number-back =
+      sym (take-append-drop w (drop at s))
+      ∙ ap₂ (λ (a b : List ℕ). a ++ b)
+      (sym (ap (λ (k : ℕ). bytesOf k (numberAt w s at)) (sym part-length) ∙ bytes-number (take w (drop at s)) part-bytes)) (drop-drop w at s)
 
 -- the number that a buffer holds where it was written
 pub number-found : (w n : ℕ) (a b : List ℕ) → n < 256 ^ w → numberAt w (a ++ (bytesOf w n ++ b)) (length a) ≡ n
