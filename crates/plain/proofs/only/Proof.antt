@@ -3,8 +3,8 @@ use native.Mathlib.Nat.{one-mul}
 use native.Mathlib.Omega.{arith}
 use lib.Pow.{shl-exact}
 use borrow.Author.Needs.{needs}
-use Rattle.making.proofs.only.Statement.{statement}
-use Rattle.making.proofs.only.Tie as tie
+use Rattle.plain.proofs.only.Statement.{statement}
+use Rattle.plain.proofs.only.Tie as tie
 
 returns : tie.Need-returns
 returns c = shl-exact {a = 1} 1 (c .args .x) 32 (search needs) (omega arith) ∙ one-mul _

@@ -5,10 +5,10 @@ use borrow.Author.Needs.{needs}
 use denote.Ref.{now}
 use Rattle.reading.specs.Header.{variables}
 use Rattle.gates.specs.Quads.{startCode}
 use Rattle.making.specs.Holding.{Started}
 use Rattle.making.specs.ChoiceLaws.{started-none, started-more, started-all}
-use Rattle.making.proofs.make_starts.Statement.{statement}
-use Rattle.making.proofs.make_starts.Tie as tie
+use Rattle.plain.proofs.make_starts.Statement.{statement}
+use Rattle.plain.proofs.make_starts.Tie as tie
 
 abbrev Inv-loop : tie.InvT-loop
 Inv-loop s present₀ quads₀ v n₀ x₀ present quads n x = (v ≡ variables s) × Started s x quads present n

@@ -3,9 +3,9 @@ use native.Mathlib.Omega.{arith}
 use denote.Ref.{now}
 use Rattle.answers.specs.Parsing.{IsRead}
 use Rattle.reading.specs.FirstStatement.{rule-read}
 use Rattle.making.specs.BlockLaws.{rule-made}
-use Rattle.making.proofs.make_rule.Statement.{statement}
-use Rattle.making.proofs.make_rule.Tie as tie
+use Rattle.plain.proofs.make_rule.Statement.{statement}
+use Rattle.plain.proofs.make_rule.Tie as tie
 
 shared-slice-read-v : tie.Need-shared-slice-read-v
 shared-slice-read-v c =

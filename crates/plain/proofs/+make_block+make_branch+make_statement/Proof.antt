@@ -15,29 +15,29 @@ use Rattle.reading.specs.Blocks.{statementForm, readBlock}
 use Rattle.reading.specs.FuelLaws.{block-forward, statement-forward}
 use Rattle.reading.specs.BlockLaws.{statement-as}
 use Rattle.reading.specs.FirstStatement.{block-inside}
 use Rattle.making.specs.Holding.{Walked}
 use Rattle.making.specs.StatementLaws.{done-as, branch-level, test-taken, first-taken, second-taken, made-branch, statement-read-as, made-skip}
 use Rattle.making.specs.BlockLaws.{walked-none, rest-taken, statement-taken, walked-all, walked-more}
 use borrow.Author.Needs.{needs}
 use Prim.Native.Nat.{ℕ, _<_}
 use borrow.Fn.Kinds.{In}
 use borrow.Fn.PlainCycle.{Measures, is, falls, and}
-use Rattle.making.proofs.make_block.Reads as make-block
-use Rattle.making.proofs.make_block.Kinds as make-block-kinds
-use Rattle.making.proofs.+make_block+make_branch+make_statement.Lts-make_block as make-block-lts
-use Rattle.making.proofs.make_branch.Reads as make-branch
-use Rattle.making.proofs.make_branch.Kinds as make-branch-kinds
-use Rattle.making.proofs.+make_block+make_branch+make_statement.Lts-make_branch as make-branch-lts
-use Rattle.making.proofs.make_statement.Reads as make-statement
-use Rattle.making.proofs.make_statement.Kinds as make-statement-kinds
-use Rattle.making.proofs.+make_block+make_branch+make_statement.Lts-make_statement as make-statement-lts
+use Rattle.plain.proofs.make_block.Reads as make-block
+use Rattle.plain.proofs.make_block.Kinds as make-block-kinds
+use Rattle.plain.proofs.+make_block+make_branch+make_statement.Lts-make_block as make-block-lts
+use Rattle.plain.proofs.make_branch.Reads as make-branch
+use Rattle.plain.proofs.make_branch.Kinds as make-branch-kinds
+use Rattle.plain.proofs.+make_block+make_branch+make_statement.Lts-make_branch as make-branch-lts
+use Rattle.plain.proofs.make_statement.Reads as make-statement
+use Rattle.plain.proofs.make_statement.Kinds as make-statement-kinds
+use Rattle.plain.proofs.+make_block+make_branch+make_statement.Lts-make_statement as make-statement-lts
 use Rattle.codes.proofs.code_of.Reads as code
-use Rattle.making.proofs.make_assign.Reads as assign
+use Rattle.plain.proofs.make_assign.Reads as assign
 use Rattle.making.proofs.make_choices.Reads as choices
-use Rattle.making.proofs.make_expr.Reads as expr
-use Rattle.making.proofs.passed.Reads as passed
-use Rattle.making.proofs.+make_block+make_branch+make_statement.{statement}
-use Rattle.making.proofs.+make_block+make_branch+make_statement.Tie.{close}
+use Rattle.plain.proofs.make_expr.Reads as expr
+use Rattle.plain.proofs.passed.Reads as passed
+use Rattle.plain.proofs.+make_block+make_branch+make_statement.{statement}
+use Rattle.plain.proofs.+make_block+make_branch+make_statement.Tie.{close}
 
 abbrev μ-make-block : Measures 3 make-block-kinds.ps ℕ
 μ-make-block κs a = 3 * (length (now (a .0)) - a .1 .0) + 2

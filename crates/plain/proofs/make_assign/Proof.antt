@@ -9,10 +9,10 @@ use Rattle.settings.specs.Sets.{has}
 use Rattle.reading.specs.Limits.{deepest}
 use Rattle.reading.specs.Expressions.{readExpr}
 use Rattle.reading.specs.FirstStatement.{assign-read}
 use Rattle.making.specs.ChoiceLaws.{only-bit}
 use Rattle.making.specs.StatementLaws.{made-assign}
-use Rattle.making.proofs.make_assign.Statement.{statement}
-use Rattle.making.proofs.make_assign.Tie as tie
+use Rattle.plain.proofs.make_assign.Statement.{statement}
+use Rattle.plain.proofs.make_assign.Tie as tie
 
 add-x : tie.Need-add-x
 add-x c = let a = c .before .args in let r = assign-read (now (a .s)) (a .at) (c .before .pre .1) in omega (arith, r .inside)

@@ -8,26 +8,26 @@ use Rattle.answers.specs.Parsing.{parsed}
 use Rattle.reading.specs.Tree.{word}
 use Rattle.reading.specs.Expressions.{readExpr}
 use Rattle.reading.specs.FirstByte.{VariableRead, WordRead, BitRead, expr-inside, byte-variable, as-variable, as-word, as-bit, expr-taken}
 use Rattle.making.specs.ExprLaws.{level, first-taken, second-taken, made-variable, made-word, made-bit, made-one, made-two}
 use borrow.Author.Needs.{needs}
 use Prim.Native.Nat.{ℕ, _*_, _<_}
 use borrow.Fn.Kinds.{In}
 use borrow.Fn.PlainCycle.{Measures, is, falls, and}
-use Rattle.making.proofs.make_argument.Reads as make-argument
-use Rattle.making.proofs.make_argument.Kinds as make-argument-kinds
-use Rattle.making.proofs.+make_argument+make_expr.Lts-make_argument as make-argument-lts
-use Rattle.making.proofs.make_expr.Reads as make-expr
-use Rattle.making.proofs.make_expr.Kinds as make-expr-kinds
-use Rattle.making.proofs.+make_argument+make_expr.Lts-make_expr as make-expr-lts
+use Rattle.plain.proofs.make_argument.Reads as make-argument
+use Rattle.plain.proofs.make_argument.Kinds as make-argument-kinds
+use Rattle.plain.proofs.+make_argument+make_expr.Lts-make_argument as make-argument-lts
+use Rattle.plain.proofs.make_expr.Reads as make-expr
+use Rattle.plain.proofs.make_expr.Kinds as make-expr-kinds
+use Rattle.plain.proofs.+make_argument+make_expr.Lts-make_expr as make-expr-lts
 use Rattle.codes.proofs.code_of.Reads as code-of-reads
 use Rattle.making.proofs.apply_gate.Reads as apply-gate-reads
 use Rattle.making.proofs.byte_of.Reads as byte-of-reads
-use Rattle.making.proofs.make_variable.Reads as make-variable-reads
-use Rattle.making.proofs.nothing.Reads as nothing-reads
+use Rattle.plain.proofs.make_variable.Reads as make-variable-reads
+use Rattle.plain.proofs.nothing.Reads as nothing-reads
 use Rattle.making.proofs.push.Reads as push-reads
 use Rattle.words.proofs.read32.Reads as read32-reads
-use Rattle.making.proofs.+make_argument+make_expr.{statement}
-use Rattle.making.proofs.+make_argument+make_expr.Tie.{close}
+use Rattle.plain.proofs.+make_argument+make_expr.{statement}
+use Rattle.plain.proofs.+make_argument+make_expr.Tie.{close}
 
 abbrev μ-make-argument : Measures 3 make-argument-kinds.ps ℕ
 μ-make-argument κs a = 2 * a .1 .1 .1 .0 + 1
