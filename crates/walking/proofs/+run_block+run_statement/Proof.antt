@@ -10,24 +10,24 @@ use Rattle.answers.specs.Parsing.{IsRead}
 use Rattle.reading.specs.ExpressionLaws.{expr-forward}
 use Rattle.reading.specs.Blocks.{branchWith, statementForm, readBlock}
 use Rattle.reading.specs.FuelLaws.{block-forward, statement-forward}
-use Rattle.direct.specs.Walking.{AmidBlock}
-use Rattle.direct.specs.BlockLaws.{statement-taken, statement-ran, skip-ran, branch-level, test-taken, first-taken, second-taken, branch-yes, branch-no, amid-start, amid-inside, amid-end, amid-taken, amid-more}
+use Rattle.walking.specs.Walking.{AmidBlock}
+use Rattle.walking.specs.BlockLaws.{statement-taken, statement-ran, skip-ran, branch-level, test-taken, first-taken, second-taken, branch-yes, branch-no, amid-start, amid-inside, amid-end, amid-taken, amid-more}
 use borrow.Author.Needs.{needs}
 use Prim.Native.Nat.{ℕ, _+_, _-_, _*_, _<_, _≤_}
 use borrow.Fn.Kinds.{In}
 use borrow.Fn.PlainCycle.{Measures, is, falls, and}
-use Rattle.direct.proofs.run_block.Reads as run-block
-use Rattle.direct.proofs.run_block.Kinds as run-block-kinds
-use Rattle.direct.proofs.+run_block+run_statement.Lts-run_block as run-block-lts
-use Rattle.direct.proofs.run_statement.Reads as run-statement
-use Rattle.direct.proofs.run_statement.Kinds as run-statement-kinds
-use Rattle.direct.proofs.+run_block+run_statement.Lts-run_statement as run-statement-lts
+use Rattle.walking.proofs.run_block.Reads as run-block
+use Rattle.walking.proofs.run_block.Kinds as run-block-kinds
+use Rattle.walking.proofs.+run_block+run_statement.Lts-run_block as run-block-lts
+use Rattle.walking.proofs.run_statement.Reads as run-statement
+use Rattle.walking.proofs.run_statement.Kinds as run-statement-kinds
+use Rattle.walking.proofs.+run_block+run_statement.Lts-run_statement as run-statement-lts
 use Rattle.codes.proofs.code_of.Reads as code
-use Rattle.direct.proofs.pass_block.Reads as pass
-use Rattle.direct.proofs.run_assign.Reads as assign
-use Rattle.direct.proofs.run_expr.Reads as expr
-use Rattle.direct.proofs.+run_block+run_statement.{statement}
-use Rattle.direct.proofs.+run_block+run_statement.Tie.{close}
+use Rattle.walking.proofs.pass_block.Reads as pass
+use Rattle.walking.proofs.run_assign.Reads as assign
+use Rattle.walking.proofs.run_expr.Reads as expr
+use Rattle.walking.proofs.+run_block+run_statement.{statement}
+use Rattle.walking.proofs.+run_block+run_statement.Tie.{close}
 
 abbrev μ-run-block : Measures 2 run-block-kinds.ps ℕ
 μ-run-block κs a = 2 * (length (now (a .0)) - a .1 .0) + 1

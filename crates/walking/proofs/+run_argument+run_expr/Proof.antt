@@ -6,23 +6,23 @@ use Rattle.codes.specs.declared.Form.the-variants.{End, Assign, Skip, Branch, U
 use Rattle.codes.specs.CodeLaws.{code-variable}
 use Rattle.reading.specs.Expressions.{readExpr}
 use Rattle.reading.specs.FirstByte.{VariableRead, WordRead, BitRead, expr-inside, byte-variable, as-variable, as-word, as-bit, expr-taken}
-use Rattle.direct.specs.ExprLaws.{variable-out, word-out, bit-out, level, first-taken, one-out, second-taken, two-out}
+use Rattle.walking.specs.ExprLaws.{variable-out, word-out, bit-out, level, first-taken, one-out, second-taken, two-out}
 use borrow.Author.Needs.{needs}
 use Prim.Native.Nat.{ℕ, _+_, _*_, _<_}
 use borrow.Fn.Kinds.{In}
 use borrow.Fn.PlainCycle.{Measures, is, falls, and}
-use Rattle.direct.proofs.run_argument.Reads as run-argument
-use Rattle.direct.proofs.run_argument.Kinds as run-argument-kinds
-use Rattle.direct.proofs.+run_argument+run_expr.Lts-run_argument as run-argument-lts
-use Rattle.direct.proofs.run_expr.Reads as run-expr
-use Rattle.direct.proofs.run_expr.Kinds as run-expr-kinds
-use Rattle.direct.proofs.+run_argument+run_expr.Lts-run_expr as run-expr-lts
+use Rattle.walking.proofs.run_argument.Reads as run-argument
+use Rattle.walking.proofs.run_argument.Kinds as run-argument-kinds
+use Rattle.walking.proofs.+run_argument+run_expr.Lts-run_argument as run-argument-lts
+use Rattle.walking.proofs.run_expr.Reads as run-expr
+use Rattle.walking.proofs.run_expr.Kinds as run-expr-kinds
+use Rattle.walking.proofs.+run_argument+run_expr.Lts-run_expr as run-expr-lts
 use Rattle.codes.proofs.apply.Reads as apply-reads
 use Rattle.codes.proofs.code_of.Reads as code-of-reads
-use Rattle.direct.proofs.run_variable.Reads as run-variable-reads
+use Rattle.walking.proofs.run_variable.Reads as run-variable-reads
 use Rattle.words.proofs.read32.Reads as read32-reads
-use Rattle.direct.proofs.+run_argument+run_expr.{statement}
-use Rattle.direct.proofs.+run_argument+run_expr.Tie.{close}
+use Rattle.walking.proofs.+run_argument+run_expr.{statement}
+use Rattle.walking.proofs.+run_argument+run_expr.Tie.{close}
 
 abbrev μ-run-argument : Measures 2 run-argument-kinds.ps ℕ
 μ-run-argument κs a = 2 * a .1 .1 .1 .0 + 1

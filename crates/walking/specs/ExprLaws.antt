@@ -17,8 +17,8 @@ use Rattle.reading.specs.Expressions.{argumentsWith, readExpr}
 use Rattle.reading.specs.FirstByte.{as-variable, as-word, as-bit, as-operation, first-argument, second-argument, arguments-one, arguments-two}
 use Rattle.gates.specs.Running.{figureOf}
 use Rattle.gates.specs.StepLaws.{figure-variable, figure-word, figure-bit, figure-one, figure-two}
-use Rattle.direct.specs.Walking.{WorkedOut}
-use Rattle.direct.specs.declared.Value.{Value}
+use Rattle.walking.specs.Walking.{WorkedOut}
+use Rattle.walking.specs.declared.Value.{Value}
 
 -- c is the code of the expression that was read at `at`
 module _ (f : List ℕ) (deep : ℕ) (s : List ℕ) (want : Kind) (at : ℕ) (h : IsRead (readExpr deep s want at)) (c : Code) (e : c ≡ codeOf (getD s at 0)) where

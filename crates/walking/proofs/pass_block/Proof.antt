@@ -3,8 +3,8 @@ use denote.Ref.{now}
 use Rattle.answers.specs.ParsingLaws.{read-past, not-refused}
 use Rattle.reading.specs.Blocks.{readBlock}
 use borrow.Author.Needs.{needs}
-use Rattle.direct.proofs.pass_block.Statement.{statement}
-use Rattle.direct.proofs.pass_block.Tie as tie
+use Rattle.walking.proofs.pass_block.Statement.{statement}
+use Rattle.walking.proofs.pass_block.Tie as tie
 use Rattle.reading.proofs.read_block.Reads as read-block-reads
 
 returns : tie.Need-returns

@@ -1,9 +1,9 @@
 use native.Mathlib.Omega.{arith}
 use denote.Ref.{now}
 use Rattle.reading.specs.FirstStatement.{assign-read}
-use Rattle.direct.specs.BlockLaws.{assign-taken, assign-ran}
-use Rattle.direct.proofs.run_assign.Statement.{statement}
-use Rattle.direct.proofs.run_assign.Tie as tie
+use Rattle.walking.specs.BlockLaws.{assign-taken, assign-ran}
+use Rattle.walking.proofs.run_assign.Statement.{statement}
+use Rattle.walking.proofs.run_assign.Tie as tie
 
 add-x : tie.Need-add-x
 add-x c = let d = c .before in let a = d .args in omega (arith, assign-read (now (a .s)) (a .at) (d .pre .1) .inside)

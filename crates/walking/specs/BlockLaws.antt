@@ -20,8 +20,8 @@ use Rattle.reading.specs.BlockLaws.{statement-as}
 use Rattle.reading.specs.FirstStatement.{assign-read, branch-read, branch-parts, block-inside, block-closed, block-read}
 use Rattle.gates.specs.Running.{runStatement, runBlock}
 use Rattle.gates.specs.StepLaws.{run-assign, run-skip, run-first, run-second, run-end, run-then}
-use Rattle.direct.specs.Walking.{WorkedOut, Ran, Passed, AmidBlock}
-use Rattle.direct.specs.declared.Value.{Value}
+use Rattle.walking.specs.Walking.{WorkedOut, Ran, Passed, AmidBlock}
+use Rattle.walking.specs.declared.Value.{Value}
 
 -- an assignment, its expression read at the kind of its variable
 module _ (s : List ℕ) (at : ℕ) (h : IsRead (readAssign s at)) (want : Kind) (k : want ≡ kindAt s (getD s (at + 1) 0)) where

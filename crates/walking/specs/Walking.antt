@@ -9,7 +9,7 @@ use Rattle.reading.specs.Header.{variables, HasKinds}
 use Rattle.reading.specs.Tree.{Expr, Block}
 use Rattle.reading.specs.Blocks.{readBlock}
 use Rattle.gates.specs.Running.{figureOf, runBlock}
-use Rattle.direct.specs.declared.Value.{Value}
+use Rattle.walking.specs.declared.Value.{Value}
 
 -- what every part rests on: a kind byte for each variable, and no more of them than there are figures
 abbrev pub VariablesFit : List ℕ → Type 0
