@@ -85,7 +85,7 @@ pub fn build(
     let n = count as usize;
     let v = rule[5] as usize;
     needed::number_marked(n, &mut ranks);
-    needed::find_needed(quads, n, &ranks, outputs, v, needs);
+    passing::find_needed(quads, n, &ranks, outputs, v, needs);
     needed::condition_gates(&ranks, n, conditions);
     answer
 }

@@ -1,9 +1,9 @@
 use native.Mathlib.Omega.{arith}
 use mathlib.Core.Path.{refl}
 use Rattle.needed.specs.HandSteps.{choice-inside, condition-known, choice-known, choice-hands, other-inside, other-hands}
 use borrow.Author.Needs.{needs}
-use Rattle.needed.proofs.hand.Statement.{statement}
-use Rattle.needed.proofs.hand.Tie as tie
+use Rattle.passing.proofs.hand.Statement.{statement}
+use Rattle.passing.proofs.hand.Tie as tie
 
 argument-requires : tie.Need-argument-requires
 argument-requires c κs =

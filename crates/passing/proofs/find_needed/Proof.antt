@@ -1,7 +1,7 @@
 use borrow.Author.Needs.{needs}
 use Rattle.needed.specs.PassingLaws.{wanted-room, found-part}
-use Rattle.needed.proofs.find_needed.Statement.{statement}
-use Rattle.needed.proofs.find_needed.Tie as tie
+use Rattle.passing.proofs.find_needed.Statement.{statement}
+use Rattle.passing.proofs.find_needed.Tie as tie
 
 want-all-requires : tie.Need-want-all-requires
 want-all-requires c κs =

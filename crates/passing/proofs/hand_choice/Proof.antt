@@ -1,7 +1,7 @@
 use Rattle.needed.specs.PassingLaws.{choice-sets}
 use borrow.Author.Needs.{needs}
-use Rattle.needed.proofs.hand_choice.Statement.{statement}
-use Rattle.needed.proofs.hand_choice.Tie as tie
+use Rattle.passing.proofs.hand_choice.Statement.{statement}
+use Rattle.passing.proofs.hand_choice.Tie as tie
 
 returns : tie.Need-returns
 returns c =

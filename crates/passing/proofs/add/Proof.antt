@@ -2,8 +2,8 @@ use mathlib.Core.Path.{ap}
 use Prim.Native.Nat.{ℕ}
 use lib.ListN.{set}
 use borrow.Author.Needs.{needs}
-use Rattle.needed.proofs.add.Statement.{statement}
-use Rattle.needed.proofs.add.Tie as tie
+use Rattle.passing.proofs.add.Statement.{statement}
+use Rattle.passing.proofs.add.Tie as tie
 
 returns : tie.Need-returns
 returns c = ap (λ (n : ℕ). set (c .before .before .before .args .sets .now) (c .before .before .before .args .g .0) n) (c .union .ensures)

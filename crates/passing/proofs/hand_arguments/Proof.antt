@@ -1,10 +1,10 @@
 use native.Mathlib.Omega.{arith}
 use mathlib.Core.Path.{sym, _∙_}
 use mathlib.Core.Logic.{⊎-elim}
 use Rattle.needed.specs.PassingLaws.{args-none, read-one, read-both, first-inside, second-inside}
 use borrow.Author.Needs.{needs}
-use Rattle.needed.proofs.hand_arguments.Statement.{statement}
-use Rattle.needed.proofs.hand_arguments.Tie as tie
+use Rattle.passing.proofs.hand_arguments.Statement.{statement}
+use Rattle.passing.proofs.hand_arguments.Tie as tie
 
 argument-requires : tie.Need-argument-requires
 argument-requires c κs = (search needs, first-inside _ _ _ (c .if1 .taken) (c .before .before .pre .1))

@@ -1,8 +1,8 @@
 use borrow.Author.Needs.{needs}
 use native.Mathlib.Omega.{arith}
 use Rattle.needed.specs.PassingLaws.{WalkingBack, walking-start, walking-step, walking-end}
-use Rattle.needed.proofs.pass.Statement.{statement}
-use Rattle.needed.proofs.pass.Tie as tie
+use Rattle.passing.proofs.pass.Statement.{statement}
+use Rattle.passing.proofs.pass.Tie as tie
 
 abbrev Inv-loop : tie.InvT-loop
 Inv-loop quads count ranks sets₀ i₀ sets i = WalkingBack quads ranks sets₀ sets count i
