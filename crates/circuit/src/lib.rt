@@ -50,7 +50,7 @@ pub fn read_rule(rule: &[u8]) -> Answer
     let mut quads = [0u32; 1024];
     let mut present = [0u16; 32];
     let mut ranks = [0u16; 256];
-    let count = making::make_rule(rest, &mut quads, &mut present);
+    let count = plain::make_rule(rest, &mut quads, &mut present);
     whole(rule.len(), &quads, count, &mut ranks)
 }
 
@@ -75,7 +75,7 @@ pub fn build(
         return a;
     }
     let mut ranks = [0u16; 256];
-    let count = making::make_rule(rule, quads, outputs);
+    let count = plain::make_rule(rule, quads, outputs);
     let answer = whole(rule.len(), quads, count, &mut ranks);
     if answer.number != 0 {
         *quads = [0u32; 1024];
@@ -85,7 +85,7 @@ pub fn build(
     let n = count as usize;
     let v = rule[5] as usize;
     needed::number_marked(n, &mut ranks);
-    needed::find_needed(quads, n, &ranks, outputs, v, needs);
+    passing::find_needed(quads, n, &ranks, outputs, v, needs);
     needed::condition_gates(&ranks, n, conditions);
     answer
 }

@@ -1,8 +1,5 @@
-pub mod Walking
 pub mod Inputs
 pub mod Direct
-pub mod ExprLaws
-pub mod BlockLaws
 pub mod ResultLaws
 pub mod InputLaws
 pub mod RangeLaws

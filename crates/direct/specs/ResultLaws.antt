@@ -17,7 +17,7 @@ use Rattle.gates.specs.Running.{runBlock, runRule}
 use Rattle.gates.specs.RunLaws.{block-count, block-pad}
 use Rattle.reading.specs.FoundRuleLaws.{read-typed}
 use Rattle.gates.specs.StartLaws.{read-run}
-use Rattle.direct.specs.Walking.{Ran}
+use Rattle.walking.specs.Walking.{Ran}
 
 -- the first V figures after the run of a rule that was read, its inputs over any figures d
 pub results-are : (s inputs d : List ℕ) (b : Block) (n : ℕ) → readRule s ≡ parsed b n → length inputs ≡ variables s

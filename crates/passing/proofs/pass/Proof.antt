@@ -1,0 +1,31 @@
+use borrow.Author.Needs.{needs}
+use native.Mathlib.Omega.{arith}
+use Rattle.needed.specs.PassingLaws.{WalkingBack, walking-start, walking-step, walking-end}
+use Rattle.passing.proofs.pass.Statement.{statement}
+use Rattle.passing.proofs.pass.Tie as tie
+
+abbrev Inv-loop : tie.InvT-loop
+Inv-loop quads count ranks sets₀ i₀ sets i = WalkingBack quads ranks sets₀ sets count i
+
+abbrev μ-loop : tie.MeasureT-loop
+μ-loop quads count ranks sets₀ i₀ sets i = i
+
+loop-holds : tie.Need-loop-holds Inv-loop μ-loop
+loop-holds c = walking-start _ _ _ _ (c .pre)
+
+cast-t8 : tie.Need-cast-t8 Inv-loop μ-loop
+cast-t8 c = record { fits = omega (arith, c .before .loop .inv .low, c .before .loop .inv .passable .room) }
+
+hand-requires : tie.Need-hand-requires Inv-loop μ-loop
+hand-requires c κs = (c .before .before .loop .inv .passable, omega (arith, c .before .before .loop .inv .low, c .before .loop-test .taken))
+
+loop-again : tie.Need-loop-again Inv-loop μ-loop
+loop-again c = walking-step _ _ _ _ _ _ _ (c .before .before .before .loop .inv) (c .before .before .loop-test .taken) (c .hand .ensures)
+
+returns : tie.Need-returns Inv-loop μ-loop
+returns c = walking-end _ _ _ _ _ _ (c .before .loop .inv) (c .loop-test .left)
+
+pub pass-spec : {M : Type 1} → statement M
+pass-spec =
+    tie.close
+    (tie.spec Inv-loop μ-loop loop-holds (λ c. search needs) cast-t8 hand-requires (λ c. search needs) loop-again returns)
