@@ -3,8 +3,8 @@ use native.Mathlib.Omega.{arith}
 use Prim.Native.Nat.{_-_}
 use borrow.Author.Needs.{needs}
 use denote.Ref.{now}
-use Rattle.reading.specs.Header.{variables}
 use Rattle.codes.specs.Codes.{startCode}
+use Rattle.reading.specs.Header.{variables}
 use Rattle.making.specs.Holding.{Started}
 use Rattle.making.specs.ChoiceLaws.{started-none, started-more, started-all}
 use Rattle.making.proofs.make_starts.Statement.{statement}
