@@ -6,6 +6,7 @@ use mathlib.Core.List.{List, [], _++_}
 use lib.ListN.{length, take, drop, replicate}
 use borrow.Author.Tests.{eq-eqb, ne-eqb}
 use Rattle.words.specs.Buffers.{over, padded}
+use Rattle.words.specs.Lists.{Inside}
 use Rattle.answers.specs.ParsingLaws.{is-read}
 use Rattle.answers.specs.declared.Answer.{Answer}
 use Rattle.reading.specs.Limits.{mostVariables}
@@ -15,7 +16,6 @@ use Rattle.reading.specs.Rule.{readRule}
 use Rattle.gates.specs.Limits.{mostGates, mostConditions}
 use Rattle.gates.specs.Gates.{conditions}
 use Rattle.gates.specs.PlainCircuit.{gatesOf, outputsOf, gateCount}
-use Rattle.words.specs.Lists.{Inside}
 use Rattle.gates.specs.Quads.{quadsOf}
 use Rattle.making.specs.RuleMade.{RuleMade}
 use Rattle.needed.specs.Pass.{preconditionSets, rulePreconditions}

@@ -6,13 +6,13 @@ use mathlib.Core.Logic.{_⊎_, inl, inr}
 use native.Mathlib.Omega.{arith}
 use lib.ListN.{length, getD}
 use Rattle.words.specs.Numbers.{numberAt}
+use Rattle.words.specs.Lists.{Inside}
 use Rattle.codes.specs.Codes.{entryOf, operationOf, codeOf}
 use Rattle.codes.specs.CodeLaws.{code-operation, one-or-two, entry-form}
 use Rattle.codes.specs.Results.{resultOf, resultOn}
 use Rattle.codes.specs.declared.Code.{Code}
 use Rattle.codes.specs.declared.Form.the-variants.{Apply}
 use Rattle.codes.specs.declared.Operation.{Operation}
-use Rattle.words.specs.Lists.{Inside}
 use Rattle.records.specs.FileFigures.{wiresAt}
 use Rattle.records.specs.Limits.{mostWires}
 use Rattle.figures.specs.Working.{held}

@@ -9,11 +9,11 @@ use lib.ListN.{length}
 use lib.Pow.{pow-mono}
 use borrow.Author.Tests.{eq-eqb, ne-eqb}
 use Rattle.words.specs.Numbers.{numberAt}
+use Rattle.words.specs.Lists.{Inside}
 use Rattle.settings.specs.Settings.{bitOf, numberOf}
 use Rattle.settings.specs.SettingLaws.{numberOf-below}
 use Rattle.settings.specs.Sets.{has}
 use Rattle.codes.specs.Results.{isOne}
-use Rattle.words.specs.Lists.{Inside}
 use Rattle.records.specs.Records.{pairWires, pickFigure, guardFigure}
 use Rattle.records.specs.FileFigures.{wiresAt, pairsAt}
 use Rattle.records.specs.FilePartLaws.{wires-length, wire-of}

@@ -7,12 +7,12 @@ use Rattle.words.specs.Lists.{from, upto}
 use Rattle.settings.specs.Guards.{table}
 use Rattle.codes.specs.declared.Operation.{Operation}
 use Rattle.codes.specs.declared.Operation.the-variants as operations
+use Rattle.records.specs.Records.{Pair, Record, input, word, bit, operation, choice, pick, guard}
 use Rattle.reading.specs.Header.{kindAt}
 use Rattle.gates.specs.Gates.{Gate, Gates, gateAt, arguments}
 use Rattle.gates.specs.Gates as gate
 use Rattle.gates.specs.Limits.{mostConditions}
 use Rattle.plan.specs.Groups.{restsOf}
-use Rattle.records.specs.Records.{Pair, Record, input, word, bit, operation, choice, pick, guard}
 
 -- a gate alone, its arguments read from the wires of their groups; s is the rule, for the kind of a starting value
 abbrev pub alone : List ℕ → (ℕ → ℕ) → Gate → Record

@@ -8,12 +8,12 @@ use lib.ListN.{length, getD, length-map}
 use Rattle.words.specs.Lists.{_∈_, from, upto}
 use Rattle.words.specs.MemberLaws.{from-below, map-in, getD-in}
 use Rattle.codes.specs.declared.Operation.{Operation}
+use Rattle.records.specs.Records.{Record, operation, pick, pairWires, reads}
+use Rattle.records.specs.RecordLaws.{Along, ReadsBefore, Below, along-append, along-map}
 use Rattle.gates.specs.Gates.{Gate, Gates, gateAt, arguments}
 use Rattle.gates.specs.Gates as gate
 use Rattle.plan.specs.Groups.{restsOf}
-use Rattle.records.specs.Records.{Record, operation, pick, pairWires, reads}
 use Rattle.fused.specs.Emission.{alone, gateOperation, pairs, joined, guardOf, valuesAt, emit}
-use Rattle.records.specs.RecordLaws.{Along, ReadsBefore, Below, along-append, along-map}
 
 -- a gate alone reads the wires of its arguments
 pub alone-reads : (s : List ℕ) (wire : ℕ → ℕ) (k : Gate) → reads (alone s wire k) ≡ map wire (arguments k)

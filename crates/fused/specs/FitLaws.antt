@@ -17,6 +17,8 @@ use Rattle.settings.specs.BitLaws.{collect-below}
 use Rattle.codes.specs.Codes.{entryOf}
 use Rattle.codes.specs.declared.Kind.{Kind}
 use Rattle.codes.specs.declared.Operation.{Operation}
+use Rattle.records.specs.FitRecords.{FieldsFit, AllFieldsFit}
+use Rattle.records.specs.RecordLaws.{along-map}
 use Rattle.gates.specs.Gates.{Gate, Gates, gateAt, arguments}
 use Rattle.gates.specs.Gates as gate
 use Rattle.gates.specs.Limits.{mostConditions}
@@ -26,9 +28,7 @@ use Rattle.plan.specs.Groups.{members, restsOf}
 use Rattle.plan.specs.RestLaws.{rests-few}
 use Rattle.plan.specs.Accepted.{OneCostly}
 use Rattle.fused.specs.Emission.{alone, joined, guardOf, valuesAt, emit}
-use Rattle.records.specs.FitRecords.{FieldsFit, AllFieldsFit}
 use Rattle.fused.specs.SizeJoined.{length-pairs}
-use Rattle.records.specs.RecordLaws.{along-map}
 use Rattle.fused.specs.EmitLaws.{joined-along}
 
 -- a table of six conditions at most has eight bytes

@@ -4,6 +4,8 @@ use mathlib.Core.List.{List, [], _∷_, _++_, map}
 use mathlib.Core.Bool.{cond}
 use lib.Dec.{eqb}
 use lib.ListN.{length}
+use Rattle.records.specs.Records.{Record, recordsCost}
+use Rattle.records.specs.CircuitFile.{fileBytes}
 use Rattle.reading.specs.Header.{variables}
 use Rattle.gates.specs.Gates.{Gates}
 use Rattle.gates.specs.PlainCircuit.{gatesOf, outputsOf}
@@ -11,8 +13,6 @@ use Rattle.needed.specs.Pass.{rulePreconditions}
 use Rattle.plan.specs.PlanFile.{groupsIn}
 use Rattle.plan.specs.Groups.{groupOf, members}
 use Rattle.plan.specs.Order.{order}
-use Rattle.records.specs.Records.{Record, recordsCost}
-use Rattle.records.specs.CircuitFile.{fileBytes}
 use Rattle.fused.specs.Emission.{emit}
 
 -- the records written so far, and the wire of each group written: its last record's

@@ -8,6 +8,8 @@ use Rattle.words.specs.MemberLaws.{map-in}
 use Rattle.words.specs.Numbers.{Bytes}
 use Rattle.words.specs.ListLaws.{map-same}
 use Rattle.answers.specs.declared.Answer.{Answer}
+use Rattle.records.specs.Records.{ReadsEarlier, wireFigure}
+use Rattle.records.specs.FileFigures.{fileFigures}
 use Rattle.reading.specs.Header.{variables}
 use Rattle.gates.specs.Running.{runRule}
 use Rattle.gates.specs.Gates.{figureAt}
@@ -16,9 +18,7 @@ use Rattle.gates.specs.StartLaws.{read-run}
 use Rattle.gates.specs.OutputLaws.{output-figures}
 use Rattle.needed.specs.Needed.{from-start}
 use Rattle.plan.specs.Rows.{planAnswer}
-use Rattle.records.specs.Records.{ReadsEarlier, wireFigure}
 use Rattle.fused.specs.FusedCircuit.{recordsOf, wireOf, outputWires, fusedFile}
-use Rattle.records.specs.FileFigures.{fileFigures}
 use Rattle.fused.specs.FitPlan.{fused-file-figures}
 use Rattle.fused.specs.PlannedLaws.{planned-read, planned-wanted, planned-earlier, planned-wire, planned-figure}
 

@@ -16,6 +16,7 @@ use Rattle.settings.specs.SettingLaws.{numberOf-map}
 use Rattle.settings.specs.RestLaws.{pre-rests-right}
 use Rattle.settings.specs.GuardLaws.{guard-holds}
 use Rattle.codes.specs.Results.{isOne}
+use Rattle.records.specs.Records.{guardFigure}
 use Rattle.gates.specs.Gates.{Gates, Earlier, Condition, conditions}
 use Rattle.gates.specs.ConditionLaws.{condition-in}
 use Rattle.gates.specs.Limits.{mostConditions}
@@ -24,7 +25,6 @@ use Rattle.needed.specs.Pass.{needed, preconditionSets, preconditionOf}
 use Rattle.needed.specs.PreconditionLaws.{needed-agree, needed-over, precondition-holds}
 use Rattle.plan.specs.Groups.{restsOf}
 use Rattle.plan.specs.RestLaws.{rests-list}
-use Rattle.records.specs.Records.{guardFigure}
 
 module _ (C : Gates) (wanted : List ℕ) (earlier : Earlier C) (inside : (g : ℕ) → g ∈ wanted → g < length C) (few : length (conditions C) ≤ mostConditions) where
   abbrev sets : List ℕ

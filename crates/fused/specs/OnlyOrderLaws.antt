@@ -5,6 +5,7 @@ use mathlib.Core.List.{List, [], _∷_, map}
 use lib.ListN.{length}
 use Rattle.answers.specs.Answers.{success}
 use Rattle.answers.specs.ParsingLaws.{is-read}
+use Rattle.records.specs.Records.{Record, input}
 use Rattle.reading.specs.Header.{variables, kindAt}
 use Rattle.reading.specs.Rule.{readRule}
 use Rattle.reading.specs.OnlyOrder.{OnlyOrder}
@@ -22,7 +23,6 @@ use Rattle.plan.specs.Groups.{groupOf, members}
 use Rattle.plan.specs.Order.{order}
 use Rattle.plan.specs.Rows.{planAnswer}
 use Rattle.plan.specs.SameLaws.{row-same}
-use Rattle.records.specs.Records.{Record, input}
 use Rattle.fused.specs.Emission.{alone, emit}
 use Rattle.fused.specs.FusedCircuit.{Written, written, fused, recordsOf, outputWires, costAfter, fusedFile}
 use Rattle.fused.specs.Answers.{fusedCounts, writeAnswer, writtenOver}

@@ -12,11 +12,11 @@ use Rattle.words.specs.TestLaws.{same?}
 use Rattle.settings.specs.Settings.{bitOf}
 use Rattle.codes.specs.declared.Operation.{Operation}
 use Rattle.codes.specs.Results.{isOne, resultOn}
+use Rattle.records.specs.Records.{Record, operation, pick, pickFigure, recordFigure}
+use Rattle.records.specs.RecordLaws.{Along, GivesFigure, Figured, along-left, along-right}
 use Rattle.gates.specs.Gates.{Gate, figure}
 use Rattle.gates.specs.Gates as gate
-use Rattle.records.specs.Records.{Record, operation, pick, pickFigure, recordFigure}
 use Rattle.fused.specs.Emission.{alone, pairs, joined}
-use Rattle.records.specs.RecordLaws.{Along, GivesFigure, Figured, along-left, along-right}
 
 -- a list by its places
 pub places-map : (f v : ℕ → ℕ) (l : List ℕ) → ((k : ℕ) → k < length l → f k ≡ v (getD l k 0)) → map f (upto (length l)) ≡ map v l

@@ -4,12 +4,12 @@ use Prim.Native.Nat.{ℕ, _≤_}
 use mathlib.Core.Path.{_≡_, sym, _∙_}
 use mathlib.Core.List.{List}
 use Rattle.answers.specs.declared.Answer.{Answer}
-use Rattle.plan.specs.Rows.{planAnswer}
 use Rattle.records.specs.Records.{Pair, pick, guard, recordIn, guardFigure, wireFigure}
-use Rattle.fused.specs.FusedCircuit.{recordsOf}
 use Rattle.records.specs.Sums.{guardsAtOne, sumFigure}
 use Rattle.records.specs.RecordLaws.{wires-right}
 use Rattle.records.specs.SumLaws.{pick-inside, guard-inside, sum-pick}
+use Rattle.plan.specs.Rows.{planAnswer}
+use Rattle.fused.specs.FusedCircuit.{recordsOf}
 use Rattle.fused.specs.PlannedLaws.{planned-earlier, planned-one}
 
 -- Whatever figures W the wires hold, if each guard has its figure of them, at most one guard of a pick is 1,

@@ -13,6 +13,8 @@ use Rattle.words.specs.ListLaws.{map-same}
 use Rattle.settings.specs.Settings.{Setting, Once}
 use Rattle.codes.specs.declared.Operation.{Operation}
 use Rattle.codes.specs.Results.{isOne, resultOn}
+use Rattle.records.specs.Records.{Record, pickFigure}
+use Rattle.records.specs.RecordLaws.{GivesFigure, Figured, along-left, along-right}
 use Rattle.gates.specs.Gates.{Gate, start, word, bit, operation, choice, Gates, gateAt, arguments, Earlier, figure, figureAt, conditions}
 use Rattle.gates.specs.FigureLaws.{figures-right}
 use Rattle.gates.specs.Limits.{mostConditions}
@@ -24,10 +26,8 @@ use Rattle.plan.specs.Groups.{members, waitsFor}
 use Rattle.plan.specs.Order.{Ordered}
 use Rattle.plan.specs.GroupLaws.{member-of}
 use Rattle.plan.specs.ReadsLaws.{waits-argument, waits-rests}
-use Rattle.records.specs.Records.{Record, pickFigure}
 use Rattle.fused.specs.Emission.{gateOperation, pairs, joined, guardOf, valuesAt, emit}
 use Rattle.fused.specs.FusedCircuit.{Written, groupRecords, written}
-use Rattle.records.specs.RecordLaws.{GivesFigure, Figured, along-left, along-right}
 use Rattle.fused.specs.PickLaws.{places-map, alone-figure, Guarding, guards-hold, pick-one, joined-guards, joined-figure}
 use Rattle.fused.specs.JoinedLaws.{Joined, joined-one}
 use Rattle.fused.specs.GuardLaws.{guard-figure, guard-needed}

@@ -9,6 +9,9 @@ use Rattle.words.specs.ListLaws.{length-from}
 use Rattle.settings.specs.Settings.{Once}
 use Rattle.answers.specs.declared.Answer.{Answer}
 use Rattle.answers.specs.ParsingLaws.{is-read}
+use Rattle.records.specs.Records.{recordsCost}
+use Rattle.records.specs.CircuitFile.{recordsBytes}
+use Rattle.records.specs.SizeLaws.{size-append, cost-none, cost-append, file-size}
 use Rattle.reading.specs.Limits.{mostVariables}
 use Rattle.reading.specs.Header.{variables}
 use Rattle.reading.specs.Rule.{readRule}
@@ -28,10 +31,7 @@ use Rattle.plan.specs.Accepted.{OneCostly}
 use Rattle.plan.specs.AcceptedLaws.{plan-accepted}
 use Rattle.plan.specs.JoinedLaws.{members-costly}
 use Rattle.plan.specs.WaitLaws.{order-once}
-use Rattle.records.specs.Records.{recordsCost}
 use Rattle.fused.specs.FusedCircuit.{groupRecords, written, fused, recordsOf, wireOf, outputWires, costAfter, fusedFile}
-use Rattle.records.specs.CircuitFile.{recordsBytes}
-use Rattle.records.specs.SizeLaws.{size-append, cost-none, cost-append, file-size}
 use Rattle.fused.specs.SizeEmit.{emit-most}
 use Rattle.fused.specs.SizeTotal.{total, total-le}
 

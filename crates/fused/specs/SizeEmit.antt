@@ -11,15 +11,15 @@ use Rattle.words.specs.Lists.{upto}
 use Rattle.codes.specs.Codes.{entryOf, costly}
 use Rattle.codes.specs.declared.Operation.{Operation}
 use Rattle.codes.specs.declared.Operation.the-variants.{Sum, Difference, Product, LessThan, Equal, And, Or, Not}
+use Rattle.records.specs.Records.{Record, recordCost, recordsCost}
+use Rattle.records.specs.CircuitFile.{recordBytes, recordsBytes}
+use Rattle.records.specs.SizeLaws.{word-size, operation-size, choice-size, size-one, cost-none, cost-one}
 use Rattle.gates.specs.Gates.{Gate, Gates, gateAt, arguments, costOf}
 use Rattle.gates.specs.Gates as gate
 use Rattle.gates.specs.CostLaws.{cost-most}
 use Rattle.needed.specs.Held.{ShapedGate, Shaped}
 use Rattle.plan.specs.Accepted.{OneCostly}
-use Rattle.records.specs.Records.{Record, recordCost, recordsCost}
 use Rattle.fused.specs.Emission.{alone, gateOperation, joined, guardOf, valuesAt, emit}
-use Rattle.records.specs.CircuitFile.{recordBytes, recordsBytes}
-use Rattle.records.specs.SizeLaws.{word-size, operation-size, choice-size, size-one, cost-none, cost-one}
 use Rattle.fused.specs.SizeJoined.{guards-most, group-count, group-size, group-cost}
 
 -- a costly operation has two arguments

@@ -9,14 +9,14 @@ use Rattle.words.specs.Lists.{from, upto}
 use Rattle.words.specs.ListLaws.{length-from}
 use Rattle.codes.specs.Codes.{entryOf}
 use Rattle.codes.specs.declared.Operation.{Operation}
+use Rattle.records.specs.Records.{Record, operation, pick, recordsCost}
+use Rattle.records.specs.CircuitFile.{recordBytes, recordsBytes}
+use Rattle.records.specs.SizeLaws.{operation-size, pick-size, guard-size, size-append, size-one, cost-none, cost-more, cost-append, cost-one}
 use Rattle.gates.specs.Gates.{Gates}
 use Rattle.plan.specs.PlanFile.{EachGroup}
 use Rattle.plan.specs.Groups.{restsOf}
 use Rattle.plan.specs.RestLaws.{rests-few}
-use Rattle.records.specs.Records.{Record, operation, pick, recordsCost}
 use Rattle.fused.specs.Emission.{pairs, joined, guardOf, valuesAt}
-use Rattle.records.specs.CircuitFile.{recordBytes, recordsBytes}
-use Rattle.records.specs.SizeLaws.{operation-size, pick-size, guard-size, size-append, size-one, cost-none, cost-more, cost-append, cost-one}
 
 -- a pair for each value
 pub length-pairs : (n : ℕ) (values : List ℕ) → length (pairs n values) ≡ length values

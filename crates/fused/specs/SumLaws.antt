@@ -12,18 +12,18 @@ use Rattle.words.specs.TestLaws.{split}
 use Rattle.settings.specs.Settings.{Once}
 use Rattle.codes.specs.declared.Operation.{Operation}
 use Rattle.codes.specs.Results.{isOne}
+use Rattle.records.specs.Records.{Record}
+use Rattle.records.specs.Sums.{guardsAtOne}
+use Rattle.records.specs.SumLaws.{GivesGuard, OneGuard}
+use Rattle.records.specs.RecordLaws.{Along, along-append, along-left, along-right, along-map}
 use Rattle.gates.specs.Gates.{Gate, Gates, gateAt, arguments, Earlier, conditions}
 use Rattle.gates.specs.Gates as gate
 use Rattle.gates.specs.Limits.{mostConditions}
 use Rattle.needed.specs.Pass.{needed, preconditionSets}
 use Rattle.needed.specs.PassLaws.{needed-sound}
 use Rattle.plan.specs.Groups.{members}
-use Rattle.records.specs.Records.{Record}
 use Rattle.fused.specs.Emission.{alone, gateOperation, pairs, guardOf, valuesAt, emit}
 use Rattle.fused.specs.FusedCircuit.{Written, groupRecords, written}
-use Rattle.records.specs.Sums.{guardsAtOne}
-use Rattle.records.specs.SumLaws.{GivesGuard, OneGuard}
-use Rattle.records.specs.RecordLaws.{Along, along-append, along-left, along-right, along-map}
 use Rattle.fused.specs.EmitLaws.{joined-along}
 use Rattle.fused.specs.PickLaws.{is-bit, Guarding, guards-hold, joined-guards}
 use Rattle.fused.specs.JoinedLaws.{Joined, members-once, joined-one}

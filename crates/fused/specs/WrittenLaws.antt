@@ -12,14 +12,14 @@ use Rattle.words.specs.Lists.{_∈_}
 use Rattle.words.specs.MemberLaws.{in-append}
 use Rattle.words.specs.TestLaws.{same?}
 use Rattle.settings.specs.Settings.{Once}
+use Rattle.records.specs.Records.{ReadsEarlier}
+use Rattle.records.specs.RecordLaws.{ReadsBefore, Below, along-append, below-earlier}
 use Rattle.gates.specs.Gates.{Gates, gateAt, arguments}
 use Rattle.plan.specs.Groups.{groups, members, waitsFor}
 use Rattle.plan.specs.Order.{Ordered}
 use Rattle.plan.specs.GroupLaws.{group-of, member-of}
 use Rattle.plan.specs.ReadsLaws.{waits-argument, waits-rests}
-use Rattle.records.specs.Records.{ReadsEarlier}
 use Rattle.fused.specs.FusedCircuit.{Written, groupRecords, written}
-use Rattle.records.specs.RecordLaws.{ReadsBefore, Below, along-append, below-earlier}
 use Rattle.fused.specs.EmitLaws.{emit-some, emit-below}
 
 -- a group has a member: its name

@@ -8,18 +8,18 @@ use native.Mathlib.Omega.{arith}
 use lib.ListN.{length, getD, set, length-set}
 use lib.Seq.{getD-set-same, getD-set-other}
 use Rattle.words.specs.TestLaws.{split, same?}
+use Rattle.words.specs.Runs.{runAt}
+use Rattle.words.specs.RunLaws.{runAt-last}
 use Rattle.codes.specs.Results.{resultOf, isOne}
 use Rattle.codes.specs.declared.Kind.{Kind}
 use Rattle.reading.specs.Tree.{Expr, variable, word, bit, one, two, Statement, assign, skip, branch, Block, end, then}
 use Rattle.reading.specs.Kinds.{Typed, TypedStatement, TypedBlock}
 use Rattle.gates.specs.Running.{figureOf, runStatement, runBlock}
 use Rattle.gates.specs.Gates.{Gates, figure}
-use Rattle.words.specs.Runs.{runAt}
 use Rattle.gates.specs.Gates as gate
 use Rattle.gates.specs.PlainCircuit.{Making, Made, makeExpr, choices, assignedIn, asBefore, makeStatement, makeBlock, conditionMade, firstMade, secondMade}
 use Rattle.gates.specs.ApplyLaws.{apply-figure}
 use Rattle.gates.specs.FigureLaws.{figure-same}
-use Rattle.words.specs.RunLaws.{runAt-last}
 use Rattle.gates.specs.PlainLaws.{extends-trans, expr-extends}
 use Rattle.gates.specs.SoundLaws.{Sound, expr-standing, sound-again, Parts, statement-sound, parts-of}
 use Rattle.gates.specs.RunLaws.{statement-count, block-keeps}

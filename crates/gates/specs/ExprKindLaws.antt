@@ -6,6 +6,8 @@ use mathlib.Core.Logic.{_⊎_, inl, inr}
 use native.Mathlib.Omega.{arith}
 use lib.ListN.{length, getD}
 use Rattle.words.specs.Lists.{_∈_, Inside}
+use Rattle.words.specs.Runs.{runAt}
+use Rattle.words.specs.RunLaws.{runAt-append, runAt-last}
 use Rattle.codes.specs.Codes.{entryOf}
 use Rattle.codes.specs.declared.Kind.{Kind}
 use Rattle.codes.specs.declared.Kind.the-variants as kind
@@ -13,11 +15,9 @@ use Rattle.codes.specs.declared.Operation.{Operation}
 use Rattle.reading.specs.Tree.{Expr, variable, word, bit, one, two}
 use Rattle.reading.specs.Kinds.{Typed, WordsFit}
 use Rattle.gates.specs.Gates.{Gate, start, operation, choice, Gates, gateAt, arguments, Earlier}
-use Rattle.words.specs.Runs.{runAt}
 use Rattle.gates.specs.Gates as gate
 use Rattle.gates.specs.GateKinds.{gateKind, GateFits}
 use Rattle.gates.specs.PlainCircuit.{Making, Made, add, applyGate, makeExpr, choose, choices, asBefore}
-use Rattle.words.specs.RunLaws.{runAt-append, runAt-last}
 use Rattle.gates.specs.PlainLaws.{extends-length, expr-extends}
 use Rattle.gates.specs.ApplyLaws.{apply-cases, apply-arguments, apply-kind}
 use Rattle.gates.specs.EarlierLaws.{gate-add, earlier-add, argument-inside}

@@ -8,10 +8,10 @@ use native.Mathlib.Omega.{arith}
 use lib.ListN.{length, getD}
 use Rattle.words.specs.Lists.{_∈_}
 use Rattle.words.specs.ListLaws.{map-same}
-use Rattle.gates.specs.Gates.{Gate, start, word, bit, operation, choice, Gates, gateAt, arguments, Earlier, figure, figureAt}
-use Rattle.codes.specs.Results.{resultOn}
 use Rattle.words.specs.Runs.{runAt}
 use Rattle.words.specs.RunLaws.{run-right}
+use Rattle.codes.specs.Results.{resultOn}
+use Rattle.gates.specs.Gates.{Gate, start, word, bit, operation, choice, Gates, gateAt, arguments, Earlier, figure, figureAt}
 
 -- what gates give reads only their arguments
 abbrev pub OnArguments : {A : Type 0} → ((ℕ → A) → Gate → A) → Type 0

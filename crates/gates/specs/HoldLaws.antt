@@ -10,11 +10,11 @@ use lib.Seq.{getD-set-same, getD-set-other}
 use Rattle.words.specs.Lists.{_∈_, upto, Inside}
 use Rattle.words.specs.MemberLaws.{keep-in, from-in, inside-at, inside-set, inside-more}
 use Rattle.words.specs.TestLaws.{same?, split, or-none}
+use Rattle.words.specs.Runs.{runAt}
+use Rattle.words.specs.RunLaws.{runAt-append, runAt-last}
 use Rattle.reading.specs.Tree.{Block}
 use Rattle.gates.specs.Gates.{Gate, choice, Gates}
-use Rattle.words.specs.Runs.{runAt}
 use Rattle.gates.specs.FigureLaws.{OnArguments}
-use Rattle.words.specs.RunLaws.{runAt-append, runAt-last}
 use Rattle.gates.specs.PlainCircuit.{Making, Made, assigns, choose, choices, assignedIn, asBefore}
 use Rattle.gates.specs.PlainLaws.{Extends, extends-trans, extends-length}
 use Rattle.gates.specs.SoundLaws.{CanChoose, ready-next, choice-inside, assigned-below, Parts, parts-whole, parts-ready}

@@ -15,10 +15,10 @@ use Rattle.words.specs.TestLaws.{split, same?}
 use Rattle.settings.specs.Settings.{bit}
 use Rattle.settings.specs.Sets.{has}
 use Rattle.settings.specs.BitLaws.{bit-zero, bit-suc, bit-none}
+use Rattle.codes.specs.Codes.{startCode}
 use Rattle.reading.specs.Header.{variables, kindAt}
 use Rattle.gates.specs.Gates.{Gate, start, choice, Gates}
 use Rattle.gates.specs.PlainCircuit.{Making, choose, choices, starts}
-use Rattle.codes.specs.Codes.{startCode}
 use Rattle.gates.specs.Quads.{quadOf, quadsOf}
 use Rattle.making.specs.Holding.{Stored, StandsFor, Held, Pushed, Chose, Chosen, ChosenTo, Started}
 

@@ -8,10 +8,10 @@ use native.Mathlib.Omega.{arith}
 use lib.ListN.{length, getD, take, replicate, length-replicate}
 use lib.Seq.{take-suc, take-length}
 use Rattle.words.specs.MemberLaws.{getD-in}
+use Rattle.words.specs.Lists.{Inside}
 use Rattle.settings.specs.Sets.{whole, given, without}
 use Rattle.settings.specs.Numbers.{numbers}
 use Rattle.gates.specs.Gates.{Gates, conditions}
-use Rattle.words.specs.Lists.{Inside}
 use Rattle.needed.specs.Pass.{addAll, passSets, preconditions, preconditionSets}
 use Rattle.needed.specs.HandLaws.{addAll-length}
 use Rattle.needed.specs.PassLaws.{pass-length}

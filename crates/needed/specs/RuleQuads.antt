@@ -3,6 +3,7 @@ use Prim.Native.Nat.{ℕ, _*_, _≤_}
 use mathlib.Core.Path.{_≡_, ap, _∙_}
 use mathlib.Core.List.{List}
 use lib.ListN.{length, take}
+use Rattle.words.specs.Lists.{Inside}
 use Rattle.answers.specs.Parsing.{parsed}
 use Rattle.reading.specs.Tree.{Block}
 use Rattle.reading.specs.Rule.{readRule}
@@ -10,7 +11,6 @@ use Rattle.gates.specs.Limits.{mostGates, mostConditions}
 use Rattle.gates.specs.Gates.{Gates, Earlier, conditions}
 use Rattle.gates.specs.Quads.{quadsOf}
 use Rattle.gates.specs.PlainCircuit.{gatesOf, outputsOf, gateCount}
-use Rattle.words.specs.Lists.{Inside}
 use Rattle.needed.specs.Pass.{preconditionSets, rulePreconditions}
 use Rattle.needed.specs.RulePreconditions.{rule-earlier, wanted-inside}
 use Rattle.needed.specs.Held.{gatesIn}

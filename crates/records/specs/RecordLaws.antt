@@ -8,11 +8,11 @@ use native.Mathlib.Omega.{arith}
 use lib.ListN.{length}
 use Rattle.words.specs.Lists.{_∈_}
 use Rattle.words.specs.ListLaws.{map-same}
+use Rattle.words.specs.RunLaws.{run-right}
 use Rattle.settings.specs.Settings.{bitOf}
 use Rattle.settings.specs.Sets.{has}
 use Rattle.settings.specs.SettingLaws.{numberOf-agree}
 use Rattle.codes.specs.Results.{isOne, resultOn}
-use Rattle.words.specs.RunLaws.{run-right}
 use Rattle.records.specs.Records.{Pair, Record, input, word, bit, operation, choice, pick, guard, pairWires, reads, recordIn, ReadsEarlier, pickFigure, recordFigure, wireFigure}
 
 pick-same : (v w : ℕ → ℕ) (l : List Pair) → ((a : ℕ) → a ∈ pairWires l → v a ≡ w a) → pickFigure v l ≡ pickFigure w l

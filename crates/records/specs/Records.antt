@@ -4,13 +4,13 @@ use mathlib.Core.List.{List, [], _∷_, map}
 use mathlib.Core.Bool.{cond}
 use lib.ListN.{length, getD}
 use Rattle.words.specs.Lists.{_∈_}
+use Rattle.words.specs.Runs.{runAt}
 use Rattle.settings.specs.Settings.{bitOf, numberOf}
 use Rattle.settings.specs.Sets.{has}
 use Rattle.codes.specs.Codes.{entryOf, choiceCost}
 use Rattle.codes.specs.declared.Kind.{Kind}
 use Rattle.codes.specs.declared.Operation.{Operation}
 use Rattle.codes.specs.Results.{isOne, resultOn}
-use Rattle.words.specs.Runs.{runAt}
 
 -- a pair of a pick: the wire of the guard and the wire of the value
 pub record Pair : Type 0 where

@@ -7,20 +7,20 @@ use native.Mathlib.Nat.{add-zero}
 use lib.ListN.{length, getD, take, drop}
 use lib.Seq.{getD-take, getD-drop, take-length}
 use Rattle.words.specs.Numbers.{Bytes}
-use Rattle.reading.specs.Header.{variables}
-use Rattle.plan.specs.Rows.{planAnswer}
 use Rattle.records.specs.Records.{Record, recordIn, ReadsEarlier}
-use Rattle.fused.specs.FusedCircuit.{recordsOf, fusedFile}
 use Rattle.records.specs.CircuitFile.{recordBytes, recordsBytes}
 use Rattle.records.specs.FileFigures.{sizeAt}
-use Rattle.fused.specs.FitPlan.{fused-place, fused-record, fused-part, fused-inside, fused-found}
 use Rattle.records.specs.FitRecords.{Bounded}
+use Rattle.records.specs.LaidOut.{recordPlace}
+use Rattle.records.specs.RecordBounds.{known-byte, counted-byte, input-byte, two-bytes, some-byte}
+use Rattle.reading.specs.Header.{variables}
+use Rattle.plan.specs.Rows.{planAnswer}
+use Rattle.fused.specs.FusedCircuit.{recordsOf, fusedFile}
+use Rattle.fused.specs.FitPlan.{fused-place, fused-record, fused-part, fused-inside, fused-found}
 use Rattle.fused.specs.BoundLaws.{fused-bounded}
 use Rattle.fused.specs.SizeBounds.{wires-bound, fused-size}
 use Rattle.fused.specs.FusedFigures.{reads-earlier, output-earlier}
-use Rattle.records.specs.LaidOut.{recordPlace}
 use Rattle.figures.specs.Runnable.{Runnable}
-use Rattle.records.specs.RecordBounds.{known-byte, counted-byte, input-byte, two-bytes, some-byte}
 
 module _ (s p : List ℕ) (h : planAnswer s p .number ≡ 0) (bytes : Bytes s) where
   abbrev f : List ℕ
