@@ -17,7 +17,7 @@ use Rattle.needed.specs.QuadLaws.{Applies}
 use Rattle.plan.specs.PlanFile.{groupAt}
 use Rattle.records.specs.Records.{Record, recordsCost}
 use Rattle.records.specs.CircuitFile.{recordBytes, recordsBytes}
-use Rattle.records.specs.SizeLaws.{cost-append}
+use Rattle.records.specs.SizeLaws.{cost-none, cost-more, cost-one, cost-append}
 use Rattle.joining.specs.Joined.{emitIn, guardIn, guardsIn, argumentAt, pairsIn, Joinable}
 use Rattle.measuring.specs.Sizes.{restedBy, Measured}
 use Rattle.plan.specs.NumberLaws.{length-group, member-in}
@@ -39,24 +39,17 @@ guards-long conds wire sets (m ∷ ms) =
     z)
 
 guards-cost : (conds : List ℕ) (wire : ℕ → ℕ) (sets ms : List ℕ) → recordsCost (guardsIn conds wire sets ms) ≡ length ms
-unfolding recordsCost
-guards-cost conds wire sets [] = refl
-guards-cost conds wire sets
-    (m ∷ ms) = let e : recordsCost (guardsIn conds wire sets ms) ≡ length ms = guards-cost conds wire sets ms in
-    let z : 1 + recordsCost (guardsIn conds wire sets ms) ≡ suc (length ms) = omega (arith, e) in z
+guards-cost conds wire sets [] = cost-none
+guards-cost conds wire sets (m ∷ ms) = rw cost-more (omega (arith, guards-cost conds wire sets ms))
 
 module _ (quads : List ℕ) (count : ℕ) (sets conds : List ℕ) (wire : ℕ → ℕ) (n : ℕ) (ms : List ℕ) where
   pair-many : (k : ℕ) → length (pairsIn quads wire n k ms) ≡ length ms
   pair-many k = length-pairs n (map (λ m. wire (argumentAt quads m k)) ms) ∙ length-map ms (λ m. wire (argumentAt quads m k))
 
   joined-cost : recordsCost (joinedIn quads count sets conds wire n ms) ≡ 5 * length ms + entryOf (operationOf (codeAt quads (getD ms 0 0))) .cost
-  unfolding recordsCost
   joined-cost =
-      cost-append (guardsIn conds wire sets ms) _ ∙ (let g : recordsCost (guardsIn conds wire sets ms) ≡ length ms = guards-cost conds wire sets ms in
-      let z : recordsCost (guardsIn conds wire sets ms) +
-      (2 * length (pairsIn quads wire n 0 ms) + (2 * length (pairsIn quads wire n 1 ms) + (entryOf (operationOf (codeAt quads (getD ms 0 0))) .cost + 0)))
-      ≡ 5 * length ms + entryOf (operationOf (codeAt quads (getD ms 0 0))) .cost = omega (arith, g, pair-many 0, pair-many 1) in
-      z)
+      cost-append (guardsIn conds wire sets ms) _
+      ∙ rw (cost-more, cost-more, cost-one) (omega (arith, guards-cost conds wire sets ms, pair-many 0, pair-many 1))
 
   joined-wires : length (joinedIn quads count sets conds wire n ms) ≡ length ms + 3
   joined-wires = length-append (guardsIn conds wire sets ms) _ ∙ ap (λ (k : ℕ). k + 3) (length-map ms (λ m. guardIn conds wire (getD sets m 0)))

@@ -3,7 +3,6 @@ use Prim.Native.Nat.{ℕ, _+_, _*_, _≤_}
 use mathlib.Core.Path.{_≡_, refl, sym, ap, subst, _∙_}
 use mathlib.Core.List.{List, [], _∷_, append-nil}
 use mathlib.Core.Logic.{_⊎_, inl, inr}
-use native.Mathlib.Nat.{add-zero}
 use native.Mathlib.Omega.{arith}
 use lib.ListN.{length}
 use Rattle.words.specs.TestLaws.{same?}
@@ -13,8 +12,9 @@ use Rattle.codes.specs.declared.Code.{Code}
 use Rattle.gates.specs.Gates.{Gate, start, word, bit, operation, choice, costOf}
 use Rattle.needed.specs.Held.{choiceCode, gateIn, codeAt, firstAt}
 use Rattle.needed.specs.QuadLaws.{Applies, KindIn, chooses, is-word, is-bit, applies, starts, kind-in, choice-in, word-in, bit-in, start-in, applied-in}
-use Rattle.records.specs.Records.{recordCost, recordsCost}
+use Rattle.records.specs.Records.{recordCost}
 use Rattle.records.specs.CircuitFile.{recordBytes}
+use Rattle.records.specs.SizeLaws.{cost-one}
 use Rattle.emitting.specs.Emitted.{aloneOf, aloneIn, FitsGate, Coded}
 use Rattle.measuring.specs.Sizes.{Measured}
 use Rattle.emitting.specs.AloneLaws.{choice-long, word-long, bit-long, start-long, unary-long, binary-long}
@@ -29,12 +29,11 @@ cost-same code wire (choice c a b) = refl
 module _ (quads : List ℕ) (g : ℕ) where
   alone-sized : (bytes cost : ℕ) → ((wire : ℕ → ℕ) → length (recordBytes (aloneIn quads wire g)) ≡ bytes) → costOf (gateIn quads g) ≡ cost
       → (sets : List ℕ) → Measured quads sets (g ∷ []) 1 bytes cost
-  unfolding recordsCost
   alone-sized bytes cost long costs sets =
       record {
         wired = λ count wire n below. refl;
         long = λ count wire n below. sym (ap (λ (b : List ℕ). length b) (append-nil (recordBytes (aloneIn quads wire g))) ∙ long wire);
-        costs = λ count wire n below. sym (add-zero (recordCost (aloneIn quads wire g)) ∙ cost-same (codeAt quads g) wire (gateIn quads g) ∙ costs);
+        costs = λ count wire n below. sym (cost-one (aloneIn quads wire g) ∙ cost-same (codeAt quads g) wire (gateIn quads g) ∙ costs);
       }
 
   pub choice-sized : codeAt quads g ≡ choiceCode → (sets : List ℕ) → Measured quads sets (g ∷ []) 1 7 3
