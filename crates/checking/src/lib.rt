@@ -61,7 +61,7 @@ pub fn check(
             groups: 0,
         };
     }
-    let joins = grouping::check_groups(plan, quads, n, needs);
+    let joins = fitting::check_groups(plan, quads, n, needs);
     if joins != 0 {
         return ungrouped(joins, group, places);
     }

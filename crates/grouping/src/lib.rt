@@ -1,24 +1,21 @@
-// Document 01, "The plan file and its check" and "Refusals by place": rows 20 to 29 of a plan, and each gate's group.
+// Document 01, "The plan file and its check" and "Refusals by place": rows 20 to 26 of a plan, and each gate's group.
 // Each row is a pass over the whole file, in the order of their numbers; from row 24 on the groups are known to lie in the file.
 use answers::Step;
-use gates::GateId;
 ghost use mathlib.Core.Path.{_≡_};
 ghost use mathlib.Core.Bool.{_&&_, true};
-ghost use Prim.Native.Nat.{_+_, _*_, _<_, _≤_};
+ghost use Prim.Native.Nat.{_<_, _≤_};
 ghost use lib.Dec.{eqb, leb, ltb};
 ghost use lib.ListN.{length, getD, take, replicate};
-ghost use Rattle.codes.specs.Codes.{codeOf};
 ghost use Rattle.gates.specs.Limits.{mostGates};
-ghost use Rattle.needed.specs.Held.{codeAt, gateIn, gatesIn};
 ghost use Rattle.plan.specs.PlanFile as file;
 ghost use Rattle.plan.specs.Groups.{smallest};
 ghost use Rattle.plan.specs.Rows as checks;
 ghost use Rattle.grouping.specs.Tables.{groupTable, placeTable, eachAlone};
-ghost use Rattle.grouping.specs.Tests.{shapeTest, memberTest, membersTest, joinTest, operationCode, putAll};
+ghost use Rattle.grouping.specs.Tests.{shapeTest, putAll};
 ghost use Rattle.grouping.specs.Walks.{Lie, ReadableGroup, Readable};
 
 // A plan's bytes, at least and at most.
-const LEAST_BYTES: usize = 9;
+pub const LEAST_BYTES: usize = 9;
 
 const MOST_BYTES: usize = 1024;
 
@@ -27,14 +24,8 @@ const SIZES: u8 = 24;
 
 const NUMBERS: u8 = 25;
 
-const COSTLY: u8 = 27;
-
-const ALIKE: u8 = 28;
-
-const PARTED: u8 = 29;
-
 // The size of the group that begins at a place.
-fn size_at(plan: &[u8], at: usize) -> usize
+pub fn size_at(plan: &[u8], at: usize) -> usize
     requires { ⌜ at < length (now plan) ⌝ }
     ensures { λ r. ⌜ (r ≡ getD (now (plan .entry)) at 0) × (r < 256) ⌝ }
 {
@@ -42,7 +33,7 @@ fn size_at(plan: &[u8], at: usize) -> usize
 }
 
 // The place after that group.
-fn after(plan: &[u8], at: usize) -> usize
+pub fn after(plan: &[u8], at: usize) -> usize
     requires { ⌜ (at < length (now plan)) × (length (now plan) ≤ 1024) ⌝ }
     ensures { λ r. ⌜ r ≡ file.after (now (plan .entry)) at ⌝ }
 {
@@ -57,7 +48,7 @@ fn gates_counted(plan: &[u8]) -> usize
     words::wide16(words::read16(plan, 5))
 }
 
-fn groups_counted(plan: &[u8]) -> usize
+pub fn groups_counted(plan: &[u8]) -> usize
     requires { ⌜ 9 ≤ length (now plan) ⌝ }
     ensures { λ r. ⌜ r ≡ file.groupsCounted (now (plan .entry)) ⌝ }
 {
@@ -262,140 +253,4 @@ pub fn group_gates(plan: &[u8], count: usize, group: &mut [u16; 256], places: &m
     *group = [0u16; 256];
     *places = [0u16; 256];
     26
-}
-
-// A costly operation, by a gate's code; a choice is none.
-fn costly(code: u32) -> bool
-    ensures { λ r. ⌜ r ≡ ltb 0 (codeOf code .cost) ⌝ }
-{
-    if code < 256 {
-        0 < codes::code_of(code as u8).cost
-    } else {
-        false
-    }
-}
-
-fn operation_code(code: u32) -> u32
-    ensures { λ r. ⌜ r ≡ operationCode code ⌝ }
-{
-    if code < 0x20 {
-        return 0;
-    }
-    if 0x27 < code {
-        return 0;
-    }
-    code
-}
-
-fn code_at(quads: &[u32; 1024], g: GateId) -> u32
-    requires { ⌜ g .0 < 256 ⌝ }
-    ensures { λ r. ⌜ r ≡ codeAt (now (quads .entry)) (g .0) ⌝ }
-{
-    let i = g.0 as usize;
-    quads[4 * i]
-}
-
-// 27 or 28 of a member, by the first member.
-fn member_holds(row: u8, quads: &[u32; 1024], first: GateId, g: GateId) -> bool
-    requires { ⌜ (first .0 < 256) × (g .0 < 256) ⌝ }
-    ensures { λ r. ⌜ r ≡ memberTest row (gateIn (now (quads .entry)) (first .0)) (gateIn (now (quads .entry)) (g .0)) ⌝ }
-{
-    let code = code_at(quads, g);
-    if row == COSTLY {
-        costly(code)
-    } else {
-        operation_code(code_at(quads, first)) == operation_code(code)
-    }
-}
-
-// 27 or 28 of the group that begins at a place.
-fn members_hold(row: u8, plan: &[u8], at: usize, quads: &[u32; 1024], count: usize) -> bool
-    requires { ⌜ ReadableGroup count (now plan) at ⌝ }
-    ensures { λ r. ⌜ r ≡ membersTest (gatesIn (now (quads .entry)) count) row (file.groupAt (now (plan .entry)) at) ⌝ }
-{
-    let size = size_at(plan, at);
-    let first = plan::member(plan, at, 0);
-    let mut k: usize = 0;
-    while k < size {
-        let g = plan::member(plan, at, k);
-        if !member_holds(row, quads, first, g) {
-            return false;
-        }
-        k = k + 1;
-    }
-    true
-}
-
-// 29 of the group that begins at a place: numbers rise, so a member met later is another one.
-fn members_part(plan: &[u8], at: usize, count: usize, needs: &[u64; 256]) -> bool
-    requires { ⌜ ReadableGroup count (now plan) at ⌝ }
-    ensures { λ r. ⌜ r ≡ checks.parted (now (needs .entry)) (file.groupAt (now (plan .entry)) at) ⌝ }
-{
-    let size = size_at(plan, at);
-    let mut seen = settings::empty();
-    let mut k: usize = 0;
-    while k < size {
-        let g = plan::member(plan, at, k);
-        let i = g.0 as usize;
-        let s = needs[i];
-        if !settings::excludes(seen, s) {
-            return false;
-        }
-        seen = settings::union(seen, s);
-        k = k + 1;
-    }
-    true
-}
-
-// 27, 28 or 29 of the group that begins at a place.
-fn join_holds(
-    row: u8,
-    plan: &[u8],
-    at: usize,
-    quads: &[u32; 1024],
-    count: usize,
-    needs: &[u64; 256],
-) -> bool
-    requires { ⌜ ReadableGroup count (now plan) at ⌝ }
-    ensures { λ r. ⌜ r ≡ joinTest (gatesIn (now (quads .entry)) count) (now (needs .entry)) row (file.groupAt (now (plan .entry)) at) ⌝ }
-{
-    if row == PARTED {
-        members_part(plan, at, count, needs)
-    } else {
-        members_hold(row, plan, at, quads, count)
-    }
-}
-
-// 27, 28 or 29 of every group.
-fn every_join(row: u8, plan: &[u8], quads: &[u32; 1024], count: usize, needs: &[u64; 256]) -> bool
-    requires { ⌜ Readable count (now plan) ⌝ }
-    ensures { λ r. ⌜ r ≡ checks.everyGroup (joinTest (gatesIn (now (quads .entry)) count) (now (needs .entry)) row) (file.groupsIn (now (plan .entry))) ⌝ }
-{
-    let mut unchecked = groups_counted(plan);
-    let mut at = LEAST_BYTES;
-    while 0 < unchecked {
-        if !join_holds(row, plan, at, quads, count, needs) {
-            return false;
-        }
-        at = after(plan, at);
-        unchecked = unchecked - 1;
-    }
-    true
-}
-
-// Rows 27 to 29 of a plan that the rows before do not refuse, for the gates that lie in `quads` and their preconditions: the lowest that refuses it, or 0.
-pub fn check_groups(plan: &[u8], quads: &[u32; 1024], count: usize, needs: &[u64; 256]) -> u8
-    requires { ⌜ Readable count (now plan) ⌝ }
-    ensures { λ r. ⌜ r ≡ checks.firstFailing (checks.joinRows (gatesIn (now (quads .entry)) count) (now (needs .entry)) (now (plan .entry))) ⌝ }
-{
-    if !every_join(COSTLY, plan, quads, count, needs) {
-        return COSTLY;
-    }
-    if !every_join(ALIKE, plan, quads, count, needs) {
-        return ALIKE;
-    }
-    if !every_join(PARTED, plan, quads, count, needs) {
-        return PARTED;
-    }
-    0
 }

@@ -1,6 +1,6 @@
 use Rattle.grouping.specs.GateLaws.{operation-low, operation-high, operation-is}
-use Rattle.grouping.proofs.operation_code.Statement.{statement}
-use Rattle.grouping.proofs.operation_code.Tie as tie
+use Rattle.fitting.proofs.operation_code.Statement.{statement}
+use Rattle.fitting.proofs.operation_code.Tie as tie
 
 returns : tie.Need-returns
 returns c = operation-low _ (c .if1 .taken)

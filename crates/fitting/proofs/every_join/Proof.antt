@@ -1,11 +1,11 @@
 use borrow.Author.Needs.{needs}
 use borrow.Author.Tests.{not-true, not-false}
 use Rattle.needed.specs.Held.{gatesIn}
 use Rattle.grouping.specs.Tests.{joinTest}
 use Rattle.grouping.specs.Walks.{Ahead}
 use Rattle.grouping.specs.GroupLaws.{lie-inside, TestingGroups, testing-start, testing-fails, testing-step, testing-end, readable-lie, ahead-start, ahead-fits, ahead-step}
-use Rattle.grouping.proofs.every_join.Statement.{statement}
-use Rattle.grouping.proofs.every_join.Tie as tie
+use Rattle.fitting.proofs.every_join.Statement.{statement}
+use Rattle.fitting.proofs.every_join.Tie as tie
 
 abbrev Inv-loop : tie.InvT-loop
 Inv-loop row plan quads count needs unchecked₀ at₀ unchecked at = Ahead count plan unchecked at × TestingGroups

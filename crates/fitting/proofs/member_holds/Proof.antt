@@ -1,7 +1,7 @@
 use borrow.Author.Needs.{needs}
 use Rattle.grouping.specs.GateLaws.{member-costly, member-alike}
-use Rattle.grouping.proofs.member_holds.Statement.{statement}
-use Rattle.grouping.proofs.member_holds.Tie as tie
+use Rattle.fitting.proofs.member_holds.Statement.{statement}
+use Rattle.fitting.proofs.member_holds.Tie as tie
 
 returns : tie.Need-returns
 returns c = member-costly _ _ _ _ _ _ (c .before .if1 .taken) (c .before .before .code-at .ensures) (c .costly .ensures)

@@ -1,8 +1,8 @@
 use borrow.Author.Needs.{needs}
 use mathlib.Core.Path.{_∙_}
 use Rattle.grouping.specs.RowLaws.{join-parted, join-members}
-use Rattle.grouping.proofs.join_holds.Statement.{statement}
-use Rattle.grouping.proofs.join_holds.Tie as tie
+use Rattle.fitting.proofs.join_holds.Statement.{statement}
+use Rattle.fitting.proofs.join_holds.Tie as tie
 
 returns : tie.Need-returns
 returns c = c .members-part .ensures ∙ join-parted _ _ _ _ (c .before .if1 .taken)

@@ -2,10 +2,10 @@ use borrow.Author.Needs.{needs}
 use native.Mathlib.Omega.{arith}
 use borrow.Author.Tests.{not-true, not-false}
 use Prim.Native.Nat.{_-_}
 use Rattle.grouping.specs.MemberLaws.{walk-byte}
 use Rattle.grouping.specs.WalkLaws.{Parting, parting-start, parting-fails, parting-step, parting-end}
-use Rattle.grouping.proofs.members_part.Statement.{statement}
-use Rattle.grouping.proofs.members_part.Tie as tie
+use Rattle.fitting.proofs.members_part.Statement.{statement}
+use Rattle.fitting.proofs.members_part.Tie as tie
 
 abbrev Inv-loop : tie.InvT-loop
 Inv-loop plan at count needs size seen₀ k₀ seen k = Parting needs count plan at seen k

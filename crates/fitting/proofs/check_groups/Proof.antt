@@ -3,9 +3,9 @@ use borrow.Author.Tests.{not-true, not-false}
 use mathlib.Core.Path.{sym, _∙_}
 use denote.Ref.{now}
 use Rattle.needed.specs.Held.{gatesIn}
 use Rattle.grouping.specs.RowLaws.{row-27, row-28, row-29, joins-none}
-use Rattle.grouping.proofs.check_groups.Statement.{statement}
-use Rattle.grouping.proofs.check_groups.Tie as tie
+use Rattle.fitting.proofs.check_groups.Statement.{statement}
+use Rattle.fitting.proofs.check_groups.Tie as tie
 
 returns : tie.Need-returns
 returns c =

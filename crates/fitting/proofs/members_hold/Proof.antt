@@ -2,10 +2,10 @@ use borrow.Author.Needs.{needs}
 use native.Mathlib.Omega.{arith}
 use borrow.Author.Tests.{not-true, not-false}
 use Prim.Native.Nat.{_-_}
 use Rattle.grouping.specs.MemberLaws.{walk-byte}
 use Rattle.grouping.specs.WalkLaws.{Holding, holding-start, holding-fails, holding-step, holding-end}
-use Rattle.grouping.proofs.members_hold.Statement.{statement}
-use Rattle.grouping.proofs.members_hold.Tie as tie
+use Rattle.fitting.proofs.members_hold.Statement.{statement}
+use Rattle.fitting.proofs.members_hold.Tie as tie
 
 abbrev Inv-loop : tie.InvT-loop
 Inv-loop row plan at quads count size first k₀ k = Holding quads row count plan at (first .0) k

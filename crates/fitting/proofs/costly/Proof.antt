@@ -2,9 +2,9 @@ use borrow.Author.Needs.{needs}
 use mathlib.Core.Path.{ap}
 use lib.Dec.{ltb}
 use Rattle.codes.specs.declared.Code.{Code}
 use Rattle.grouping.specs.RowLaws.{cost-above}
-use Rattle.grouping.proofs.costly.Statement.{statement}
-use Rattle.grouping.proofs.costly.Tie as tie
+use Rattle.fitting.proofs.costly.Statement.{statement}
+use Rattle.fitting.proofs.costly.Tie as tie
 
 returns : tie.Need-returns
 returns c = ap (λ (r : Code). ltb 0 (r .cost)) (c .before .code-of .ensures)

@@ -1,0 +1,155 @@
+// Document 01, "The plan file and its check" and "Refusals by place": rows 27 to 29 of a plan, whether the members of each group fit together.
+// Each row is a pass over the whole file, in the order of their numbers; the groups are known to lie in the file.
+use gates::GateId;
+ghost use mathlib.Core.Path.{_≡_};
+ghost use Prim.Native.Nat.{_<_};
+ghost use lib.Dec.{ltb};
+ghost use Rattle.codes.specs.Codes.{codeOf};
+ghost use Rattle.needed.specs.Held.{codeAt, gateIn, gatesIn};
+ghost use Rattle.plan.specs.PlanFile as file;
+ghost use Rattle.plan.specs.Rows as checks;
+ghost use Rattle.grouping.specs.Tests.{memberTest, membersTest, joinTest, operationCode};
+ghost use Rattle.grouping.specs.Walks.{ReadableGroup, Readable};
+
+// The rows, by what they ask of each group.
+const COSTLY: u8 = 27;
+
+const ALIKE: u8 = 28;
+
+const PARTED: u8 = 29;
+
+// A costly operation, by a gate's code; a choice is none.
+fn costly(code: u32) -> bool
+    ensures { λ r. ⌜ r ≡ ltb 0 (codeOf code .cost) ⌝ }
+{
+    if code < 256 {
+        0 < codes::code_of(code as u8).cost
+    } else {
+        false
+    }
+}
+
+fn operation_code(code: u32) -> u32
+    ensures { λ r. ⌜ r ≡ operationCode code ⌝ }
+{
+    if code < 0x20 {
+        return 0;
+    }
+    if 0x27 < code {
+        return 0;
+    }
+    code
+}
+
+fn code_at(quads: &[u32; 1024], g: GateId) -> u32
+    requires { ⌜ g .0 < 256 ⌝ }
+    ensures { λ r. ⌜ r ≡ codeAt (now (quads .entry)) (g .0) ⌝ }
+{
+    let i = g.0 as usize;
+    quads[4 * i]
+}
+
+// 27 or 28 of a member, by the first member.
+fn member_holds(row: u8, quads: &[u32; 1024], first: GateId, g: GateId) -> bool
+    requires { ⌜ (first .0 < 256) × (g .0 < 256) ⌝ }
+    ensures { λ r. ⌜ r ≡ memberTest row (gateIn (now (quads .entry)) (first .0)) (gateIn (now (quads .entry)) (g .0)) ⌝ }
+{
+    let code = code_at(quads, g);
+    if row == COSTLY {
+        costly(code)
+    } else {
+        operation_code(code_at(quads, first)) == operation_code(code)
+    }
+}
+
+// 27 or 28 of the group that begins at a place.
+fn members_hold(row: u8, plan: &[u8], at: usize, quads: &[u32; 1024], count: usize) -> bool
+    requires { ⌜ ReadableGroup count (now plan) at ⌝ }
+    ensures { λ r. ⌜ r ≡ membersTest (gatesIn (now (quads .entry)) count) row (file.groupAt (now (plan .entry)) at) ⌝ }
+{
+    let size = grouping::size_at(plan, at);
+    let first = plan::member(plan, at, 0);
+    let mut k: usize = 0;
+    while k < size {
+        let g = plan::member(plan, at, k);
+        if !member_holds(row, quads, first, g) {
+            return false;
+        }
+        k = k + 1;
+    }
+    true
+}
+
+// 29 of the group that begins at a place: numbers rise, so a member met later is another one.
+fn members_part(plan: &[u8], at: usize, count: usize, needs: &[u64; 256]) -> bool
+    requires { ⌜ ReadableGroup count (now plan) at ⌝ }
+    ensures { λ r. ⌜ r ≡ checks.parted (now (needs .entry)) (file.groupAt (now (plan .entry)) at) ⌝ }
+{
+    let size = grouping::size_at(plan, at);
+    let mut seen = settings::empty();
+    let mut k: usize = 0;
+    while k < size {
+        let g = plan::member(plan, at, k);
+        let i = g.0 as usize;
+        let s = needs[i];
+        if !settings::excludes(seen, s) {
+            return false;
+        }
+        seen = settings::union(seen, s);
+        k = k + 1;
+    }
+    true
+}
+
+// 27, 28 or 29 of the group that begins at a place.
+fn join_holds(
+    row: u8,
+    plan: &[u8],
+    at: usize,
+    quads: &[u32; 1024],
+    count: usize,
+    needs: &[u64; 256],
+) -> bool
+    requires { ⌜ ReadableGroup count (now plan) at ⌝ }
+    ensures { λ r. ⌜ r ≡ joinTest (gatesIn (now (quads .entry)) count) (now (needs .entry)) row (file.groupAt (now (plan .entry)) at) ⌝ }
+{
+    if row == PARTED {
+        members_part(plan, at, count, needs)
+    } else {
+        members_hold(row, plan, at, quads, count)
+    }
+}
+
+// 27, 28 or 29 of every group.
+fn every_join(row: u8, plan: &[u8], quads: &[u32; 1024], count: usize, needs: &[u64; 256]) -> bool
+    requires { ⌜ Readable count (now plan) ⌝ }
+    ensures { λ r. ⌜ r ≡ checks.everyGroup (joinTest (gatesIn (now (quads .entry)) count) (now (needs .entry)) row) (file.groupsIn (now (plan .entry))) ⌝ }
+{
+    let mut unchecked = grouping::groups_counted(plan);
+    let mut at = grouping::LEAST_BYTES;
+    while 0 < unchecked {
+        if !join_holds(row, plan, at, quads, count, needs) {
+            return false;
+        }
+        at = grouping::after(plan, at);
+        unchecked = unchecked - 1;
+    }
+    true
+}
+
+// Rows 27 to 29 of a plan that the rows before do not refuse, for the gates that lie in `quads` and their preconditions: the lowest that refuses it, or 0.
+pub fn check_groups(plan: &[u8], quads: &[u32; 1024], count: usize, needs: &[u64; 256]) -> u8
+    requires { ⌜ Readable count (now plan) ⌝ }
+    ensures { λ r. ⌜ r ≡ checks.firstFailing (checks.joinRows (gatesIn (now (quads .entry)) count) (now (needs .entry)) (now (plan .entry))) ⌝ }
+{
+    if !every_join(COSTLY, plan, quads, count, needs) {
+        return COSTLY;
+    }
+    if !every_join(ALIKE, plan, quads, count, needs) {
+        return ALIKE;
+    }
+    if !every_join(PARTED, plan, quads, count, needs) {
+        return PARTED;
+    }
+    0
+}
