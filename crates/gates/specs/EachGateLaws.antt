@@ -10,7 +10,7 @@ use lib.Dec.{ltb}
 use lib.ListN.{length, getD, length-map, List·getD-append, List·getD-eq-default}
 use borrow.Author.Tests.{ltb-true, ltb-false}
 use Rattle.words.specs.Lists.{upto}
-use Rattle.words.specs.ListLaws.{length-from, inside-list}
+use Rattle.words.specs.ListLaws.{length-from}
 use Rattle.words.specs.TestLaws.{split}
 use Rattle.codes.specs.Codes.{entryOf}
 use Rattle.codes.specs.declared.Kind.{Kind}
@@ -23,7 +23,7 @@ use Rattle.gates.specs.Gates.{Gate, start, operation, choice, Gates, gat
 use Rattle.gates.specs.Gates as gate
 use Rattle.reading.specs.Kinds.{Typed, TypedStatement, TypedBlock}
 use Rattle.gates.specs.PlainCircuit.{Making, applyGate, makeExpr, choose, choices, assignedIn, asBefore, makeStatement, makeBlock, conditionMade, firstMade, secondMade, starts, gatesOf}
-use Rattle.gates.specs.PlainLaws.{block-extends}
+use Rattle.gates.specs.PlainLaws.{extends-length, block-extends}
 use Rattle.gates.specs.ApplyLaws.{apply-cases}
 use Rattle.gates.specs.EarlierLaws.{gate-add}
 use Rattle.reading.specs.FoundRuleLaws.{read-typed}
@@ -175,13 +175,8 @@ module _ (s : List ℕ) (b : Block) (n : ℕ) (read : readRule s ≡ parsed b n)
         of-choice = λ c a b. tt;
       })
 
-  -- the variables' starting values are gates of the circuit
-  pub rule-starts-inside : (x : ℕ) → x < variables s → x < length (gatesOf s)
-  rule-starts-inside x h = go (inside-list (gatesOf s) x)
-    where
-      go : (x < length (gatesOf s)) ⊎ (length (gatesOf s) ≤ x) → x < length (gatesOf s)
-      go (inl l) = l
-      go (inr l) =
-          let e : start x ≡ gate.word 0 = sym (rule-start x h) ∙ List·getD-eq-default (gatesOf s) (gate.word 0) {n = x} l in
-          let z : _≡_ {A = ℕ} 0 1 = cc in
-          absurd (omega arith)
+  -- there are at least as many gates as variables
+  pub rule-gates-many : variables s ≤ length (gatesOf s)
+  rule-gates-many =
+      rw (gatesOf, read-plain s b n read)
+      (omega (arith, extends-length (block-extends b (starts (variables s))), length-map (upto (variables s)) start, length-from 0 (variables s)))
