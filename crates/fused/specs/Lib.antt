@@ -24,3 +24,4 @@ pub mod KindedLaws
 pub mod KindWritten
 pub mod FusedKinds
 pub mod FusedFigures
+pub mod InputLaws

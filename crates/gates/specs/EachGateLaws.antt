@@ -1,5 +1,6 @@
--- Laws of what holds of every gate of a rule's plain circuit, the one induction over making for it; so every starting value is a variable's, and gates 0 to V−1 are these.
-use Prim.Native.Nat.{ℕ, _<_}
+-- Laws of what holds of every gate of a rule's plain circuit, the one induction over making for it; so every starting value is a variable's, gates 0 to V−1 are these,
+-- and no later gate is one. Assumes nothing.
+use Prim.Native.Nat.{ℕ, _≤_, _<_}
 use native.Mathlib.Nat.{zero-add}
 use native.Mathlib.Omega.{arith}
 use mathlib.Core.Path.{_≡_, sym, ap, _∙_}
@@ -22,7 +23,7 @@ use Rattle.gates.specs.Gates.{Gate, start, operation, choice, Gates, gat
 use Rattle.gates.specs.Gates as gate
 use Rattle.reading.specs.Kinds.{Typed, TypedStatement, TypedBlock}
 use Rattle.gates.specs.PlainCircuit.{Making, applyGate, makeExpr, choose, choices, assignedIn, asBefore, makeStatement, makeBlock, conditionMade, firstMade, secondMade, starts, gatesOf}
-use Rattle.gates.specs.PlainLaws.{block-extends}
+use Rattle.gates.specs.PlainLaws.{extends-length, block-extends}
 use Rattle.gates.specs.ApplyLaws.{apply-cases}
 use Rattle.gates.specs.EarlierLaws.{gate-add}
 use Rattle.reading.specs.FoundRuleLaws.{read-typed}
@@ -51,37 +52,42 @@ module _ (P : Gate → Type 0) where
   abbrev pub EachGate : Gates → Type 0
   EachGate C = (i : ℕ) → P (gateAt C i)
 
-  each-add : (C : Gates) (k : Gate) → EachGate C → P k → EachGate (C ++ (k ∷ []))
-  each-add C k h g i = go (gate-add C k i)
+  -- and of every gate from `low` on
+  abbrev EachFrom : ℕ → Gates → Type 0
+  EachFrom low C = (i : ℕ) → low ≤ i → P (gateAt C i)
+
+  each-add : (low : ℕ) (C : Gates) (k : Gate) → EachFrom low C → P k → EachFrom low (C ++ (k ∷ []))
+  each-add low C k h g i l = go (gate-add C k i)
     where
       go : (gateAt (C ++ (k ∷ [])) i ≡ gateAt C i) ⊎ ((i ≡ length C) × (gateAt (C ++ (k ∷ [])) i ≡ k)) → P (gateAt (C ++ (k ∷ [])) i)
-      go (inl e) = rw e (h i)
+      go (inl e) = rw e (h i l)
       go (inr (e, f)) = rw f g
 
-  module _ (v : ℕ) (kinds : ℕ → Kind) (o : OfMade v) where
-    choices-each : (c : ℕ) (p q l : List ℕ) (m : Making) → EachGate (m .gates) → EachGate (choices c p q l m .gates)
+  -- a block makes no starting value, so of however few of these, n, P is known to hold
+  module _ (low n v : ℕ) (kinds : ℕ → Kind) (o : OfMade n) where
+    choices-each : (c : ℕ) (p q l : List ℕ) (m : Making) → EachFrom low (m .gates) → EachFrom low (choices c p q l m .gates)
     unfolding choices
     choices-each c p q [] m h = h
     choices-each c p q (x ∷ l) m h =
-        choices-each c p q l (choose c p q x m) (each-add (m .gates) (choice c (getD p x 0) (getD q x 0)) h (o .of-choice c (getD p x 0) (getD q x 0)))
+        choices-each c p q l (choose c p q x m) (each-add low (m .gates) (choice c (getD p x 0) (getD q x 0)) h (o .of-choice c (getD p x 0) (getD q x 0)))
 
-    expr-each : (e : Expr) (k : Kind) → Typed v kinds e k → (p : List ℕ) (C : Gates) → EachGate C → EachGate (makeExpr e p C .gates)
+    expr-each : (e : Expr) (k : Kind) → Typed v kinds e k → (p : List ℕ) (C : Gates) → EachFrom low C → EachFrom low (makeExpr e p C .gates)
     unfolding makeExpr
     expr-each (variable x) k t p C h = h
-    expr-each (word n) k t p C h = each-add C (gate.word n) h (o .of-word n)
-    expr-each (bit b) k t p C h = each-add C (gate.bit b) h (o .of-bit b)
+    expr-each (word n) k t p C h = each-add low C (gate.word n) h (o .of-word n)
+    expr-each (bit b) k t p C h = each-add low C (gate.bit b) h (o .of-bit b)
     expr-each (one op e) k (a, g, t) p C h =
         let m = makeExpr e p C in
-        each-add (m .gates) (operation op (m .place ∷ [])) (expr-each e _ t p C h) (o .of-one op (m .place) a)
+        each-add low (m .gates) (operation op (m .place ∷ [])) (expr-each e _ t p C h) (o .of-one op (m .place) a)
     expr-each (two op d e) k (a, g, t, u) p C h =
         let m = makeExpr d p C in
         let n = makeExpr e p (m .gates) in
-        each-add (n .gates) (applyGate op (m .place) (n .place)) (expr-each e _ u p (m .gates) (expr-each d _ t p C h)) (o .of-two op (m .place) (n .place) a)
+        each-add low (n .gates) (applyGate op (m .place) (n .place)) (expr-each e _ u p (m .gates) (expr-each d _ t p C h)) (o .of-two op (m .place) (n .place) a)
 
     mutual
       unfolding makeStatement
 
-      statement-each : (t : Statement) → TypedStatement v kinds t → (m : Making) → EachGate (m .gates) → EachGate (makeStatement t m .gates)
+      statement-each : (t : Statement) → TypedStatement v kinds t → (m : Making) → EachFrom low (m .gates) → EachFrom low (makeStatement t m .gates)
       statement-each (assign x e) (l, t) m h = expr-each e _ t (m .present) (m .gates) h
       statement-each skip t m h = h
       statement-each (branch c b d) (t, u, w) m h =
@@ -90,20 +96,30 @@ module _ (P : Gate → Type 0) where
           (block-each d w (asBefore m (firstMade c b m .gates))
           (block-each b u (asBefore m (conditionMade c m .gates)) (expr-each c _ t (m .present) (m .gates) h)))
 
-      block-each : (b : Block) → TypedBlock v kinds b → (m : Making) → EachGate (m .gates) → EachGate (makeBlock b m .gates)
+      block-each : (b : Block) → TypedBlock v kinds b → (m : Making) → EachFrom low (m .gates) → EachFrom low (makeBlock b m .gates)
       block-each end t m h = h
       block-each (then s b) (t, u) m h = block-each b u (makeStatement s m) (statement-each s t m h)
 
-    starts-each : EachGate (starts v .gates)
-    starts-each j =
-        split (ltb j v) (λ t. let l = ltb-true j v t in rw (start-at 0 v j l, zero-add) (o .of-start j l))
-        (λ t. rw (List·getD-eq-default (map start (upto v)) (gate.word 0) {n = j} (rw (length-map, length-from 0 v) (ltb-false j v t))) (o .of-word 0))
+  -- past the starting values there is no gate yet
+  starts-past : (v : ℕ) → P (gate.word 0) → EachFrom v (starts v .gates)
+  starts-past v h j l = rw (List·getD-eq-default (map start (upto v)) (gate.word 0) {n = j} (rw (length-map, length-from 0 v) l)) h
+
+  starts-each : (v : ℕ) → OfMade v → EachGate (starts v .gates)
+  starts-each v o j =
+      split (ltb j v) (λ t. let l = ltb-true j v t in rw (start-at 0 v j l, zero-add) (o .of-start j l))
+      (λ t. starts-past v (o .of-word 0) j (ltb-false j v t))
 
   -- what holds of whatever gate is made holds of every gate of a rule that is read
   pub rule-gates : (s : List ℕ) (b : Block) (n : ℕ) → readRule s ≡ parsed b n → OfMade (variables s) → EachGate (gatesOf s)
-  rule-gates s b n read o =
+  rule-gates s b n read o i =
       rw (gatesOf, read-plain s b n read)
-      (block-each (variables s) (kindAt s) o b (read-typed s b n read) (starts (variables s)) (starts-each (variables s) (kindAt s) o))
+      (block-each 0 (variables s) (variables s) (kindAt s) o b (read-typed s b n read) (starts (variables s)) (λ j _. starts-each (variables s) o j) i (omega arith))
+
+  -- and what holds of whatever gate is made, starting values apart, of every gate past these
+  pub rule-past : (s : List ℕ) (b : Block) (n : ℕ) → readRule s ≡ parsed b n → OfMade 0 → (i : ℕ) → variables s ≤ i → P (gateAt (gatesOf s) i)
+  rule-past s b n read o =
+      rw (gatesOf, read-plain s b n read)
+      (block-each (variables s) 0 (variables s) (kindAt s) o b (read-typed s b n read) (starts (variables s)) (starts-past (variables s) (o .of-word 0)))
 
 -- of v variables: a starting value is a variable's
 abbrev pub StartGate : ℕ → Gate → Type 0
@@ -115,6 +131,14 @@ StartGate v (choice c a b) = Unit {0}
 
 abbrev pub Starting : ℕ → Gates → Type 0
 Starting v C = EachGate (StartGate v) C
+
+-- no starting value
+abbrev pub NotStart : Gate → Type 0
+NotStart (start x) = ⊥
+NotStart (gate.word n) = Unit {0}
+NotStart (gate.bit b) = Unit {0}
+NotStart (operation op l) = Unit {0}
+NotStart (choice c a b) = Unit {0}
 
 module _ (s : List ℕ) (b : Block) (n : ℕ) (read : readRule s ≡ parsed b n) where
   -- every starting value is a variable's
@@ -137,3 +161,22 @@ module _ (s : List ℕ) (b : Block) (n : ℕ) (read : readRule s ≡ parsed b n)
       rw (gatesOf, read-plain s b n read, e .grown)
       (List·getD-append (map start (upto (variables s))) (e .more) (gate.word 0) x (rw (length-map, length-from 0 (variables s)) h)
       ∙ start-at 0 (variables s) x h ∙ ap start (omega arith))
+
+  -- no later gate is a starting value
+  pub rule-no-start : (i : ℕ) → variables s ≤ i → NotStart (gateAt (gatesOf s) i)
+  rule-no-start =
+      rule-past NotStart s b n read
+      (record {
+        of-start = λ x h. omega arith;
+        of-word = λ n. tt;
+        of-bit = λ b. tt;
+        of-one = λ op a e. tt;
+        of-two = any-two NotStart (λ op l e. tt);
+        of-choice = λ c a b. tt;
+      })
+
+  -- there are at least as many gates as variables
+  pub rule-gates-many : variables s ≤ length (gatesOf s)
+  rule-gates-many =
+      rw (gatesOf, read-plain s b n read)
+      (omega (arith, extends-length (block-extends b (starts (variables s))), length-map (upto (variables s)) start, length-from 0 (variables s)))

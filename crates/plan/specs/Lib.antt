@@ -23,5 +23,6 @@ pub mod FoundLaws
 pub mod PlaceLaws
 pub mod ReadsLaws
 pub mod CountLaws
+pub mod FirstLaws
 pub mod SameLaws
 pub mod Examples

@@ -63,6 +63,22 @@ module _ (P : ℕ → Record → Type 0) where
   along-map F [] n k h b = tt
   along-map F (i ∷ l) n k h b = (b i (inl refl) k h, along-map F l n (suc k) (omega arith) (λ j m. b j (inr m)))
 
+-- what holds along the records, wherever each of them stands, and of a constant holds of the record of every wire
+pub along-any : (P : Record → Type 0) (R : List Record) (n : ℕ) → Along (λ i. P) n R → P (word 0) → (j : ℕ) → P (recordIn R j)
+along-any P [] n h d j = d
+along-any P (r ∷ R) n (h, k) d zero = h
+along-any P (r ∷ R) n (h, k) d (suc j) = along-any P R (suc n) k d j
+
+-- the record is no input
+abbrev pub NotInput : Record → Type 0
+NotInput (input k x) = ⊥
+NotInput (word n) = Unit {0}
+NotInput (bit b) = Unit {0}
+NotInput (operation op l) = Unit {0}
+NotInput (choice c a b) = Unit {0}
+NotInput (pick l) = Unit {0}
+NotInput (guard cs t) = Unit {0}
+
 -- record i reads only earlier wires; so does each of the records
 abbrev pub ReadsBefore : ℕ → Record → Type 0
 ReadsBefore i r = (a : ℕ) → a ∈ reads r → a < i
