@@ -151,12 +151,12 @@ fn read_expr(s: &[u8], at: usize, want: Kind, deep: u8) -> Step
             match first {
                 Step::Past(next) => {
                     if c.arity == 1 {
-                        Step::Past(next)
-                    } else if is_variable(s, next, takes, deep - 1) {
-                        Step::Past(next + 2)
-                    } else {
-                        read_expr(rest, next, takes, deep - 1)
+                        return Step::Past(next);
                     }
+                    if is_variable(s, next, takes, deep - 1) {
+                        return Step::Past(next + 2);
+                    }
+                    read_expr(rest, next, takes, deep - 1)
                 }
                 Step::Refused(number, place) => Step::Refused(number, place),
             }

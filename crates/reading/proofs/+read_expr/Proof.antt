@@ -71,27 +71,6 @@ read-expr-returns-3 t c =
     (c .before .before .before .enum-told4 .given .0 .0) (c .before .before .before .enum-told4 .given .1)
     (sym (c .before .before .same-kind .ensures) ∙ not-false _ (c .before .if2 .left)) (c .if3 .taken)
 
-read-expr-returns-4 : (t : ℕ) → read-expr-lts.Need-returns-4 (read-expr-claims t) (read-expr-at t) read-expr.Post
-read-expr-returns-4 t c =
-    let a = c .before .before .before .before .before .before .before .args in
-    c .read-variable .ensures ∙ ap stepOf
-    (sym (expr-as (a .deep) (now (a .s)) (a .want) (a .at) (c .before .before .before .code-of .result) (c .before .before .before .before .before .if1 .left)
-    (c .before .before .before .code-of .ensures) Variable (c .before .enum-told .given .1)))
-
-read-expr-returns-5 : (t : ℕ) → read-expr-lts.Need-returns-5 (read-expr-claims t) (read-expr-at t) read-expr.Post
-read-expr-returns-5 t c =
-    let a = c .before .before .before .before .before .before .before .args in
-    c .read-word .ensures ∙ ap stepOf
-    (sym (expr-as (a .deep) (now (a .s)) (a .want) (a .at) (c .before .before .before .code-of .result) (c .before .before .before .before .before .if1 .left)
-    (c .before .before .before .code-of .ensures) Word (c .before .enum-told2 .given .1)))
-
-read-expr-returns-6 : (t : ℕ) → read-expr-lts.Need-returns-6 (read-expr-claims t) (read-expr-at t) read-expr.Post
-read-expr-returns-6 t c =
-    let a = c .before .before .before .before .before .before .before .args in
-    c .read-bit .ensures ∙ ap stepOf
-    (sym (expr-as (a .deep) (now (a .s)) (a .want) (a .at) (c .before .before .before .code-of .result) (c .before .before .before .before .before .if1 .left)
-    (c .before .before .before .code-of .ensures) Bit (c .before .enum-told3 .given .1)))
-
 abbrev Joined : ℕ → Type 0
 Joined t = read-expr-lts.Joined4 (read-expr-claims t) (read-expr-at t) read-expr.Post
 
@@ -101,21 +80,42 @@ first-read : (t : ℕ) (c : Joined t) → let a = c .before .before .before .bef
 first-read t c =
     ⊎-elim (λ w. w .1 ∙ (ap Past (omega arith) ∙ c .before .is-variable .ensures (w .0 .taken) .1)) (λ w. w .2 ∙ w .1 .ensures) (c .if4 .came)
 
-read-expr-returns-7 : (t : ℕ) → read-expr-lts.Need-returns-7 (read-expr-claims t) (read-expr-at t) read-expr.Post
-read-expr-returns-7 t c =
+read-expr-returns-4 : (t : ℕ) → read-expr-lts.Need-returns-4 (read-expr-claims t) (read-expr-at t) read-expr.Post
+read-expr-returns-4 t c =
     let j = c .before .before .before .before .before in
     let a = j .before .before .before .before .before .before .before .before .before .before .before .args in
     expr-one (a .deep) (now (a .s)) (a .want) (a .at) (j .before .before .before .before .before .before .before .code-of .result) (j .before .before .before .before .before .before .before .before .before .if1 .left) (j .before .before .before .before .before .before .before .code-of .ensures)
     (j .before .before .before .before .before .enum-told4 .given .0 .0) (j .before .before .before .before .before .enum-told4 .given .1) (sym (j .before .before .before .before .same-kind .ensures) ∙ not-false _ (j .before .before .before .if2 .left)) (j .before .before .if3 .left)
     (sym (c .before .before .before .first .given .1) ∙ first-read t j) (c .if5 .taken)
 
-read-expr-returns-8 : (t : ℕ) → read-expr-lts.Need-returns-8 (read-expr-claims t) (read-expr-at t) read-expr.Post
-read-expr-returns-8 t c =
+read-expr-returns-5 : (t : ℕ) → read-expr-lts.Need-returns-5 (read-expr-claims t) (read-expr-at t) read-expr.Post
+read-expr-returns-5 t c =
     let j = c .before .before .before .before .before .before .before in
     let a = j .before .before .before .before .before .before .before .before .before .before .before .args in
     expr-two (a .deep) (now (a .s)) (a .want) (a .at) (j .before .before .before .before .before .before .before .code-of .result) (j .before .before .before .before .before .before .before .before .before .if1 .left) (j .before .before .before .before .before .before .before .code-of .ensures)
     (j .before .before .before .before .before .enum-told4 .given .0 .0) (j .before .before .before .before .before .enum-told4 .given .1) (sym (j .before .before .before .before .same-kind .ensures) ∙ not-false _ (j .before .before .before .if2 .left)) (j .before .before .if3 .left)
     (sym (c .before .before .before .before .before .first .given .1) ∙ first-read t j) (c .before .before .if5 .left) (c .before .is-variable2 .ensures (c .if6 .taken) .1)
+
+read-expr-returns-6 : (t : ℕ) → read-expr-lts.Need-returns-6 (read-expr-claims t) (read-expr-at t) read-expr.Post
+read-expr-returns-6 t c =
+    let a = c .before .before .before .before .before .before .before .args in
+    c .read-variable .ensures ∙ ap stepOf
+    (sym (expr-as (a .deep) (now (a .s)) (a .want) (a .at) (c .before .before .before .code-of .result) (c .before .before .before .before .before .if1 .left)
+    (c .before .before .before .code-of .ensures) Variable (c .before .enum-told .given .1)))
+
+read-expr-returns-7 : (t : ℕ) → read-expr-lts.Need-returns-7 (read-expr-claims t) (read-expr-at t) read-expr.Post
+read-expr-returns-7 t c =
+    let a = c .before .before .before .before .before .before .before .args in
+    c .read-word .ensures ∙ ap stepOf
+    (sym (expr-as (a .deep) (now (a .s)) (a .want) (a .at) (c .before .before .before .code-of .result) (c .before .before .before .before .before .if1 .left)
+    (c .before .before .before .code-of .ensures) Word (c .before .enum-told2 .given .1)))
+
+read-expr-returns-8 : (t : ℕ) → read-expr-lts.Need-returns-8 (read-expr-claims t) (read-expr-at t) read-expr.Post
+read-expr-returns-8 t c =
+    let a = c .before .before .before .before .before .before .before .args in
+    c .read-bit .ensures ∙ ap stepOf
+    (sym (expr-as (a .deep) (now (a .s)) (a .want) (a .at) (c .before .before .before .code-of .result) (c .before .before .before .before .before .if1 .left)
+    (c .before .before .before .code-of .ensures) Bit (c .before .enum-told3 .given .1)))
 
 read-expr-returns-9 : (t : ℕ) → read-expr-lts.Need-returns-9 (read-expr-claims t) (read-expr-at t) read-expr.Post
 read-expr-returns-9 t c =
@@ -164,14 +164,14 @@ pub +read-expr-spec : {M : Type 1} → statement M
     (λ c. search needs)
     (λ c κs. search needs)
     (λ c. search needs)
+    (read-expr-returns-4 t)
     (λ c. search needs)
     (λ c κs. search needs)
     (λ c. omega (arith, c .before .is-variable2 .ensures (c .if6 .taken) .0))
+    (read-expr-returns-5 t)
     (λ c. search needs)
     (λ c κs. search needs)
     (λ c. search needs)
-    (read-expr-returns-4 t)
-    (read-expr-returns-5 t)
     (read-expr-returns-6 t)
     (read-expr-returns-7 t)
     (read-expr-returns-8 t)
