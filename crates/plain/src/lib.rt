@@ -25,9 +25,10 @@ struct MadeExpr {
 }
 
 // What a statement or block was made into: the place after it, the gates then, and the variables assigned in it, bit x for variable x.
+// The count is a whole word: as a half one it is stored short and loaded long, which stalls.
 struct MadePart {
     pub next: usize,
-    pub count: u16,
+    pub count: u32,
     pub assigned: u32,
 }
 
@@ -176,7 +177,8 @@ fn make_assign(
     count: u16,
 ) -> MadePart
     requires { ⌜ Headed (now s) (6 + variables (now s)) × IsRead (readAssign (now s) at) ⌝ }
-    ensures { λ r. ⌜ Done makeStatement assignsIn (now (s .entry)) (readAssign (now (s .entry)) at) (now (quads .entry)) (now (present .entry)) count (r .next) (r .count) (r .assigned) (now (quads .exit)) (now (present .exit)) ⌝ }
+    ensures made { λ r. ⌜ Done makeStatement assignsIn (now (s .entry)) (readAssign (now (s .entry)) at) (now (quads .entry)) (now (present .entry)) count (r .next) (r .count) (r .assigned) (now (quads .exit)) (now (present .exit)) ⌝ }
+    ensures small { λ r. ⌜ r .count < 65536 ⌝ }
 {
     let x = s[at + 1];
     let value = make_argument(
@@ -192,7 +194,7 @@ fn make_assign(
     present[i] = value.gate.0;
     MadePart {
         next: value.next,
-        count: value.count,
+        count: value.count as u32,
         assigned: only(x),
     }
 }
@@ -203,7 +205,7 @@ fn passed(next: usize, count: u16) -> MadePart
 {
     MadePart {
         next,
-        count,
+        count: count as u32,
         assigned: 0,
     }
 }
@@ -218,7 +220,8 @@ fn make_branch(
     count: u16,
 ) -> MadePart
     requires { ⌜ Headed (now s) (6 + variables (now s)) × ((at < length (now s)) × IsRead (branchWith (readBlock (now s)) (now s) nest at)) ⌝ }
-    ensures { λ r. ⌜ Done makeStatement assignsIn (now (s .entry)) (branchWith (readBlock (now (s .entry))) (now (s .entry)) nest at) (now (quads .entry)) (now (present .entry)) count (r .next) (r .count) (r .assigned) (now (quads .exit)) (now (present .exit)) ⌝ }
+    ensures made { λ r. ⌜ Done makeStatement assignsIn (now (s .entry)) (branchWith (readBlock (now (s .entry))) (now (s .entry)) nest at) (now (quads .entry)) (now (present .entry)) count (r .next) (r .count) (r .assigned) (now (quads .exit)) (now (present .exit)) ⌝ }
+    ensures small { λ r. ⌜ r .count < 65536 ⌝ }
 {
     let test = make_expr(
         s,
@@ -232,7 +235,7 @@ fn make_branch(
     let mut first = *present;
     let mut second = *present;
     let x = make_block(s, test.next, nest - 1, &mut first, quads, test.count);
-    let y = make_block(s, x.next, nest - 1, &mut second, quads, x.count);
+    let y = make_block(s, x.next, nest - 1, &mut second, quads, x.count as u16);
     let assigned = x.assigned | y.assigned;
     let more = making::make_choices(
         test.gate,
@@ -242,11 +245,11 @@ fn make_branch(
         s[5],
         present,
         quads,
-        y.count,
+        y.count as u16,
     );
     MadePart {
         next: y.next,
-        count: more,
+        count: more as u32,
         assigned,
     }
 }
@@ -261,7 +264,8 @@ fn make_statement(
     count: u16,
 ) -> MadePart
     requires { ⌜ Headed (now s) (6 + variables (now s)) × ((at < length (now s)) × IsRead (readStatement (now s) nest at)) ⌝ }
-    ensures { λ r. ⌜ Done makeStatement assignsIn (now (s .entry)) (readStatement (now (s .entry)) nest at) (now (quads .entry)) (now (present .entry)) count (r .next) (r .count) (r .assigned) (now (quads .exit)) (now (present .exit)) ⌝ }
+    ensures made { λ r. ⌜ Done makeStatement assignsIn (now (s .entry)) (readStatement (now (s .entry)) nest at) (now (quads .entry)) (now (present .entry)) count (r .next) (r .count) (r .assigned) (now (quads .exit)) (now (present .exit)) ⌝ }
+    ensures small { λ r. ⌜ r .count < 65536 ⌝ }
 {
     let c = codes::code_of(s[at]);
     let form = c.form;
@@ -288,7 +292,8 @@ fn make_block(
     count: u16,
 ) -> MadePart
     requires { ⌜ Headed (now s) (6 + variables (now s)) × IsRead (readBlock (now s) nest at) ⌝ }
-    ensures { λ r. ⌜ Done makeBlock assigns (now (s .entry)) (readBlock (now (s .entry)) nest at) (now (quads .entry)) (now (present .entry)) count (r .next) (r .count) (r .assigned) (now (quads .exit)) (now (present .exit)) ⌝ }
+    ensures made { λ r. ⌜ Done makeBlock assigns (now (s .entry)) (readBlock (now (s .entry)) nest at) (now (quads .entry)) (now (present .entry)) count (r .next) (r .count) (r .assigned) (now (quads .exit)) (now (present .exit)) ⌝ }
+    ensures small { λ r. ⌜ r .count < 65536 ⌝ }
 {
     let mut here = at;
     let mut n = count;
@@ -297,13 +302,13 @@ fn make_block(
         if s[here] == 0 {
             return MadePart {
                 next: here + 1,
-                count: n,
+                count: n as u32,
                 assigned,
             };
         }
         let x = make_statement(s, here, nest, present, quads, n);
         here = x.next;
-        n = x.count;
+        n = x.count as u16;
         assigned = assigned | x.assigned;
     }
 }
@@ -317,5 +322,5 @@ pub fn make_rule(s: &[u8], quads: &mut [u32; 1024], present: &mut [u16; 32]) -> 
     let v = s[5] as usize;
     let count = make_starts(s, present, quads);
     let made = make_block(s, 6 + v, reading::NESTED, present, quads, count);
-    made.count
+    made.count as u16
 }

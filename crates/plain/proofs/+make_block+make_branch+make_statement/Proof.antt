@@ -68,7 +68,7 @@ make-statement-below t = and 3 make-statement-kinds.ps (falls 3 make-statement-k
 
 abbrev make-block-Inv-loop : make-block-lts.InvT-loop
 make-block-Inv-loop s at nest present₀ quads₀ count here₀ n₀ assigned₀ present quads here n assigned = Walked s nest at quads₀ present₀ count here n assigned quads
-    present
+    present × (n < 65536)
 
 abbrev make-block-μ-loop : make-block-lts.MeasureT-loop
 make-block-μ-loop s at nest present₀ quads₀ count here₀ n₀ assigned₀ present quads here n assigned = length s - here
@@ -85,7 +85,7 @@ make-statement-claims t = (code.Asked, code.Learnt, assign.Asked, assign.Learnt,
 -- the statements left begin inside the file
 still-inside : (t : ℕ) (c : make-block-lts.At-loop (make-block-claims t) (make-block-at t) make-block.Post make-block-Inv-loop make-block-μ-loop)
     → c .loop .here < length (now (c .before .before .args .s))
-still-inside t c = block-inside _ _ _ (rest-taken _ _ _ _ _ _ _ _ _ _ _ (c .loop .inv))
+still-inside t c = block-inside _ _ _ (rest-taken _ _ _ _ _ _ _ _ _ _ _ (c .loop .inv .0))
 
 -- a level is left for an if that was read
 the-level : (t : ℕ) (d : make-branch-lts.Start (make-branch-claims t) (make-branch-at t) make-branch.Post) → 0 < d .args .nest
@@ -98,9 +98,8 @@ as-read t c f q = statement-read-as _ _ _ _ (c .code-of .ensures) (c .before .be
 
 make-block-loop-again : (t : ℕ) → make-block-lts.Need-loop-again (make-block-claims t) (make-block-at t) make-block.Post make-block-Inv-loop make-block-μ-loop
 make-block-loop-again t c =
-    let made = c .before .make-statement .ensures in
-    walked-more _ _ _ _ _ _ _ _ _ _ _ (c .before .before .before .before .before .before .loop .inv) (c .before .before .before .before .if1 .left) _ _ _ _ _
-    (forward-read _ (statement-forward _ _ _) (made .read)) made
+    let (made, small) = c .before .before .make-statement .ensures in
+    (walked-more _ _ _ _ _ _ _ _ _ _ _ (c .before .before .before .before .before .before .before .loop .inv .0) (c .before .before .before .before .before .if1 .left) _ _ _ _ _ (forward-read _ (statement-forward _ _ _) (made .read)) made, small)
 
 make-branch-make-block-requires : (t : ℕ) → make-branch-lts.Need-make-block-requires (make-branch-claims t) (make-branch-at t) make-branch.Post
 make-branch-make-block-requires t c κs =
@@ -111,9 +110,9 @@ make-branch-make-block-requires t c κs =
 
 make-branch-make-block-requires-2 : (t : ℕ) → make-branch-lts.Need-make-block-requires-2 (make-branch-claims t) (make-branch-at t) make-branch.Post
 make-branch-make-block-requires-2 t c κs =
-    let d = c .before .before .before .before .before .before .before .before .before .before .before in
-    let test = c .before .before .before .before .before .before .before .make-expr .ensures in
-    let first = c .before .before .make-block .ensures in
+    let d = c .before .before .before .before .before .before .before .before .before .before .before .before in
+    let test = c .before .before .before .before .before .before .before .before .make-expr .ensures in
+    let first = c .before .before .before .make-block .ensures .0 in
     let past = forward-read (readExpr deepest (now (d .args .s)) Bit (d .args .at + 1)) (expr-forward _ _ _ _) (test .read) in (
       omega (arith, past, forward-read _ (block-forward _ _ _) (first .read)),
       (d .pre .1 .0, second-taken _ _ _ (d .pre .1 .1 .1) _ _ _ _ _ _ _ test _ _ _ _ _ first),
@@ -121,12 +120,14 @@ make-branch-make-block-requires-2 t c κs =
 
 make-branch-returns : (t : ℕ) → make-branch-lts.Need-returns (make-branch-claims t) (make-branch-at t) make-branch.Post
 make-branch-returns t c =
-    let y = c .before .before .before .before .before .before .before .before in
-    let x = y .before .before .before in
+    let y = c .before .before .before .before .before .before .before .before .before in
+    let x = y .before .before .before .before in
     let e = x .before .before .before .before .before in
-    let d = e .before .before .before .before in
-    made-branch _ _ _ (d .pre .1 .1 .1) _ _ _ _ _ _ _ (e .make-expr .ensures) _ _ _ _ _ (x .make-block .ensures) _ _ _ _ _ (y .make-block2 .ensures) (d .pre .1 .0 .few)
-    _ _ _ _ refl (c .make-choices .ensures)
+    let d = e .before .before .before .before in (
+      made-branch _ _ _ (d .pre .1 .1 .1) _ _ _ _ _ _ _ (e .make-expr .ensures) _ _ _ _ _ (x .make-block .ensures .0) _ _ _ _ _ (y .make-block2 .ensures .0)
+          (d .pre .1 .0 .few) _ _ _ _ refl (c .make-choices .ensures),
+      search needs,
+    )
 
 pub +make-block+make-branch+make-statement-spec : {M : Type 1} → statement M
 +make-block+make-branch+make-statement-spec =
@@ -134,16 +135,17 @@ pub +make-block+make-branch+make-statement-spec : {M : Type 1} → statement M
     make-block.Post
     make-block-Inv-loop
     make-block-μ-loop
-    (λ c. walked-none _ _ _ _ _ _ (c .before .pre .1 .1))
+    (λ c. (walked-none _ _ _ _ _ _ (c .before .pre .1 .1), search needs))
     (λ c. still-inside t (c .before))
     (λ c. omega (arith, still-inside t (c .before .before)))
-    (λ c. walked-all _ _ _ _ _ _ _ _ _ _ _ (c .before .before .loop .inv) (c .if1 .taken))
+    (λ c. record { fits = omega (arith, c .before .before .loop .inv .1) })
+    (λ c. (walked-all _ _ _ _ _ _ _ _ _ _ _ (c .before .before .loop .inv .0) (c .if1 .taken), c .before .before .loop .inv .1))
     (λ c κs. let l = c .before .before .before .before in (
-      omega (arith, l .loop .inv .onward, still-inside t l),
-      (l .before .before .pre .1 .0, (still-inside t l, statement-taken _ _ _ _ _ _ _ _ _ _ _ (l .loop .inv) (c .before .before .if1 .left))),
+      omega (arith, l .loop .inv .0 .onward, still-inside t l),
+      (l .before .before .pre .1 .0, (still-inside t l, statement-taken _ _ _ _ _ _ _ _ _ _ _ (l .loop .inv .0) (c .before .before .if1 .left))),
     ))
-    (λ c. let l = c .before .before .before .before .before .before in
-    omega (arith, still-inside t l, forward-read _ (statement-forward _ _ _) (c .before .make-statement .ensures .read)))
+    (λ c. record { fits = omega (arith, c .before .make-statement .ensures .1) })
+    (λ c. omega (arith, still-inside t (c .before .before .before .before .before .before .before), forward-read _ (statement-forward _ _ _) (c .before .before .make-statement .ensures .0 .read)))
     (make-block-loop-again t))
     (λ t. make-branch-lts.spec (make-branch-claims t) (make-branch-at t)
     make-branch.Post
@@ -152,19 +154,19 @@ pub +make-block+make-branch+make-statement-spec : {M : Type 1} → statement M
     (λ c. the-level t (c .before .before .before .before .before .before))
     (make-branch-make-block-requires t)
     (λ c. the-level t (c .before .before .before .before .before .before .before .before .before))
+    (λ c. record { fits = omega (arith, c .before .before .before .make-block .ensures .1) })
     (make-branch-make-block-requires-2 t)
-    (λ c. let e = c .before .before .before .before .before .before .before .before .before .before .before .before .before in
-    omega (arith, e .before .before .before .before .pre .1 .0 .kinds))
-    (λ c κs. let e = c .before .before .before .before .before .before .before .before .before .before .before .before .before .before .before in
-    e .before .before .before .before .pre .1 .0 .few)
+    (λ c. omega (arith, c .before .before .before .before .before .before .before .before .before .before .before .before .before .before .before .before .before .before .pre .1 .0 .kinds))
+    (λ c. record { fits = omega (arith, c .before .before .before .before .before .before .before .before .make-block2 .ensures .1) })
+    (λ c κs. c .before .before .before .before .before .before .before .before .before .before .before .before .before .before .before .before .before .before .before .before .before .pre .1 .0 .few)
+    (λ c. search needs)
     (make-branch-returns t))
     λ t. make-statement-lts.spec (make-statement-claims t) (make-statement-at t)
     make-statement.Post
     (λ c. search needs)
     (λ c κs. search needs)
     (λ c. search needs)
-    (λ c κs. let b = c .before .before .before .before in
-    (b .before .before .before .pre .1 .0, as-read t b form.Assign (c .before .before .enum-told .given .1)))
+    (λ c κs. (c .before .before .before .before .before .before .before .pre .1 .0, as-read t (c .before .before .before .before) form.Assign (c .before .before .enum-told .given .1)))
     (λ c. search needs)
     (λ c. search needs)
     (λ c κs. search needs)
@@ -184,11 +186,11 @@ pub +make-block+make-branch+make-statement-spec : {M : Type 1} → statement M
     (λ c. search needs)
     (λ c κs. search needs)
     (λ c. let b = c .before .before .before in
-    done-as _ _ _ _ _ (statement-as _ _ _ _ form.Assign (b .before .before .code-of .ensures) (b .enum-told .given .1)) (c .make-assign .ensures))
+    (done-as _ _ _ _ _ (statement-as _ _ _ _ form.Assign (b .before .before .code-of .ensures) (b .enum-told .given .1)) (c .make-assign .ensures .0), c .make-assign .ensures .1))
     (λ c. let p = c .passed .ensures in
-    made-skip _ _ _ _ (c .before .before .before .code-of .ensures) (c .before .enum-told2 .given .1) _ _ _ _ _ _ (p .0) (p .1 .0) (p .1 .1))
+    (made-skip _ _ _ _ (c .before .before .before .code-of .ensures) (c .before .enum-told2 .given .1) _ _ _ _ _ _ (p .0) (p .1 .0) (p .1 .1), rw (p .1 .0) (search needs)))
     (λ c. let b = c .before .before .before in
-    done-as _ _ _ _ _ (statement-as _ _ _ _ form.Branch (b .before .before .code-of .ensures) (b .enum-told3 .given .1)) (c .make-branch .ensures))
+    (done-as _ _ _ _ _ (statement-as _ _ _ _ form.Branch (b .before .before .code-of .ensures) (b .enum-told3 .given .1)) (c .make-branch .ensures .0), c .make-branch .ensures .1))
     (λ c. absurd (as-read t (c .before .before .before) form.End (c .before .enum-told4 .given .1)))
     (λ c. absurd (as-read t (c .before .before .before) form.Variable (c .before .enum-told5 .given .1)))
     (λ c. absurd (as-read t (c .before .before .before) form.Word (c .before .enum-told6 .given .1)))

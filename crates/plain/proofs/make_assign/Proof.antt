@@ -1,3 +1,4 @@
+use borrow.Author.Needs.{needs}
 use mathlib.Core.Path.{ap, subst⁻¹, _∙_}
 use native.Mathlib.Omega.{arith}
 use Prim.Native.Nat.{ℕ, _+_}
@@ -58,18 +59,20 @@ element-write-present c =
 
 only-requires : tie.Need-only-requires
 only-requires c κs =
-    let a = c .before .before .before .before .before .before .args in
-    let r = assign-read (now (a .s)) (a .at) (c .before .before .before .before .before .before .pre .1) in
-    omega (arith, r .range, c .before .before .before .before .before .before .pre .0 .few)
+    let a = c .before .before .before .before .before .before .before .args in
+    let r = assign-read (now (a .s)) (a .at) (c .before .before .before .before .before .before .before .pre .1) in
+    omega (arith, r .range, c .before .before .before .before .before .before .before .pre .0 .few)
 
 returns : tie.Need-returns
 returns c =
-    let a = c .before .before .before .before .before .before .before .args in
-    made-assign (now (a .s)) (a .at) (c .before .before .before .before .before .before .before .pre .1)
-    (c .before .before .before .before .before .before .before .pre .0 .few) (now (a .present)) (now (a .quads)) (a .count) (c .before .make-argument .result .next)
-    (c .before .make-argument .result .gate .0) (c .before .make-argument .result .count) (c .only .result) _ (c .before .before .before .before .kind-at .result)
-    (c .before .before .before .before .kind-at .ensures) (c .before .make-argument .ensures)
-    (λ x. ap (λ (k : ℕ). has k x) (c .only .ensures) ∙ only-bit (getD (now (a .s)) (a .at + 1) 0) x)
+    let a = c .before .before .before .before .before .before .before .before .args in (
+      made-assign (now (a .s)) (a .at) (c .before .before .before .before .before .before .before .before .pre .1)
+          (c .before .before .before .before .before .before .before .before .pre .0 .few) (now (a .present)) (now (a .quads)) (a .count) (c .before .before .make-argument .result .next)
+          (c .before .before .make-argument .result .gate .0) (c .before .before .make-argument .result .count) (c .only .result) _ (c .before .before .before .before .before .kind-at .result)
+          (c .before .before .before .before .before .kind-at .ensures) (c .before .before .make-argument .ensures)
+          (λ x. ap (λ (k : ℕ). has k x) (c .only .ensures) ∙ only-bit (getD (now (a .s)) (a .at + 1) 0) x),
+      search needs,
+    )
 
 pub make-assign-spec : {M : Type 1} → statement M
 make-assign-spec =
@@ -83,5 +86,6 @@ make-assign-spec =
     cast-i
     mul-present
     element-write-present
+    (λ c. search needs)
     only-requires
     returns)

@@ -37,12 +37,15 @@ make-block-requires c κs =
     let r = rule-read (now (a .s)) (c .before .before .before .before .before .before .before .pre .0) in
     (r .header, subst IsRead (r .block) (c .before .before .before .before .before .before .before .pre .0))
 
+cast-result : tie.Need-cast-result
+cast-result c = record { fits = omega (arith, c .before .make-block .ensures .1) }
+
 returns : tie.Need-returns
 returns c =
-    let a = c .before .before .before .before .before .before .before .before .args in
-    rule-made (now (a .s)) (c .before .before .before .before .before .before .before .before .pre .0) _ _ (c .before .before .before .make-starts .result)
-    (c .before .before .before .make-starts .ensures) (c .make-block .result .next) (c .make-block .result .count) (c .make-block .result .assigned) _ _
-    (c .make-block .ensures)
+    let a = c .before .before .before .before .before .before .before .before .before .args in
+    rule-made (now (a .s)) (c .before .before .before .before .before .before .before .before .before .pre .0) _ _ (c .before .before .before .before .make-starts .result)
+    (c .before .before .before .before .make-starts .ensures) (c .before .make-block .result .next) (c .before .make-block .result .count) (c .before .make-block .result .assigned) _ _
+    (c .before .make-block .ensures .0)
 
 pub make-rule-spec : {M : Type 1} → statement M
 make-rule-spec =
@@ -53,4 +56,5 @@ make-rule-spec =
     make-starts-requires
     add-make-block
     make-block-requires
+    cast-result
     returns)
