@@ -1,5 +1,5 @@
--- Document 01, "The rule file": kinds, code bytes and the operation table; "The fused circuit file": the code of an input, the cost of a choice.
-use Prim.Native.Nat.{ℕ}
+-- Document 01, "The rule file": kinds and the sizes of words and bits, code bytes and the operation table; "The fused circuit file": the code of an input, the cost of a choice.
+use Prim.Native.Nat.{ℕ, _<_, _≤_}
 use mathlib.Core.Bool.{Bool, true, false, _&&_, cond}
 use lib.Dec.{eqb, leb, ltb}
 use Rattle.codes.specs.declared.Kind.{Kind}
@@ -19,6 +19,11 @@ sameKind kind.Word kind.Word = true
 sameKind kind.Word kind.Bit = false
 sameKind kind.Bit kind.Word = false
 sameKind kind.Bit kind.Bit = true
+
+-- A word is 32 bits, unsigned; a bit is 0 or 1.
+abbrev pub Fits : Kind → ℕ → Type 0
+Fits kind.Word n = n < 4294967296
+Fits kind.Bit n = n ≤ 1
 
 -- an entry of the operation table: kind of the arguments, kind of the result, arity, cost
 abbrev pub tableEntry : Operation → Kind → Kind → ℕ → ℕ → Code

@@ -1,14 +1,16 @@
--- Which operations commute (document 02, C-12), once for all of them: `commutes` says just for which the order of two arguments does not matter.
-use Prim.Native.Nat.{ℕ}
+-- Laws of results: which operations commute (document 02, C-12), once for all of them, `commutes` saying just for which the order of two arguments does not matter;
+-- and that a result is of the kind that its operation gives.
+use Prim.Native.Nat.{ℕ, _*_, _≤_}
 use mathlib.Core.Path.{_≡_, sym, ap, _∙_}
 use mathlib.Core.Logic.{_⊎_, inl, inr}
-use mathlib.Core.Bool.{true, false, and-comm, or-comm, false≢true}
-use lib.Dec.{eqb}
+use mathlib.Core.Bool.{Bool, true, false, not, _&&_, _||_, and-comm, or-comm, false≢true}
+use lib.Dec.{eqb, ltb}
 use borrow.Author.Tests.{ne-eqb}
+use Rattle.words.specs.NumberLaws.{word-below}
 use Rattle.words.specs.TestLaws.{same?}
 use native.Mathlib.Nat.{add-comm, mul-comm}
 use native.Mathlib.Omega.{arith}
-use Rattle.codes.specs.Codes.{commutes, entryOf}
+use Rattle.codes.specs.Codes.{Fits, commutes, entryOf}
 use Rattle.codes.specs.Results.{bitOf, resultOf}
 use Rattle.codes.specs.declared.Operation.{Operation}
 use Rattle.codes.specs.declared.Operation.the-variants.{Sum, Difference, Product, LessThan, Equal, And, Or, Not}
@@ -43,3 +45,19 @@ result-ordered Equal a h e = false≢true (sym h)
 result-ordered And a h e = false≢true (sym h)
 result-ordered Or a h e = false≢true (sym h)
 result-ordered Not a h e = omega (arith, a)
+
+bit-fits : (b : Bool) → bitOf b ≤ 1
+bit-fits true = omega arith
+bit-fits false = omega arith
+
+-- an operation's result is of the kind that it gives, whatever its arguments
+pub result-fits : (op : Operation) (a b : ℕ) → Fits (entryOf op .gives) (resultOf op a b)
+unfolding resultOf
+result-fits Sum a b = omega arith
+result-fits Difference a b = omega arith
+result-fits Product a b = word-below (a * b)
+result-fits LessThan a b = bit-fits (ltb a b)
+result-fits Equal a b = bit-fits (eqb a b)
+result-fits And a b = bit-fits (eqb a 1 && eqb b 1)
+result-fits Or a b = bit-fits (eqb a 1 || eqb b 1)
+result-fits Not a b = bit-fits (not (eqb a 1))

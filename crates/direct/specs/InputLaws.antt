@@ -12,11 +12,10 @@ use borrow.Author.Tests.{eq-eqb, ne-eqb, le-ltb, lt-ltb, le-leb, lt-leb, eqb-tru
 use Rattle.words.specs.Lists.{_∈_, from, upto}
 use Rattle.words.specs.MemberLaws.{from-in}
 use Rattle.words.specs.TestLaws.{split, or-none}
-use Rattle.codes.specs.Codes.{sameKind}
+use Rattle.codes.specs.Codes.{sameKind, Fits}
 use Rattle.codes.specs.declared.Kind.{Kind}
 use Rattle.codes.specs.declared.Kind.the-variants as kind
 use Rattle.reading.specs.Header.{variables, kindAt}
-use Rattle.reading.specs.Kinds.{Fits}
 use Rattle.gates.specs.KindLaws.{FiguresFit}
 use Rattle.direct.specs.Inputs.{aboveBit, someAbove, inputRow}
 

@@ -6,6 +6,7 @@ use mathlib.Core.Logic.{_⊎_, inl, inr}
 use native.Mathlib.Omega.{arith}
 use lib.ListN.{length, getD, set, length-set}
 use lib.Seq.{getD-set-same, getD-set-other}
+use Rattle.codes.specs.Codes.{Fits}
 use Rattle.words.specs.Lists.{from}
 use Rattle.words.specs.TestLaws.{same?}
 use Rattle.words.specs.Numbers.{Bytes}
@@ -15,7 +16,7 @@ use Rattle.answers.specs.Parsing.{parsed}
 use Rattle.reading.specs.Header.{variables, kindAt}
 use Rattle.reading.specs.Tree.{Statement, assign, skip, branch, Block, end, then}
 use Rattle.reading.specs.Rule.{readRule}
-use Rattle.reading.specs.Kinds.{Fits, TypedStatement, TypedBlock, WordsStatement, WordsBlock}
+use Rattle.reading.specs.Kinds.{TypedStatement, TypedBlock, WordsStatement, WordsBlock}
 use Rattle.reading.specs.FoundRuleLaws.{read-typed, read-words}
 use Rattle.gates.specs.Running.{runBlock}
 use Rattle.gates.specs.Gates.{start, Gates, gateAt, figureAt}

@@ -4,10 +4,9 @@ use mathlib.Core.Path.{_≡_}
 use lib.ListN.{length}
 use Rattle.words.specs.Lists.{_∈_}
 use Rattle.words.specs.Runs.{runAt}
-use Rattle.codes.specs.Codes.{entryOf}
+use Rattle.codes.specs.Codes.{entryOf, Fits}
 use Rattle.codes.specs.declared.Kind.{Kind}
 use Rattle.codes.specs.declared.Kind.the-variants as kind
-use Rattle.reading.specs.Kinds.{Fits}
 use Rattle.gates.specs.Gates.{Gate, start, word, bit, operation, choice, Gates, gateAt}
 
 -- the kind of a gate, from the variables' kinds and the kinds k of other gates; a choice is of its values' kind

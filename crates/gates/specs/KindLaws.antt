@@ -12,36 +12,21 @@ use lib.Seq.{getD-set-same, getD-set-other}
 use Rattle.words.specs.Lists.{_∈_}
 use Rattle.words.specs.TestLaws.{split, same?}
 use Rattle.words.specs.NumberLaws.{word-below}
-use Rattle.codes.specs.Codes.{entryOf}
+use Rattle.codes.specs.Codes.{entryOf, Fits}
 use Rattle.codes.specs.Results.{bitOf, resultOf, isOne}
 use Rattle.codes.specs.declared.Kind.{Kind}
 use Rattle.codes.specs.declared.Kind.the-variants as kind
 use Rattle.codes.specs.declared.Operation.{Operation}
 use Rattle.codes.specs.declared.Operation.the-variants.{Sum, Difference, Product, LessThan, Equal, And, Or, Not}
+use Rattle.codes.specs.ResultLaws.{result-fits}
 use Rattle.reading.specs.Tree.{Expr, variable, word, bit, one, two, Statement, assign, skip, branch, Block, end, then}
-use Rattle.reading.specs.Kinds.{Fits, Typed, TypedStatement, TypedBlock, WordsFit, WordsStatement, WordsBlock}
+use Rattle.reading.specs.Kinds.{Typed, TypedStatement, TypedBlock, WordsFit, WordsStatement, WordsBlock}
 use Rattle.gates.specs.Running.{figureOf, runStatement, runBlock}
 use Rattle.gates.specs.Gates.{Gate, start, operation, choice, Gates, gateAt, arguments, Earlier, figure, figureAt}
 use Rattle.gates.specs.Gates as gate
 use Rattle.gates.specs.GateKinds.{gateKind, kindOfGate, GateFits, GatesFit}
 use Rattle.gates.specs.FigureLaws.{OnArguments, gates-right, figures-right}
 use Rattle.gates.specs.RunLaws.{statement-count}
-
-bit-fits : (b : Bool) → bitOf b ≤ 1
-bit-fits true = omega arith
-bit-fits false = omega arith
-
--- an operation's result is of the kind that it gives, whatever its arguments
-pub result-fits : (op : Operation) (a b : ℕ) → Fits (entryOf op .gives) (resultOf op a b)
-unfolding resultOf
-result-fits Sum a b = omega arith
-result-fits Difference a b = omega arith
-result-fits Product a b = word-below (a * b)
-result-fits LessThan a b = bit-fits (ltb a b)
-result-fits Equal a b = bit-fits (eqb a b)
-result-fits And a b = bit-fits (eqb a 1 && eqb b 1)
-result-fits Or a b = bit-fits (eqb a 1 || eqb b 1)
-result-fits Not a b = bit-fits (not (eqb a 1))
 
 -- each variable's figure is of its kind
 abbrev pub FiguresFit : ℕ → (ℕ → Kind) → List ℕ → Type 0

@@ -5,6 +5,7 @@ use mathlib.Core.List.{List, [], _∷_}
 use mathlib.Core.Bool.{Bool, false, _&&_}
 use lib.Dec.{eqb, leb, ltb}
 use borrow.Author.Tests.{eqb-true, eqb-false, eq-eqb, ne-eqb, leb-true, le-leb, lt-leb}
+use Rattle.words.specs.Lists.{every}
 use Rattle.words.specs.TestLaws.{split, both}
 use Rattle.codes.specs.Codes.{codeOf}
 use Rattle.codes.specs.CodeLaws.{byte-back}
@@ -13,7 +14,7 @@ use Rattle.gates.specs.Gates.{Gate, Gates, gateAt, costOf}
 use Rattle.needed.specs.Held.{choiceCode, codeAt, gateIn}
 use Rattle.needed.specs.QuadLaws.{KindIn, chooses, is-word, is-bit, applies, starts, kind-in, choice-in, word-in, bit-in, applied-in, cost-in}
 use Rattle.plan.specs.Groups.{smallest}
-use Rattle.plan.specs.Rows.{every, isCostly, operationByte}
+use Rattle.plan.specs.Rows.{isCostly, operationByte}
 use Rattle.grouping.specs.Tests.{memberTest, membersTest, operationCode}
 
 -- 27: a costly gate is one whose code has a cost above 0 in the table of codes; a choice's code is not in it

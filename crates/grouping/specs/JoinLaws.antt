@@ -8,14 +8,14 @@ use native.Mathlib.Omega.{arith}
 use lib.Dec.{eqb}
 use lib.ListN.{length, getD, replicate, length-replicate}
 use borrow.Author.Tests.{eqb-true, eq-eqb, ne-eqb}
-use Rattle.words.specs.Lists.{_∈_, elem}
-use Rattle.words.specs.MemberLaws.{elem→∈, ∈→elem}
+use Rattle.words.specs.Lists.{_∈_, elem, every}
+use Rattle.words.specs.MemberLaws.{elem→∈, ∈→elem, every-right}
 use Rattle.words.specs.TestLaws.{split}
 use Rattle.words.specs.ListLaws.{getD-zeros}
 use Rattle.plan.specs.PlanFile.{leastBytes, groupsCounted, groupAt, after, groupsFrom, groupsIn, Listed, Apart}
 use Rattle.plan.specs.Groups.{smallest, groupOf}
-use Rattle.plan.specs.Rows.{every, apart}
-use Rattle.plan.specs.RowLaws.{every-right, apart-right}
+use Rattle.plan.specs.Rows.{apart}
+use Rattle.plan.specs.RowLaws.{apart-right}
 use Rattle.plan.specs.Places.{placeFrom, placeOf}
 use Rattle.grouping.specs.Tables.{groupTable, placeTable, eachAlone}
 use Rattle.grouping.specs.Tests.{putAll}

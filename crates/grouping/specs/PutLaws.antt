@@ -8,11 +8,10 @@ use lib.Dec.{eqb}
 use lib.ListN.{getD, set}
 use lib.Seq.{getD-set-other}
 use borrow.Author.Tests.{eq-eqb, ne-eqb}
-use Rattle.words.specs.Lists.{_∈_}
+use Rattle.words.specs.Lists.{_∈_, every}
+use Rattle.words.specs.MemberLaws.{every-same}
 use Rattle.plan.specs.PlanFile.{groupAt}
 use Rattle.plan.specs.Groups.{smallest}
-use Rattle.plan.specs.Rows.{every}
-use Rattle.plan.specs.SameLaws.{every-same}
 use Rattle.grouping.specs.Tests.{membersFrom, putAll}
 use Rattle.grouping.specs.Walks.{ReadableGroup}
 use Rattle.grouping.specs.MemberLaws.{members-step, members-end, members-all, Walk, walk-start, walk-step, walk-above}

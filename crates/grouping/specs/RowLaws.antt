@@ -7,6 +7,7 @@ use native.Mathlib.Omega.{arith}
 use lib.Dec.{leb, ltb}
 use lib.ListN.{length, getD, take}
 use borrow.Author.Tests.{eq-eqb, ne-eqb, leb-true, le-leb, lt-leb}
+use Rattle.words.specs.Lists.{every, same}
 use Rattle.words.specs.TestLaws.{split, both}
 use Rattle.answers.specs.Parsing.{stepOf, readMark}
 use Rattle.answers.specs.ParsingLaws.{past-read, not-refused}
@@ -17,7 +18,7 @@ use Rattle.gates.specs.Limits.{mostGates}
 use Rattle.gates.specs.Gates.{Gates}
 use Rattle.needed.specs.HeldLaws.{code-above}
 use Rattle.plan.specs.PlanFile.{mark, leastBytes, mostBytes, gatesCounted, groupsCounted, groupAt, groupsIn, ends}
-use Rattle.plan.specs.Rows.{every, everyGroup, same, rises, apart, parted, Row, layoutRows, joinRows, firstFailing}
+use Rattle.plan.specs.Rows.{everyGroup, rises, apart, parted, Row, layoutRows, joinRows, firstFailing}
 use Rattle.plan.specs.RowLaws.{each-right, ends-right, joins-right}
 use Rattle.plan.specs.MarkLaws.{mark-right}
 use Rattle.plan.specs.AcceptedLaws.{Hold, none-fails, failing-first, failing-second, rising-exist}

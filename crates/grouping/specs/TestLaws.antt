@@ -9,13 +9,13 @@ use lib.Dec.{eqb, leb, ltb}
 use lib.Bits.{or-add-and, and-comm, and-zero-l}
 use lib.ListN.{getD}
 use borrow.Author.Tests.{eqb-false, ne-eqb, ltb-true, ltb-false, lt-ltb, leb-true, le-leb}
-use Rattle.words.specs.Lists.{_∈_}
-use Rattle.words.specs.TestLaws.{split, same-test, both, either, or-left, or-right}
+use Rattle.words.specs.MemberLaws.{every-right}
+use Rattle.words.specs.Lists.{_∈_, every}
+use Rattle.words.specs.TestLaws.{split, same-test, both, either, or-left, or-right, and}
 use Rattle.settings.specs.Sets.{has, union, Disjoint, excludes}
 use Rattle.settings.specs.SetLaws.{has-union, excludes-right}
 use Rattle.plan.specs.PlanFile.{Rising}
-use Rattle.plan.specs.Rows.{every, above, rises, parted}
-use Rattle.plan.specs.RowLaws.{and, every-right}
+use Rattle.plan.specs.Rows.{above, rises, parted}
 use Rattle.plan.specs.GroupLaws.{rising-first}
 use Rattle.grouping.specs.Tests.{risingFrom, partedFrom}
 

@@ -4,10 +4,11 @@ use mathlib.Core.List.{List, [], _∷_}
 use mathlib.Core.Bool.{Bool, true, false, cond, _&&_}
 use lib.Dec.{eqb, leb, ltb}
 use lib.ListN.{length, getD, set}
+use Rattle.words.specs.Lists.{every}
 use Rattle.settings.specs.Sets.{union, excludes}
 use Rattle.gates.specs.Gates.{Gate, Gates, gateAt}
 use Rattle.plan.specs.PlanFile.{numbersAt}
-use Rattle.plan.specs.Rows.{every, rises, isCostly, operationByte, alike, parted}
+use Rattle.plan.specs.Rows.{rises, isCostly, operationByte, alike, parted}
 
 -- 24 or 25 of a group, for n gates
 unfoldable pub shapeTest : ℕ → ℕ → List ℕ → Bool

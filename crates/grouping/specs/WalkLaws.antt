@@ -7,13 +7,14 @@ use native.Mathlib.Omega.{arith}
 use lib.Dec.{ltb}
 use lib.ListN.{length, getD}
 use borrow.Author.Tests.{lt-leb, le-leb, le-ltb, lt-ltb}
+use Rattle.words.specs.Lists.{every}
 use Rattle.settings.specs.Sets.{union, excludes}
 use Rattle.gates.specs.Gates.{gateAt}
 use Rattle.needed.specs.Held.{gateIn, gatesIn}
 use Rattle.needed.specs.HeldLaws.{gates-at}
 use Rattle.plan.specs.PlanFile.{mostBytes, groupAt, after}
 use Rattle.plan.specs.Groups.{smallest}
-use Rattle.plan.specs.Rows.{every, rises, parted}
+use Rattle.plan.specs.Rows.{rises, parted}
 use Rattle.grouping.specs.Tests.{memberTest, membersTest, membersFrom, risingFrom, partedFrom}
 use Rattle.grouping.specs.Walks.{ReadableGroup}
 use Rattle.grouping.specs.MemberLaws.{members-step, members-end, members-all, Walk, walk-start, walk-step, walk-member}

@@ -8,7 +8,9 @@ use native.Mathlib.Omega.{arith}
 use lib.Dec.{eqb, leb, ltb}
 use borrow.Author.Tests.{eqb-true, eqb-false, eq-eqb, ne-eqb, leb-true, le-leb, ltb-true}
 use lib.ListN.{length, take}
-use Rattle.words.specs.TestLaws.{split, both}
+use Rattle.words.specs.MemberLaws.{same-right}
+use Rattle.words.specs.Lists.{every}
+use Rattle.words.specs.TestLaws.{split, both, and}
 use Rattle.answers.specs.declared.Answer.{Answer}
 use Rattle.answers.specs.Answers.{refusal}
 use Rattle.answers.specs.Parsing.{parsed}
@@ -25,11 +27,11 @@ use Rattle.circuit.specs.Whole.{ruleAnswer}
 use Rattle.circuit.specs.WholeLaws.{accepted}
 use Rattle.plan.specs.PlanFile.{mark, leastBytes, groupsCounted, groupsIn, Plan, EachGroup, Rising}
 use Rattle.plan.specs.Groups.{groupOf}
-use Rattle.plan.specs.Rows.{every, everyGroup, rises, Row, rows, firstFailing, planRow, planAnswer}
+use Rattle.plan.specs.Rows.{everyGroup, rises, Row, rows, firstFailing, planRow, planAnswer}
 use Rattle.plan.specs.Accepted.{Exist, Acceptable}
 use Rattle.plan.specs.GroupLaws.{groupOf-named}
 use Rattle.plan.specs.WaitLaws.{placed-right}
-use Rattle.plan.specs.RowLaws.{and, each-right, same-right, ends-right, joins-right, rises-right, exist-right, apart-right}
+use Rattle.plan.specs.RowLaws.{each-right, ends-right, joins-right, rises-right, exist-right, apart-right}
 use Rattle.plan.specs.MemberLaws.{costly-right, parted-right}
 
 -- every row of a list holds; every row of a list has a number above 0

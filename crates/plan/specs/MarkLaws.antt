@@ -9,11 +9,10 @@ use native.Mathlib.Numerals.{add-one}
 use lib.Dec.{eqb}
 use lib.ListN.{length, getD, take, drop}
 use lib.Seq.{drop-cons}
-use Rattle.words.specs.TestLaws.{split, both}
+use Rattle.words.specs.Lists.{same}
+use Rattle.words.specs.TestLaws.{split, both, and}
 use Rattle.answers.specs.Parsing.{readMark, IsRead}
 use Rattle.plan.specs.PlanFile.{mark, leastBytes}
-use Rattle.plan.specs.Rows.{same}
-use Rattle.plan.specs.RowLaws.{and}
 
 module _ (number : ℕ) (p : List ℕ) where
   mark-to : (m : List ℕ) (at : ℕ) → at + length m ≤ length p → IsRead (readMark number m p at) → same (take (length m) (drop at p)) m ≡ true

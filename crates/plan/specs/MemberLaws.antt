@@ -8,8 +8,9 @@ use native.Mathlib.Omega.{arith}
 use lib.Dec.{eqb}
 use borrow.Author.Tests.{eqb-true, eqb-false, eq-eqb, ne-eqb}
 use lib.ListN.{length, getD}
-use Rattle.words.specs.Lists.{_∈_}
-use Rattle.words.specs.TestLaws.{split, both}
+use Rattle.words.specs.MemberLaws.{every-right}
+use Rattle.words.specs.Lists.{_∈_, every}
+use Rattle.words.specs.TestLaws.{split, both, and}
 use Rattle.settings.specs.Sets.{excludes}
 use Rattle.codes.specs.Codes.{costly, byteOf, operationOf}
 use Rattle.codes.specs.CodeLaws.{byte-operation}
@@ -17,9 +18,8 @@ use Rattle.codes.specs.declared.Operation.{Operation}
 use Rattle.gates.specs.Gates.{Gate, start, word, bit, operation, choice, Gates, gateAt}
 use Rattle.needed.specs.Needed.{Exclude}
 use Rattle.plan.specs.PlanFile.{Plan, EachGroup}
-use Rattle.plan.specs.Rows.{every, everyGroup, isCostly, operationByte, alike, parted}
+use Rattle.plan.specs.Rows.{everyGroup, isCostly, operationByte, alike, parted}
 use Rattle.plan.specs.Accepted.{OneCostly, NoTwoNeeded}
-use Rattle.plan.specs.RowLaws.{and, every-right}
 
 -- a costly gate is a costly operation
 costly-gate : (k : Gate) → isCostly k ≡ true → (op : Operation) × (costly op ≡ true) × (l : List ℕ) × (k ≡ operation op l)

@@ -1,36 +1,20 @@
 -- Laws of the rows 20 to 29: what each test says. Facts alike for all costly operations are proved over the operation.
 use mathlib.Core.Path.{_≡_, refl}
-use mathlib.Core.Bool.{Bool, true, false, not, _&&_, false≢true}
+use mathlib.Core.Bool.{Bool, true, false, not, false≢true}
 use mathlib.Core.List.{List, [], _∷_}
 use mathlib.Core.Logic.{inl, inr, _↔_}
 use Prim.Native.Nat.{ℕ, zero, suc, _≤_}
 use lib.Dec.{eqb, leb, ltb}
 use borrow.Author.Tests.{eqb-true, eq-eqb, leb-true, le-leb, ltb-true, lt-ltb}
 use lib.ListN.{length}
-use Rattle.words.specs.Lists.{_∈_, elem}
-use Rattle.words.specs.MemberLaws.{elem→∈, ∈→elem}
-use Rattle.words.specs.TestLaws.{split, both}
+use Rattle.words.specs.Lists.{elem, every}
+use Rattle.words.specs.MemberLaws.{elem→∈, ∈→elem, every-right, inside-right}
+use Rattle.words.specs.TestLaws.{split, both, and}
 use Rattle.plan.specs.PlanFile.{Plan, after, EachGroup, Above, Rising, Listed, Apart, Ends, ends}
-use Rattle.plan.specs.Rows.{every, everyGroup, same, above, rises, listed, apart}
+use Rattle.plan.specs.Rows.{everyGroup, above, rises, listed, apart}
 use Rattle.plan.specs.Accepted.{Exist}
 
--- both tests hold
-pub and : {a b : Bool} → a ≡ true → b ≡ true → (a && b) ≡ true
-and p q = rw (p, q)
-
--- of all numbers of a list, of all groups
-pub every-right : (t : ℕ → Bool) (l : List ℕ) → (every t l ≡ true) ↔ ((a : ℕ) → a ∈ l → t a ≡ true)
-every-right t l = (to l, back l)
-  where
-    to : (l : List ℕ) → every t l ≡ true → (a : ℕ) → a ∈ l → t a ≡ true
-    to [] h a m = absurd m
-    to (b ∷ l) h a (inl e) = rw e (both (t b) _ h .0)
-    to (b ∷ l) h a (inr m) = to l (both (t b) _ h .1) a m
-
-    back : (l : List ℕ) → ((a : ℕ) → a ∈ l → t a ≡ true) → every t l ≡ true
-    back [] h = refl
-    back (b ∷ l) h = and (h b (inl refl)) (back l (λ a m. h a (inr m)))
-
+-- of all groups
 pub each-right : (t : List ℕ → Bool) (P : List ℕ → Type 0) → ((G : List ℕ) → (t G ≡ true) ↔ P G) → (Gs : Plan) → (everyGroup t Gs ≡ true) ↔ EachGroup P Gs
 each-right t P f Gs = (to Gs, back Gs)
   where
@@ -41,20 +25,6 @@ each-right t P f Gs = (to Gs, back Gs)
     back : (Gs : Plan) → EachGroup P Gs → everyGroup t Gs ≡ true
     back [] h = refl
     back (G ∷ Gs) (p, h) = and (f G .1 p) (back Gs h)
-
--- 21
-pub same-right : (l m : List ℕ) → (same l m ≡ true) ↔ (l ≡ m)
-same-right l m = (to l m, λ e. rw e (itself m))
-  where
-    to : (l m : List ℕ) → same l m ≡ true → l ≡ m
-    to [] [] h = refl
-    to [] (b ∷ m) h = absurd (false≢true h)
-    to (a ∷ l) [] h = absurd (false≢true h)
-    to (a ∷ l) (b ∷ m) h = let r = both (eqb a b) _ h in let e : a ≡ b = eqb-true a b (r .0) in let f : l ≡ m = to l m (r .1) in cc
-
-    itself : (m : List ℕ) → same m m ≡ true
-    itself [] = refl
-    itself (a ∷ m) = and (eq-eqb a a refl) (itself m)
 
 -- 23
 pub ends-right : (n : ℕ) (p : List ℕ) (at : ℕ) → (ends n p at ≡ true) ↔ Ends n p at
@@ -93,10 +63,7 @@ rises-right G = (to G, back G)
     back (m ∷ l) (a, h) = and (back-above m l a) (back l h)
 
 pub exist-right : (n : ℕ) (G : List ℕ) → (every (λ g. ltb g n) G ≡ true) ↔ Exist n G
-exist-right n G = (
-  λ h g m. ltb-true g n (every-right (λ k. ltb k n) G .0 h g m),
-  λ x. every-right (λ k. ltb k n) G .1 (λ g m. lt-ltb g n (x g m)),
-)
+exist-right = inside-right
 
 -- 26
 listed-right : (Gs : Plan) (g : ℕ) → (listed Gs g ≡ true) ↔ Listed Gs g

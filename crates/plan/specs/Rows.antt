@@ -4,7 +4,7 @@ use mathlib.Core.List.{List, [], _∷_, _++_}
 use mathlib.Core.Bool.{Bool, true, false, not, cond, _&&_}
 use lib.Dec.{eqb, leb, ltb}
 use lib.ListN.{length, getD, take}
-use Rattle.words.specs.Lists.{elem}
+use Rattle.words.specs.Lists.{elem, every, same}
 use Rattle.settings.specs.Sets.{excludes}
 use Rattle.answers.specs.Answers.{refusal}
 use Rattle.answers.specs.declared.Answer.{Answer}
@@ -17,21 +17,10 @@ use Rattle.plan.specs.PlanFile.{mark, leastBytes, mostBytes, gatesCounte
 use Rattle.plan.specs.Groups.{groups, groupOf}
 use Rattle.plan.specs.Order.{allIn, order}
 
--- every number of a list, every group of a plan passes the test
-abbrev pub every : (ℕ → Bool) → List ℕ → Bool
-every t [] = true
-every t (a ∷ l) = t a && every t l
-
+-- every group of a plan passes the test
 abbrev pub everyGroup : (List ℕ → Bool) → Plan → Bool
 everyGroup t [] = true
 everyGroup t (G ∷ Gs) = t G && everyGroup t Gs
-
--- the same numbers in the same order
-abbrev pub same : List ℕ → List ℕ → Bool
-same [] [] = true
-same [] (b ∷ m) = false
-same (a ∷ l) [] = false
-same (a ∷ l) (b ∷ m) = eqb a b && same l m
 
 -- 25: the numbers of a group rise, and are gates
 abbrev pub above : ℕ → List ℕ → Bool

@@ -8,9 +8,9 @@ use mathlib.Core.Option.{Option, none, some}
 use native.Mathlib.Omega.{arith}
 use lib.Dec.{eqb, leb}
 use lib.ListN.{length, getD}
-use Rattle.words.specs.Lists.{_∈_, upto, flat}
+use Rattle.words.specs.Lists.{_∈_, upto, flat, every}
 use Rattle.words.specs.ListLaws.{keep-same, map-same}
-use Rattle.words.specs.MemberLaws.{from-below, flat-in}
+use Rattle.words.specs.MemberLaws.{from-below, flat-in, every-same}
 use Rattle.settings.specs.Sets.{rests, excludes}
 use Rattle.gates.specs.Gates.{Gates, gateAt, arguments, Earlier, conditions}
 use Rattle.gates.specs.Limits.{mostConditions}
@@ -20,7 +20,7 @@ use Rattle.plan.specs.PlanFile.{Plan, groupsIn}
 use Rattle.plan.specs.Groups.{groups, members, restsOf, readsOf, waitsFor}
 use Rattle.plan.specs.GroupLaws.{of-member}
 use Rattle.plan.specs.Order.{allIn, firstReady, schedule, order}
-use Rattle.plan.specs.Rows.{every, everyGroup, parted, layoutRows, joinRows, orderRows, firstFailing, placed, planRow}
+use Rattle.plan.specs.Rows.{everyGroup, parted, layoutRows, joinRows, orderRows, firstFailing, placed, planRow}
 use Rattle.plan.specs.ReadsLaws.{reads-inside}
 
 -- The order over the same waits.
@@ -98,10 +98,6 @@ module _ (C : Gates) (sets tabs : List ℕ) (e : (m : ℕ) → getD sets m 0 ≡
   placed-sets-same = ap (allIn (groups (length C) group)) order-sets-same
 
 -- The rows over the same sets.
-
-pub every-same : (s t : ℕ → Bool) (l : List ℕ) → ((g : ℕ) → g ∈ l → s g ≡ t g) → every s l ≡ every t l
-every-same s t [] h = refl
-every-same s t (a ∷ l) h = rw (h a (inl refl), every-same s t l (λ g m. h g (inr m)))
 
 parted-same : (s t : List ℕ) → ((g : ℕ) → getD s g 0 ≡ getD t g 0) → (G : List ℕ) → parted s G ≡ parted t G
 parted-same s t h G =

@@ -1,15 +1,10 @@
--- Document 01, "The rule file": "arguments to result" of the operation table, as a relation on trees, and the sizes of words and bits.
-use Prim.Native.Nat.{ℕ, _<_, _≤_}
+-- Document 01, "The rule file": "arguments to result" of the operation table, as a relation on trees.
+use Prim.Native.Nat.{ℕ, _<_}
 use mathlib.Core.Path.{_≡_}
-use Rattle.codes.specs.Codes.{entryOf}
+use Rattle.codes.specs.Codes.{Fits, entryOf}
 use Rattle.codes.specs.declared.Kind.{Kind}
 use Rattle.codes.specs.declared.Kind.the-variants as kind
 use Rattle.reading.specs.Tree.{Expr, variable, word, bit, one, two, Statement, assign, skip, branch, Block, end, then}
-
--- A word is 32 bits, unsigned; a bit is 0 or 1.
-abbrev pub Fits : Kind → ℕ → Type 0
-Fits kind.Word n = n < 4294967296
-Fits kind.Bit n = n ≤ 1
 
 -- every word constant of an expression is a word
 abbrev pub WordsFit : Expr → Kind → Type 0

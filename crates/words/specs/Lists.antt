@@ -1,6 +1,6 @@
--- Document 01, throughout: lists of numbers, membership as a type and as a test, numbers below a bound, the members that pass a test, runs of numbers, joined lists.
+-- Document 01, throughout: lists of numbers, membership as a type and as a test, numbers below a bound, the members that pass a test, tests of all members, runs of numbers, joined lists.
 use mathlib.Core.Path.{_≡_}
-use mathlib.Core.Bool.{Bool, true, false, cond}
+use mathlib.Core.Bool.{Bool, true, false, cond, _&&_}
 use mathlib.Core.List.{List, [], _∷_, _++_}
 use mathlib.Core.Logic.{_⊎_}
 use Prim.Native.Nat.{ℕ, zero, suc, _+_, _<_}
@@ -39,3 +39,15 @@ upto n = from 0 n
 abbrev pub flat : (ℕ → List ℕ) → List ℕ → List ℕ
 flat f [] = []
 flat f (a ∷ l) = f a ++ flat f l
+
+-- every number of a list passes the test
+abbrev pub every : (ℕ → Bool) → List ℕ → Bool
+every t [] = true
+every t (a ∷ l) = t a && every t l
+
+-- the same numbers in the same order
+abbrev pub same : List ℕ → List ℕ → Bool
+same [] [] = true
+same [] (b ∷ m) = false
+same (a ∷ l) [] = false
+same (a ∷ l) (b ∷ m) = eqb a b && same l m

@@ -1,15 +1,15 @@
 -- Laws of membership: of the members that pass a test, of runs, of joined and mapped lists; of numbers that all lie below a bound.
 use mathlib.Core.Path.{_≡_, refl, sym, ap, _∙_}
-use mathlib.Core.Bool.{Bool, true, cond, false≢true}
+use mathlib.Core.Bool.{Bool, true, cond, false≢true, _&&_}
 use mathlib.Core.List.{List, [], _∷_, _++_, map}
-use mathlib.Core.Logic.{_⊎_, inl, inr}
+use mathlib.Core.Logic.{_⊎_, inl, inr, _↔_}
 use Prim.Native.Nat.{ℕ, zero, suc, _+_, _≤_, _<_}
 use native.Mathlib.Omega.{arith}
-use lib.Dec.{eqb}
-use borrow.Author.Tests.{eqb-true, eq-eqb}
+use lib.Dec.{eqb, ltb}
+use borrow.Author.Tests.{eqb-true, eq-eqb, ltb-true, lt-ltb}
 use lib.ListN.{length, getD, set}
-use Rattle.words.specs.Lists.{_∈_, elem, Inside, keep, from, flat}
-use Rattle.words.specs.TestLaws.{split, same?}
+use Rattle.words.specs.Lists.{_∈_, elem, Inside, keep, from, flat, every, same}
+use Rattle.words.specs.TestLaws.{split, same?, both, and}
 
 -- the test says what the type says
 pub elem→∈ : (a : ℕ) (l : List ℕ) → elem a l ≡ true → a ∈ l
@@ -129,3 +129,39 @@ inside-more l h i a m = omega (arith, i a m)
 
 pub inside-at : (n : ℕ) (l : List ℕ) (x : ℕ) → Inside n l → x < length l → getD l x 0 < n
 inside-at n l x i h = i _ (getD-in l x h)
+
+-- a test of all members, and of two lists
+pub every-right : (t : ℕ → Bool) (l : List ℕ) → (every t l ≡ true) ↔ ((a : ℕ) → a ∈ l → t a ≡ true)
+every-right t l = (to l, back l)
+  where
+    to : (l : List ℕ) → every t l ≡ true → (a : ℕ) → a ∈ l → t a ≡ true
+    to [] h a m = absurd m
+    to (b ∷ l) h a (inl e) = rw e (both (t b) _ h .0)
+    to (b ∷ l) h a (inr m) = to l (both (t b) _ h .1) a m
+
+    back : (l : List ℕ) → ((a : ℕ) → a ∈ l → t a ≡ true) → every t l ≡ true
+    back [] h = refl
+    back (b ∷ l) h = and (h b (inl refl)) (back l (λ a m. h a (inr m)))
+
+pub same-right : (l m : List ℕ) → (same l m ≡ true) ↔ (l ≡ m)
+same-right l m = (to l m, λ e. rw e (itself m))
+  where
+    to : (l m : List ℕ) → same l m ≡ true → l ≡ m
+    to [] [] h = refl
+    to [] (b ∷ m) h = absurd (false≢true h)
+    to (a ∷ l) [] h = absurd (false≢true h)
+    to (a ∷ l) (b ∷ m) h = let r = both (eqb a b) _ h in let e : a ≡ b = eqb-true a b (r .0) in let f : l ≡ m = to l m (r .1) in cc
+
+    itself : (m : List ℕ) → same m m ≡ true
+    itself [] = refl
+    itself (a ∷ m) = and (eq-eqb a a refl) (itself m)
+
+pub inside-right : (n : ℕ) (l : List ℕ) → (every (λ a. ltb a n) l ≡ true) ↔ Inside n l
+inside-right n l = (
+  λ h a m. ltb-true a n (every-right (λ k. ltb k n) l .0 h a m),
+  λ x. every-right (λ k. ltb k n) l .1 (λ a m. lt-ltb a n (x a m)),
+)
+
+pub every-same : (s t : ℕ → Bool) (l : List ℕ) → ((g : ℕ) → g ∈ l → s g ≡ t g) → every s l ≡ every t l
+every-same s t [] h = refl
+every-same s t (a ∷ l) h = rw (h a (inl refl), every-same s t l (λ g m. h g (inr m)))

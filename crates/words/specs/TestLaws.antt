@@ -30,6 +30,10 @@ or-none false b h = (refl, h)
 pub both : (a b : Bool) → (a && b) ≡ true → (a ≡ true) × (b ≡ true)
 both a b = and-eq-true-iff a b .0
 
+-- and one that holds with another
+pub and : {a b : Bool} → a ≡ true → b ≡ true → (a && b) ≡ true
+and p q = rw (p, q)
+
 pub either : (a b : Bool) → (a || b) ≡ true → (a ≡ true) ⊎ (b ≡ true)
 either true b h = inl refl
 either false b h = inr h
