@@ -5,7 +5,8 @@ use mathlib.Core.List.{List, [], _∷_, map}
 use Rattle.words.specs.Numbers.{number, bytesOf}
 use Rattle.codes.specs.Results.{resultOf}
 use Rattle.codes.specs.Codes.{operationOf, codeOf}
-use Rattle.records.specs.Records.{wireFigure}
+use Rattle.records.specs.WireKinds.{wireKind}
+use Rattle.records.specs.WireFigures.{wireFigure}
 use Rattle.records.specs.FileFigures.{recordAt, sizeAt, fileRecords, fileOutputs, fileFigures}
 
 -- the file of R1 with P1, a record a line
@@ -26,5 +27,5 @@ file3 =
 
 -- its figures, from its bytes
 pub example-3-run : map (λ x. fileFigures file3 (x ∷ 6 ∷ 7 ∷ [])) (0 ∷ 1 ∷ []) ≡ (0 ∷ 49 ∷ 7 ∷ []) ∷ (1 ∷ 42 ∷ 7 ∷ []) ∷ []
-unfolding number bytesOf operationOf codeOf resultOf recordAt sizeAt fileRecords fileOutputs wireFigure fileFigures
+unfolding number bytesOf operationOf codeOf resultOf recordAt sizeAt fileRecords fileOutputs wireKind wireFigure fileFigures
 example-3-run = refl

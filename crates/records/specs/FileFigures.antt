@@ -7,7 +7,8 @@ use lib.ListN.{length, getD}
 use Rattle.words.specs.Numbers.{numberAt}
 use Rattle.codes.specs.Codes.{operationOf, codeOf}
 use Rattle.codes.specs.declared.Kind.the-variants as kind
-use Rattle.records.specs.Records.{Pair, Record, input, word, bit, operation, choice, pick, guard, wireFigure}
+use Rattle.records.specs.Records.{Pair, Record, input, word, bit, operation, choice, pick, guard}
+use Rattle.records.specs.WireFigures.{wireFigure}
 use Rattle.records.specs.CircuitFile.{recordBytes}
 
 -- n two-byte wires from the place at on

@@ -8,7 +8,9 @@ use Rattle.words.specs.Lists.{_∈_, Inside}
 use Rattle.words.specs.MemberLaws.{getD-in}
 use Rattle.words.specs.Numbers.{numberAt}
 use Rattle.words.specs.Runs.{run}
-use Rattle.records.specs.Records.{Record, word, recordIn, recordFigure, wireFigure}
+use Rattle.records.specs.Records.{Record, word, recordIn, recordFigure}
+use Rattle.records.specs.WireKinds.{wireKind}
+use Rattle.records.specs.WireFigures.{pickSum, wireFigure}
 use Rattle.records.specs.FileFigures.{wiresAt, pairsAt, recordAt, sizeAt, recordsFrom, placeAfter, firstRecord, fileVariables, wireCount, fileRecords, fileOutputs, fileFigures}
 
 -- one wire more
@@ -52,6 +54,11 @@ records-at zero f at k d h = absurd (omega arith)
 records-at (suc n) f at zero d h = refl
 records-at (suc n) f at (suc k) d h = records-at n f (at + sizeAt f at) k d (omega arith)
 
+-- a file has as many records as it counts
+pub file-count : (f : List ℕ) → length (fileRecords f) ≡ wireCount f
+unfolding fileRecords
+file-count f = records-length (wireCount f) f firstRecord
+
 -- record i of a file, its output wires, and its figures: at each output wire, what a run of its records gives there
 pub record-of : (f : List ℕ) (i : ℕ) → i < wireCount f → recordIn (fileRecords f) i ≡ recordAt f (placeAfter i f firstRecord)
 unfolding fileRecords
@@ -66,6 +73,6 @@ unfolding fileFigures
 figures-at f inputs = refl
 
 pub figures-of : (f inputs : List ℕ)
-    → fileFigures f inputs ≡ map (λ w. getD (run 0 (recordFigure inputs) (recordsFrom (wireCount f) f firstRecord) []) w 0) (fileOutputs f)
+    → fileFigures f inputs ≡ map (λ w. getD (run 0 (recordFigure inputs (pickSum (wireKind (fileRecords f)))) (recordsFrom (wireCount f) f firstRecord) []) w 0) (fileOutputs f)
 unfolding fileFigures wireFigure fileRecords
 figures-of f inputs = refl

@@ -1,13 +1,11 @@
--- Inner, for document 01, "The fused circuit file": what a record needs to be read back from its bytes: every number fits its bytes, an operation has its arguments;
--- and how far its variable and a guard's wires may go.
-use Prim.Native.Nat.{ℕ, suc, _^_, _≤_, _<_}
+-- Inner, for document 01, "The fused circuit file": what a record needs to be read back from its bytes: every number fits its bytes, an operation has its arguments.
+use Prim.Native.Nat.{ℕ, suc, _^_, _<_}
 use mathlib.Core.Path.{_≡_}
 use mathlib.Core.List.{List, [], _∷_}
 use lib.ListN.{length}
 use Rattle.words.specs.Lists.{_∈_}
 use Rattle.codes.specs.Codes.{entryOf}
 use Rattle.records.specs.Records.{Record, input, word, bit, operation, choice, pick, guard, pairWires, reads, recordIn}
-use Rattle.records.specs.Limits.{mostGuardWires}
 use Rattle.records.specs.RecordLaws.{Along}
 
 -- every wire fits two bytes
@@ -62,13 +60,3 @@ sized-fits (guard cs t) (h, k) w = (h, w, k)
 pub all-fit : (R : List Record) (n : ℕ) → AllFieldsFit n R → ((i : ℕ) → Wires (reads (recordIn R i))) → AllReadBack R
 all-fit [] n h w = tt
 all-fit (r ∷ R) n (h, k) w = (sized-fits r h (w 0), all-fit R (suc n) k (λ i. w (suc i)))
-
--- of v variables: an input is one of them, a guard has no more condition wires than it may
-abbrev pub Bounded : ℕ → Record → Type 0
-Bounded v (input k x) = x < v
-Bounded v (word n) = Unit {0}
-Bounded v (bit b) = Unit {0}
-Bounded v (operation op l) = Unit {0}
-Bounded v (choice c a b) = Unit {0}
-Bounded v (pick l) = Unit {0}
-Bounded v (guard cs t) = length cs ≤ mostGuardWires

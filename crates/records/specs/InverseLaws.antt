@@ -17,12 +17,12 @@ use Rattle.words.specs.ListLaws.{drop-one}
 use Rattle.records.specs.Records.{Record, recordIn}
 use Rattle.records.specs.CircuitFile.{mark, wiresBytes, recordBytes, recordsBytes, fileBytes}
 use Rattle.records.specs.FileFigures.{recordAt, sizeAt, recordsFrom, placeAfter, firstRecord, fileVariables, wireCount, fileRecords, fileOutputs}
-use Rattle.records.specs.LaidOut.{recordCodes, recordPlace, WholeAt, LaidOut}
+use Rattle.records.specs.LaidOut.{recordCodes, recordPlace, Bounded, WholeAt, LaidOut}
 use Rattle.records.specs.FitRecords.{AllReadBack, FileFits}
 use Rattle.records.specs.SizeLaws.{file-size}
-use Rattle.records.specs.FilePartLaws.{wires-length, records-length}
+use Rattle.records.specs.FilePartLaws.{wires-length, records-length, file-count, record-of}
 use Rattle.records.specs.RecordBounds.{known-byte, some-byte}
-use Rattle.records.specs.FileLaws.{variables-found, count-found, file-place, file-byte, file-inside}
+use Rattle.records.specs.FileLaws.{variables-found, count-found, file-place, file-record, file-byte, file-inside}
 use Rattle.records.specs.BackLaws.{wires-back, wires-small, record-rest, record-fits}
 
 -- a record has the bytes that it is written with, and n records end where theirs do
@@ -91,8 +91,8 @@ module _ (f : List ℕ) (bytes : Bytes f) where
   }
 
 -- what is written is laid out
-pub file-laid : (v : ℕ) (R : List Record) (outputs : List ℕ) → FileFits v R outputs → LaidOut (fileBytes v R outputs)
-file-laid v R outputs fits =
+pub file-laid : (v : ℕ) (R : List Record) (outputs : List ℕ) → FileFits v R outputs → ((i : ℕ) → i < length R → Bounded (recordIn R i)) → LaidOut (fileBytes v R outputs)
+file-laid v R outputs fits bound =
     let f = fileBytes v R outputs in
     let n : wireCount f ≡ length R = count-found v R outputs (fits .few) in
     let e = file-place v R outputs (fits .each) (length R) (omega arith) in
@@ -107,13 +107,21 @@ file-laid v R outputs fits =
           record {
             known = subst (λ (c : ℕ). c ∈ recordCodes) (sym b) (known-byte (recordIn R i));
             inside = omega (arith, file-inside v R outputs (fits .each) i k);
+            bounded = subst⁻¹ Bounded (file-record v R outputs (fits .each) i k .0) (bound i k);
           };
       ended = rw n (omega (arith, e, t, file-size v R outputs, fits .count, variables-found v R outputs));
     }
 
--- so bytes are laid out as a circuit file exactly when they are the file of records and outputs that fit
-pub file-format : (f : List ℕ) → Bytes f → LaidOut f ↔ ((v : ℕ) × (R : List Record) × (outputs : List ℕ) × FileFits v R outputs × (f ≡ fileBytes v R outputs))
+-- the records that are read from a file that is laid out keep within their bounds
+pub laid-bounded : (f : List ℕ) → LaidOut f → (i : ℕ) → i < length (fileRecords f) → Bounded (recordIn (fileRecords f) i)
+laid-bounded f l i h =
+    let k : i < wireCount f = omega (arith, h, file-count f) in
+    subst⁻¹ Bounded (record-of f i k) (l .whole i k .bounded)
+
+-- so bytes are laid out as a circuit file exactly when they are the file of records and outputs that fit, the records within their bounds
+pub file-format : (f : List ℕ) → Bytes f
+    → LaidOut f ↔ ((v : ℕ) × (R : List Record) × (outputs : List ℕ) × FileFits v R outputs × ((i : ℕ) → i < length R → Bounded (recordIn R i)) × (f ≡ fileBytes v R outputs))
 file-format f bytes = (
-  λ l. (fileVariables f, fileRecords f, fileOutputs f, laid-fits f bytes l, file-back f bytes l),
-  λ w. subst⁻¹ LaidOut (w .4) (file-laid (w .0) (w .1) (w .2) (w .3)),
+  λ l. (fileVariables f, fileRecords f, fileOutputs f, laid-fits f bytes l, laid-bounded f l, file-back f bytes l),
+  λ w. subst⁻¹ LaidOut (w .5) (file-laid (w .0) (w .1) (w .2) (w .3) (w .4)),
 )

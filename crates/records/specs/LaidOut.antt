@@ -1,16 +1,28 @@
--- Inner, for document 01, "The fused circuit file": when bytes are laid out as a circuit file: the mark and version, a known code and all its bytes for every record,
--- and outputs that end where the file ends. It says nothing of what the records read. (Document 02's rows 60 and 61 will decide it.)
+-- Inner, for document 02, C-11, row 61: when bytes are laid out as a circuit file: the mark and version, a known code, all its bytes and no more than it may have for every record,
+-- and outputs that end where the file ends. It says nothing of what the records read.
 use Prim.Native.Nat.{ℕ, _+_, _*_, _≤_, _<_}
 use mathlib.Core.Path.{_≡_}
 use mathlib.Core.List.{List, [], _∷_}
 use lib.ListN.{length, take, getD}
 use Rattle.words.specs.Lists.{_∈_}
+use Rattle.records.specs.Records.{Record, input, word, bit, operation, choice, pick, guard}
 use Rattle.records.specs.CircuitFile.{mark}
-use Rattle.records.specs.FileFigures.{sizeAt, placeAfter, firstRecord, fileVariables, wireCount}
+use Rattle.records.specs.FileFigures.{recordAt, sizeAt, placeAfter, firstRecord, fileVariables, wireCount}
+use Rattle.records.specs.Limits.{mostGuardWires}
 
 -- the bytes that a record begins with
 abbrev pub recordCodes : List ℕ
 recordCodes = 0x00 ∷ 0x01 ∷ 0x11 ∷ 0x12 ∷ 0x20 ∷ 0x21 ∷ 0x22 ∷ 0x23 ∷ 0x24 ∷ 0x25 ∷ 0x26 ∷ 0x27 ∷ 0x30 ∷ 0x31 ∷ 0x32 ∷ []
+
+-- a bit constant is 00 or 01, a pick has a pair, a guard at most 6 wires
+abbrev pub Bounded : Record → Type 0
+Bounded (input k x) = Unit {0}
+Bounded (word n) = Unit {0}
+Bounded (bit b) = b ≤ 1
+Bounded (operation op l) = Unit {0}
+Bounded (choice c a b) = Unit {0}
+Bounded (pick l) = 1 ≤ length l
+Bounded (guard cs t) = length cs ≤ mostGuardWires
 
 -- the place of record i; for the wire count, that of the output wires
 abbrev pub recordPlace : List ℕ → ℕ → ℕ
@@ -20,8 +32,10 @@ recordPlace f i = placeAfter i f firstRecord
 pub record WholeAt (f : List ℕ) (at : ℕ) : Type 0 where
   -- with the code of one
   pub known : getD f at 0 ∈ recordCodes
-  -- and its bytes are there
+  -- its bytes are there
   pub inside : at + sizeAt f at ≤ length f
+  -- and it has no more than it may
+  pub bounded : Bounded (recordAt f at)
 
 -- the bytes f are laid out as a circuit file
 pub record LaidOut (f : List ℕ) : Type 0 where

@@ -1,11 +1,14 @@
 pub mod Records
+pub mod WireKinds
+pub mod WireFigures
 pub mod CircuitFile
 pub mod FileFigures
 pub mod Limits
 pub mod LaidOut
+pub mod CircuitRows
+pub mod WellFormed
 pub mod Sums
 pub mod RecordLaws
-pub mod WireKinds
 pub mod WireKindLaws
 pub mod SizeLaws
 pub mod FilePartLaws

@@ -1,4 +1,4 @@
--- Laws of a record's first bytes: which codes there are, an input's variable, a guard's count of condition wires. Assumes nothing.
+-- Laws of a record's first bytes: which codes there are, and what a record can be by its code. Assumes nothing.
 use mathlib.Core.Path.{_≡_, refl}
 use mathlib.Core.Logic.{inl, inr}
 use Prim.Native.Nat.{ℕ, _≤_, _<_}
@@ -12,9 +12,6 @@ use Rattle.codes.specs.declared.Operation.{Operation}
 use Rattle.codes.specs.declared.Operation.the-variants.{Sum, Difference, Product, LessThan, Equal, And, Or, Not}
 use Rattle.records.specs.Records.{Record, input, word, bit, operation, choice, pick, guard}
 use Rattle.records.specs.CircuitFile.{recordBytes}
-use Rattle.records.specs.Limits.{mostGuardWires}
-use Rattle.records.specs.FitRecords.{Bounded}
-use Rattle.records.specs.SizeLaws.{word-size, choice-size}
 use Rattle.records.specs.LaidOut.{recordCodes}
 
 -- the first bytes of a record
@@ -65,36 +62,6 @@ known-coded b (inr (inr (inr (inr (inr (inr (inr (inr (inr (inr (inr (inr (inl e
 known-coded b (inr (inr (inr (inr (inr (inr (inr (inr (inr (inr (inr (inr (inr (inl e)))))))))))))) = is-pick e
 known-coded b (inr (inr (inr (inr (inr (inr (inr (inr (inr (inr (inr (inr (inr (inr (inl e))))))))))))))) = is-guard e
 known-coded b (inr (inr (inr (inr (inr (inr (inr (inr (inr (inr (inr (inr (inr (inr (inr e))))))))))))))) = absurd e
-
-pub counted-byte : (v : ℕ) (r : Record) → Bounded v r → getD (recordBytes r) 0 0 ≡ 0x32 → getD (recordBytes r) 1 0 ≤ mostGuardWires
-counted-byte v (input kind.Word x) b h = absurd (omega arith)
-counted-byte v (input kind.Bit x) b h = absurd (omega arith)
-counted-byte v (word n) b h = absurd (omega arith)
-counted-byte v (bit n) b h = absurd (omega arith)
-counted-byte v (operation op l) b h = absurd (omega (arith, operation-code op .2))
-counted-byte v (choice c a d) b h = absurd (omega arith)
-counted-byte v (pick l) b h = absurd (omega arith)
-counted-byte v (guard cs t) b h = b
-
-pub input-byte : (v : ℕ) (r : Record) → Bounded v r → getD (recordBytes r) 0 0 ≤ 0x01 → getD (recordBytes r) 1 0 < v
-input-byte v (input kind.Word x) b h = b
-input-byte v (input kind.Bit x) b h = b
-input-byte v (word n) b h = absurd (omega arith)
-input-byte v (bit n) b h = absurd (omega arith)
-input-byte v (operation op l) b h = absurd (omega (arith, operation-code op .1))
-input-byte v (choice c a d) b h = absurd (omega arith)
-input-byte v (pick l) b h = absurd (omega arith)
-input-byte v (guard cs t) b h = absurd (omega arith)
-
--- a record has two bytes or more, but for an operation of no wires
-pub two-bytes : (r : Record) → (0x20 ≤ getD (recordBytes r) 0 0 → getD (recordBytes r) 0 0 ≤ 0x27 → ⊥) → 2 ≤ length (recordBytes r)
-two-bytes (input k x) h = omega arith
-two-bytes (word n) h = omega (arith, word-size n)
-two-bytes (bit b) h = omega arith
-two-bytes (operation op l) h = absurd (h (operation-code op .1) (operation-code op .2))
-two-bytes (choice c a b) h = omega (arith, choice-size c a b)
-two-bytes (pick l) h = omega arith
-two-bytes (guard cs t) h = omega arith
 
 pub some-byte : (r : Record) → 1 ≤ length (recordBytes r)
 some-byte (input k x) = omega arith

@@ -1,5 +1,5 @@
 -- Laws of records: a record's figure reads only the wires that it names; records that read only earlier wires are each worked out from them. Assumes nothing.
-use Prim.Native.Nat.{ℕ, zero, suc, _+_, _≤_, _<_}
+use Prim.Native.Nat.{ℕ, zero, suc, _+_, _%_, _≤_, _<_}
 use mathlib.Core.Path.{_≡_, refl, ap}
 use mathlib.Core.List.{List, [], _∷_, _++_, map}
 use mathlib.Core.Logic.{inl, inr}
@@ -12,23 +12,38 @@ use Rattle.words.specs.RunLaws.{run-right}
 use Rattle.settings.specs.Settings.{bitOf}
 use Rattle.settings.specs.Sets.{has}
 use Rattle.settings.specs.SettingLaws.{numberOf-agree}
+use Rattle.codes.specs.declared.Kind.{Kind}
 use Rattle.codes.specs.Results.{isOne, resultOn}
-use Rattle.records.specs.Records.{Pair, Record, input, word, bit, operation, choice, pick, guard, pairWires, reads, recordIn, ReadsEarlier, pickFigure, recordFigure, wireFigure}
+use Rattle.records.specs.Records.{Pair, Record, input, word, bit, operation, choice, pick, guard, pairWires, reads, recordIn, ReadsEarlier, pickFigure, recordFigure}
+use Rattle.records.specs.WireKinds.{recordKind, wireKind}
+use Rattle.records.specs.WireFigures.{figuresIn, sumFigure, pickSum, wireFigure}
 
-pick-same : (v w : ℕ → ℕ) (l : List Pair) → ((a : ℕ) → a ∈ pairWires l → v a ≡ w a) → pickFigure v l ≡ pickFigure w l
+-- what a pick gives reads only the wires of its pairs
+abbrev pub ReadsPairs : ((ℕ → ℕ) → List Pair → ℕ) → Type 0
+ReadsPairs picked = (v w : ℕ → ℕ) (l : List Pair) → ((a : ℕ) → a ∈ pairWires l → v a ≡ w a) → picked v l ≡ picked w l
+
+pub pick-same : ReadsPairs pickFigure
 pick-same v w [] h = refl
 pick-same v w (p ∷ l) h = rw (h (p .guarding) (inl refl), h (p .value) (inr (inl refl)), pick-same v w l (λ a m. h a (inr (inr m))))
 
+sum-same : ReadsPairs sumFigure
+sum-same v w [] h = refl
+sum-same v w (p ∷ l) h = rw (h (p .guarding) (inl refl), h (p .value) (inr (inl refl)), sum-same v w l (λ a m. h a (inr (inr m))))
+
+pub picks-same : (k : ℕ → Kind) → ReadsPairs (pickSum k)
+picks-same k v w l h = ap (λ (n : ℕ). n % figuresIn (recordKind k (pick l))) (sum-same v w l h)
+
 -- a record's figure reads only the wires that the record names
-pub record-same : (inputs : List ℕ) (v w : ℕ → ℕ) (r : Record) → ((a : ℕ) → a ∈ reads r → v a ≡ w a) → recordFigure inputs v r ≡ recordFigure inputs w r
-record-same inputs v w (input k x) h = refl
-record-same inputs v w (word n) h = refl
-record-same inputs v w (bit b) h = refl
-record-same inputs v w (operation op l) h = ap (resultOn op) (map-same v w l h)
-record-same inputs v w (choice c a b) h = rw (h c (inl refl), h a (inr (inl refl)), h b (inr (inr (inl refl))))
-record-same inputs v w (pick l) h = pick-same v w l h
-record-same inputs v w (guard cs t) h =
-    ap (λ (j : ℕ). bitOf (has t j)) (numberOf-agree cs (λ c. isOne (v c)) (λ c. isOne (w c)) (λ c m. ap isOne (h c m)))
+module _ (inputs : List ℕ) (picked : (ℕ → ℕ) → List Pair → ℕ) (same : ReadsPairs picked) (v w : ℕ → ℕ) where
+  pub record-same : (r : Record) → ((a : ℕ) → a ∈ reads r → v a ≡ w a) → recordFigure inputs picked v r ≡ recordFigure inputs picked w r
+  record-same (input k x) h = refl
+  record-same (word n) h = refl
+  record-same (bit b) h = refl
+  record-same (operation op l) h = ap (resultOn op) (map-same v w l h)
+  record-same (choice c a b) h = rw (h c (inl refl), h a (inr (inl refl)), h b (inr (inr (inl refl))))
+  record-same (pick l) h = same v w l h
+  record-same (guard cs t) h =
+      ap (λ (j : ℕ). bitOf (has t j)) (numberOf-agree cs (λ c. isOne (v c)) (λ c. isOne (w c)) (λ c m. ap isOne (h c m)))
 
 -- P holds of every record with its number, the first of them being numbered n
 module _ (P : ℕ → Record → Type 0) where
@@ -98,18 +113,15 @@ below-earlier R b i w m = rw zero-add at (along-at ReadsBefore R 0 b i (past-rea
 
 -- the figure of every wire is its record's figure of the figures of all wires
 pub wires-right : (inputs : List ℕ) (R : List Record) → ReadsEarlier R
-    → (i : ℕ) → i < length R → wireFigure inputs R i ≡ recordFigure inputs (wireFigure inputs R) (recordIn R i)
+    → (i : ℕ) → i < length R → wireFigure inputs R i ≡ recordFigure inputs (pickSum (wireKind R)) (wireFigure inputs R) (recordIn R i)
 unfolding wireFigure
 wires-right inputs R e =
-    run-right 0 (recordFigure inputs) (word 0) R (λ j v w s. record-same inputs v w (recordIn R j) (λ a m. s a (rw zero-add (e j a m))))
+    run-right 0 (recordFigure inputs (pickSum (wireKind R))) (word 0) R
+    (λ j v w s. record-same inputs (pickSum (wireKind R)) (picks-same (wireKind R)) v w (recordIn R j) (λ a m. s a (rw zero-add (e j a m))))
 
--- W gives record i its figure; it gives each of the records its figure
+-- W gives record i its figure, and each of the records, a pick being the value whose guard is 1, else 0
 abbrev pub GivesFigure : List ℕ → (ℕ → ℕ) → ℕ → Record → Type 0
-GivesFigure inputs W i r = W i ≡ recordFigure inputs W r
+GivesFigure inputs W i r = W i ≡ recordFigure inputs pickFigure W r
 
 abbrev pub Figured : List ℕ → (ℕ → ℕ) → ℕ → List Record → Type 0
 Figured inputs W n R = Along (GivesFigure inputs W) n R
-
--- records that read only earlier wires have their figures
-pub run-figured : (inputs : List ℕ) (R : List Record) → ReadsEarlier R → Figured inputs (wireFigure inputs R) 0 R
-run-figured inputs R e = along-each (GivesFigure inputs (wireFigure inputs R)) R 0 (λ j l. rw zero-add (wires-right inputs R e j l))

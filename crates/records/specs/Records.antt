@@ -4,7 +4,6 @@ use mathlib.Core.List.{List, [], _∷_, map}
 use mathlib.Core.Bool.{cond}
 use lib.ListN.{length, getD}
 use Rattle.words.specs.Lists.{_∈_}
-use Rattle.words.specs.Runs.{runAt}
 use Rattle.settings.specs.Settings.{bitOf, numberOf}
 use Rattle.settings.specs.Sets.{has}
 use Rattle.codes.specs.Codes.{entryOf, choiceCost}
@@ -49,7 +48,7 @@ recordIn R i = getD R i (word 0)
 abbrev pub ReadsEarlier : List Record → Type 0
 ReadsEarlier R = (i w : ℕ) → w ∈ reads (recordIn R i) → w < i
 
--- "A pick (31) gives the value whose guard is 1, else 0", from the figures W of the wires
+-- "A pick (31) gives the value whose guard is 1, else 0", from the figures W of the wires; where several are, the first. (What it gives there in any file: `pickSum`, WireFigures.)
 abbrev pub pickFigure : (ℕ → ℕ) → List Pair → ℕ
 pickFigure W [] = 0
 pickFigure W (p ∷ l) = cond (isOne (W (p .guarding))) (W (p .value)) (pickFigure W l)
@@ -58,19 +57,15 @@ pickFigure W (p ∷ l) = cond (isOne (W (p .guarding))) (W (p .value)) (pickFigu
 abbrev pub guardFigure : (ℕ → ℕ) → List ℕ → ℕ → ℕ
 guardFigure W cs t = bitOf (has t (numberOf cs (λ c. isOne (W c))))
 
--- the figure of a record, from the variables' inputs and the figures W of other wires
-abbrev pub recordFigure : List ℕ → (ℕ → ℕ) → Record → ℕ
-recordFigure inputs W (input k x) = getD inputs x 0
-recordFigure inputs W (word n) = n
-recordFigure inputs W (bit b) = b
-recordFigure inputs W (operation op l) = resultOn op (map W l)
-recordFigure inputs W (choice c a b) = cond (isOne (W c)) (W a) (W b)
-recordFigure inputs W (pick l) = pickFigure W l
-recordFigure inputs W (guard cs t) = guardFigure W cs t
-
--- "The file's figures are worked out record by record": the figure of wire i
-unfoldable pub wireFigure : List ℕ → List Record → ℕ → ℕ
-wireFigure inputs R i = runAt 0 (recordFigure inputs) R i
+-- the figure of a record, from the variables' inputs, what a pick gives, and the figures W of other wires
+abbrev pub recordFigure : List ℕ → ((ℕ → ℕ) → List Pair → ℕ) → (ℕ → ℕ) → Record → ℕ
+recordFigure inputs picked W (input k x) = getD inputs x 0
+recordFigure inputs picked W (word n) = n
+recordFigure inputs picked W (bit b) = b
+recordFigure inputs picked W (operation op l) = resultOn op (map W l)
+recordFigure inputs picked W (choice c a b) = cond (isOne (W c)) (W a) (W b)
+recordFigure inputs picked W (pick l) = picked W l
+recordFigure inputs picked W (guard cs t) = guardFigure W cs t
 
 -- "Cost of a circuit: operations as above, choice 3, pick 2 a pair, guard 1, others 0."
 abbrev pub recordCost : Record → ℕ

@@ -8,7 +8,8 @@ use lib.ListN.{length}
 use Rattle.words.specs.TestLaws.{split}
 use Rattle.codes.specs.Results.{isOne}
 use Rattle.records.specs.Records.{Pair, Record, input, word, bit, operation, choice, pick, guard, recordIn, pickFigure, guardFigure}
-use Rattle.records.specs.Sums.{guardsAtOne, sumFigure}
+use Rattle.records.specs.Sums.{guardsAtOne}
+use Rattle.records.specs.WireFigures.{sumFigure}
 
 -- a pick and a guard are records, not past the end
 pub pick-inside : (R : List Record) (i : ℕ) (l : List Pair) → recordIn R i ≡ pick l → i < length R

@@ -1,0 +1,43 @@
+-- Document 02, C-11: the circuits whose files are read, said without a reader: a list of records and output wires for v variables that rows 60 to 62 find no fault with.
+-- That a file passes the rows exactly when it is the bytes of one: `circuit-format` (FormatLaws).
+use Prim.Native.Nat.{ℕ, _^_, _≤_, _<_}
+use mathlib.Core.Path.{_≡_}
+use mathlib.Core.List.{List}
+use lib.ListN.{length, getD}
+use Rattle.codes.specs.declared.Kind.{Kind}
+use Rattle.records.specs.Records.{Record, input, word, bit, operation, choice, pick, guard, recordIn, ReadsEarlier}
+use Rattle.records.specs.RecordLaws.{NotInput}
+use Rattle.records.specs.WireKinds.{wireKind, RecordFits}
+use Rattle.records.specs.CircuitFile.{fileBytes}
+use Rattle.records.specs.FitRecords.{FileFits}
+use Rattle.records.specs.LaidOut.{Bounded}
+use Rattle.records.specs.Limits.{mostFileBytes, mostFileVariables, mostWires}
+
+-- a guard's table has no bit set from 2^d up
+abbrev pub TableFits : Record → Type 0
+TableFits (input k x) = Unit {0}
+TableFits (word n) = Unit {0}
+TableFits (bit b) = Unit {0}
+TableFits (operation op l) = Unit {0}
+TableFits (choice c a b) = Unit {0}
+TableFits (pick l) = Unit {0}
+TableFits (guard cs t) = t < 2 ^ 2 ^ length cs
+
+pub record WellFormed (v : ℕ) (R : List Record) (outputs : List ℕ) : Type 0 where
+  -- 60: 1 to 32 variables, at most 640 wires and 16,384 bytes
+  pub some : 1 ≤ v
+  pub few : v ≤ mostFileVariables
+  pub wires : length R ≤ mostWires
+  pub size : length (fileBytes v R outputs) ≤ mostFileBytes
+  -- 61: numbers that fit their bytes, an operation's wires and an output for each variable; bits, pairs and guards within their bounds
+  pub fits : FileFits v R outputs
+  pub bounded : (i : ℕ) → i < length R → Bounded (recordIn R i)
+  -- 62: the inputs are exactly the first V records, in order
+  pub first : (x : ℕ) → x < v → (x < length R) × ((k : Kind) × (recordIn R x ≡ input k x))
+  pub later : (i : ℕ) → v ≤ i → NotInput (recordIn R i)
+  -- a record reads only earlier wires, of the right kinds, and a guard's table is no larger than its wires ask
+  pub earlier : ReadsEarlier R
+  pub kinds : (i : ℕ) → i < length R → RecordFits (wireKind R) (recordIn R i)
+  pub tables : (i : ℕ) → i < length R → TableFits (recordIn R i)
+  -- an output is a wire of its variable's kind
+  pub outs : (x : ℕ) → x < v → (getD outputs x 0 < length R) × (wireKind R (getD outputs x 0) ≡ wireKind R x)
