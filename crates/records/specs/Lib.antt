@@ -10,6 +10,7 @@ pub mod WellFormed
 pub mod Sums
 pub mod RecordLaws
 pub mod WireKindLaws
+pub mod RowLaws
 pub mod SizeLaws
 pub mod FilePartLaws
 pub mod FitRecords

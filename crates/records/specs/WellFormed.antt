@@ -23,6 +23,18 @@ TableFits (choice c a b) = Unit {0}
 TableFits (pick l) = Unit {0}
 TableFits (guard cs t) = t < 2 ^ 2 ^ length cs
 
+-- 62: what the records and outputs of v variables are to each other
+pub record Standing (v : ℕ) (R : List Record) (outputs : List ℕ) : Type 0 where
+  -- the inputs are exactly the first V records, in order
+  pub first : (x : ℕ) → x < v → (x < length R) × ((k : Kind) × (recordIn R x ≡ input k x))
+  pub later : (i : ℕ) → v ≤ i → NotInput (recordIn R i)
+  -- a record reads only earlier wires, of the right kinds, and a guard's table is no larger than its wires ask
+  pub earlier : ReadsEarlier R
+  pub kinds : (i : ℕ) → i < length R → RecordFits (wireKind R) (recordIn R i)
+  pub tables : (i : ℕ) → i < length R → TableFits (recordIn R i)
+  -- an output is a wire of its variable's kind, which is that of its input's wire
+  pub outs : (x : ℕ) → x < length outputs → (getD outputs x 0 < length R) × (wireKind R (getD outputs x 0) ≡ wireKind R x)
+
 pub record WellFormed (v : ℕ) (R : List Record) (outputs : List ℕ) : Type 0 where
   -- 60: 1 to 32 variables, at most 640 wires and 16,384 bytes
   pub some : 1 ≤ v
@@ -32,12 +44,5 @@ pub record WellFormed (v : ℕ) (R : List Record) (outputs : List ℕ) : Type 0 
   -- 61: numbers that fit their bytes, an operation's wires and an output for each variable; bits, pairs and guards within their bounds
   pub fits : FileFits v R outputs
   pub bounded : (i : ℕ) → i < length R → Bounded (recordIn R i)
-  -- 62: the inputs are exactly the first V records, in order
-  pub first : (x : ℕ) → x < v → (x < length R) × ((k : Kind) × (recordIn R x ≡ input k x))
-  pub later : (i : ℕ) → v ≤ i → NotInput (recordIn R i)
-  -- a record reads only earlier wires, of the right kinds, and a guard's table is no larger than its wires ask
-  pub earlier : ReadsEarlier R
-  pub kinds : (i : ℕ) → i < length R → RecordFits (wireKind R) (recordIn R i)
-  pub tables : (i : ℕ) → i < length R → TableFits (recordIn R i)
-  -- an output is a wire of its variable's kind
-  pub outs : (x : ℕ) → x < v → (getD outputs x 0 < length R) × (wireKind R (getD outputs x 0) ≡ wireKind R x)
+  -- 62
+  pub standing : Standing v R outputs

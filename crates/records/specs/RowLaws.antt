@@ -1,0 +1,112 @@
+-- Laws of the rows 60 to 62: what each test says. Assumes nothing.
+use Prim.Native.Nat.{ℕ, zero, suc, _+_, _*_, _^_, _≤_, _<_}
+use mathlib.Core.Path.{_≡_, refl, sym, ap, subst, subst⁻¹, _∙_}
+use mathlib.Core.List.{List, [], _∷_}
+use mathlib.Core.Bool.{Bool, true, false, _&&_, cond, false≢true}
+use mathlib.Core.Logic.{_↔_, inl, inr}
+use native.Mathlib.Nat.{zero-add, add-zero}
+use native.Mathlib.Omega.{arith}
+use lib.Dec.{eqb, leb, ltb}
+use lib.ListN.{length, take, getD}
+use borrow.Author.Tests.{eqb-true, eq-eqb, leb-true, le-leb, ltb-true, lt-ltb}
+use Rattle.words.specs.Lists.{_∈_, Inside, elem, every, same}
+use Rattle.words.specs.MemberLaws.{elem→∈, ∈→elem, every-right, same-right, inside-right}
+use Rattle.words.specs.TestLaws.{split, both, and}
+use Rattle.codes.specs.Codes.{sameKind, entryOf}
+use Rattle.codes.specs.declared.Kind.{Kind}
+use Rattle.codes.specs.declared.Kind.the-variants as kind
+use Rattle.records.specs.Records.{Record, input, word, bit, operation, choice, pick, guard, reads, recordIn, ReadsEarlier}
+use Rattle.records.specs.RecordLaws.{NotInput, Along, along-each, along-at, ReadsBefore, Below, below-earlier}
+use Rattle.records.specs.WireKinds.{guardsOf, valuesOf, recordKind, wireKind, AllOf, RecordFits}
+use Rattle.records.specs.CircuitFile.{mark}
+use Rattle.records.specs.FileFigures.{recordAt, sizeAt, placeAfter, firstRecord, fileVariables, wireCount, fileRecords, fileOutputs}
+use Rattle.records.specs.Limits.{mostFileBytes, mostFileVariables, mostWires, mostGuardWires}
+use Rattle.records.specs.LaidOut.{recordCodes, recordPlace, Bounded, WholeAt, LaidOut}
+use Rattle.records.specs.CircuitRows.{headed, bounded, wholeAt, laidFrom, laid, inputInPlace, allOf, kindsFit, tableFits, stands, allStand, outputsStand, standing, circuitRow}
+use Rattle.records.specs.WellFormed.{TableFits, Standing}
+
+-- 60: the limits of a file's head
+pub record Headed (f : List ℕ) : Type 0 where
+  pub long : firstRecord ≤ length f
+  pub short : length f ≤ mostFileBytes
+  pub marked : take (length mark) f ≡ mark
+  pub some : 1 ≤ fileVariables f
+  pub few : fileVariables f ≤ mostFileVariables
+  pub wires : wireCount f ≤ mostWires
+
+headed-to : (f : List ℕ) → headed f ≡ true → Headed f
+unfolding headed
+headed-to f h =
+    let (h4, w) = both _ (leb (wireCount f) mostWires) h in
+    let (h3, e) = both _ (leb (fileVariables f) mostFileVariables) h4 in
+    let (h2, d) = both _ (leb 1 (fileVariables f)) h3 in
+    let (h1, c) = both _ (same (take (length mark) f) mark) h2 in
+    let (a, b) = both (leb firstRecord (length f)) (leb (length f) mostFileBytes) h1 in
+    record {
+      long = leb-true _ _ a;
+      short = leb-true _ _ b;
+      marked = same-right (take (length mark) f) mark .0 c;
+      some = leb-true _ _ d;
+      few = leb-true _ _ e;
+      wires = leb-true _ _ w;
+    }
+
+headed-back : (f : List ℕ) → Headed f → headed f ≡ true
+unfolding headed
+headed-back f h =
+    and (and (and (and (and (le-leb _ _ (h .long)) (le-leb _ _ (h .short))) (same-right (take (length mark) f) mark .1 (h .marked)))
+    (le-leb _ _ (h .some))) (le-leb _ _ (h .few))) (le-leb _ _ (h .wires))
+
+pub headed-right : (f : List ℕ) → (headed f ≡ true) ↔ Headed f
+headed-right f = (headed-to f, headed-back f)
+
+-- 61: what a record may have, a whole record, all of them and the outputs
+bounded-right : (r : Record) → (bounded r ≡ true) ↔ Bounded r
+bounded-right (input k x) = (λ h. tt, λ h. refl)
+bounded-right (word n) = (λ h. tt, λ h. refl)
+bounded-right (bit b) = (leb-true b 1, le-leb b 1)
+bounded-right (operation op l) = (λ h. tt, λ h. refl)
+bounded-right (choice c a b) = (λ h. tt, λ h. refl)
+bounded-right (pick l) = (leb-true 1 (length l), le-leb 1 (length l))
+bounded-right (guard cs t) = (leb-true (length cs) mostGuardWires, le-leb (length cs) mostGuardWires)
+
+whole-to : (f : List ℕ) (at : ℕ) → wholeAt f at ≡ true → WholeAt f at
+unfolding wholeAt
+whole-to f at h =
+    let (g, c) = both _ (bounded (recordAt f at)) h in
+    let (a, b) = both (elem (getD f at 0) recordCodes) (leb (at + sizeAt f at) (length f)) g in
+    record { known = elem→∈ (getD f at 0) recordCodes a; inside = leb-true _ _ b; bounded = bounded-right (recordAt f at) .0 c }
+
+whole-back : (f : List ℕ) (at : ℕ) → WholeAt f at → wholeAt f at ≡ true
+unfolding wholeAt
+whole-back f at w = and (and (∈→elem (getD f at 0) recordCodes (w .known)) (le-leb _ _ (w .inside))) (bounded-right (recordAt f at) .1 (w .bounded))
+
+pub whole-right : (f : List ℕ) (at : ℕ) → (wholeAt f at ≡ true) ↔ WholeAt f at
+whole-right f at = (whole-to f at, whole-back f at)
+
+laid-each : (n : ℕ) (f : List ℕ) (at : ℕ) → laidFrom n f at ≡ true
+    → ((i : ℕ) → i < n → WholeAt f (placeAfter i f at)) × (placeAfter n f at + 2 * fileVariables f ≡ length f)
+laid-each zero f at h = (λ i l. absurd (omega arith), eqb-true _ _ h)
+laid-each (suc n) f at h =
+    let (w, r) = both (wholeAt f at) _ h in
+    let (e, d) = laid-each n f (at + sizeAt f at) r in
+    (go (whole-to f at w) e, d)
+  where
+    go : WholeAt f at → ((i : ℕ) → i < n → WholeAt f (placeAfter i f (at + sizeAt f at))) → (i : ℕ) → i < suc n → WholeAt f (placeAfter i f at)
+    go w e zero l = w
+    go w e (suc i) l = e i (omega arith)
+
+each-laid : (n : ℕ) (f : List ℕ) (at : ℕ) → ((i : ℕ) → i < n → WholeAt f (placeAfter i f at)) → placeAfter n f at + 2 * fileVariables f ≡ length f → laidFrom n f at ≡ true
+each-laid zero f at w e = eq-eqb _ _ e
+each-laid (suc n) f at w e = and (whole-back f at (w 0 (omega arith))) (each-laid n f (at + sizeAt f at) (λ i l. w (suc i) (omega arith)) e)
+
+laid-to : (f : List ℕ) → Headed f → laid f ≡ true → LaidOut f
+unfolding laid
+laid-to f h l = let (w, e) = laid-each (wireCount f) f firstRecord l in record { headed = h .long; marked = h .marked; whole = w; ended = e }
+
+laid-back : (f : List ℕ) → LaidOut f → laid f ≡ true
+unfolding laid
+laid-back f l = each-laid (wireCount f) f firstRecord (l .whole) (l .ended)
+
+pub laid-right : (f : List ℕ) → Headed f → (laid f ≡ true) ↔ LaidOut f
+laid-right f h = (laid-to f h, laid-back f)
