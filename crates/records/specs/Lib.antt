@@ -11,6 +11,8 @@ pub mod Sums
 pub mod RecordLaws
 pub mod WireKindLaws
 pub mod RowLaws
+pub mod StandLaws
+pub mod StandingLaws
 pub mod SizeLaws
 pub mod FilePartLaws
 pub mod FitRecords
@@ -23,4 +25,5 @@ pub mod FileBytes
 pub mod SumLaws
 pub mod BackLaws
 pub mod InverseLaws
+pub mod FormatLaws
 pub mod Examples
