@@ -1,0 +1,3 @@
+pub mod HeldKinds
+pub mod FirstByteLaws
+pub mod HeldLaws
