@@ -42,9 +42,9 @@ kind-there R i l e =
     let n : length A ≡ i = length-take-le i R (omega arith) in
     let whole : R ≡ (A ++ (r ∷ [])) ++ B = sym (take-append-drop (suc i) R) ∙ ap (λ (Q : List Record). Q ++ B) (take-suc R i (word 0) l) in
     let before : (w : ℕ) → w < i → runAt kind.Word recordKind R w ≡ runAt kind.Word recordKind A w =
-        λ w b.
-        ap (λ (Q : List Record). runAt kind.Word recordKind Q w) (whole ∙ append-assoc A (r ∷ []) B)
-        ∙ runAt-append kind.Word recordKind A ((r ∷ []) ++ B) w (omega (arith, n)) in
+    λ w b.
+    ap (λ (Q : List Record). runAt kind.Word recordKind Q w) (whole ∙ append-assoc A (r ∷ []) B)
+    ∙ runAt-append kind.Word recordKind A ((r ∷ []) ++ B) w (omega (arith, n)) in
     ap (λ (Q : List Record). runAt kind.Word recordKind Q i) whole
     ∙ runAt-append kind.Word recordKind (A ++ (r ∷ [])) B i (rw (length-append A (r ∷ [])) (omega (arith, n)))
     ∙ ap (runAt kind.Word recordKind (A ++ (r ∷ []))) (sym n)
