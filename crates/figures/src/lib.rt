@@ -1,5 +1,5 @@
-// Document 01, "The fused circuit file": the figures of a circuit file, worked out from its bytes record by record.
-// The figures lie in an array of plain numbers; a wire's number in hand is a `WireId`.
+// Document 01, "The fused circuit file", and document 02, C-11: the figures of a circuit file of any origin that passes rows 60 to 62, worked out from its bytes record by record.
+// The figures lie in an array of plain numbers, and beside it which wires are bits; a wire's number in hand is a `WireId`.
 use codes::Form;
 use records::WireId;
 ghost use mathlib.Core.Path.{_≡_};
