@@ -2,12 +2,11 @@
 use Prim.Native.Nat.{ℕ, suc, _+_, _-_, _*_, _≤_, _<_}
 use mathlib.Core.Path.{_≡_, refl, sym, ap, subst, _∙_}
 use mathlib.Core.List.{List, [], _∷_}
-use mathlib.Core.Bool.{Bool, true, false, _&&_, cond, false≢true}
-use native.Mathlib.Nat.{zero-add}
+use mathlib.Core.Bool.{Bool, true, false, _&&_, cond}
 use native.Mathlib.Numerals.{add-one}
 use native.Mathlib.Omega.{arith}
-use lib.Dec.{leb, ltb}
-use lib.ListN.{length, getD, set, length-set}
+use lib.Dec.{leb}
+use lib.ListN.{length, set, length-set}
 use borrow.Author.Tests.{lt-leb, le-leb}
 use Rattle.words.specs.Lists.{Inside}
 use Rattle.words.specs.Numbers.{numberAt}
@@ -16,11 +15,11 @@ use Rattle.codes.specs.declared.Kind.{Kind}
 use Rattle.records.specs.Records.{Record, reads, recordIn}
 use Rattle.records.specs.RecordLaws.{ReadsBefore}
 use Rattle.records.specs.WireKinds.{recordKind, wireKind}
-use Rattle.records.specs.FileFigures.{wiresAt, recordAt, sizeAt, recordsFrom, firstRecord, fileVariables, wireCount, fileRecords, fileOutputs}
+use Rattle.records.specs.FileFigures.{wiresAt, recordAt, sizeAt, recordsFrom, firstRecord, fileVariables, wireCount, fileRecords}
 use Rattle.records.specs.FilePartLaws.{wires-length, file-count, record-of, outputs-of}
 use Rattle.records.specs.FileLaws.{place-next}
 use Rattle.records.specs.InverseLaws.{place-is}
-use Rattle.records.specs.Limits.{mostFileBytes, mostWires}
+use Rattle.records.specs.Limits.{mostWires}
 use Rattle.records.specs.LaidOut.{recordPlace, WholeAt, LaidOut}
 use Rattle.records.specs.CircuitRows.{stands, allStand, outputsStand, standing}
 use Rattle.records.specs.RowLaws.{Headed}

@@ -13,11 +13,10 @@ use Rattle.codes.specs.Codes.{entryOf, operationOf, codeOf, startCode}
 use Rattle.codes.specs.CodeLaws.{code-operation}
 use Rattle.codes.specs.declared.Kind.{Kind}
 use Rattle.codes.specs.declared.Kind.the-variants as kind
-use Rattle.codes.specs.declared.Operation.{Operation}
 use Rattle.codes.specs.declared.Code.{Code}
 use Rattle.records.specs.Records.{Record, operation, choice, pick, guard}
 use Rattle.records.specs.WireKinds.{recordKind}
-use Rattle.records.specs.FileFigures.{wiresAt, pairsAt, recordAt, sizeAt}
+use Rattle.records.specs.FileFigures.{wiresAt, pairsAt, recordAt}
 use Rattle.records.specs.FilePartLaws.{wires-length, pairs-length}
 use Rattle.records.specs.FoundForms.{OtherByte, operation-byte, form-input, form-word, form-bit, form-choice, form-pick, form-guard, form-other, form-operation}
 use Rattle.records.specs.RecordBounds.{Coded, is-input, is-word, is-bit, is-operation, is-choice, is-pick, is-guard, known-coded}
