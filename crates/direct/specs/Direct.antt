@@ -6,17 +6,14 @@ use mathlib.Core.List.{List}
 use lib.ListN.{length}
 use lib.Dec.{eqb}
 use Rattle.words.specs.Buffers.{over}
-use Rattle.answers.specs.Answers.{refusal}
+use Rattle.answers.specs.Answers.{thenRow}
 use Rattle.answers.specs.declared.Answer.{Answer}
 use Rattle.gates.specs.Running.{runRule}
 use Rattle.direct.specs.Inputs.{inputRow}
 
--- rule before inputs: a refused rule's answer, else the inputs' row, else the accepted rule's answer with the counts that it has
+-- rule before inputs
 unfoldable pub runAnswer : Answer → List ℕ → List ℕ → ℕ → Answer
-runAnswer rule s inputs room =
-    cond (eqb (rule .number) 0)
-    (cond (eqb (inputRow s inputs room) 0) rule (refusal (inputRow s inputs room) 0))
-    rule
+runAnswer rule s inputs room = thenRow rule (inputRow s inputs room)
 
 -- the result places after it: a refusal writes to none, success the first V and nothing after
 unfoldable pub runResults : Answer → List ℕ → List ℕ → List ℕ → List ℕ
