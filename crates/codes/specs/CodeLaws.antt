@@ -23,6 +23,10 @@ same-kind kind.Word kind.Bit h = absurd (false≢true h)
 same-kind kind.Bit kind.Word h = absurd (false≢true h)
 same-kind kind.Bit kind.Bit h = refl
 
+pub itself-kind : (a : Kind) → sameKind a a ≡ true
+itself-kind kind.Word = refl
+itself-kind kind.Bit = refl
+
 pub kind-bit : (b : ℕ) → b ≡ 1 → kindOf b ≡ kind.Bit
 unfolding kindOf
 kind-bit b h = rw h

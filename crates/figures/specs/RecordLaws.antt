@@ -14,24 +14,7 @@ use Rattle.records.specs.FoundForms.{OtherByte, form-input, form-word, form-bit
 use Rattle.records.specs.Limits.{mostWires, mostGuardWires}
 use Rattle.figures.specs.Working.{held, Workable}
 
--- any other byte, as the last arm of a decision over the bytes is told it
-pub other : (b : ℕ) {N : Type 0}
-    → (((((((N × (b ≡ 0x00 → ⊥)) × (b ≡ 0x01 → ⊥)) × (b ≡ 0x11 → ⊥)) × (b ≡ 0x12 → ⊥)) × (b ≡ 0x30 → ⊥)) × (b ≡ 0x31 → ⊥)) × (b ≡ 0x32 → ⊥))
-    → OtherByte b
-other b r = record {
-  no-word = r .0 .0 .0 .0 .0 .0 .1;
-  no-bit = r .0 .0 .0 .0 .0 .1;
-  no-word-constant = r .0 .0 .0 .0 .1;
-  no-bit-constant = r .0 .0 .0 .1;
-  no-choice = r .0 .0 .1;
-  no-pick = r .0 .1;
-  no-guard = r .1;
-}
-
 -- what the figure of a record needs, by its first byte
-pub first-inside : (f : List ℕ) (at : ℕ) → at + sizeAt f at ≤ length f → at < length f
-first-inside f at h = omega (arith, h, size-some f at)
-
 module _ (f : List ℕ) (v at : ℕ) (k : Workable f v mostWires at) where
   wires-as : (r : Record) → recordAt f at ≡ r → Inside mostWires (reads r)
   wires-as r e = subst (λ (q : Record). Inside mostWires (reads q)) e (k .earlier)

@@ -20,14 +20,6 @@ ghost use Rattle.records.specs.LaidOut.{recordPlace};
 ghost use Rattle.figures.specs.Runnable.{Runnable};
 ghost use Rattle.figures.specs.Working.{held, Workable, figuresOf};
 
-// The wire whose number stands at a place.
-fn wire_at(file: &[u8], at: usize) -> WireId
-    requires { ⌜ at + 2 ≤ length (now file) ⌝ }
-    ensures { λ r. ⌜ r .0 ≡ numberAt 2 (now (file .entry)) at ⌝ }
-{
-    WireId(words::read16(file, at))
-}
-
 // The figure of a wire that is worked out.
 fn figure_of(figures: &[u32; 640], w: WireId) -> u32
     requires { ⌜ w .0 < mostWires ⌝ }
@@ -41,7 +33,7 @@ fn figure_at(file: &[u8], at: usize, figures: &[u32; 640]) -> u32
     requires { ⌜ (at + 2 ≤ length (now file)) × (numberAt 2 (now file) at < mostWires) ⌝ }
     ensures { λ r. ⌜ r ≡ held (now (figures .entry)) (numberAt 2 (now (file .entry)) at) ⌝ }
 {
-    let w = wire_at(file, at);
+    let w = parts::wire_at(file, at);
     figure_of(figures, w)
 }
 
@@ -157,23 +149,6 @@ fn record_figure(file: &[u8], at: usize, inputs: &[u32], figures: &[u32; 640]) -
     }
 }
 
-// The bytes of the record at a place.
-fn record_size(file: &[u8], at: usize) -> usize
-    requires { ⌜ at + sizeAt (now file) at ≤ length (now file) ⌝ }
-    ensures { λ r. ⌜ r ≡ sizeAt (now (file .entry)) at ⌝ }
-{
-    match file[at] {
-        0x00 => 2,
-        0x01 => 2,
-        0x11 => 5,
-        0x12 => 2,
-        0x30 => 7,
-        0x31 => 2 + 4 * words::wide8(file[at + 1]),
-        0x32 => 10 + 2 * words::wide8(file[at + 1]),
-        _ => 1 + 2 * words::wide8(codes::code_of(file[at]).arity),
-    }
-}
-
 // Works out every record's figure; gives the place after the records.
 fn work_out(file: &[u8], inputs: &[u32], figures: &mut [u32; 640]) -> usize
     requires { ⌜ Runnable (now file) (length (now inputs)) × (length (now figures) ≡ mostWires) ⌝ }
@@ -186,7 +161,7 @@ fn work_out(file: &[u8], inputs: &[u32], figures: &mut [u32; 640]) -> usize
     while i < count {
         let figure = record_figure(file, at, inputs, figures);
         figures[i] = figure;
-        at = at + record_size(file, at);
+        at = at + parts::record_size(file, at);
         i = i + 1;
     }
     at

@@ -11,6 +11,8 @@ pub mod Sums
 pub mod RecordLaws
 pub mod WireKindLaws
 pub mod RowLaws
+pub mod StandLaws
+pub mod StandingLaws
 pub mod SizeLaws
 pub mod FilePartLaws
 pub mod FitRecords
@@ -24,4 +26,5 @@ pub mod SumLaws
 pub mod FigureKindLaws
 pub mod BackLaws
 pub mod InverseLaws
+pub mod FormatLaws
 pub mod Examples

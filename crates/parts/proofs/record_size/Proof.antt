@@ -6,9 +6,9 @@ use borrow.Author.Needs.{needs}
 use Rattle.codes.specs.declared.Code.{Code}
 use Rattle.codes.specs.declared.Kind.the-variants as kind
 use Rattle.records.specs.FoundForms.{form-input, form-word, form-bit, form-choice, form-pick, form-guard, form-other}
-use Rattle.figures.specs.RecordLaws.{first-inside, other}
-use Rattle.figures.proofs.record_size.Statement.{statement}
-use Rattle.figures.proofs.record_size.Tie as tie
+use Rattle.parts.specs.FirstByteLaws.{first-inside, other}
+use Rattle.parts.proofs.record_size.Statement.{statement}
+use Rattle.parts.proofs.record_size.Tie as tie
 
 shared-slice-read-match : tie.Need-shared-slice-read-match
 shared-slice-read-match c = first-inside _ _ (c .before .before .pre)

@@ -1,0 +1,84 @@
+use denote.Ref.{now}
+use borrow.Author.Needs.{needs}
+use Rattle.codes.specs.declared.Kind.the-variants as kind
+use Rattle.parts.specs.FirstByteLaws.{first-inside, other}
+use Rattle.parts.specs.HeldLaws.{input-kind, word-kind, bit-kind, guard-kind, choice-kind, operation-kind, pick-kind, choice-value, pick-value}
+use Rattle.parts.proofs.record_is_bit.Statement.{statement}
+use Rattle.parts.proofs.record_is_bit.Tie as tie
+
+shared-slice-read-match : tie.Need-shared-slice-read-match
+shared-slice-read-match c = first-inside _ _ (c .before .before .pre .0 .inside)
+
+wire-at-requires : tie.Need-wire-at-requires
+wire-at-requires c κs =
+    let d = c .before .before .before in
+    choice-value _ _ (now (d .args .bits)) (d .pre .0) (d .pre .1) (c .match .keys5) .0
+
+is-bit-requires : tie.Need-is-bit-requires
+is-bit-requires c κs =
+    let d = c .before .before .before .before in
+    rw (c .wire-at .ensures) (choice-value _ _ (now (d .args .bits)) (d .pre .0) (d .pre .1) (c .before .match .keys5) .1)
+
+wire-at-requires-2 : tie.Need-wire-at-requires-2
+wire-at-requires-2 c κs =
+    let d = c .before .before .before in
+    pick-value _ _ (now (d .args .bits)) (d .pre .0) (d .pre .1) (c .match .keys6) .0
+
+is-bit-requires-2 : tie.Need-is-bit-requires-2
+is-bit-requires-2 c κs =
+    let d = c .before .before .before .before in
+    rw (c .wire-at2 .ensures) (pick-value _ _ (now (d .args .bits)) (d .pre .0) (d .pre .1) (c .before .match .keys6) .1)
+
+shared-slice-read-code-of : tie.Need-shared-slice-read-code-of
+shared-slice-read-code-of c = first-inside _ _ (c .before .before .before .before .pre .0 .inside)
+
+returns : tie.Need-returns
+returns c = input-kind _ _ (now (c .before .before .before .args .bits)) kind.Word (c .match .keys1)
+
+returns-2 : tie.Need-returns-2
+returns-2 c = input-kind _ _ (now (c .before .before .before .args .bits)) kind.Bit (c .match .keys2)
+
+returns-3 : tie.Need-returns-3
+returns-3 c = word-kind _ _ (now (c .before .before .before .args .bits)) (c .match .keys3)
+
+returns-4 : tie.Need-returns-4
+returns-4 c = bit-kind _ _ (now (c .before .before .before .args .bits)) (c .match .keys4)
+
+returns-5 : tie.Need-returns-5
+returns-5 c = choice-kind _ _ (now (c .before .before .before .before .before .args .bits)) (c .before .before .match .keys5) _ _ (c .before .wire-at .ensures) (c .is-bit .ensures)
+
+returns-6 : tie.Need-returns-6
+returns-6 c =
+    let d = c .before .before .before .before .before in
+    pick-kind _ _ (now (d .args .bits)) (d .pre .0) (c .before .before .match .keys6) _ _ (c .before .wire-at2 .ensures) (c .is-bit2 .ensures)
+
+returns-7 : tie.Need-returns-7
+returns-7 c = guard-kind _ _ (now (c .before .before .before .args .bits)) (c .match .keys7)
+
+returns-8 : tie.Need-returns-8
+returns-8 c =
+    let d = c .before .before .before .before .before .before in
+    operation-kind _ _ (now (d .args .bits)) (d .pre .0) (other _ (c .before .before .before .match .rest)) _ _ (c .before .code-of .ensures) (c .kind-is-bit .ensures)
+
+pub record-is-bit-spec : {M : Type 1} → statement M
+record-is-bit-spec =
+    tie.close
+    (tie.spec
+    shared-slice-read-match
+    (λ c. search needs)
+    wire-at-requires
+    is-bit-requires
+    (λ c. search needs)
+    wire-at-requires-2
+    is-bit-requires-2
+    shared-slice-read-code-of
+    (λ c κs. search needs)
+    (λ c κs. search needs)
+    returns
+    returns-2
+    returns-3
+    returns-4
+    returns-5
+    returns-6
+    returns-7
+    returns-8)

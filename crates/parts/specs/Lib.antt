@@ -1,0 +1,4 @@
+pub mod HeldKinds
+pub mod FirstByteLaws
+pub mod HeldLaws
+pub mod TableLaws

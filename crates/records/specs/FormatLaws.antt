@@ -1,0 +1,84 @@
+-- Laws for document 02, C-11: a file passes the rows 60 to 62 exactly when it is the bytes of a well-formed list of records and outputs. Assumes nothing.
+use Prim.Native.Nat.{ℕ, _≤_}
+use mathlib.Core.Path.{_≡_, refl, subst, subst⁻¹}
+use mathlib.Core.List.{List}
+use mathlib.Core.Bool.{Bool, true, false, cond}
+use mathlib.Core.Logic.{_↔_}
+use native.Mathlib.Omega.{arith}
+use lib.ListN.{length}
+use Rattle.words.specs.Numbers.{Bytes}
+use Rattle.records.specs.Records.{Record}
+use Rattle.records.specs.CircuitFile.{fileBytes}
+use Rattle.records.specs.FileFigures.{fileVariables, fileRecords, fileOutputs}
+use Rattle.records.specs.Limits.{mostFileBytes}
+use Rattle.records.specs.FilePartLaws.{file-count}
+use Rattle.records.specs.FileLaws.{file-found}
+use Rattle.records.specs.InverseLaws.{file-back, laid-fits, laid-bounded, file-laid}
+use Rattle.records.specs.LaidOut.{LaidOut}
+use Rattle.records.specs.CircuitRows.{headed, laid, standing, circuitRow}
+use Rattle.records.specs.WellFormed.{Standing, WellFormed}
+use Rattle.records.specs.RowLaws.{Headed, headed-right, laid-right}
+use Rattle.records.specs.StandingLaws.{standing-right}
+
+-- no row refuses the file: its head, its layout and what stands in it
+pub record Passed (f : List ℕ) : Type 0 where
+  pub head : Headed f
+  pub layout : LaidOut f
+  pub stand : Standing (fileVariables f) (fileRecords f) (fileOutputs f)
+
+rows : (a b c : Bool) → _≡_ {A = ℕ} (cond a (cond b (cond c 0 62) 61) 60) 0 → (a ≡ true) × (b ≡ true) × (c ≡ true)
+rows true true true h = (refl, refl, refl)
+rows true true false h = absurd (omega arith)
+rows true false c h = absurd (omega arith)
+rows false b c h = absurd (omega arith)
+
+pub row-passed : (f : List ℕ) → circuitRow f ≡ 0 → Passed f
+unfolding circuitRow
+row-passed f h =
+    let (a, b, c) = rows (headed f) (laid f) (standing f) h in
+    let head = headed-right f .0 a in
+    record { head = head; layout = laid-right f head .0 b; stand = standing-right f .0 c }
+
+pub passed-row : (f : List ℕ) → Passed f → circuitRow f ≡ 0
+unfolding circuitRow
+passed-row f p = rw (headed-right f .1 (p .head), laid-right f (p .head) .1 (p .layout), standing-right f .1 (p .stand))
+
+-- the file of a well-formed circuit passes
+pub well-row : (v : ℕ) (R : List Record) (outputs : List ℕ) → WellFormed v R outputs → circuitRow (fileBytes v R outputs) ≡ 0
+well-row v R outputs w =
+    let f = fileBytes v R outputs in
+    let (records, outs, count, wires) = file-found v R outputs (w .fits) in
+    let layout = file-laid v R outputs (w .fits) (w .bounded) in
+    passed-row f (record {
+      head = record {
+        long = layout .headed;
+        short = w .size;
+        marked = layout .marked;
+        some = w .some;
+        few = w .few;
+        wires = omega (arith, wires, w .wires);
+      };
+      layout = layout;
+      stand = rw (count, records, outs) (w .standing);
+    })
+
+-- what passes is the file of a well-formed circuit: the one that is read from it
+pub row-well : (f : List ℕ) → Bytes f → circuitRow f ≡ 0 → WellFormed (fileVariables f) (fileRecords f) (fileOutputs f)
+row-well f bytes h =
+    let p = row-passed f h in
+    record {
+      some = p .head .some;
+      few = p .head .few;
+      wires = omega (arith, file-count f, p .head .wires);
+      size = subst (λ (x : List ℕ). length x ≤ mostFileBytes) (file-back f bytes (p .layout)) (p .head .short);
+      fits = laid-fits f bytes (p .layout);
+      bounded = laid-bounded f (p .layout);
+      standing = p .stand;
+    }
+
+pub circuit-format : (f : List ℕ) → Bytes f
+    → (circuitRow f ≡ 0) ↔ ((v : ℕ) × (R : List Record) × (outputs : List ℕ) × WellFormed v R outputs × (f ≡ fileBytes v R outputs))
+circuit-format f bytes = (
+  λ h. (fileVariables f, fileRecords f, fileOutputs f, row-well f bytes h, file-back f bytes (row-passed f h .layout)),
+  λ w. subst⁻¹ (λ (x : List ℕ). circuitRow x ≡ 0) (w .4) (well-row (w .0) (w .1) (w .2) (w .3)),
+)
