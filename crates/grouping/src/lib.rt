@@ -6,6 +6,7 @@ ghost use mathlib.Core.Bool.{_&&_, true};
 ghost use Prim.Native.Nat.{_<_, _≤_};
 ghost use lib.Dec.{eqb, leb, ltb};
 ghost use lib.ListN.{length, getD, take, replicate};
+ghost use Rattle.words.specs.Lists.{every, same};
 ghost use Rattle.gates.specs.Limits.{mostGates};
 ghost use Rattle.plan.specs.PlanFile as file;
 ghost use Rattle.plan.specs.Groups.{smallest};
@@ -68,7 +69,7 @@ fn size_fits(plan: &[u8]) -> bool
 // 21: the mark and version.
 fn marked(plan: &[u8]) -> bool
     requires { ⌜ 9 ≤ length (now plan) ⌝ }
-    ensures { λ r. ⌜ r ≡ checks.same (take 5 (now (plan .entry))) file.mark ⌝ }
+    ensures { λ r. ⌜ r ≡ same (take 5 (now (plan .entry))) file.mark ⌝ }
 {
     match answers::read_mark(plan, b"PLN\x00\x01", 21) {
         Step::Past(_) => true,
@@ -99,7 +100,7 @@ fn groups_end(plan: &[u8]) -> bool
 // 25: the numbers of the group rise, and are gates: each is at least `least`, one above the number before it, and below the gate count.
 fn numbers_rise(plan: &[u8], at: usize, count: usize) -> bool
     requires { ⌜ (file.after (now plan) at ≤ length (now plan)) × (length (now plan) ≤ 1024) ⌝ }
-    ensures { λ r. ⌜ r ≡ (checks.rises (file.groupAt (now (plan .entry)) at) && checks.every (λ g. ltb g count) (file.groupAt (now (plan .entry)) at)) ⌝ }
+    ensures { λ r. ⌜ r ≡ (checks.rises (file.groupAt (now (plan .entry)) at) && every (λ g. ltb g count) (file.groupAt (now (plan .entry)) at)) ⌝ }
 {
     let size = size_at(plan, at);
     let mut least: usize = 0;
@@ -194,7 +195,7 @@ fn join_members(
     places: &mut [u16; 256],
 ) -> bool
     requires { ⌜ ReadableGroup count (now plan) at ⌝ }
-    ensures free { λ r. ⌜ r ≡ checks.every (λ g. eqb (getD (now (places .entry)) g 0) 0) (file.groupAt (now (plan .entry)) at) ⌝ }
+    ensures free { λ r. ⌜ r ≡ every (λ g. eqb (getD (now (places .entry)) g 0) 0) (file.groupAt (now (plan .entry)) at) ⌝ }
     ensures groups { λ r. ⌜ (r ≡ true → now (group .exit) ≡ putAll (file.groupAt (now (plan .entry)) at) (smallest (file.groupAt (now (plan .entry)) at)) (now (group .entry))) ⌝ }
     ensures places { λ r. ⌜ (r ≡ true → now (places .exit) ≡ putAll (file.groupAt (now (plan .entry)) at) at (now (places .entry))) ⌝ }
 {
