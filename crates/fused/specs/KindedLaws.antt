@@ -15,7 +15,6 @@ use Rattle.reading.specs.Header.{kindAt}
 use Rattle.gates.specs.Gates.{Gate, arguments}
 use Rattle.gates.specs.Gates as gate
 use Rattle.gates.specs.GateKinds.{gateKind, GateFits}
-use Rattle.plan.specs.Groups.{members}
 use Rattle.records.specs.Records.{Record, operation, pick}
 use Rattle.records.specs.WireKinds.{guardsOf, valuesOf, recordKind, AllOf, RecordFits}
 use Rattle.records.specs.WireKindLaws.{GivesKind, KindsGiven}

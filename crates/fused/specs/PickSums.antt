@@ -17,7 +17,7 @@ use Rattle.answers.specs.declared.Answer.{Answer}
 use Rattle.reading.specs.Header.{variables, kindAt}
 use Rattle.gates.specs.KindLaws.{FiguresFit}
 use Rattle.plan.specs.Rows.{planAnswer}
-use Rattle.records.specs.Records.{Pair, Record, input, pick, guard, recordIn, pickFigure, guardFigure}
+use Rattle.records.specs.Records.{Pair, input, pick, guard, recordIn, pickFigure, guardFigure}
 use Rattle.records.specs.WireKinds.{valuesOf, wireKind}
 use Rattle.records.specs.WireFigures.{pickSum, wireFigure}
 use Rattle.records.specs.Sums.{guardsAtOne}

@@ -21,7 +21,6 @@ use Rattle.plan.specs.PlanFile.{groupsIn}
 use Rattle.plan.specs.Groups.{groupOf, members, restsOf}
 use Rattle.plan.specs.Rows.{planAnswer}
 use Rattle.plan.specs.AcceptedLaws.{plan-accepted}
-use Rattle.records.specs.Records.{recordIn}
 use Rattle.records.specs.RecordLaws.{Along, along-map, along-at}
 use Rattle.records.specs.WireKinds.{recordKind, wireKind}
 use Rattle.records.specs.WireKindLaws.{kinds-right}
