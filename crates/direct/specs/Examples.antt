@@ -6,6 +6,7 @@ use Rattle.words.specs.Numbers.{number}
 use Rattle.words.specs.Buffers.{over}
 use Rattle.codes.specs.Codes.{kindOf, operationOf, codeOf}
 use Rattle.codes.specs.Results.{resultOf}
+use Rattle.codes.specs.Inputs.{someAbove, inputsRow}
 use Rattle.answers.specs.Parsing.{readMark}
 use Rattle.answers.specs.Answers.{success, refusal}
 use Rattle.reading.specs.Header.{readCount, readKinds, readHeader}
@@ -17,7 +18,7 @@ use Rattle.gates.specs.Running.{figureOf, runStatement, runBlock, runRule}
 use Rattle.gates.specs.Gates.{costs, conditions}
 use Rattle.gates.specs.PlainCircuit.{applyGate, makeExpr, assignsIn, assigns, choices, makeStatement, makeBlock, plainCircuit}
 use Rattle.circuit.specs.Whole.{wholeWithin, ruleAnswer}
-use Rattle.direct.specs.Inputs.{someAbove, inputRow}
+use Rattle.direct.specs.Inputs.{inputRow}
 use Rattle.direct.specs.Direct.{runAnswer, runResults}
 
 -- example 2: R1, inputs 1, 6, 7: results 1, 42, 7. Inputs 0, 6, 7: 0, 49, 7.
@@ -30,21 +31,21 @@ example-2-results = refl
 example-2-rows : inputRow r1 (1 ∷ 6 ∷ 7 ∷ []) 3 ∷ inputRow r1 (0 ∷ 6 ∷ 7 ∷ []) 3 ∷ inputRow r1 (2 ∷ 6 ∷ 7 ∷ []) 3 ∷ inputRow r1 (2 ∷ 6 ∷ []) 2 ∷ inputRow r1
     (1 ∷ 6 ∷ 7 ∷ []) 2 ∷ []
     ≡ 0 ∷ 0 ∷ 41 ∷ 40 ∷ 42 ∷ []
-unfolding kindOf someAbove inputRow
+unfolding kindOf someAbove inputsRow inputRow
 example-2-rows = refl
 
 -- the places of the results, one more than are needed
 example-2-run : runResults (ruleAnswer r1) r1 (1 ∷ 6 ∷ 7 ∷ []) (9 ∷ 9 ∷ 9 ∷ 9 ∷ []) ∷ runResults (ruleAnswer r1) r1 (2 ∷ 6 ∷ 7 ∷ []) (9 ∷ 9 ∷ 9 ∷ 9 ∷ []) ∷ []
     ≡ (1 ∷ 42 ∷ 7 ∷ 9 ∷ []) ∷ (9 ∷ 9 ∷ 9 ∷ 9 ∷ []) ∷ []
 unfolding over number kindOf operationOf codeOf resultOf readMark readCount readKinds readHeader readVariable readWord readBit operationWith exprWith readExpr readAssign
-    branchWith statementWith blockWith blockFuel readBlock readRule figureOf runStatement runBlock someAbove inputRow runRule runAnswer runResults applyGate makeExpr
+    branchWith statementWith blockWith blockFuel readBlock readRule figureOf runStatement runBlock someAbove inputsRow inputRow runRule runAnswer runResults applyGate makeExpr
     assignsIn assigns choices makeStatement makeBlock plainCircuit costs conditions wholeWithin ruleAnswer
 example-2-run = refl
 
 example-2-answer : runAnswer (ruleAnswer r1) r1 (1 ∷ 6 ∷ 7 ∷ []) 4 ∷ runAnswer (ruleAnswer r1) r1 (2 ∷ 6 ∷ 7 ∷ []) 4 ∷ [] ≡ success 6 0 0 33 0 ∷ refusal 41 0 ∷ []
 unfolding number kindOf operationOf codeOf readMark readCount readKinds readHeader readVariable readWord readBit operationWith exprWith readExpr readAssign branchWith
     statementWith blockWith blockFuel readBlock readRule applyGate makeExpr assignsIn assigns choices makeStatement makeBlock plainCircuit costs conditions wholeWithin
-    ruleAnswer someAbove inputRow runAnswer
+    ruleAnswer someAbove inputsRow inputRow runAnswer
 example-2-answer = refl
 
 -- three words: v2 := v0, the operation's code, v1

@@ -6,6 +6,7 @@ use Rattle.settings.specs.Sets.{collect, restsOn, rests}
 use Rattle.settings.specs.Numbers.{numbers}
 use Rattle.codes.specs.Codes.{kindOf, operationOf, codeOf}
 use Rattle.codes.specs.Results.{resultOf}
+use Rattle.codes.specs.Inputs.{someAbove, inputsRow}
 use Rattle.answers.specs.declared.Answer.{Answer}
 use Rattle.answers.specs.Parsing.{readMark}
 use Rattle.reading.specs.Header.{readCount, readKinds, readHeader}
@@ -26,7 +27,7 @@ use Rattle.plan.specs.Rows.{planRow, planAnswer}
 use Rattle.plan.specs.Examples.{p1, example-5}
 use Rattle.records.specs.Examples.{file3}
 use Rattle.fused.specs.Examples.{example-3, example-3-answer, example-3-short}
-use Rattle.direct.specs.Inputs.{someAbove, inputRow}
+use Rattle.direct.specs.Inputs.{inputRow}
 use Rattle.direct.specs.Direct.{runAnswer, runResults}
 use Rattle.examples.specs.Starred.{Starred, bothGroup}
 use Rattle.examples.specs.MeaningLaws.{precondition, unneeded, rests-on, waits-for, written-whole, written-short}
@@ -35,7 +36,7 @@ pub starred : Starred
 unfolding number bytesOf kindOf operationOf codeOf resultOf readMark readCount readKinds readHeader readVariable readWord readBit operationWith exprWith readExpr
     readAssign branchWith statementWith blockWith blockFuel readBlock readRule figureOf runStatement runBlock runRule applyGate makeExpr assignsIn assigns choices
     makeStatement makeBlock plainCircuit costs conditions collect numbers preconditions preconditionSets wholeWithin ruleAnswer restsOn rests groupsIn groups restsOf
-    waitsFor order planRow planAnswer over someAbove inputRow runAnswer runResults
+    waitsFor order planRow planAnswer over someAbove inputsRow inputRow runAnswer runResults
 starred =
     record {
       example-1 = (refl, refl, precondition r1 refl 3 0xAAAAAAAAAAAAAAAA refl, precondition r1 refl 4 0x5555555555555555 refl);

@@ -1,7 +1,7 @@
-pub mod Runnable
 pub mod Working
+pub mod AcceptedLaws
 pub mod StepLaws
 pub mod OperationLaws
 pub mod RecordLaws
 pub mod WorkingLaws
-pub mod Examples
+pub mod GivingLaws

@@ -1,24 +1,25 @@
--- Laws of working out a choice, a pick and a guard's number, one for each step of the code. Assumes nothing.
-use Prim.Native.Nat.{ℕ, suc, _+_, _-_, _*_, _^_, _≤_, _<_}
+-- Laws of working out a choice, a pick's sum and a guard's number, one for each step of the code. Assumes nothing.
+use Prim.Native.Nat.{ℕ, zero, suc, _+_, _-_, _*_, _%_, _^_, _≤_, _<_}
 use mathlib.Core.Path.{_≡_, refl, sym, ap, _∙_}
-use mathlib.Core.Bool.{Bool, cond}
-use mathlib.Core.List.{List, _∷_}
+use mathlib.Core.Bool.{Bool, true, false, cond}
+use mathlib.Core.List.{List}
 use mathlib.Core.Logic.{inl, inr}
 use native.Mathlib.Omega.{arith}
 use lib.ListN.{length}
 use lib.Pow.{pow-mono}
 use borrow.Author.Tests.{eq-eqb, ne-eqb}
-use Rattle.words.specs.Numbers.{numberAt}
+use Rattle.words.specs.Numbers.{numberAt, sumOf}
 use Rattle.words.specs.Lists.{Inside}
 use Rattle.settings.specs.Settings.{bitOf, numberOf}
 use Rattle.settings.specs.SettingLaws.{numberOf-below}
 use Rattle.settings.specs.Sets.{has}
 use Rattle.codes.specs.Results.{isOne}
-use Rattle.records.specs.Records.{pairWires, pickFigure, guardFigure}
+use Rattle.records.specs.Records.{pairWires, guardFigure}
+use Rattle.records.specs.WireFigures.{sumFigure}
 use Rattle.records.specs.FileFigures.{wiresAt, pairsAt}
 use Rattle.records.specs.FilePartLaws.{wires-length, wire-of}
 use Rattle.records.specs.Limits.{mostWires, mostGuardWires}
-use Rattle.figures.specs.Working.{held}
+use Rattle.figures.specs.Working.{held, pickBy}
 
 -- a choice: its condition is 1, or it is not
 pub chosen-first : (x a b g r : ℕ) → g ≡ x → g ≡ 1 → r ≡ a → r ≡ cond (isOne x) a b
@@ -27,50 +28,68 @@ chosen-first x a b g r e one h = h ∙ rw (eq-eqb _ 1 (sym e ∙ one))
 pub chosen-second : (x a b g r : ℕ) → g ≡ x → (g ≡ 1 → ⊥) → r ≡ b → r ≡ cond (isOne x) a b
 chosen-second x a b g r e none h = h ∙ rw (ne-eqb _ 1 (λ z. none (e ∙ z)))
 
--- amid the pairs of a pick: `left` of them, from `here` on, decide
-pub record Picking (f figures : List ℕ) (at count here left : ℕ) : Type 0 where
-  pub inside : here + 4 * left ≤ length f
-  pub wires : Inside mostWires (pairWires (pairsAt left f here))
-  pub same : pickFigure (held figures) (pairsAt count f at) ≡ pickFigure (held figures) (pairsAt left f here)
+-- amid the pairs of a pick: the pairs from t on are summed
+pub record Summing (f figures : List ℕ) (at count t sum : ℕ) : Type 0 where
+  pub below : t ≤ count
+  pub inside : at + 4 * count ≤ length f
+  pub wires : Inside mostWires (pairWires (pairsAt count f at))
+  pub same : sum ≡ sumFigure (held figures) (pairsAt (count - t) f (at + 4 * t)) % 4294967296
 
-pub picking-start : (f figures : List ℕ) (at count : ℕ) → at + 4 * count ≤ length f → Inside mostWires (pairWires (pairsAt count f at))
-    → Picking f figures at count at count
-picking-start f figures at count h w = record { inside = h; wires = w; same = refl }
+pub summing-start : (f figures : List ℕ) (at count t : ℕ) → at + 4 * count ≤ length f → Inside mostWires (pairWires (pairsAt count f at)) → t ≡ count
+    → Summing f figures at count t 0
+summing-start f figures at count t h w e =
+    let z : count - t ≡ 0 = omega arith in
+    record { below = omega arith; inside = h; wires = w; same = sym (ap (λ (n : ℕ). sumFigure (held figures) (pairsAt n f (at + 4 * t)) % 4294967296) z) }
 
--- one pair more is looked at
-first-pair : (f : List ℕ) (here left : ℕ) → 0 < left
-    → pairsAt left f here ≡ record { guarding = numberAt 2 f here; value = numberAt 2 f (here + 2) } ∷ pairsAt (left - 1) f (here + 4)
-first-pair f here left h = let e : left ≡ suc (left - 1) = omega arith in ap (λ (n : ℕ). pairsAt n f here) e
+-- the wires of pair i
+pair-of : (k n : ℕ) (f : List ℕ) (at i : ℕ) → Inside k (pairWires (pairsAt n f at)) → i < n → (numberAt 2 f (at + 4 * i) < k) × (numberAt 2 f (at + 4 * i + 2) < k)
+pair-of k zero f at i w h = absurd (omega arith)
+pair-of k (suc n) f at zero w h = let e : at + 4 * 0 ≡ at = omega arith in rw e (w _ (inl refl), w _ (inr (inl refl)))
+pair-of k (suc n) f at (suc i) w h =
+    let e : at + 4 * suc i ≡ at + 4 + 4 * i = omega arith in rw e (pair-of k n f (at + 4) i (λ a m. w a (inr (inr m))) (omega arith))
 
-module _ (f figures : List ℕ) (at count here left : ℕ) (p : Picking f figures at count here left) (h : 0 < left) where
-  pub guard-inside : numberAt 2 f here < mostWires
-  guard-inside = p .wires _ (rw (first-pair f here left h) (inl refl))
+module _ (f figures : List ℕ) (at count t sum : ℕ) (p : Summing f figures at count t sum) where
+  summed : t ≤ 0 → sum ≡ sumFigure (held figures) (pairsAt count f at) % 4294967296
+  summed h = let a : count - t ≡ count = omega arith in let b : at + 4 * t ≡ at = omega arith in p .same ∙ rw (a, b)
 
-  pub value-inside : numberAt 2 f (here + 2) < mostWires
-  value-inside = p .wires _ (rw (first-pair f here left h) (inr (inl refl)))
+  -- of words the sum itself, of bits its last bit
+  pub summed-words : t ≤ 0 → (bit : Bool) → bit ≡ false → sum ≡ pickBy bit (held figures) (pairsAt count f at)
+  summed-words h bit e = rw e (summed h)
 
-  looked : pickFigure (held figures) (pairsAt count f at)
-      ≡ cond (isOne (held figures (numberAt 2 f here))) (held figures (numberAt 2 f (here + 2))) (pickFigure (held figures) (pairsAt (left - 1) f (here + 4)))
-  looked = p .same ∙ ap (pickFigure (held figures)) (first-pair f here left h)
+  pub summed-bits : t ≤ 0 → (bit : Bool) → bit ≡ true → sum % 2 ≡ pickBy bit (held figures) (pairsAt count f at)
+  summed-bits h bit e = rw e (omega (arith, summed h))
 
-  -- its guard is 1
-  pub picked : (g v : ℕ) → g ≡ held figures (numberAt 2 f here) → g ≡ 1 → v ≡ held figures (numberAt 2 f (here + 2))
-      → v ≡ pickFigure (held figures) (pairsAt count f at)
-  picked g v e one r = r ∙ sym (looked ∙ rw (eq-eqb _ 1 (sym e ∙ one)))
+  module _ (h : 0 < t) where
+    pub pair-inside : (numberAt 2 f (at + 4 * (t - 1)) < mostWires) × (numberAt 2 f (at + 4 * (t - 1) + 2) < mostWires)
+    pair-inside = pair-of mostWires count f at (t - 1) (p .wires) (omega (arith, p .below))
 
-  -- it is not
-  pub passed : (g : ℕ) → g ≡ held figures (numberAt 2 f here) → (g ≡ 1 → ⊥) → Picking f figures at count (here + 4) (left - 1)
-  passed g e none = record {
-    inside = omega (arith, p .inside);
-    wires = λ w m. p .wires w (rw (first-pair f here left h) (inr (inr m)));
-    same = looked ∙ rw (ne-eqb _ 1 (λ z. none (e ∙ z)));
-  }
+    -- the pair before them
+    one-pair : sumFigure (held figures) (pairsAt (count - (t - 1)) f (at + 4 * (t - 1)))
+        ≡ cond (isOne (held figures (numberAt 2 f (at + 4 * (t - 1))))) (held figures (numberAt 2 f (at + 4 * (t - 1) + 2))) 0
+        + sumFigure (held figures) (pairsAt (count - t) f (at + 4 * t))
+    one-pair =
+        let a : count - (t - 1) ≡ suc (count - t) = omega (arith, p .below) in let b : at + 4 * (t - 1) + 4 ≡ at + 4 * t = omega arith in
+        ap (λ (n : ℕ). sumFigure (held figures) (pairsAt n f (at + 4 * (t - 1)))) a
+        ∙ rw b
 
-pub none-picked : (f figures : List ℕ) (at count here left : ℕ) → Picking f figures at count here left → left ≤ 0
-    → 0 ≡ pickFigure (held figures) (pairsAt count f at)
-none-picked f figures at count here left p h =
-    let e : left ≡ 0 = omega arith in
-    sym (p .same ∙ ap (λ (n : ℕ). pickFigure (held figures) (pairsAt n f here)) e)
+    summing-next : (s n : ℕ) → cond (isOne (held figures (numberAt 2 f (at + 4 * (t - 1))))) (held figures (numberAt 2 f (at + 4 * (t - 1) + 2))) 0 ≡ n
+        → s ≡ (sum + n) % 4294967296 → Summing f figures at count (t - 1) s
+    summing-next s n e q = record {
+      below = omega (arith, p .below);
+      inside = p .inside;
+      wires = p .wires;
+      same =
+          let a : s ≡ (n + sumFigure (held figures) (pairsAt (count - t) f (at + 4 * t))) % 4294967296 = omega (arith, q, p .same) in
+          a ∙ ap (λ (m : ℕ). m % 4294967296) (sym (one-pair ∙ rw e));
+    }
+
+    -- its guard is 1, or it is not
+    pub summing-one : (g v s : ℕ) → g ≡ held figures (numberAt 2 f (at + 4 * (t - 1))) → g ≡ 1 → v ≡ held figures (numberAt 2 f (at + 4 * (t - 1) + 2))
+        → s ≡ sumOf sum v → Summing f figures at count (t - 1) s
+    summing-one g v s e one r q = summing-next s v (rw (eq-eqb _ 1 (sym e ∙ one)) (sym r)) q
+
+    pub summing-none : (g : ℕ) → g ≡ held figures (numberAt 2 f (at + 4 * (t - 1))) → (g ≡ 1 → ⊥) → Summing f figures at count (t - 1) sum
+    summing-none g e none = summing-next sum 0 (rw (ne-eqb _ 1 (λ z. none (e ∙ z)))) (omega (arith, p .same))
 
 -- amid the wires of a guard: j is the number of the wires from t on
 pub record CountingWires (f figures : List ℕ) (at count t j : ℕ) : Type 0 where

@@ -1,37 +1,49 @@
--- Inner, for document 01, "The fused circuit file": working out figures record by record. The figures of the wires lie in an array, wire w's at w.
-use Prim.Native.Nat.{ℕ, _+_, _≤_, _<_}
+-- Inner, for document 01, "The fused circuit file": working out figures record by record. The figures of the wires lie in an array, wire w's at w; beside it one that says
+-- which wires are bits: document 02, C-11, asks for it where a pick is summed.
+use Prim.Native.Nat.{ℕ, _%_, _≤_, _<_}
 use mathlib.Core.Path.{_≡_}
+use mathlib.Core.Bool.{Bool}
 use mathlib.Core.List.{List, []}
 use lib.ListN.{length, getD}
-use Rattle.words.specs.Lists.{_∈_, Inside}
+use Rattle.words.specs.Lists.{Inside}
 use Rattle.words.specs.Buffers.{over}
 use Rattle.words.specs.Runs.{run}
-use Rattle.records.specs.Records.{reads, recordFigure}
-use Rattle.records.specs.FileFigures.{recordAt, sizeAt, recordsFrom, firstRecord, wireCount}
-use Rattle.records.specs.Limits.{mostWires, mostGuardWires}
-use Rattle.records.specs.LaidOut.{recordCodes, recordPlace}
-use Rattle.figures.specs.Runnable.{Runnable}
+use Rattle.codes.specs.declared.Kind.{Kind}
+use Rattle.records.specs.Records.{Pair, input, reads, recordFigure}
+use Rattle.records.specs.WireKinds.{wireKind}
+use Rattle.records.specs.WireFigures.{figuresIn, sumFigure, pickSum}
+use Rattle.records.specs.FileFigures.{recordAt, recordsFrom, firstRecord, fileVariables, wireCount, fileRecords}
+use Rattle.records.specs.Limits.{mostWires}
+use Rattle.records.specs.LaidOut.{recordPlace, WholeAt}
+use Rattle.records.specs.FormatLaws.{Passed}
+use Rattle.parts.specs.HeldKinds.{kindBy}
+use Rattle.parts.specs.TableLaws.{HoldsKinds}
 
 -- the figure that an array holds for a wire
 abbrev pub held : List ℕ → ℕ → ℕ
 held figures w = getD figures w 0
 
+-- what a pick gives that is told whether its values are bits
+abbrev pub pickBy : Bool → (ℕ → ℕ) → List Pair → ℕ
+pickBy bit W l = sumFigure W l % figuresIn (kindBy bit)
+
 -- the record at a place can be worked out: on v inputs, from the first n wires
 pub record Workable (f : List ℕ) (v n at : ℕ) : Type 0 where
-  pub inside : at + sizeAt f at ≤ length f
-  pub known : getD f at 0 ∈ recordCodes
-  pub counted : getD f at 0 ≡ 0x32 → getD f (at + 1) 0 ≤ mostGuardWires
-  pub inputs : getD f at 0 ≤ 0x01 → getD f (at + 1) 0 < v
+  pub whole : WholeAt f at
+  pub inputs : (k : Kind) (x : ℕ) → recordAt f at ≡ input k x → x < v
   pub earlier : Inside n (reads (recordAt f at))
 
 -- the figures of the first i wires, record by record
 unfoldable pub figuresOf : List ℕ → List ℕ → ℕ → List ℕ
-figuresOf f inputs i = run 0 (recordFigure inputs) (recordsFrom i f firstRecord) []
+figuresOf f inputs i = run 0 (recordFigure inputs (pickSum (wireKind (fileRecords f)))) (recordsFrom i f firstRecord) []
 
--- amid the records: the first i are worked out over the figures that were there before, the next begins at `at`
-pub record AmidRecords (f inputs before figures : List ℕ) (at i : ℕ) : Type 0 where
-  pub runnable : Runnable f (length inputs)
+-- amid the records: the first i are worked out over the figures that were there before, and so are their kinds; the next begins at `at`
+pub record AmidRecords (f inputs before figures : List ℕ) (bits : List Bool) (at i : ℕ) : Type 0 where
+  pub passed : Passed f
+  pub given : length inputs ≡ fileVariables f
   pub room : length before ≡ mostWires
   pub few : i ≤ wireCount f
   pub place : at ≡ recordPlace f i
   pub same : figures ≡ over (figuresOf f inputs i) before
+  pub many : length bits ≡ mostWires
+  pub kinds : HoldsKinds (fileRecords f) bits i

@@ -1,5 +1,5 @@
-// Document 01, "The fused circuit file": the figures of a circuit file, worked out from its bytes record by record.
-// The figures lie in an array of plain numbers; a wire's number in hand is a `WireId`.
+// Document 01, "The fused circuit file", and document 02, C-11: the figures of a circuit file of any origin that passes rows 60 to 62, worked out from its bytes record by record.
+// The figures lie in an array of plain numbers, and beside it which wires are bits; a wire's number in hand is a `WireId`.
 use codes::Form;
 use records::WireId;
 ghost use mathlib.Core.Path.{_≡_};
@@ -13,12 +13,12 @@ ghost use Rattle.words.specs.Lists.{Inside};
 ghost use Rattle.settings.specs.Settings.{numberOf};
 ghost use Rattle.codes.specs.Codes.{operationOf, codeOf};
 ghost use Rattle.codes.specs.Results.{isOne, resultOn};
-ghost use Rattle.records.specs.Records.{pairWires, pickFigure, guardFigure, recordFigure};
-ghost use Rattle.records.specs.FileFigures.{wiresAt, pairsAt, recordAt, sizeAt, fileVariables, wireCount, fileFigures};
+ghost use Rattle.records.specs.Records.{pairWires, guardFigure, recordFigure};
+ghost use Rattle.records.specs.FileFigures.{wiresAt, pairsAt, recordAt, fileVariables, wireCount, fileFigures};
 ghost use Rattle.records.specs.Limits.{mostWires, mostGuardWires};
 ghost use Rattle.records.specs.LaidOut.{recordPlace};
-ghost use Rattle.figures.specs.Runnable.{Runnable};
-ghost use Rattle.figures.specs.Working.{held, Workable, figuresOf};
+ghost use Rattle.records.specs.CircuitRows.{circuitRow};
+ghost use Rattle.figures.specs.Working.{held, pickBy, Workable, figuresOf};
 
 // The figure of a wire that is worked out.
 fn figure_of(figures: &[u32; 640], w: WireId) -> u32
@@ -79,21 +79,20 @@ fn choice_figure(file: &[u8], at: usize, figures: &[u32; 640]) -> u32
     }
 }
 
-// A pick of `count` pairs from `at` on: the value of the first pair whose guard is 1, else 0.
-fn pick_figure(file: &[u8], at: usize, count: u8, figures: &[u32; 640]) -> u32
+// A pick of `count` pairs from `at` on: the sum of the values whose guards are 1, which wraps, and for bits its last bit; the last pair is read first.
+fn pick_figure(file: &[u8], at: usize, count: u8, bit: bool, figures: &[u32; 640]) -> u32
     requires { ⌜ (at + 4 * count ≤ length (now file)) × Inside mostWires (pairWires (pairsAt count (now file) at)) ⌝ }
-    ensures { λ r. ⌜ r ≡ pickFigure (held (now (figures .entry))) (pairsAt count (now (file .entry)) at) ⌝ }
+    ensures { λ r. ⌜ r ≡ pickBy bit (held (now (figures .entry))) (pairsAt count (now (file .entry)) at) ⌝ }
 {
-    let mut here = at;
-    let mut left = count;
-    while 0 < left {
-        if figure_at(file, here, figures) == 1 {
-            return figure_at(file, here + 2, figures);
+    let mut sum: u32 = 0;
+    let mut t = words::wide8(count);
+    while 0 < t {
+        t = t - 1;
+        if figure_at(file, at + 4 * t, figures) == 1 {
+            sum = words::sum(sum, figure_at(file, at + 4 * t + 2, figures));
         }
-        here = here + 4;
-        left = left - 1;
     }
-    0
+    if bit { sum % 2 } else { sum }
 }
 
 // The number whose bit t is the wire t of `count` wires from `at` on; the last wire is read first, so each moves those after it up.
@@ -132,10 +131,10 @@ fn guard_figure(file: &[u8], at: usize, count: u8, figures: &[u32; 640]) -> u32
     if settings::has(table, j) { 1 } else { 0 }
 }
 
-// The figure of the record at a place, by its first byte.
-fn record_figure(file: &[u8], at: usize, inputs: &[u32], figures: &[u32; 640]) -> u32
+// The figure of the record at a place, by its first byte; `bit`: whether its wire is a bit, for a pick.
+fn record_figure(file: &[u8], at: usize, bit: bool, inputs: &[u32], figures: &[u32; 640]) -> u32
     requires { ⌜ Workable (now file) (length (now inputs)) mostWires at ⌝ }
-    ensures { λ r. ⌜ r ≡ recordFigure (now (inputs .entry)) (held (now (figures .entry))) (recordAt (now (file .entry)) at) ⌝ }
+    ensures { λ r. ⌜ r ≡ recordFigure (now (inputs .entry)) (pickBy bit) (held (now (figures .entry))) (recordAt (now (file .entry)) at) ⌝ }
 {
     match file[at] {
         0x00 => inputs[words::wide8(file[at + 1])],
@@ -143,23 +142,26 @@ fn record_figure(file: &[u8], at: usize, inputs: &[u32], figures: &[u32; 640]) -
         0x11 => words::read32(file, at + 1),
         0x12 => file[at + 1] as u32,
         0x30 => choice_figure(file, at, figures),
-        0x31 => pick_figure(file, at + 2, file[at + 1], figures),
+        0x31 => pick_figure(file, at + 2, file[at + 1], bit, figures),
         0x32 => guard_figure(file, at + 2, file[at + 1], figures),
         _ => operation_figure(file, at, figures),
     }
 }
 
-// Works out every record's figure; gives the place after the records.
+// Works out every record's figure, and beside it which wires are bits; gives the place after the records.
 fn work_out(file: &[u8], inputs: &[u32], figures: &mut [u32; 640]) -> usize
-    requires { ⌜ Runnable (now file) (length (now inputs)) × (length (now figures) ≡ mostWires) ⌝ }
+    requires { ⌜ (circuitRow (now file) ≡ 0) × (length (now inputs) ≡ fileVariables (now file)) × (length (now figures) ≡ mostWires) ⌝ }
     ensures place { λ r. ⌜ r ≡ recordPlace (now (file .entry)) (wireCount (now (file .entry))) ⌝ }
     ensures figures { λ _. ⌜ now (figures .exit) ≡ over (figuresOf (now (file .entry)) (now (inputs .entry)) (wireCount (now (file .entry)))) (now (figures .entry)) ⌝ }
 {
     let count = words::wide16(words::read16(file, 6));
+    let mut bits = [false; 640];
     let mut at: usize = 8;
     let mut i: usize = 0;
     while i < count {
-        let figure = record_figure(file, at, inputs, figures);
+        let bit = parts::record_is_bit(file, at, &bits);
+        let figure = record_figure(file, at, bit, inputs, figures);
+        bits[i] = bit;
         figures[i] = figure;
         at = at + parts::record_size(file, at);
         i = i + 1;
@@ -186,9 +188,13 @@ fn give_outputs(file: &[u8], at: usize, figures: &[u32; 640], results: &mut [u32
     }
 }
 
-// Every variable's figure into the first results, from the inputs; nothing after them is touched.
+// Of a file that passes rows 60 to 62: every variable's figure into the first results, from the inputs; nothing after them is touched.
 pub fn run_file(file: &[u8], inputs: &[u32], results: &mut [u32])
-    requires { ⌜ Runnable (now file) (length (now inputs)) × (fileVariables (now file) ≤ length (now results)) ⌝ }
+    requires { ⌜
+        (circuitRow (now file) ≡ 0)
+        × (length (now inputs) ≡ fileVariables (now file))
+        × (fileVariables (now file) ≤ length (now results))
+        ⌝ }
     ensures { λ _. ⌜ now (results .exit) ≡ over (fileFigures (now (file .entry)) (now (inputs .entry))) (now (results .entry)) ⌝ }
 {
     let mut figures = [0u32; 640];

@@ -2,22 +2,19 @@
 use Prim.Native.Nat.{ℕ, zero, suc, _*_, _≤_, _<_}
 use mathlib.Core.Path.{_≡_, refl, _∙_, subst}
 use mathlib.Core.List.{List}
-use mathlib.Core.Bool.{Bool, true, false, not, _&&_, _||_}
+use mathlib.Core.Bool.{true, false, _&&_, _||_}
 use mathlib.Core.Logic.{_⊎_, inl, inr}
 use native.Mathlib.Omega.{arith}
-use lib.Dec.{eqb, ltb}
+use lib.Dec.{ltb}
 use borrow.Author.Tests.{ltb-true, ltb-false}
 use lib.ListN.{length, getD, set, List·getD-eq-default}
 use lib.Seq.{getD-set-same, getD-set-other}
 use Rattle.words.specs.Lists.{_∈_}
 use Rattle.words.specs.TestLaws.{split, same?}
-use Rattle.words.specs.NumberLaws.{word-below}
-use Rattle.codes.specs.Codes.{entryOf, Fits}
-use Rattle.codes.specs.Results.{bitOf, resultOf, isOne}
+use Rattle.codes.specs.Codes.{Fits}
+use Rattle.codes.specs.Results.{resultOf, isOne}
 use Rattle.codes.specs.declared.Kind.{Kind}
 use Rattle.codes.specs.declared.Kind.the-variants as kind
-use Rattle.codes.specs.declared.Operation.{Operation}
-use Rattle.codes.specs.declared.Operation.the-variants.{Sum, Difference, Product, LessThan, Equal, And, Or, Not}
 use Rattle.codes.specs.ResultLaws.{result-fits}
 use Rattle.reading.specs.Tree.{Expr, variable, word, bit, one, two, Statement, assign, skip, branch, Block, end, then}
 use Rattle.reading.specs.Kinds.{Typed, TypedStatement, TypedBlock, WordsFit, WordsStatement, WordsBlock}

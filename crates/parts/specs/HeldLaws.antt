@@ -8,7 +8,7 @@ use native.Mathlib.Omega.{arith}
 use lib.ListN.{length, getD}
 use Rattle.words.specs.Numbers.{numberAt}
 use Rattle.words.specs.Lists.{Inside}
-use Rattle.codes.specs.Codes.{operationOf, codeOf, startCode}
+use Rattle.codes.specs.Codes.{codeOf, startCode}
 use Rattle.codes.specs.CodeLaws.{code-operation}
 use Rattle.codes.specs.declared.Code.{Code}
 use Rattle.codes.specs.declared.Kind.{Kind}

@@ -1,4 +1,4 @@
--- Document 01, "Examples": 3, the file of R1 with P1, and its figures, computed from its bytes.
+-- Document 01, "Examples": 3, the file of R1 with P1: no row refuses it, and its figures, computed from its bytes; document 02, C-11: picks with several guards at 1.
 use Prim.Native.Nat.{ℕ}
 use mathlib.Core.Path.{_≡_, refl}
 use mathlib.Core.List.{List, [], _∷_, map}
@@ -8,6 +8,7 @@ use Rattle.codes.specs.Codes.{operationOf, codeOf}
 use Rattle.records.specs.WireKinds.{wireKind}
 use Rattle.records.specs.WireFigures.{wireFigure}
 use Rattle.records.specs.FileFigures.{recordAt, sizeAt, fileRecords, fileOutputs, fileFigures}
+use Rattle.records.specs.CircuitRows.{headed, wholeAt, laid, stands, standing, circuitRow}
 
 -- the file of R1 with P1, a record a line
 abbrev pub file3 : List ℕ
@@ -29,3 +30,30 @@ file3 =
 pub example-3-run : map (λ x. fileFigures file3 (x ∷ 6 ∷ 7 ∷ [])) (0 ∷ 1 ∷ []) ≡ (0 ∷ 49 ∷ 7 ∷ []) ∷ (1 ∷ 42 ∷ 7 ∷ []) ∷ []
 unfolding number bytesOf operationOf codeOf resultOf recordAt sizeAt fileRecords fileOutputs wireKind wireFigure fileFigures
 example-3-run = refl
+
+-- no row refuses it
+pub example-3-row : circuitRow file3 ≡ 0
+unfolding number bytesOf operationOf codeOf recordAt sizeAt fileRecords fileOutputs wireKind headed wholeAt laid stands standing circuitRow
+example-3-row = refl
+
+-- Document 02, C-11: "A pick with several guards at 1". A file made by hand, a record a line: a bit, two words, a pick of both words and a pick of the bit twice, each under the bit.
+abbrev pub fileOfSums : List ℕ
+fileOfSums =
+    0x43 ∷ 0x49 ∷ 0x52 ∷ 0x00 ∷ 0x01 ∷ 0x03 ∷ 0x00 ∷ 0x05
+    ∷ 0x01 ∷ 0x00
+    ∷ 0x00 ∷ 0x01
+    ∷ 0x00 ∷ 0x02
+    ∷ 0x31 ∷ 0x02 ∷ 0x00 ∷ 0x00 ∷ 0x00 ∷ 0x01 ∷ 0x00 ∷ 0x00 ∷ 0x00 ∷ 0x02
+    ∷ 0x31 ∷ 0x02 ∷ 0x00 ∷ 0x00 ∷ 0x00 ∷ 0x00 ∷ 0x00 ∷ 0x00 ∷ 0x00 ∷ 0x00
+    ∷ 0x00 ∷ 0x04 ∷ 0x00 ∷ 0x03 ∷ 0x00 ∷ 0x02
+    ∷ []
+
+pub sums-row : circuitRow fileOfSums ≡ 0
+unfolding number bytesOf operationOf codeOf recordAt sizeAt fileRecords fileOutputs wireKind headed wholeAt laid stands standing circuitRow
+sums-row = refl
+
+-- "the sum of their values modulo 4,294,967,296, or modulo 2 for bits": 1 and 1 are 0, 6 and 7 are 13, 4,294,967,295 and 7 are 6; with no guard at 1 it is 0
+pub sums-run : map (λ x. fileFigures fileOfSums x) ((0 ∷ 6 ∷ 7 ∷ []) ∷ (1 ∷ 6 ∷ 7 ∷ []) ∷ (1 ∷ 4294967295 ∷ 7 ∷ []) ∷ [])
+    ≡ (0 ∷ 0 ∷ 7 ∷ []) ∷ (0 ∷ 13 ∷ 7 ∷ []) ∷ (0 ∷ 6 ∷ 7 ∷ []) ∷ []
+unfolding number bytesOf operationOf codeOf resultOf recordAt sizeAt fileRecords fileOutputs wireKind wireFigure fileFigures
+sums-run = refl

@@ -1,29 +1,24 @@
 -- Laws of the rows 60 to 62: what each test says. Assumes nothing.
 use Prim.Native.Nat.{ℕ, zero, suc, _+_, _*_, _^_, _≤_, _<_}
-use mathlib.Core.Path.{_≡_, refl, sym, ap, subst, subst⁻¹, _∙_}
+use mathlib.Core.Path.{_≡_, refl, _∙_}
 use mathlib.Core.List.{List, [], _∷_}
-use mathlib.Core.Bool.{Bool, true, false, _&&_, cond, false≢true}
-use mathlib.Core.Logic.{_↔_, inl, inr}
-use native.Mathlib.Nat.{zero-add, add-zero}
+use mathlib.Core.Bool.{true, _&&_}
+use mathlib.Core.Logic.{_↔_}
 use native.Mathlib.Omega.{arith}
-use lib.Dec.{eqb, leb, ltb}
+use lib.Dec.{eqb, leb}
 use lib.ListN.{length, take, getD}
-use borrow.Author.Tests.{eqb-true, eq-eqb, leb-true, le-leb, ltb-true, lt-ltb}
-use Rattle.words.specs.Lists.{_∈_, Inside, elem, every, same}
-use Rattle.words.specs.MemberLaws.{elem→∈, ∈→elem, every-right, same-right, inside-right}
-use Rattle.words.specs.TestLaws.{split, both, and}
-use Rattle.codes.specs.Codes.{sameKind, entryOf}
+use borrow.Author.Tests.{eqb-true, eq-eqb, leb-true, le-leb}
+use Rattle.words.specs.Lists.{_∈_, elem, same}
+use Rattle.words.specs.MemberLaws.{elem→∈, ∈→elem, same-right}
+use Rattle.words.specs.TestLaws.{both, and}
 use Rattle.codes.specs.declared.Kind.{Kind}
 use Rattle.codes.specs.declared.Kind.the-variants as kind
-use Rattle.records.specs.Records.{Record, input, word, bit, operation, choice, pick, guard, reads, recordIn, ReadsEarlier}
-use Rattle.records.specs.RecordLaws.{NotInput, Along, along-each, along-at, ReadsBefore, Below, below-earlier}
-use Rattle.records.specs.WireKinds.{guardsOf, valuesOf, recordKind, wireKind, AllOf, RecordFits}
+use Rattle.records.specs.Records.{Record, input, word, bit, operation, choice, pick, guard}
 use Rattle.records.specs.CircuitFile.{mark}
-use Rattle.records.specs.FileFigures.{recordAt, sizeAt, placeAfter, firstRecord, fileVariables, wireCount, fileRecords, fileOutputs}
+use Rattle.records.specs.FileFigures.{recordAt, sizeAt, placeAfter, firstRecord, fileVariables, wireCount}
 use Rattle.records.specs.Limits.{mostFileBytes, mostFileVariables, mostWires, mostGuardWires}
-use Rattle.records.specs.LaidOut.{recordCodes, recordPlace, Bounded, WholeAt, LaidOut}
-use Rattle.records.specs.CircuitRows.{headed, bounded, wholeAt, laidFrom, laid, inputInPlace, allOf, kindsFit, tableFits, stands, allStand, outputsStand, standing, circuitRow}
-use Rattle.records.specs.WellFormed.{TableFits, Standing}
+use Rattle.records.specs.LaidOut.{recordCodes, Bounded, WholeAt, LaidOut}
+use Rattle.records.specs.CircuitRows.{headed, bounded, wholeAt, laidFrom, laid}
 
 -- 60: the limits of a file's head
 pub record Headed (f : List ℕ) : Type 0 where

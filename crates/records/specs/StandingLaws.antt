@@ -16,7 +16,7 @@ use Rattle.records.specs.Records.{Record, input, word, bit, operation, c
 use Rattle.records.specs.RecordLaws.{NotInput, Along, along-each, along-at, ReadsBefore, below-earlier}
 use Rattle.records.specs.WireKinds.{wireKind}
 use Rattle.records.specs.FileFigures.{fileVariables, wireCount, fileRecords, fileOutputs}
-use Rattle.records.specs.CircuitRows.{stands, allStand, outputsStand, standing}
+use Rattle.records.specs.CircuitRows.{allStand, outputsStand, standing}
 use Rattle.records.specs.WellFormed.{Standing}
 use Rattle.records.specs.FilePartLaws.{file-count}
 use Rattle.records.specs.StandLaws.{InPlace, Stands, all-to, all-back, Out, outs-to, outs-back}

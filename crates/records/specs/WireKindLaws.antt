@@ -12,7 +12,7 @@ use Rattle.words.specs.Runs.{runAt}
 use Rattle.words.specs.RunLaws.{runAt-append, runAt-last, run-right}
 use Rattle.codes.specs.declared.Kind.{Kind}
 use Rattle.codes.specs.declared.Kind.the-variants as kind
-use Rattle.records.specs.Records.{Pair, Record, input, word, bit, operation, choice, pick, guard, reads, recordIn, ReadsEarlier}
+use Rattle.records.specs.Records.{Record, input, word, bit, operation, choice, pick, guard, reads, recordIn, ReadsEarlier}
 use Rattle.records.specs.WireKinds.{recordKind, wireKind}
 use Rattle.records.specs.RecordLaws.{Along, along-each, ReadsBefore}
 

@@ -16,7 +16,7 @@ use Rattle.settings.specs.ListLaws.{keep-yes, keep-no}
 use Rattle.gates.specs.Gates.{Gates, gateAt, arguments}
 use Rattle.needed.specs.Held.{gatesIn}
 use Rattle.needed.specs.HeldLaws.{gates-length, gates-at}
-use Rattle.plan.specs.Groups.{members, restsOf, readsOf, waitsFor}
+use Rattle.plan.specs.Groups.{members, restsOf, readsOf}
 use Rattle.plan.specs.RestLaws.{rests-inside, rests-held}
 use Rattle.plan.specs.ReadsLaws.{waits-read, reads-inside}
 use Rattle.waiting.specs.Tables.{HasWords, bitIn, putEach}

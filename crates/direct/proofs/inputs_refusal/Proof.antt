@@ -8,30 +8,33 @@ use mathlib.Core.Logic.{⊎-elim}
 use Rattle.codes.specs.Codes.{sameKind}
 use Rattle.codes.specs.declared.Kind.{Kind}
 use Rattle.codes.specs.declared.Kind.the-variants.{Bit}
-use Rattle.reading.specs.Header.{variables}
-use Rattle.direct.specs.Inputs.{someAbove}
-use Rattle.direct.specs.InputLaws.{above-all, above-none, above-here, above-low, above-word, row-count, row-bit, row-room, row-none}
+use Rattle.codes.specs.Inputs.{someAbove}
+use Rattle.codes.specs.InputLaws.{above-all, above-none, above-here, above-low, above-word, row-count, row-bit, row-room, row-none}
+use Rattle.reading.specs.Header.{variables, kindAt}
+use Rattle.direct.specs.Inputs.{inputRow}
 use Rattle.direct.proofs.inputs_refusal.Statement.{statement}
 use Rattle.direct.proofs.inputs_refusal.Tie as tie
 
 abbrev Inv-loop : tie.InvT-loop
-Inv-loop rule inputs room count x₀ x = (x ≤ count) × (someAbove rule inputs (upto count) ≡ someAbove rule inputs (from x (count - x)))
+Inv-loop rule inputs room count x₀ x = (x ≤ count) × (someAbove (kindAt rule) inputs (upto count) ≡ someAbove (kindAt rule) inputs (from x (count - x)))
 
 abbrev μ-loop : tie.MeasureT-loop
 μ-loop rule inputs room count x₀ x = count - x
 
 returns : tie.Need-returns Inv-loop μ-loop
-returns c = sym (row-count _ _ _ (c .if1 .taken))
+unfolding inputRow
+returns c = sym (row-count _ _ _ _ (c .if1 .taken))
 
 loop-holds : tie.Need-loop-holds Inv-loop μ-loop
-loop-holds c = let a = c .before .before .before .before .args in (search needs, above-all (now (a .rule)) (now (a .inputs)) (variables (now (a .rule))))
+loop-holds c = let a = c .before .before .before .before .args in (search needs, above-all (variables (now (a .rule))) (kindAt (now (a .rule))) (now (a .inputs)))
 
 returns-2 : tie.Need-returns-2 Inv-loop μ-loop
+unfolding inputRow
 returns-2 c =
     let a = c .before .before .before .before .before .before .before .before .before .before .before .args in
     let l = c .before .before .before .before .before .before .loop in
-    sym (row-bit (now (a .rule)) (now (a .inputs)) (a .room) (c .before .before .before .before .before .before .before .if1 .left)
-    (l .inv .1 ∙ above-here (now (a .rule)) (now (a .inputs)) (variables (now (a .rule))) (l .x) (c .before .before .before .before .before .loop-test .taken)
+    sym (row-bit (variables (now (a .rule))) (kindAt (now (a .rule))) (now (a .inputs)) (a .room) (c .before .before .before .before .before .before .before .if1 .left)
+    (l .inv .1 ∙ above-here (variables (now (a .rule))) (kindAt (now (a .rule))) (now (a .inputs)) (l .x) (c .before .before .before .before .before .loop-test .taken)
     (c .before .before .before .if2 .taken)
     (ap (λ (k : Kind). sameKind k Bit) (sym (c .before .before .kind-at .ensures)) ∙ sym (c .before .same-kind .ensures) ∙ c .if3 .taken)))
 
@@ -43,23 +46,25 @@ loop-again c =
     let a = c .before .before .before .before .before .before .before .before .args in let l = c .before .before .before .loop in (
       search needs,
       l .inv .1 ∙ ⊎-elim
-          (λ w. above-word (now (a .rule)) (now (a .inputs)) (variables (now (a .rule))) (l .x) (c .before .before .loop-test .taken) (w .0 .taken)
+          (λ w. above-word (variables (now (a .rule))) (kindAt (now (a .rule))) (now (a .inputs)) (l .x) (c .before .before .loop-test .taken) (w .0 .taken)
           (ap (λ (k : Kind). sameKind k Bit) (sym (w .1 .ensures)) ∙ sym (w .2 .ensures) ∙ w .3 .left))
-          (λ w. above-low (now (a .rule)) (now (a .inputs)) (variables (now (a .rule))) (l .x) (c .before .before .loop-test .taken) (w .left))
+          (λ w. above-low (variables (now (a .rule))) (kindAt (now (a .rule))) (now (a .inputs)) (l .x) (c .before .before .loop-test .taken) (w .left))
           (c .if2 .came),
     )
 
 returns-3 : tie.Need-returns-3 Inv-loop μ-loop
+unfolding inputRow
 returns-3 c =
     let a = c .before .before .before .before .before .before .before .args in let l = c .before .before .loop in
-    sym (row-room (now (a .rule)) (now (a .inputs)) (a .room) (c .before .before .before .if1 .left)
-    (l .inv .1 ∙ above-none (now (a .rule)) (now (a .inputs)) (variables (now (a .rule))) (l .x) (c .before .loop-test .left)) (c .if4 .taken))
+    sym (row-room (variables (now (a .rule))) (kindAt (now (a .rule))) (now (a .inputs)) (a .room) (c .before .before .before .if1 .left)
+    (l .inv .1 ∙ above-none (variables (now (a .rule))) (kindAt (now (a .rule))) (now (a .inputs)) (l .x) (c .before .loop-test .left)) (c .if4 .taken))
 
 returns-4 : tie.Need-returns-4 Inv-loop μ-loop
+unfolding inputRow
 returns-4 c =
     let a = c .before .before .before .before .before .before .before .args in let l = c .before .before .loop in
-    sym (row-none (now (a .rule)) (now (a .inputs)) (a .room) (c .before .before .before .if1 .left)
-    (l .inv .1 ∙ above-none (now (a .rule)) (now (a .inputs)) (variables (now (a .rule))) (l .x) (c .before .loop-test .left)) (c .if4 .left))
+    sym (row-none (variables (now (a .rule))) (kindAt (now (a .rule))) (now (a .inputs)) (a .room) (c .before .before .before .if1 .left)
+    (l .inv .1 ∙ above-none (variables (now (a .rule))) (kindAt (now (a .rule))) (now (a .inputs)) (l .x) (c .before .loop-test .left)) (c .if4 .left))
 
 pub inputs-refusal-spec : {M : Type 1} → statement M
 inputs-refusal-spec =

@@ -2,7 +2,7 @@ use mathlib.Core.Path.{_≡_}
 use Prim.Native.Nat.{_-_}
 use borrow.Author.Needs.{needs}
 use native.Mathlib.Omega.{arith}
-use Rattle.figures.specs.WorkingLaws.{Giving, giving-start, giving-length, giving-wire, giving-more, giving-end}
+use Rattle.figures.specs.GivingLaws.{Giving, giving-start, giving-length, giving-wire, giving-more, giving-end}
 use Rattle.records.specs.FileFigures.{fileVariables}
 use Rattle.figures.proofs.give_outputs.Statement.{statement}
 use Rattle.figures.proofs.give_outputs.Tie as tie

@@ -6,12 +6,13 @@ use mathlib.Core.Path.{refl, ap}
 use borrow.Author.Needs.{needs}
 use Rattle.codes.specs.declared.Kind.the-variants as kind
 use Rattle.records.specs.FoundForms.{form-input, form-word, form-bit, form-choice, form-pick, form-guard, form-other}
-use Rattle.figures.specs.RecordLaws.{first-inside, other, input-word-takes, input-bit-takes, word-takes, bit-takes, choice-takes, pick-takes, guard-takes, operation-takes, figure-by}
+use Rattle.parts.specs.FirstByteLaws.{first-inside, other}
+use Rattle.figures.specs.RecordLaws.{input-word-takes, input-bit-takes, word-takes, bit-takes, choice-takes, pick-takes, guard-takes, operation-takes, figure-by}
 use Rattle.figures.proofs.record_figure.Statement.{statement}
 use Rattle.figures.proofs.record_figure.Tie as tie
 
 shared-slice-read-match : tie.Need-shared-slice-read-match
-shared-slice-read-match c = first-inside _ _ (c .before .before .before .pre .inside)
+shared-slice-read-match c = first-inside _ _ (c .before .before .before .pre .whole .inside)
 
 shared-slice-read-wide8 : tie.Need-shared-slice-read-wide8
 shared-slice-read-wide8 c = input-word-takes _ _ _ (c .before .before .before .before .before .pre) (c .before .match .keys1) .0
@@ -59,49 +60,49 @@ operation-figure-requires c κs = operation-takes _ _ _ (c .before .before .befo
 returns : tie.Need-returns
 returns c =
     let d = c .before .before .before .before .before .before .before in
-    figure-by (now (d .args .file)) (now (d .args .inputs)) (now (d .args .figures)) (d .args .at) _ _
+    figure-by (now (d .args .file)) (now (d .args .inputs)) (now (d .args .figures)) (d .args .at) (d .args .bit) _ _
     (form-input _ _ kind.Word (c .before .before .before .match .keys1) .0) (ap (λ (x : ℕ). getD (now (d .args .inputs)) x 0) (c .before .wide8 .ensures .0))
 
 returns-2 : tie.Need-returns-2
 returns-2 c =
     let d = c .before .before .before .before .before .before .before in
-    figure-by (now (d .args .file)) (now (d .args .inputs)) (now (d .args .figures)) (d .args .at) _ _
+    figure-by (now (d .args .file)) (now (d .args .inputs)) (now (d .args .figures)) (d .args .at) (d .args .bit) _ _
     (form-input _ _ kind.Bit (c .before .before .before .match .keys2) .0) (ap (λ (x : ℕ). getD (now (d .args .inputs)) x 0) (c .before .wide82 .ensures .0))
 
 returns-3 : tie.Need-returns-3
 returns-3 c =
     let d = c .before .before .before .before .before in
-    figure-by (now (d .args .file)) (now (d .args .inputs)) (now (d .args .figures)) (d .args .at) _ _
+    figure-by (now (d .args .file)) (now (d .args .inputs)) (now (d .args .figures)) (d .args .at) (d .args .bit) _ _
     (form-word _ _ (c .before .match .keys3) .0) (c .read32 .ensures)
 
 returns-4 : tie.Need-returns-4
 returns-4 c =
     let d = c .before .before .before .before .before in
-    figure-by (now (d .args .file)) (now (d .args .inputs)) (now (d .args .figures)) (d .args .at) _ _
+    figure-by (now (d .args .file)) (now (d .args .inputs)) (now (d .args .figures)) (d .args .at) (d .args .bit) _ _
     (form-bit _ _ (c .before .match .keys4) .0) refl
 
 returns-5 : tie.Need-returns-5
 returns-5 c =
     let d = c .before .before .before .before .before in
-    figure-by (now (d .args .file)) (now (d .args .inputs)) (now (d .args .figures)) (d .args .at) _ _
+    figure-by (now (d .args .file)) (now (d .args .inputs)) (now (d .args .figures)) (d .args .at) (d .args .bit) _ _
     (form-choice _ _ (c .before .match .keys5) .0) (c .choice-figure .ensures)
 
 returns-6 : tie.Need-returns-6
 returns-6 c =
     let d = c .before .before .before .before .before .before in
-    figure-by (now (d .args .file)) (now (d .args .inputs)) (now (d .args .figures)) (d .args .at) _ _
+    figure-by (now (d .args .file)) (now (d .args .inputs)) (now (d .args .figures)) (d .args .at) (d .args .bit) _ _
     (form-pick _ _ (c .before .before .match .keys6) .0) (c .pick-figure .ensures)
 
 returns-7 : tie.Need-returns-7
 returns-7 c =
     let d = c .before .before .before .before .before .before in
-    figure-by (now (d .args .file)) (now (d .args .inputs)) (now (d .args .figures)) (d .args .at) _ _
+    figure-by (now (d .args .file)) (now (d .args .inputs)) (now (d .args .figures)) (d .args .at) (d .args .bit) _ _
     (form-guard _ _ (c .before .before .match .keys7) .0) (c .guard-figure .ensures)
 
 returns-8 : tie.Need-returns-8
 returns-8 c =
     let d = c .before .before .before .before .before in
-    figure-by (now (d .args .file)) (now (d .args .inputs)) (now (d .args .figures)) (d .args .at) _ _
+    figure-by (now (d .args .file)) (now (d .args .inputs)) (now (d .args .figures)) (d .args .at) (d .args .bit) _ _
     (form-other _ _ (other _ (c .before .match .rest)) .0) (c .operation-figure .ensures)
 
 pub record-figure-spec : {M : Type 1} → statement M

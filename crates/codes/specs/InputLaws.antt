@@ -1,0 +1,110 @@
+-- Laws of the rows of the inputs, one for each step of the code, and what no row says. Assumes nothing.
+use Prim.Native.Nat.{ℕ, suc, _+_, _-_, _≤_, _<_}
+use native.Mathlib.Numerals.{add-one}
+use native.Mathlib.Omega.{arith}
+use mathlib.Core.Path.{_≡_, refl, sym, ap}
+use mathlib.Core.List.{List, [], _∷_}
+use mathlib.Core.Bool.{Bool, true, false, _&&_, _||_, false≢true, cond}
+use mathlib.Core.Logic.{_⊎_, inl, inr}
+use lib.ListN.{length, getD}
+use lib.Dec.{eqb, ltb, leb}
+use borrow.Author.Tests.{eq-eqb, ne-eqb, le-ltb, lt-ltb, le-leb, lt-leb, eqb-true, leb-true, ltb-false}
+use Rattle.words.specs.Lists.{_∈_, from, upto}
+use Rattle.words.specs.MemberLaws.{from-in}
+use Rattle.words.specs.TestLaws.{split, or-none}
+use Rattle.codes.specs.Codes.{sameKind, Fits}
+use Rattle.codes.specs.declared.Kind.{Kind}
+use Rattle.codes.specs.declared.Kind.the-variants as kind
+use Rattle.codes.specs.Inputs.{aboveBit, someAbove, inputsRow}
+
+module _ (v : ℕ) (kinds : ℕ → Kind) (inputs : List ℕ) where
+  -- all of v variables
+  pub above-all : someAbove kinds inputs (upto v) ≡ someAbove kinds inputs (from 0 (v - 0))
+  above-all = let n : v ≡ v - 0 = omega arith in ap (λ (k : ℕ). someAbove kinds inputs (from 0 k)) n
+
+  -- those from x on, up to v
+  module _ (x : ℕ) where
+    above-step : x < v → someAbove kinds inputs (from x (v - x)) ≡ (aboveBit kinds inputs x || someAbove kinds inputs (from (x + 1) (v - (x + 1))))
+    unfolding someAbove
+    above-step h = let n : v - x ≡ suc (v - (x + 1)) = omega arith in rw (n, add-one)
+
+    pub above-none : v ≤ x → someAbove kinds inputs (from x (v - x)) ≡ false
+    unfolding someAbove
+    above-none h = let n : v - x ≡ 0 = omega arith in rw n
+
+    pub above-here : x < v → 1 < getD inputs x 0 → sameKind (kinds x) kind.Bit ≡ true → someAbove kinds inputs (from x (v - x)) ≡ true
+    above-here h a k = rw (above-step h, lt-ltb _ _ a, k)
+
+    pub above-low : x < v → getD inputs x 0 ≤ 1 → someAbove kinds inputs (from x (v - x)) ≡ someAbove kinds inputs (from (x + 1) (v - (x + 1)))
+    above-low h a = rw (above-step h, le-ltb _ _ a)
+
+    pub above-word : x < v → 1 < getD inputs x 0 → sameKind (kinds x) kind.Bit ≡ false
+        → someAbove kinds inputs (from x (v - x)) ≡ someAbove kinds inputs (from (x + 1) (v - (x + 1)))
+    above-word h a k = rw (above-step h, lt-ltb _ _ a, k)
+
+  module _ (room : ℕ) where
+    pub row-count : (length inputs ≡ v → ⊥) → inputsRow v kinds inputs room ≡ 40
+    unfolding inputsRow
+    row-count h = rw (ne-eqb _ _ h)
+
+    module _ (n : length inputs ≡ v) where
+      pub row-bit : someAbove kinds inputs (upto v) ≡ true → inputsRow v kinds inputs room ≡ 41
+      unfolding inputsRow
+      row-bit h = rw (eq-eqb _ _ n, h)
+
+      pub row-room : someAbove kinds inputs (upto v) ≡ false → room < v → inputsRow v kinds inputs room ≡ 42
+      unfolding inputsRow
+      row-room h r = rw (eq-eqb _ _ n, h, lt-leb _ _ r)
+
+      pub row-none : someAbove kinds inputs (upto v) ≡ false → v ≤ room → inputsRow v kinds inputs room ≡ 0
+      unfolding inputsRow
+      row-none h r = rw (eq-eqb _ _ n, h, le-leb _ _ r)
+
+-- What no row says: v inputs, each of its variable's kind, and places for v results.
+
+none-above : (kinds : ℕ → Kind) (inputs l : List ℕ) (x : ℕ) → x ∈ l → someAbove kinds inputs l ≡ false → aboveBit kinds inputs x ≡ false
+unfolding someAbove
+none-above kinds inputs [] x m h = absurd m
+none-above kinds inputs (y ∷ l) x (inl e) h = rw e (or-none (aboveBit kinds inputs y) (someAbove kinds inputs l) h .0)
+none-above kinds inputs (y ∷ l) x (inr m) h = none-above kinds inputs l x m (or-none (aboveBit kinds inputs y) (someAbove kinds inputs l) h .1)
+
+fits-kind : (k : Kind) (n : ℕ) → n < 4294967296 → (ltb 1 n && sameKind k kind.Bit) ≡ false → Fits k n
+fits-kind kind.Word n w h = w
+fits-kind kind.Bit n w h = split (ltb 1 n) (λ t. let z : true ≡ false = rw t at h in absurd (false≢true (sym z))) (λ t. ltb-false 1 n t)
+
+-- the row by its three tests: it is none, and then they are so, or 40 to 42
+abbrev row : Bool → Bool → Bool → ℕ
+row a b c = cond a (cond b 41 (cond c 0 42)) 40
+
+rows : (a b c : Bool) → row a b c ≡ 0 → (a ≡ true) × (b ≡ false) × (c ≡ true)
+rows true true c h = absurd (omega arith)
+rows true false true h = (refl, refl, refl)
+rows true false false h = absurd (omega arith)
+rows false b c h = absurd (omega arith)
+
+row-range : (a b c : Bool) → (row a b c ≡ 0) ⊎ ((40 ≤ row a b c) × (row a b c ≤ 42))
+row-range true true c = inr (omega arith, omega arith)
+row-range true false true = inl refl
+row-range true false false = inr (omega arith, omega arith)
+row-range false b c = inr (omega arith, omega arith)
+
+module _ (v : ℕ) (kinds : ℕ → Kind) (inputs : List ℕ) (room : ℕ) where
+  pub inputs-range : (inputsRow v kinds inputs room ≡ 0) ⊎ ((40 ≤ inputsRow v kinds inputs room) × (inputsRow v kinds inputs room ≤ 42))
+  unfolding inputsRow
+  inputs-range = row-range (eqb (length inputs) v) (someAbove kinds inputs (upto v)) (leb v room)
+
+  module _ (h : inputsRow v kinds inputs room ≡ 0) where
+    no-row : (eqb (length inputs) v ≡ true) × (someAbove kinds inputs (upto v) ≡ false) × (leb v room ≡ true)
+    unfolding inputsRow
+    no-row = rows (eqb (length inputs) v) (someAbove kinds inputs (upto v)) (leb v room) h
+
+    pub inputs-count : length inputs ≡ v
+    inputs-count = eqb-true _ _ (no-row .0)
+
+    pub inputs-room : v ≤ room
+    inputs-room = leb-true _ _ (no-row .2)
+
+    -- inputs that are words fit the kinds of their variables
+    pub inputs-fit : ((x : ℕ) → x < v → getD inputs x 0 < 4294967296) → (x : ℕ) → x < v → Fits (kinds x) (getD inputs x 0)
+    inputs-fit words x l =
+        fits-kind (kinds x) (getD inputs x 0) (words x l) (none-above kinds inputs (upto v) x (from-in 0 v x (omega arith) (omega arith)) (no-row .1))

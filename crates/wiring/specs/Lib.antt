@@ -1,0 +1,6 @@
+pub mod Wires
+pub mod FormLaws
+pub mod SameLaws
+pub mod StepLaws
+pub mod RecordLaws
+pub mod LoopLaws

@@ -1,0 +1,92 @@
+-- Laws of row 62, one for each step of the code: a wire, wires at equal distances, a guard's table. Assumes nothing.
+use Prim.Native.Nat.{ℕ, zero, suc, _+_, _-_, _*_, _^_, _≤_, _<_}
+use mathlib.Core.Path.{_≡_, refl, sym, ap, _∙_}
+use mathlib.Core.List.{List, [], _∷_}
+use mathlib.Core.Bool.{Bool, true, false, not, _&&_}
+use native.Mathlib.Nat.{mul-suc}
+use native.Mathlib.Omega.{arith}
+use lib.Dec.{ltb}
+use lib.ListN.{length, getD}
+use borrow.Author.Tests.{lt-ltb, le-ltb}
+use Rattle.words.specs.Lists.{every}
+use Rattle.words.specs.Numbers.{numberAt}
+use Rattle.codes.specs.Codes.{sameKind}
+use Rattle.codes.specs.declared.Kind.{Kind}
+use Rattle.codes.specs.declared.Kind.the-variants as kind
+use Rattle.parts.specs.HeldKinds.{kindBy, heldKind}
+use Rattle.wiring.specs.Wires.{fits, wiresBy}
+
+-- a wire: n is its number as the code has it
+module _ (i : ℕ) (bits : List Bool) (n w : ℕ) (e : n ≡ w) where
+  pub wire-late : (k : ℕ → Kind) (j : Kind) → i ≤ n → false ≡ fits i k j w
+  wire-late k j h = rw (le-ltb w i (omega (arith, e)))
+
+  module _ (h : n < i) (b : Bool) (q : b ≡ getD bits w false) where
+    pub wire-bit : b ≡ fits i (heldKind bits) kind.Bit w
+    wire-bit = rw (lt-ltb w i (omega (arith, e)), ← q) (go b)
+      where
+        go : (b : Bool) → b ≡ sameKind (kindBy b) kind.Bit
+        go true = refl
+        go false = refl
+
+    pub wire-word : not b ≡ fits i (heldKind bits) kind.Word w
+    wire-word = rw (lt-ltb w i (omega (arith, e)), ← q) (go b)
+      where
+        go : (b : Bool) → not b ≡ sameKind (kindBy b) kind.Word
+        go true = refl
+        go false = refl
+
+-- wires at equal distances: those that are left decide
+pub record AmidWires (f : List ℕ) (t : ℕ → Bool) (step at count here left : ℕ) : Type 0 where
+  pub inside : here + step * left + 2 ≤ length f + step
+  pub same : every t (wiresBy step count f at) ≡ every t (wiresBy step left f here)
+
+pub wires-start : (f : List ℕ) (t : ℕ → Bool) (step at count : ℕ) → at + step * count + 2 ≤ length f + step → AmidWires f t step at count at count
+wires-start f t step at count h = record { inside = h; same = refl }
+
+module _ (f : List ℕ) (t : ℕ → Bool) (step at count here left : ℕ) (p : AmidWires f t step at count here left) where
+  pub wires-done : left ≤ 0 → true ≡ every t (wiresBy step count f at)
+  wires-done h = let e : left ≡ 0 = omega arith in sym (p .same ∙ ap (λ (n : ℕ). every t (wiresBy step n f here)) e)
+
+  module _ (h : 0 < left) where
+    one : left ≡ suc (left - 1)
+    one = omega arith
+
+    pub steps : step * left ≡ step + step * (left - 1)
+    steps = ap (λ (n : ℕ). step * n) one ∙ mul-suc step (left - 1) ∙ omega arith
+
+    pub wire-inside : here + 2 ≤ length f
+    wire-inside = omega (arith, p .inside, steps)
+
+    next : every t (wiresBy step left f here) ≡ (t (numberAt 2 f here) && every t (wiresBy step (left - 1) f (here + step)))
+    next = ap (λ (n : ℕ). every t (wiresBy step n f here)) one
+
+    pub wires-fail : (b : Bool) → b ≡ t (numberAt 2 f here) → b ≡ false → false ≡ every t (wiresBy step count f at)
+    wires-fail b e z = sym (p .same ∙ next ∙ rw (sym e ∙ z))
+
+    pub wires-more : (b : Bool) → b ≡ t (numberAt 2 f here) → b ≡ true → AmidWires f t step at count (here + step) (left - 1)
+    wires-more b e z = record { inside = omega (arith, p .inside, steps); same = p .same ∙ next ∙ rw (sym e ∙ z) }
+
+-- one or more wires: the first is there, and if it is late not all fit
+pub first-inside : (f : List ℕ) (step at count : ℕ) → at + step * count + 2 ≤ length f + step → 1 ≤ count → at + 2 ≤ length f
+first-inside f step at count h l = wire-inside f (λ w. true) step at count at count (wires-start f (λ w. true) step at count h) l
+
+pub first-late : (f : List ℕ) (t : ℕ → Bool) (step at count : ℕ) → 1 ≤ count → t (numberAt 2 f at) ≡ false → false ≡ every t (wiresBy step count f at)
+first-late f t step at zero h e = absurd (omega arith)
+first-late f t step at (suc n) h e = rw e
+
+-- two tests one after the other
+pub both-left : (a b r : Bool) → a ≡ true → r ≡ b → r ≡ (a && b)
+both-left a b r t e = rw t e
+
+pub both-none : (a b : Bool) → a ≡ false → false ≡ (a && b)
+both-none a b t = rw t
+
+-- a kind by the test whether it is a bit
+pub by-test : (k : Kind) (b : Bool) → b ≡ sameKind k kind.Bit → kindBy b ≡ k
+by-test kind.Word b e = ap kindBy e
+by-test kind.Bit b e = ap kindBy e
+
+-- a table of 64 bits is never too large
+pub table-whole : (d t : ℕ) → d ≤ 6 → (d ≡ 0 → ⊥) → (d ≡ 1 → ⊥) → (d ≡ 2 → ⊥) → (d ≡ 3 → ⊥) → (d ≡ 4 → ⊥) → (d ≡ 5 → ⊥) → t < 18446744073709551616 → true ≡ ltb t (2 ^ 2 ^ d)
+table-whole d t h a b c e f g l = let six : d ≡ 6 = omega arith in sym (ap (λ (n : ℕ). ltb t (2 ^ 2 ^ n)) six ∙ lt-ltb t 18446744073709551616 l)

@@ -1,0 +1,237 @@
+// Document 02, C-11, row 62: the records of a circuit file that is laid out, and its outputs: inputs first, earlier wires only, kinds as the table says, no table
+// bit too many. Which wires are bits lies in an array that is filled record by record.
+use codes::Kind;
+ghost use mathlib.Core.Path.{_≡_};
+ghost use mathlib.Core.Bool.{true, cond, _&&_};
+ghost use Prim.Native.Nat.{_+_, _*_, _^_, _<_, _≤_};
+ghost use lib.Dec.{ltb};
+ghost use lib.ListN.{length, getD};
+ghost use Rattle.words.specs.Lists.{every};
+ghost use Rattle.words.specs.Numbers.{numberAt};
+ghost use Rattle.codes.specs.Codes.{codeOf};
+ghost use Rattle.records.specs.WireKinds.{wireKind};
+ghost use Rattle.records.specs.FileFigures.{wiresAt, recordAt, fileVariables, wireCount, fileRecords};
+ghost use Rattle.records.specs.Limits.{mostFileBytes, mostWires, mostGuardWires};
+ghost use Rattle.records.specs.LaidOut.{recordPlace, WholeAt, LaidOut};
+ghost use Rattle.records.specs.CircuitRows.{headed, laid, stands, allStand, outputsStand, standing};
+ghost use Rattle.records.specs.RowLaws.{Headed};
+ghost use Rattle.parts.specs.HeldKinds.{kindBy, heldKind};
+ghost use Rattle.parts.specs.TableLaws.{HoldsKinds};
+ghost use Rattle.wiring.specs.Wires.{fits, wiresBy};
+
+// A wire that record i may read as a bit, or as a word.
+fn wire_fits(file: &[u8], at: usize, i: usize, bits: &[bool; 640], want: bool) -> bool
+    requires { ⌜ (at + 2 ≤ length (now file)) × (i ≤ mostWires) ⌝ }
+    ensures { λ r. ⌜ r ≡ fits i (heldKind (now (bits .entry))) (kindBy want) (numberAt 2 (now (file .entry)) at) ⌝ }
+{
+    let w = parts::wire_at(file, at);
+    if words::wide16(w.0) < i {
+        let bit = parts::is_bit(bits, w);
+        if want { bit } else { !bit }
+    } else {
+        false
+    }
+}
+
+// So many wires, each `step` bytes after the one before.
+fn all_fit(
+    file: &[u8],
+    at: usize,
+    step: usize,
+    count: usize,
+    i: usize,
+    bits: &[bool; 640],
+    want: bool,
+) -> bool
+    requires { ⌜
+        (length (now file) ≤ mostFileBytes)
+        × (2 ≤ step) × (step ≤ 4)
+        × (at + step * count + 2 ≤ length (now file) + step)
+        × (i ≤ mostWires)
+        ⌝ }
+    ensures { λ r. ⌜ r ≡ every (fits i (heldKind (now (bits .entry))) (kindBy want)) (wiresBy step count (now (file .entry)) at) ⌝ }
+{
+    let mut here = at;
+    let mut left = count;
+    while 0 < left {
+        if !wire_fits(file, here, i, bits, want) {
+            return false;
+        }
+        here = here + step;
+        left = left - 1;
+    }
+    true
+}
+
+// So many wires, all of the first one's kind.
+fn all_alike(
+    file: &[u8],
+    at: usize,
+    step: usize,
+    count: usize,
+    i: usize,
+    bits: &[bool; 640],
+) -> bool
+    requires { ⌜
+        (length (now file) ≤ mostFileBytes)
+        × (2 ≤ step) × (step ≤ 4)
+        × (at + step * count + 2 ≤ length (now file) + step)
+        × (i ≤ mostWires)
+        × (1 ≤ count)
+        ⌝ }
+    ensures { λ r. ⌜ r ≡ every (fits i (heldKind (now (bits .entry))) (heldKind (now (bits .entry)) (numberAt 2 (now (file .entry)) at))) (wiresBy step count (now (file .entry)) at) ⌝ }
+{
+    let w = parts::wire_at(file, at);
+    if words::wide16(w.0) < i {
+        let want = parts::is_bit(bits, w);
+        all_fit(file, at, step, count, i, bits, want)
+    } else {
+        false
+    }
+}
+
+// A table of 2^d bits: none is set from 2^d up.
+fn table_fits(table: u64, d: u8) -> bool
+    requires { ⌜ d ≤ mostGuardWires ⌝ }
+    ensures { λ r. ⌜ r ≡ ltb table (2 ^ 2 ^ d) ⌝ }
+{
+    match d {
+        0 => table < 2,
+        1 => table < 4,
+        2 => table < 16,
+        3 => table < 256,
+        4 => table < 65536,
+        5 => table < 4294967296,
+        _ => true,
+    }
+}
+
+// An operation, 20 to 27: its one or two wires are of the kind that it takes.
+fn operation_wires(file: &[u8], at: usize, i: usize, bits: &[bool; 640]) -> bool
+    requires { ⌜
+        (length (now file) ≤ mostFileBytes)
+        × (at + (1 + 2 * codeOf (getD (now file) at 0) .arity) ≤ length (now file))
+        × (i ≤ mostWires)
+        ⌝ }
+    ensures { λ r. ⌜ r ≡ every (fits i (heldKind (now (bits .entry))) (codeOf (getD (now (file .entry)) at 0) .takes)) (wiresBy 2 (codeOf (getD (now (file .entry)) at 0) .arity) (now (file .entry)) (at + 1)) ⌝ }
+{
+    let c = codes::code_of(file[at]);
+    let takes = c.takes;
+    let want = codes::same_kind(takes, Kind::Bit);
+    all_fit(file, at + 1, 2, words::wide8(c.arity), i, bits, want)
+}
+
+// A choice, 30: its condition is a bit, its two values are alike.
+fn choice_wires(file: &[u8], at: usize, i: usize, bits: &[bool; 640]) -> bool
+    requires { ⌜ (length (now file) ≤ mostFileBytes) × (at + 7 ≤ length (now file)) × (i ≤ mostWires) ⌝ }
+    ensures { λ r. ⌜ r ≡ (fits i (heldKind (now (bits .entry))) (kindBy true) (numberAt 2 (now (file .entry)) (at + 1))
+        && every (fits i (heldKind (now (bits .entry))) (heldKind (now (bits .entry)) (numberAt 2 (now (file .entry)) (at + 3)))) (wiresBy 2 2 (now (file .entry)) (at + 3))) ⌝ }
+{
+    if wire_fits(file, at + 1, i, bits, true) {
+        all_alike(file, at + 3, 2, 2, i, bits)
+    } else {
+        false
+    }
+}
+
+// A pick, 31, of `count` pairs from `at` on: its guards are bits, its values are alike.
+fn pick_wires(file: &[u8], at: usize, count: usize, i: usize, bits: &[bool; 640]) -> bool
+    requires { ⌜ (length (now file) ≤ mostFileBytes) × (at + 4 * count ≤ length (now file)) × (1 ≤ count) × (i ≤ mostWires) ⌝ }
+    ensures { λ r. ⌜ r ≡ (every (fits i (heldKind (now (bits .entry))) (kindBy true)) (wiresBy 4 count (now (file .entry)) at)
+        && every (fits i (heldKind (now (bits .entry))) (heldKind (now (bits .entry)) (numberAt 2 (now (file .entry)) (at + 2)))) (wiresBy 4 count (now (file .entry)) (at + 2))) ⌝ }
+{
+    if all_fit(file, at, 4, count, i, bits, true) {
+        all_alike(file, at + 2, 4, count, i, bits)
+    } else {
+        false
+    }
+}
+
+// A guard, 32, of `count` wires from `at` on: they are bits, and its table is no larger than they ask.
+fn guard_wires(file: &[u8], at: usize, count: u8, i: usize, bits: &[bool; 640]) -> bool
+    requires { ⌜ (length (now file) ≤ mostFileBytes) × (at + 2 * count + 8 ≤ length (now file)) × (count ≤ mostGuardWires) × (i ≤ mostWires) ⌝ }
+    ensures { λ r. ⌜ r ≡ (every (fits i (heldKind (now (bits .entry))) (kindBy true)) (wiresBy 2 count (now (file .entry)) at)
+        && ltb (numberAt 8 (now (file .entry)) (at + 2 * count)) (2 ^ 2 ^ count)) ⌝ }
+{
+    let d = words::wide8(count);
+    if all_fit(file, at, 2, d, i, bits, true) {
+        table_fits(words::read64(file, at + 2 * d), count)
+    } else {
+        false
+    }
+}
+
+// The record at a place, as record i of a file of v variables.
+fn record_stands(file: &[u8], at: usize, i: usize, v: usize, bits: &[bool; 640]) -> bool
+    requires { ⌜ (length (now file) ≤ mostFileBytes) × WholeAt (now file) at × (i ≤ mostWires) ⌝ }
+    ensures { λ r. ⌜ r ≡ stands v (heldKind (now (bits .entry))) i (recordAt (now (file .entry)) at) ⌝ }
+{
+    let code = file[at];
+    if code < 2 {
+        return i < v && words::wide8(file[at + 1]) == i;
+    }
+    if i < v {
+        return false;
+    }
+    match code {
+        0x11 => true,
+        0x12 => true,
+        0x30 => choice_wires(file, at, i, bits),
+        0x31 => pick_wires(file, at + 2, words::wide8(file[at + 1]), i, bits),
+        0x32 => guard_wires(file, at + 2, file[at + 1], i, bits),
+        _ => operation_wires(file, at, i, bits),
+    }
+}
+
+// Every record in its turn, and its kind into the table; the place after the records, or 0 where one does not stand.
+fn records_stand(file: &[u8], v: usize, count: usize, bits: &mut [bool; 640]) -> usize
+    requires { ⌜ (Headed (now file) × LaidOut (now file)) × (v ≡ fileVariables (now file)) × (count ≡ wireCount (now file)) × (length (now bits) ≡ mostWires) ⌝ }
+    ensures place { λ r. ⌜ r ≡ cond (allStand v (wireKind (fileRecords (now (file .entry)))) 0 (fileRecords (now (file .entry)))) (recordPlace (now (file .entry)) count) 0 ⌝ }
+    ensures kinds { λ r. ⌜ (0 < r → HoldsKinds (fileRecords (now (file .entry))) (now (bits .exit)) count) ⌝ }
+{
+    let mut at: usize = 8;
+    let mut i: usize = 0;
+    while i < count {
+        if !record_stands(file, at, i, v, bits) {
+            return 0;
+        }
+        let bit = parts::record_is_bit(file, at, bits);
+        bits[i] = bit;
+        at = at + parts::record_size(file, at);
+        i = i + 1;
+    }
+    at
+}
+
+// The outputs of the variables, which stand from `at` on: each a wire of its variable's kind.
+fn outputs_stand(file: &[u8], at: usize, v: usize, count: usize, bits: &[bool; 640]) -> bool
+    requires { ⌜ (at + 2 * v ≤ length (now file)) × (v ≤ count) × (count ≤ mostWires) ⌝ }
+    ensures { λ r. ⌜ r ≡ outputsStand count (heldKind (now (bits .entry))) 0 (wiresAt v (now (file .entry)) at) ⌝ }
+{
+    let mut x: usize = 0;
+    while x < v {
+        if !wire_fits(file, at + 2 * x, count, bits, bits[x]) {
+            return false;
+        }
+        x = x + 1;
+    }
+    true
+}
+
+// Row 62 over the whole file.
+pub fn standing(file: &[u8]) -> bool
+    requires { ⌜ (headed (now file) ≡ true) × (laid (now file) ≡ true) ⌝ }
+    ensures { λ r. ⌜ r ≡ standing (now (file .entry)) ⌝ }
+{
+    let v = words::wide8(file[5]);
+    let count = words::wide16(words::read16(file, 6));
+    if count < v {
+        return false;
+    }
+    let mut bits = [false; 640];
+    let at = records_stand(file, v, count, &mut bits);
+    if at == 0 {
+        return false;
+    }
+    outputs_stand(file, at, v, count, &bits)
+}
