@@ -7,12 +7,12 @@ use mathlib.Core.List.{List, [], _∷_, _++_, map}
 use mathlib.Core.Logic.{_↔_}
 use lib.ListN.{length, take, drop}
 use Rattle.words.specs.Lists.{elem}
-use Rattle.words.specs.Numbers.{Bytes}
+use Rattle.words.specs.Numbers.{Bytes, Words}
 use Rattle.codes.specs.Codes.{byteOf, commutes}
 use Rattle.codes.specs.declared.Operation.{Operation}
 use Rattle.answers.specs.Parsing.{parsed, IsRead}
 use Rattle.answers.specs.declared.Answer.{Answer}
-use Rattle.reading.specs.Header.{variables}
+use Rattle.reading.specs.Header.{variables, kindAt}
 use Rattle.reading.specs.Tree.{variable, two, Block}
 use Rattle.reading.specs.Rule.{readRule}
 use Rattle.reading.specs.Format.{headerBytes, ruleBytes, WellFormed}
@@ -23,6 +23,7 @@ use Rattle.reading.specs.OrderBytes as bytes
 use Rattle.gates.specs.Running.{runRule}
 use Rattle.gates.specs.Gates.{operation, gateAt, figureAt}
 use Rattle.gates.specs.PlainCircuit.{gatesOf, outputsOf}
+use Rattle.gates.specs.KindLaws.{FiguresFit}
 use Rattle.circuit.specs.Whole.{ruleAnswer}
 use Rattle.direct.specs.Direct.{runAnswer, runResults}
 use Rattle.direct.specs.DirectLaws as direct
@@ -96,13 +97,13 @@ plan-accepted = laws.plan-accepted
 pub reads-earlier : (s p : List ℕ) → Bytes s → planAnswer s p .number ≡ 0 → ReadsEarlier (fileRecords (fusedFile s p))
 reads-earlier s p bytes h = runs.file-earlier s p h bytes
 
--- "and the file's own records"
-pub file-run : (s p : List ℕ) → Bytes s → planAnswer s p .number ≡ 0 → (inputs : List ℕ) → length inputs ≡ variables s
-    → fileFigures (fusedFile s p) inputs ≡ runRule s inputs
+-- "and the file's own records" (on inputs of their variables' kinds: row 41 refuses others)
+pub file-run : (s p : List ℕ) → Bytes s → planAnswer s p .number ≡ 0 → (inputs : List ℕ) → FiguresFit (variables s) (kindAt s) inputs
+    → length inputs ≡ variables s → fileFigures (fusedFile s p) inputs ≡ runRule s inputs
 file-run = figures.file-run
 
--- "and every run of it give every variable the figure of a direct run": it writes what the direct run writes,
-pub same-results : (s p : List ℕ) → Bytes s → planAnswer s p .number ≡ 0 → (inputs results : List ℕ)
+-- "and every run of it give every variable the figure of a direct run": it writes what the direct run writes, on inputs that are words, as all that arrive are,
+pub same-results : (s p : List ℕ) → Bytes s → planAnswer s p .number ≡ 0 → (inputs : List ℕ) → Words inputs → (results : List ℕ)
     → fusedResults s p inputs results ≡ runResults (ruleAnswer s) s inputs results
 same-results s p bytes h = runs.same-results s p h bytes
 

@@ -9,7 +9,7 @@ use lib.Seq.{take-at, drop-at}
 use borrow.Author.Tests.{eq-eqb, eqb-true, eqb-false, leb-true, leb-false}
 use Rattle.words.specs.TestLaws.{split}
 use Rattle.words.specs.Buffers.{over}
-use Rattle.words.specs.Numbers.{Bytes}
+use Rattle.words.specs.Numbers.{Bytes, Words}
 use Rattle.answers.specs.ParsingLaws.{is-read}
 use Rattle.answers.specs.Parsing.{IsRead}
 use Rattle.answers.specs.declared.Answer.{Answer}
@@ -71,9 +71,9 @@ module _ (s p : List ℕ) where
     pub same-number : (inputs : List ℕ) (room : ℕ) → runAnswer (fusedAnswer s p) s inputs room .number ≡ runAnswer (ruleAnswer s) s inputs room .number
     same-number inputs room = numbers-same (fusedAnswer s p) (ruleAnswer s) fused-zero rule-zero s inputs room
 
-    pub same-results : Bytes s → (inputs results : List ℕ) → fusedResults s p inputs results ≡ runResults (ruleAnswer s) s inputs results
-    same-results bytes inputs results =
-        fused-results s p bytes inputs results ∙ results-same (fusedAnswer s p) (ruleAnswer s) fused-zero rule-zero s inputs results
+    pub same-results : Bytes s → (inputs : List ℕ) → Words inputs → (results : List ℕ) → fusedResults s p inputs results ≡ runResults (ruleAnswer s) s inputs results
+    same-results bytes inputs words results =
+        fused-results s p bytes inputs words results ∙ results-same (fusedAnswer s p) (ruleAnswer s) fused-zero rule-zero s inputs results
 
     -- the records that the file's bytes give
     pub file-earlier : Bytes s → ReadsEarlier (fileRecords (fusedFile s p))

@@ -1,4 +1,4 @@
--- Laws of what holds along all records that are written; so of an accepted plan an input is a variable's, and a guard reads at most six conditions. Assumes nothing.
+-- Laws of what holds along all records that are written; so of an accepted plan a bit constant is 0 or 1, a pick has a pair, a guard reads at most six conditions. Assumes nothing.
 use Prim.Native.Nat.{ℕ, _≤_, _<_}
 use native.Mathlib.Nat.{zero-add}
 use native.Mathlib.Omega.{arith}
@@ -6,14 +6,17 @@ use mathlib.Core.Path.{_≡_}
 use mathlib.Core.List.{List, [], _∷_, map}
 use lib.ListN.{length, length-map}
 use Rattle.words.specs.Lists.{upto}
+use Rattle.words.specs.Numbers.{Bytes}
+use Rattle.codes.specs.declared.Kind.{Kind}
 use Rattle.answers.specs.declared.Answer.{Answer}
 use Rattle.answers.specs.ParsingLaws.{is-read}
-use Rattle.reading.specs.Header.{variables}
+use Rattle.reading.specs.Header.{kindAt}
 use Rattle.reading.specs.Rule.{readRule}
 use Rattle.gates.specs.Gates.{Gate, Gates, gateAt, arguments}
 use Rattle.gates.specs.Gates as gate
 use Rattle.gates.specs.PlainCircuit.{gatesOf, gateCount}
-use Rattle.gates.specs.EachGateLaws.{StartGate, Starting, rule-starting}
+use Rattle.gates.specs.GateKinds.{kindOfGate, GateFits}
+use Rattle.gates.specs.GateKindLaws.{plain-fits}
 use Rattle.needed.specs.Pass.{rulePreconditions}
 use Rattle.circuit.specs.WholeLaws.{accepted}
 use Rattle.plan.specs.PlanFile.{groupsIn}
@@ -23,7 +26,7 @@ use Rattle.plan.specs.Rows.{planAnswer}
 use Rattle.plan.specs.AcceptedLaws.{plan-accepted}
 use Rattle.records.specs.Records.{Record, recordIn}
 use Rattle.records.specs.Limits.{mostGuardWires}
-use Rattle.records.specs.FitRecords.{Bounded}
+use Rattle.records.specs.LaidOut.{Bounded}
 use Rattle.fused.specs.Emission.{alone, gateOperation, guardOf, valuesAt, emit}
 use Rattle.fused.specs.FusedCircuit.{groupRecords, written, fused, recordsOf}
 use Rattle.records.specs.RecordLaws.{Along, along-append, along-at, along-map}
@@ -50,29 +53,31 @@ fused-along s p P h =
     let group = groupOf (groupsIn p) in
     written-along s (gatesOf s) (rulePreconditions s) group P h (order (gatesOf s) (rulePreconditions s) group)
 
--- an input of a gate alone is a variable's
-alone-bounded : (s : List ℕ) (wire : ℕ → ℕ) (v : ℕ) (k : Gate) → StartGate v k → Bounded v (alone s wire k)
-alone-bounded s wire v (gate.start x) h = h
-alone-bounded s wire v (gate.word n) h = tt
-alone-bounded s wire v (gate.bit b) h = tt
-alone-bounded s wire v (gate.operation op l) h = tt
-alone-bounded s wire v (gate.choice c a b) h = tt
+-- a bit constant of a gate alone is 0 or 1
+alone-bounded : (s : List ℕ) (wire : ℕ → ℕ) (kinds : ℕ → Kind) (k : Gate) → GateFits kinds k → Bounded (alone s wire k)
+alone-bounded s wire kinds (gate.start x) h = tt
+alone-bounded s wire kinds (gate.word n) h = tt
+alone-bounded s wire kinds (gate.bit b) h = h
+alone-bounded s wire kinds (gate.operation op l) h = tt
+alone-bounded s wire kinds (gate.choice c a b) h = tt
 
-emit-bounded : (v : ℕ) (s : List ℕ) (C : Gates) (sets : List ℕ) → Starting v C
-    → (wire : ℕ → ℕ) (n : ℕ) (ms : List ℕ) → Along (λ i. Bounded v) n (emit s C sets wire n ms)
-emit-bounded v s C sets starts wire n [] = tt
-emit-bounded v s C sets starts wire n (m ∷ []) = (alone-bounded s wire v (gateAt C m) (starts m), tt)
-emit-bounded v s C sets starts wire n (m ∷ k ∷ l) =
-    joined-along (λ i. Bounded v) n (gateOperation (gateAt C m)) (map (guardOf s C sets wire) (m ∷ k ∷ l)) (valuesAt s C sets wire (m ∷ k ∷ l))
+-- a guard reads at most six conditions, and a pick has a pair for each member
+emit-bounded : (kinds : ℕ → Kind) (s : List ℕ) (C : Gates) (sets : List ℕ) → ((i : ℕ) → GateFits kinds (gateAt C i))
+    → (wire : ℕ → ℕ) (n : ℕ) (ms : List ℕ) → Along (λ i. Bounded) n (emit s C sets wire n ms)
+emit-bounded kinds s C sets fits wire n [] = tt
+emit-bounded kinds s C sets fits wire n (m ∷ []) = (alone-bounded s wire kinds (gateAt C m) (fits m), tt)
+emit-bounded kinds s C sets fits wire n (m ∷ k ∷ l) =
+    joined-along (λ i. Bounded) n (gateOperation (gateAt C m)) (map (guardOf s C sets wire) (m ∷ k ∷ l)) (valuesAt s C sets wire (m ∷ k ∷ l))
     (upto (length (arguments (gateAt C m))))
-    (along-map (λ i. Bounded v) (guardOf s C sets wire) (m ∷ k ∷ l) n n (omega arith)
+    (along-map (λ i. Bounded) (guardOf s C sets wire) (m ∷ k ∷ l) n n (omega arith)
     (λ i _ _ _. let few : length (map wire (restsOf C sets i)) ≤ mostGuardWires = omega (arith, length-map (restsOf C sets i) wire, rests-few C sets i) in few))
-    (λ _ _ _ _. tt) tt
+    (λ _ _ _ _. omega arith) tt
 
 -- every record of the fused circuit of an accepted plan
-pub fused-bounded : (s p : List ℕ) → planAnswer s p .number ≡ 0 → (i : ℕ) → i < length (recordsOf s p) → Bounded (variables s) (recordIn (recordsOf s p) i)
-fused-bounded s p h =
+pub fused-bounded : (s p : List ℕ) → Bytes s → planAnswer s p .number ≡ 0 → (i : ℕ) → i < length (recordsOf s p) → Bounded (recordIn (recordsOf s p) i)
+fused-bounded s p bytes h =
     let (b, n, read) = is-read (readRule s) (accepted s (plan-accepted s p .0 h .0) .read) in
-    along-at (λ i. Bounded (variables s)) (recordsOf s p) 0
-    (fused-along s p (λ i. Bounded (variables s))
-    (λ wire k q. emit-bounded (variables s) s (gatesOf s) (rulePreconditions s) (rule-starting s b n read) wire k (members (gateCount s) (groupOf (groupsIn p)) q)))
+    along-at (λ i. Bounded) (recordsOf s p) 0
+    (fused-along s p (λ i. Bounded)
+    (λ wire k q. emit-bounded (kindOfGate (kindAt s) (gatesOf s)) s (gatesOf s) (rulePreconditions s) (plain-fits s bytes b n read) wire k
+    (members (gateCount s) (groupOf (groupsIn p)) q)))

@@ -31,13 +31,17 @@ use Rattle.fused.specs.Emission.{alone, joined, guardOf, valuesAt, emit}
 use Rattle.fused.specs.SizeJoined.{length-pairs}
 use Rattle.fused.specs.EmitLaws.{joined-along}
 
--- a table of six conditions at most has eight bytes
+-- a table has no bit past the settings of the conditions that it is over
+pub table-below : (n s : ℕ) → table n s < 2 ^ 2 ^ length (rests n s)
+unfolding table tableOver
+table-below n s = collect-below (2 ^ length (rests n s)) (λ j. has s (spread n (rests n s) j))
+
+-- so one of six conditions at most has eight bytes
 pub table-small : (s : ℕ) → table mostConditions s < 256 ^ 8
-unfolding table tableOver rests
+unfolding rests
 table-small s =
-    let ts : List ℕ = rests mostConditions s in
-    let few : length ts ≤ 6 = rw (length-from 0 mostConditions) at (length-keep (restsOn mostConditions s) (upto mostConditions)) in
-    lt-of-lt-of-le (collect-below (2 ^ length ts) (λ j. has s (spread mostConditions ts j))) (pow-mono (pow-mono few))
+    let few : length (rests mostConditions s) ≤ 6 = rw (length-from 0 mostConditions) at (length-keep (restsOn mostConditions s) (upto mostConditions)) in
+    lt-of-lt-of-le (table-below mostConditions s) (pow-mono (pow-mono few))
 
 -- a gate alone
 pub alone-sized : (s : List ℕ) (wire : ℕ → ℕ) (kinds : ℕ → Kind) (v : ℕ) (k : Gate) → GateFits kinds k → StartGate v k → v ≤ 32 → FieldsFit (alone s wire k)

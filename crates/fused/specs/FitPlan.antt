@@ -5,7 +5,7 @@ use Prim.Native.Nat.{ℕ, _+_, _≤_, _<_}
 use native.Mathlib.Omega.{arith}
 use lib.Dec.{eqb, ltb}
 use borrow.Author.Tests.{eqb-true, ltb-true, ltb-false}
-use lib.ListN.{length, take, drop, length-map, List·getD-eq-default}
+use lib.ListN.{length, length-map, List·getD-eq-default}
 use Rattle.words.specs.Lists.{_∈_, upto}
 use Rattle.words.specs.ListLaws.{length-from, length-keep}
 use Rattle.words.specs.TestLaws.{split}
@@ -29,16 +29,14 @@ use Rattle.plan.specs.GroupLaws.{member-of}
 use Rattle.plan.specs.Rows.{planAnswer}
 use Rattle.plan.specs.AcceptedLaws.{plan-accepted}
 use Rattle.plan.specs.JoinedLaws.{members-costly}
-use Rattle.records.specs.Records.{Record, word, reads, recordIn, ReadsEarlier, wireFigure}
+use Rattle.records.specs.Records.{Record, word, reads, recordIn, ReadsEarlier}
+use Rattle.records.specs.WireFigures.{wireFigure}
 use Rattle.fused.specs.FusedCircuit.{recordsOf, wireOf, outputWires, fusedFile}
-use Rattle.records.specs.CircuitFile.{recordBytes, recordsBytes}
-use Rattle.records.specs.FileFigures.{recordAt, sizeAt, placeAfter, firstRecord, fileVariables, wireCount, fileRecords, fileOutputs, fileFigures}
+use Rattle.records.specs.FileFigures.{fileVariables, wireCount, fileRecords, fileOutputs, fileFigures}
 use Rattle.records.specs.FitRecords.{Wires, AllReadBack, FileFits, FieldsFit, AllFieldsFit, all-fit}
 use Rattle.fused.specs.FitLaws.{members-few, emit-sized}
 use Rattle.fused.specs.SizeBounds.{wires-bound, outputs-count}
-use Rattle.records.specs.FileLaws.{file-place, file-record, file-part, file-inside, file-found}
-use Rattle.records.specs.LaidOut.{LaidOut}
-use Rattle.records.specs.InverseLaws.{file-laid}
+use Rattle.records.specs.FileLaws.{file-found}
 use Rattle.records.specs.FilePartLaws.{figures-at}
 use Rattle.records.specs.FileBytes.{file-bytes}
 use Rattle.fused.specs.BoundLaws.{fused-along}
@@ -88,32 +86,8 @@ module _ (s p : List ℕ) (h : planAnswer s p .number ≡ 0) where
       pub fused-fits : AllReadBack (recordsOf s p)
       fused-fits = all-fit (recordsOf s p) 0 fused-sized reads-small
 
-      -- the place of record i in the file, and what stands there
-      pub fused-place : (i : ℕ) → i ≤ length (recordsOf s p)
-          → placeAfter i (fusedFile s p) firstRecord ≡ firstRecord + length (recordsBytes (take i (recordsOf s p)))
-      unfolding fusedFile
-      fused-place i l = file-place (variables s) (recordsOf s p) (outputWires s p) fused-fits i l
-
-      pub fused-record : (i : ℕ) → i < length (recordsOf s p)
-          → (recordAt (fusedFile s p) (placeAfter i (fusedFile s p) firstRecord) ≡ recordIn (recordsOf s p) i)
-          × (sizeAt (fusedFile s p) (placeAfter i (fusedFile s p) firstRecord) ≡ length (recordBytes (recordIn (recordsOf s p) i)))
-      unfolding fusedFile
-      fused-record i l = file-record (variables s) (recordsOf s p) (outputWires s p) fused-fits i l
-
-      pub fused-part : (i : ℕ) → i < length (recordsOf s p)
-          → take (sizeAt (fusedFile s p) (placeAfter i (fusedFile s p) firstRecord)) (drop (placeAfter i (fusedFile s p) firstRecord) (fusedFile s p))
-          ≡ recordBytes (recordIn (recordsOf s p) i)
-      unfolding fusedFile
-      fused-part i l = file-part (variables s) (recordsOf s p) (outputWires s p) fused-fits i l
-
-      -- record i lies inside the file
-      pub fused-inside : (i : ℕ) → i < length (recordsOf s p)
-          → placeAfter i (fusedFile s p) firstRecord + sizeAt (fusedFile s p) (placeAfter i (fusedFile s p) firstRecord) ≤ length (fusedFile s p)
-      unfolding fusedFile
-      fused-inside i l = omega (arith, file-inside (variables s) (recordsOf s p) (outputWires s p) fused-fits i l)
-
       -- and every output wire is a wire, so the file fits its bytes
-      fused-file-fits : ((w : ℕ) → w ∈ outputWires s p → w < length (recordsOf s p)) → FileFits (variables s) (recordsOf s p) (outputWires s p)
+      pub fused-file-fits : ((w : ℕ) → w ∈ outputWires s p → w < length (recordsOf s p)) → FileFits (variables s) (recordsOf s p) (outputWires s p)
       fused-file-fits inside = record {
         each = fused-fits;
         few = omega (arith, wires-bound s p h);
@@ -127,11 +101,6 @@ module _ (s p : List ℕ) (h : planAnswer s p .number ≡ 0) where
           × (fileVariables (fusedFile s p) ≡ variables s) × (wireCount (fusedFile s p) ≡ length (recordsOf s p))
       unfolding fusedFile
       fused-found inside = file-found (variables s) (recordsOf s p) (outputWires s p) (fused-file-fits inside)
-
-      -- and it is laid out as a circuit file
-      pub fused-laid : ((w : ℕ) → w ∈ outputWires s p → w < length (recordsOf s p)) → LaidOut (fusedFile s p)
-      unfolding fusedFile
-      fused-laid inside = file-laid (variables s) (recordsOf s p) (outputWires s p) (fused-file-fits inside)
 
       -- so its figures, worked out from its bytes, are those of its records at its output wires
       pub fused-file-figures : ((w : ℕ) → w ∈ outputWires s p → w < length (recordsOf s p)) → (inputs : List ℕ)

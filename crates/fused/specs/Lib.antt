@@ -9,7 +9,6 @@ pub mod GuardLaws
 pub mod RightLaws
 pub mod SumLaws
 pub mod PlannedLaws
-pub mod PickSums
 pub mod Examples
 pub mod SizeJoined
 pub mod SizeEmit
@@ -23,5 +22,7 @@ pub mod OnlyOrderLaws
 pub mod KindedLaws
 pub mod KindWritten
 pub mod FusedKinds
-pub mod FusedFigures
 pub mod InputLaws
+pub mod PickSums
+pub mod FusedFigures
+pub mod WellFormedLaws

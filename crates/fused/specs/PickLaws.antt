@@ -27,7 +27,7 @@ places-map f v l h = go l 0 (λ k b. ap f (zero-add k) ∙ h k b)
     go (a ∷ l) i h = cc (rw add-zero at (h 0 (omega arith)), go l (suc i) (λ k b. ap f (omega arith) ∙ h (suc k) (omega arith)))
 
 -- a gate alone has the gate's figure of the figures of its arguments' wires
-pub alone-figure : (inputs s : List ℕ) (W wire : ℕ → ℕ) (k : Gate) → recordFigure inputs W (alone s wire k) ≡ figure inputs (λ a. W (wire a)) k
+pub alone-figure : (inputs s : List ℕ) (W wire : ℕ → ℕ) (k : Gate) → recordFigure inputs pickFigure W (alone s wire k) ≡ figure inputs (λ a. W (wire a)) k
 alone-figure inputs s W wire (gate.start x) = refl
 alone-figure inputs s W wire (gate.word n) = refl
 alone-figure inputs s W wire (gate.bit b) = refl

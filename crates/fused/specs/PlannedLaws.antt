@@ -1,5 +1,5 @@
 -- What an accepted plan gives the fused circuit: its groups' members are alike and exclude each other, every group is written, each gate's wire is a record's,
--- and a needed gate's wire has the plain figure. Assumes nothing.
+-- and at most one guard of a pick is 1. Assumes nothing.
 use Prim.Native.Nat.{ℕ, _≤_, _<_}
 use mathlib.Core.Path.{_≡_, sym, ap, _∙_}
 use mathlib.Core.List.{List}
@@ -13,13 +13,11 @@ use Rattle.answers.specs.ParsingLaws.{is-read}
 use Rattle.answers.specs.declared.Answer.{Answer}
 use Rattle.reading.specs.Tree.{Block}
 use Rattle.reading.specs.Rule.{readRule}
-use Rattle.codes.specs.Results.{isOne}
-use Rattle.gates.specs.Gates.{Gate, operation, gateAt, arguments, Earlier, figureAt, conditions}
+use Rattle.gates.specs.Gates.{Gate, operation, gateAt, arguments, Earlier, conditions}
 use Rattle.gates.specs.Limits.{mostConditions}
 use Rattle.gates.specs.PlainCircuit.{gatesOf}
 use Rattle.needed.specs.Held.{ShapedGate}
-use Rattle.needed.specs.Needed.{Needed, wantedOf}
-use Rattle.needed.specs.NeededLaws.{needed-inside}
+use Rattle.needed.specs.Needed.{wantedOf}
 use Rattle.needed.specs.Pass.{rulePreconditions}
 use Rattle.needed.specs.RulePreconditions.{rule-earlier, wanted-inside}
 use Rattle.needed.specs.ShapedLaws.{rule-shaped}
@@ -32,16 +30,15 @@ use Rattle.plan.specs.Accepted.{Acceptable}
 use Rattle.plan.specs.AcceptedLaws.{plan-accepted}
 use Rattle.plan.specs.GroupLaws.{groupOf-named, group-in}
 use Rattle.plan.specs.JoinedLaws.{members-costly, members-exclude}
-use Rattle.plan.specs.WaitLaws.{order-places, order-ordered, order-from, order-once}
-use Rattle.records.specs.Records.{recordIn, ReadsEarlier, wireFigure}
+use Rattle.plan.specs.WaitLaws.{order-places, order-ordered, order-from}
+use Rattle.records.specs.Records.{recordIn, ReadsEarlier}
 use Rattle.fused.specs.Emission.{gateOperation}
 use Rattle.fused.specs.FusedCircuit.{fused, recordsOf, wireOf}
-use Rattle.records.specs.RecordLaws.{along-each, along-at, run-figured}
+use Rattle.records.specs.RecordLaws.{along-each, along-at}
 use Rattle.fused.specs.WrittenLaws.{Level, wire-below, written-earlier}
 use Rattle.fused.specs.JoinedLaws.{Joined}
 use Rattle.records.specs.SumLaws.{GivesGuard, OneGuard}
 use Rattle.fused.specs.SumLaws.{written-one}
-use Rattle.fused.specs.RightLaws.{written-right}
 
 -- gates of one operation have equally many arguments, where the table says how many
 pub same-arity : (op : Operation) (a b : Gate) (l m : List ℕ) → ShapedGate a → ShapedGate b → a ≡ operation op l → b ≡ operation op m → length l ≡ length m
@@ -118,17 +115,6 @@ module _ (s p : List ℕ) (h : planAnswer s p .number ≡ 0) where
   planned-wire g l =
       wire-below s (gatesOf s) (rulePreconditions s) group (order (gatesOf s) (rulePreconditions s) group)
       (order-from (gatesOf s) (rulePreconditions s) group) (group g) (planned-group g l)
-
-  -- the wire of a gate that is needed has the plain circuit's figure
-  pub planned-figure : (inputs : List ℕ) (g : ℕ) → Needed (gatesOf s) (wantedOf s) (λ c. isOne (figureAt inputs (gatesOf s) c)) g
-      → wireFigure inputs (recordsOf s p) (wireOf s p g) ≡ figureAt inputs (gatesOf s) g
-  unfolding fused
-  planned-figure inputs g d =
-      written-right s (gatesOf s) (wantedOf s) planned-gates planned-wanted planned-few group planned-joined inputs
-      (wireFigure inputs (recordsOf s p)) (order (gatesOf s) (rulePreconditions s) group)
-      (order-once (gatesOf s) (rulePreconditions s) group) (order-ordered (gatesOf s) (rulePreconditions s) group)
-      (run-figured inputs (recordsOf s p) planned-earlier) g
-      (planned-group g (needed-inside (gatesOf s) (wantedOf s) (λ c. isOne (figureAt inputs (gatesOf s) c)) planned-gates planned-wanted g d)) d
 
   -- whatever figures W the wires hold, if each guard has its own, at most one guard of a pick is 1
   pub planned-one : (W : ℕ → ℕ) → ((i : ℕ) → GivesGuard W i (recordIn (recordsOf s p) i))

@@ -23,6 +23,7 @@ pub mod FoundRecords
 pub mod FileLaws
 pub mod FileBytes
 pub mod SumLaws
+pub mod FigureKindLaws
 pub mod BackLaws
 pub mod InverseLaws
 pub mod FormatLaws

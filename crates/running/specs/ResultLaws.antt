@@ -2,24 +2,26 @@
 use Prim.Native.Nat.{ℕ}
 use mathlib.Core.Path.{_≡_, sym, ap, _∙_}
 use mathlib.Core.List.{List}
+use native.Mathlib.Omega.{arith}
 use lib.Dec.{eqb}
 use lib.ListN.{length}
 use borrow.Author.Tests.{eqb-true, eqb-false}
 use Rattle.words.specs.Buffers.{over}
 use Rattle.words.specs.TestLaws.{split}
-use Rattle.words.specs.Numbers.{Bytes}
+use Rattle.words.specs.Numbers.{Bytes, Words}
 use Rattle.answers.specs.declared.Answer.{Answer}
-use Rattle.reading.specs.Header.{variables}
+use Rattle.reading.specs.Header.{variables, kindAt}
+use Rattle.gates.specs.KindLaws.{FiguresFit}
 use Rattle.plan.specs.Rows.{planAnswer}
 use Rattle.fused.specs.Answers.{fusedAnswer}
 use Rattle.fused.specs.AnswerLaws.{fused-plan}
 use Rattle.fused.specs.FusedFigures.{file-run}
-use Rattle.direct.specs.InputLaws.{inputs-count}
+use Rattle.direct.specs.InputLaws.{inputs-count, inputs-fit}
 use Rattle.direct.specs.Direct.{runAnswer, runResults}
 use Rattle.direct.specs.DirectLaws.{answered-rule, answered-inputs, answered-results, refused-results}
 use Rattle.running.specs.FusedRun.{fusedResults}
 
--- a run that is answered with number 0 has an accepted plan and V inputs
+-- a run that is answered with number 0 has an accepted plan and V inputs, each of its variable's kind
 module _ (s p inputs : List ℕ) (room : ℕ) (h : runAnswer (fusedAnswer s p) s inputs room .number ≡ 0) where
   taken-plan : planAnswer s p .number ≡ 0
   taken-plan = fused-plan s p (answered-rule (fusedAnswer s p) s inputs room h)
@@ -27,13 +29,18 @@ module _ (s p inputs : List ℕ) (room : ℕ) (h : runAnswer (fusedAnswer s p) s
   taken-inputs : length inputs ≡ variables s
   taken-inputs = inputs-count s inputs room (answered-inputs (fusedAnswer s p) s inputs room h)
 
--- the results of a fused run are those of a direct run that is answered so
-pub fused-results : (s p : List ℕ) → Bytes s → (inputs results : List ℕ) → fusedResults s p inputs results ≡ runResults (fusedAnswer s p) s inputs results
+  taken-kinds : Words inputs → FiguresFit (variables s) (kindAt s) inputs
+  taken-kinds words = inputs-fit s inputs room (answered-inputs (fusedAnswer s p) s inputs room h) (λ x l. words x (omega (arith, l, taken-inputs)))
+
+-- the results of a fused run, on inputs that are words, are those of a direct run that is answered so
+pub fused-results : (s p : List ℕ) → Bytes s → (inputs : List ℕ) → Words inputs → (results : List ℕ)
+    → fusedResults s p inputs results ≡ runResults (fusedAnswer s p) s inputs results
 unfolding fusedResults
-fused-results s p bytes inputs results =
+fused-results s p bytes inputs words results =
     split (eqb (runAnswer (fusedAnswer s p) s inputs (length results) .number) 0)
     (λ t.
     let zero = eqb-true _ _ t in
-    let e = file-run s p bytes (taken-plan s p inputs (length results) zero) inputs (taken-inputs s p inputs (length results) zero) in
+    let n = length results in
+    let e = file-run s p bytes (taken-plan s p inputs n zero) inputs (taken-kinds s p inputs n zero words) (taken-inputs s p inputs n zero) in
     rw t (ap (λ (f : List ℕ). over f results) e ∙ sym (answered-results (fusedAnswer s p) s inputs results zero)))
     (λ t. rw t (sym (refused-results (fusedAnswer s p) s inputs results (eqb-false _ _ t))))

@@ -16,6 +16,7 @@ use Rattle.circuit.specs.WholeLaws.{accepted}
 use Rattle.plan.specs.Rows.{planAnswer}
 use Rattle.plan.specs.AcceptedLaws.{plan-accepted}
 use Rattle.fused.specs.FusedCircuit.{fusedFile}
+use Rattle.records.specs.CircuitRows.{circuitRow}
 use Rattle.records.specs.FileFigures.{fileVariables, fileFigures}
 use Rattle.fused.specs.Answers.{fusedAnswer}
 use Rattle.fused.specs.SizeBounds.{plan-most, outputs-count, fused-size}
@@ -26,9 +27,8 @@ use Rattle.direct.specs.Inputs.{inputRow}
 use Rattle.direct.specs.InputLaws.{inputs-count, inputs-room}
 use Rattle.direct.specs.Direct.{runAnswer}
 use Rattle.direct.specs.DirectLaws.{rule-answer, inputs-answer, run-answer}
-use Rattle.figures.specs.Runnable.{Runnable}
 use Rattle.running.specs.FusedRun.{fusedResults}
-use Rattle.running.specs.RunnableLaws.{fused-runnable}
+use Rattle.running.specs.RunnableLaws.{fused-row}
 
 -- a: the answer of preparing the circuit
 module _ (s p : List ℕ) (a : Answer) (answer-is : a ≡ fusedAnswer s p) where
@@ -83,10 +83,11 @@ module _ (s p : List ℕ) (a : Answer) (answer-is : a ≡ fusedAnswer s p) where
           ap (λ (k : ℕ). take k file) n ∙ ap (take (length (fusedFile s p))) w ∙ take-over (fusedFile s p) z
 
       pub part-runnable : Bytes s → (inputs d : List ℕ) → inputRow s inputs (length d) ≡ 0
-          → Runnable (take (a .bytes - 0) (drop 0 file)) (length inputs) × (fileVariables (take (a .bytes - 0) (drop 0 file)) ≤ length d)
+          → (circuitRow (take (a .bytes - 0) (drop 0 file)) ≡ 0) × (length inputs ≡ fileVariables (take (a .bytes - 0) (drop 0 file)))
+          × (fileVariables (take (a .bytes - 0) (drop 0 file)) ≤ length d)
       part-runnable bytes inputs d none =
           let v : fileVariables (fusedFile s p) ≡ variables s = fused-found s p taken bytes (reads-earlier s p taken) (output-earlier s p taken) .2 in
-          rw (part-is, inputs-count s inputs (length d) none) (fused-runnable s p taken bytes, rw v (inputs-room s inputs (length d) none))
+          rw part-is (fused-row s p bytes taken, inputs-count s inputs (length d) none ∙ sym v, rw v (inputs-room s inputs (length d) none))
 
       pub part-run : (inputs d new : List ℕ) → new ≡ over (fileFigures (take (a .bytes - 0) (drop 0 file)) inputs) d → new ≡ over (fileFigures (fusedFile s p) inputs) d
       part-run inputs d new f = f ∙ ap (λ (x : List ℕ). over (fileFigures x inputs) d) part-is

@@ -22,6 +22,10 @@ numberAt w s at = number (take w (drop at s))
 abbrev pub Bytes : List ℕ → Type 0
 Bytes s = (i : ℕ) → i < length s → getD s i 0 < 256
 
+-- every element of l is a word: as figures and inputs are, of 32 bits
+abbrev pub Words : List ℕ → Type 0
+Words l = (i : ℕ) → i < length l → getD l i 0 < 4294967296
+
 -- the sum of two words
 abbrev pub sumOf : ℕ → ℕ → ℕ
 sumOf a b = (a + b) % 4294967296

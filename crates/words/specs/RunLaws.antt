@@ -1,10 +1,10 @@
 -- Laws of runs: what was given stays, each thing gives its value of those before it.
-use Prim.Native.Nat.{ℕ, zero, suc, _+_, _<_}
+use Prim.Native.Nat.{ℕ, zero, suc, _+_, _≤_, _<_}
 use mathlib.Core.Path.{_≡_, refl, sym, ap, _∙_}
 use mathlib.Core.List.{List, [], _∷_, _++_}
 use native.Mathlib.Nat.{add-zero, zero-add}
 use native.Mathlib.Omega.{arith}
-use lib.ListN.{length, getD, length-append, List·getD-append}
+use lib.ListN.{length, getD, length-append, List·getD-append, List·getD-eq-default}
 use lib.Seq.{getD-append-seam}
 use Rattle.words.specs.Runs.{run, runAt}
 
@@ -15,6 +15,10 @@ module _ {K A : Type 0} (d : A) (value : (ℕ → A) → K → A) where
   pub run-length : (C : List K) (f : List A) → length (run d value C f) ≡ length f + length C
   run-length [] f = sym (add-zero _)
   run-length (k ∷ C) f = run-length C (f ++ (value (λ i. getD f i d) k ∷ [])) ∙ rw one-more (omega arith)
+
+  -- past its end a run gives d
+  pub runAt-past : (C : List K) (i : ℕ) → length C ≤ i → runAt d value C i ≡ d
+  runAt-past C i h = List·getD-eq-default (run d value C []) d {n = i} (omega (arith, run-length C []))
 
   -- what was given stays
   pub run-keeps : (C : List K) (f : List A) (i : ℕ) → i < length f → getD (run d value C f) i d ≡ getD f i d

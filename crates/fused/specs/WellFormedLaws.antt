@@ -1,0 +1,97 @@
+-- Laws for document 02, C-11: "Every file that our writer makes is read": the circuit of an accepted plan is well-formed, so rows 60 to 62 find no fault with its file. Assumes nothing.
+use Prim.Native.Nat.{ℕ, _^_, _≤_, _<_}
+use mathlib.Core.Path.{_≡_, sym, ap, _∙_}
+use mathlib.Core.List.{List, [], _∷_, map}
+use native.Mathlib.Omega.{arith}
+use lib.ListN.{length, getD, length-map}
+use Rattle.words.specs.Lists.{upto}
+use Rattle.words.specs.MemberLaws.{getD-in}
+use Rattle.words.specs.Numbers.{Bytes}
+use Rattle.settings.specs.Sets.{rests}
+use Rattle.answers.specs.declared.Answer.{Answer}
+use Rattle.reading.specs.Header.{variables, kindAt}
+use Rattle.reading.specs.FirstStatement.{rule-read}
+use Rattle.gates.specs.Gates.{Gate, Gates, gateAt, arguments, conditions}
+use Rattle.gates.specs.Gates as gate
+use Rattle.gates.specs.Limits.{mostConditions}
+use Rattle.gates.specs.PlainCircuit.{gatesOf, outputsOf, gateCount}
+use Rattle.needed.specs.Pass.{rulePreconditions}
+use Rattle.circuit.specs.WholeLaws.{accepted}
+use Rattle.plan.specs.PlanFile.{groupsIn}
+use Rattle.plan.specs.Groups.{groupOf, members, restsOf}
+use Rattle.plan.specs.Rows.{planAnswer}
+use Rattle.plan.specs.AcceptedLaws.{plan-accepted}
+use Rattle.records.specs.RecordLaws.{Along, along-map, along-at}
+use Rattle.records.specs.WireKinds.{recordKind, wireKind}
+use Rattle.records.specs.WireKindLaws.{kinds-right}
+use Rattle.records.specs.WellFormed.{TableFits, Standing, WellFormed}
+use Rattle.fused.specs.Emission.{alone, gateOperation, guardOf, valuesAt, emit}
+use Rattle.fused.specs.FusedCircuit.{recordsOf, wireOf, outputWires, fusedFile}
+use Rattle.fused.specs.EmitLaws.{joined-along}
+use Rattle.fused.specs.BoundLaws.{fused-along, fused-bounded}
+use Rattle.fused.specs.FitLaws.{table-below}
+use Rattle.fused.specs.FitPlan.{fused-file-fits}
+use Rattle.fused.specs.SizeBounds.{wires-bound, outputs-count, bytes-bound}
+use Rattle.fused.specs.FusedKinds.{fused-fits, output-wire-kinds}
+use Rattle.fused.specs.InputLaws.{input-first, input-last}
+use Rattle.fused.specs.FusedFigures.{reads-earlier, output-earlier}
+
+-- only a guard has a table
+alone-table : (s : List ℕ) (wire : ℕ → ℕ) (k : Gate) → TableFits (alone s wire k)
+alone-table s wire (gate.start x) = tt
+alone-table s wire (gate.word n) = tt
+alone-table s wire (gate.bit b) = tt
+alone-table s wire (gate.operation op l) = tt
+alone-table s wire (gate.choice c a b) = tt
+
+module _ (s : List ℕ) (C : Gates) (sets : List ℕ) (wire : ℕ → ℕ) where
+  -- that of a member is over the conditions whose wires the guard reads
+  guard-table : (m : ℕ) → TableFits (guardOf s C sets wire m)
+  unfolding restsOf
+  guard-table m =
+      let ts : List ℕ = rests mostConditions (getD sets m 0) in
+      rw (length-map (map (λ t. getD (conditions C) t 0) ts) wire, length-map ts (λ t. getD (conditions C) t 0)) (table-below mostConditions (getD sets m 0))
+
+  emit-tables : (n : ℕ) (ms : List ℕ) → Along (λ i. TableFits) n (emit s C sets wire n ms)
+  emit-tables n [] = tt
+  emit-tables n (m ∷ []) = (alone-table s wire (gateAt C m), tt)
+  emit-tables n (m ∷ k ∷ l) =
+      joined-along (λ i. TableFits) n (gateOperation (gateAt C m)) (map (guardOf s C sets wire) (m ∷ k ∷ l)) (valuesAt s C sets wire (m ∷ k ∷ l))
+      (upto (length (arguments (gateAt C m))))
+      (along-map (λ i. TableFits) (guardOf s C sets wire) (m ∷ k ∷ l) n n (omega arith) (λ i _ _ _. guard-table i)) (λ _ _ _ _. tt) tt
+
+module _ (s p : List ℕ) (bytes : Bytes s) (h : planAnswer s p .number ≡ 0) where
+  -- an input's wire is of its variable's kind
+  input-kind : (x : ℕ) → x < variables s → wireKind (recordsOf s p) x ≡ kindAt s x
+  input-kind x l =
+      let (i, e) = input-first s p h x l in
+      kinds-right (recordsOf s p) (reads-earlier s p h) x i ∙ ap (recordKind (wireKind (recordsOf s p))) e
+
+  -- what row 62 asks
+  fused-standing : Standing (variables s) (recordsOf s p) (outputWires s p)
+  fused-standing = record {
+    first = λ x l. (input-first s p h x l .0, (kindAt s x, input-first s p h x l .1));
+    later = input-last s p h;
+    earlier = reads-earlier s p h;
+    kinds = fused-fits s p bytes h;
+    tables = along-at (λ i. TableFits) (recordsOf s p) 0
+        (fused-along s p (λ i. TableFits)
+        (λ wire n q. emit-tables s (gatesOf s) (rulePreconditions s) wire n (members (gateCount s) (groupOf (groupsIn p)) q)));
+    outs = λ x l.
+        let o : x < length (outputsOf s) = omega (arith, l, length-map (outputsOf s) (wireOf s p)) in (
+          output-earlier s p h (getD (outputWires s p) x 0) (getD-in (outputWires s p) x l),
+          output-wire-kinds s p bytes h x o ∙ sym (input-kind x (omega (arith, o, outputs-count s p h .0))),
+        );
+  }
+
+  pub fused-well-formed : WellFormed (variables s) (recordsOf s p) (outputWires s p)
+  unfolding fusedFile
+  fused-well-formed = record {
+    some = rule-read s (accepted s (plan-accepted s p .0 h .0) .read) .header .some;
+    few = outputs-count s p h .1;
+    wires = wires-bound s p h;
+    size = bytes-bound s p h;
+    fits = fused-file-fits s p h bytes (reads-earlier s p h) (output-earlier s p h);
+    bounded = fused-bounded s p bytes h;
+    standing = fused-standing;
+  }
