@@ -127,11 +127,12 @@ fn reading_takes_any_bytes() {
 fn every_number_is_reached() {
     let mut random = Random::new(3);
     let mut bytes = stream::STREAM_MARK.to_vec();
+    let operations: Vec<u8> = (1..=stream::LAST).collect();
     let count = 3000;
     for _ in 0..count {
-        cases::case(&mut random).put(&mut bytes);
+        cases::case(&mut random, &operations).put(&mut bytes);
     }
-    let mut numbers = vec![0; 51];
+    let mut numbers = vec![0; 63];
     let mut printed = 0;
     stream::lines(&bytes, |line| {
         printed += 1;
@@ -139,7 +140,11 @@ fn every_number_is_reached() {
         numbers[number] += 1;
     });
     assert_eq!(printed, count);
-    for number in (0..=11).chain(20..=30).chain(40..=42).chain([50]) {
+    for number in (0..=11)
+        .chain(20..=30)
+        .chain(40..=42)
+        .chain([50, 60, 61, 62])
+    {
         assert!(numbers[number] > 0, "{number} is not reached");
     }
 }

@@ -45,7 +45,7 @@ fn block(tools: &[&dyn Tool], seed: u64, block: u64, count: u64) -> Tally {
     let mut random = Random::new(seed.wrapping_mul(0x1_0000_0001).wrapping_add(block));
     let mut tally = Tally::default();
     for _ in 0..count {
-        let case = cases::case(&mut random);
+        let case = cases::rule_case(&mut random);
         let (answer, differs) = differences(tools, &case);
         let by = tally.counts.entry(answer.number).or_default();
         by[usize::from(case.operation)] += 1;

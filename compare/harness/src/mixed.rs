@@ -21,7 +21,7 @@ pub fn mixed() -> Row {
 /// it knows, each with a plan and inputs that all operations take.
 pub fn subjects(count: usize) -> Vec<Subject> {
     let mut random = Random::new(SEED);
-    std::iter::repeat_with(|| cases::case(&mut random))
+    std::iter::repeat_with(|| cases::rule_case(&mut random))
         .filter(|case| case.operation == FUSED)
         .map(|case| Subject {
             rule: case.first,
