@@ -82,6 +82,10 @@ fn row_60() {
         file[place] = byte;
         assert_refused(&file, 60);
     }
+}
+
+#[test]
+fn the_limits_of_row_60() {
     // 641 wires: 640 bit constants after the input.
     let with = |wires: usize| {
         let [high, low] = (wires as u16).to_be_bytes();
@@ -310,6 +314,29 @@ fn our_own_files() {
             assert_gives(&file, fused.records.len(), &inputs, &wanted);
         }
     }
+}
+
+/// The stored files of the repository's examples.
+#[test]
+fn stored_files() {
+    let mut random = Random::new(14);
+    let mut read = 0;
+    for example in std::fs::read_dir("../examples").unwrap() {
+        let folder = example.unwrap().path();
+        let Ok(file) = std::fs::read(folder.join("expected.cir")) else {
+            continue;
+        };
+        let accepted = accept(&std::fs::read(folder.join("rule.rul")).unwrap()).unwrap();
+        let wires = read_circuit(&file).wires;
+        for _ in 0..20 {
+            let inputs = inputs(&mut random, &accepted.rule.kinds);
+            let wanted = direct::figures(&accepted.rule, &inputs);
+            assert_gives(&file, wires, &inputs, &wanted);
+        }
+        assert_parts(&file, accepted.rule.kinds.len());
+        read += 1;
+    }
+    assert!(read >= 5, "only {read} examples");
 }
 
 /// Files of other houses are read back as they were made, and reach the limits.

@@ -299,29 +299,29 @@ fn bad_layout(random: &mut Random, mut circuit: Fused) -> Vec<u8> {
 /// Another wire than before: the record's own, a later one, none at all, or any earlier, of whatever kind.
 fn another(random: &mut Random, own: usize, wires: usize) -> Wire {
     let any = random.below(wires);
-    Wire(random.pick(&[own, own + 1, wires, 65_535, any, any, any]))
+    Wire(random.pick(&[own, own + 1, wires, 65_535, any, any, any, any, any]))
 }
 
 /// One fault of row 62, or what may be one.
 fn bad_wires(random: &mut Random, circuit: &mut Fused) {
     let wires = circuit.records.len();
     let place = random.below(wires);
-    match random.below(9) {
-        0 | 1 => move_wire(random, circuit, place),
-        2 => {
+    match random.below(12) {
+        0..=4 => move_wire(random, circuit, place),
+        5 => {
             let output = random.below(circuit.outputs.len());
             circuit.outputs[output] = another(random, wires, wires);
         }
-        3 => set_table_bit(random, circuit),
-        4 => bad_input(random, circuit),
-        5 => {
+        6 => set_table_bit(random, circuit),
+        7 => bad_input(random, circuit),
+        8 => {
             let record = circuit.records[place].clone();
             circuit.records.insert(random.among(place, wires), record);
         }
-        6 => {
+        9 => {
             circuit.records.remove(place);
         }
-        7 => {
+        10 => {
             if let Record::Operation(code, _) = &mut circuit.records[place] {
                 *code = random.among(usize::from(SUM), usize::from(OR)) as u8;
             }

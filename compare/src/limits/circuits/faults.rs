@@ -170,7 +170,7 @@ fn with_wire(own: usize, place: usize, to: usize) -> Vec<u8> {
     match wires {
         Record::Operation(_, wires) | Record::Guard(wires, _) => wires[place] = Wire(to),
         Record::Choice(condition, first, second) => *[condition, first, second][place] = Wire(to),
-        Record::Pick(pairs) if place % 2 == 0 => pairs[place / 2].0 = Wire(to),
+        Record::Pick(pairs) if place & 1 == 0 => pairs[place / 2].0 = Wire(to),
         Record::Pick(pairs) => pairs[place / 2].1 = Wire(to),
         _ => unreachable!("it reads no wire"),
     }
@@ -277,15 +277,17 @@ fn before_inputs(list: &mut List) {
     let good = sample().file();
     let late = broken(62, true, sample()).file();
     for (file, numbers) in [
-        (&good, [40, 40, 41, 42, 40]),
-        (&changed(&good, 0, 0x00), [60; 5]),
-        (&good[..good.len() - 1].to_vec(), [61; 5]),
-        (&late, [62; 5]),
+        (&good, [40, 40, 41, 42, 40, 41, 41]),
+        (&changed(&good, 0, 0x00), [60; 7]),
+        (&good[..good.len() - 1].to_vec(), [61; 7]),
+        (&late, [62; 7]),
     ] {
         list.run_circuit(file, &[1, 6, 7], 4, numbers[0]);
         list.run_circuit(file, &[1, 6, 7, 0, 0], 4, numbers[1]);
         list.run_circuit(file, &[1, 6, 7, 2], 4, numbers[2]);
         list.run_circuit(file, &[1, 6, 7, 0], 3, numbers[3]);
         list.run_circuit(file, &[2], 0, numbers[4]);
+        list.run_circuit(file, &[1, 6, 7, 2], 3, numbers[5]);
+        list.run_circuit(file, &[u32::MAX, 6, 7, 0], 0, numbers[6]);
     }
 }
