@@ -56,7 +56,7 @@ impl<'a> Pass<'a> {
     }
 
     /// All of the file, and with RUN its figures; none where it has a fault of row 61 or 62. With RUN there are V
-    /// inputs. Says whether a bit's input is above 1.
+    /// inputs, else none. Says whether a bit's input is above 1.
     #[inline(always)]
     pub fn whole<const RUN: bool>(&mut self, header: Header, inputs: &[u32]) -> Option<bool> {
         let Header { variables, wires } = header;
@@ -66,7 +66,7 @@ impl<'a> Pass<'a> {
         if wires < variables || end < at {
             return None;
         }
-        let over = self.inputs::<RUN>(variables, inputs)?;
+        let over = self.inputs(variables, inputs)?;
         for own in variables..wires {
             let (known, size) = self.record::<RUN>(own, at, end - at)?;
             self.known.set(own, known);
@@ -86,7 +86,7 @@ impl<'a> Pass<'a> {
 
     /// The first V records; whether a bit's input is above 1.
     #[inline(always)]
-    fn inputs<const RUN: bool>(&mut self, variables: usize, inputs: &[u32]) -> Option<bool> {
+    fn inputs(&mut self, variables: usize, inputs: &[u32]) -> Option<bool> {
         let mut over = false;
         for variable in 0..variables {
             let record = usize::from(two(self.file, CIRCUIT_BYTES_MIN + 2 * variable));
@@ -94,7 +94,7 @@ impl<'a> Pass<'a> {
             if kind & !0x0100 != 0 {
                 return None;
             }
-            let input = if RUN { inputs[variable] } else { 0 };
+            let input = inputs.get(variable).copied().unwrap_or(0);
             over |= kind != 0 && input > 1;
             self.known
                 .set(variable, (kind as u64) << 24 | u64::from(input));

@@ -1,6 +1,6 @@
 //! Document 01's operations 01 to 06 with request C-12, and C-11's 07 to 09, in Rust tuned for speed: a tool to
-//! measure the proved one beside. No allocation, nothing cleared that is not read, one pass over the rule, one over the plan, one
-//! backward over the gates, one to order and one to write; one over a circuit file.
+//! measure the proved one beside. No allocation, nothing cleared that is not read, one pass over the rule, one
+//! over the plan, one backward over the gates, one to order and one to write; one over a circuit file.
 //!
 //! Indices are mostly not tested and places are read uncleared (`places`): the functions here are safe to call
 //! only because what lies below is right, which nothing proves. The harness compares it with the other two tools.
