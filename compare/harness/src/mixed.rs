@@ -23,11 +23,7 @@ pub fn subjects(count: usize) -> Vec<Subject> {
     let mut random = Random::new(SEED);
     std::iter::repeat_with(|| cases::rule_case(&mut random))
         .filter(|case| case.operation == FUSED)
-        .map(|case| Subject {
-            rule: case.first,
-            plan: case.second,
-            inputs: case.inputs,
-        })
+        .map(|case| Subject::of_rule(case.first, case.second, case.inputs))
         .filter(accepted)
         .take(count)
         .collect()
