@@ -1,7 +1,7 @@
 /* Linnetshelf: reads a matching rule, runs it, checks a plan for it and writes the fused circuit,
- * byte for byte as document 01, with C-12 of document 02 (argument order), fixes it. Every function
- * here is proved to answer and to write what the definitions of crates/<crate>/specs give, for any
- * bytes at all.
+ * byte for byte as document 01 fixes it, with C-11 (circuit files from the other house are read and
+ * run) and C-12 (argument order) of document 02. Every function here is proved to answer and to write
+ * what the definitions of crates/<crate>/specs give, for any bytes at all.
  *
  * Link with target/staticlib/liblinnet.a, which `rt staticlib linnet` writes (x86-64).
  *
@@ -12,7 +12,7 @@
  *
  * Refusals. An operation either succeeds, with number 0 and place 0, or refuses, with a number, a
  * place and every count 0. A refusal writes to no array. Rule comes before plan, plan before inputs
- * or buffer. docs/GUIDE.md, "The refusals", has for each number what it means, the smallest file that
+ * or buffer, a circuit file before inputs. docs/GUIDE.md, "The refusals", has for each number what it means, the smallest file that
  * gets it and what to do; `./shelf explain NUMBER` prints that. In its short words:
  *
  *   rule     1 size (6 to 4,096 bytes)        2 mark or version        3 variables or a kind byte
@@ -25,6 +25,12 @@
  *           29 members do not exclude each other                      30 a group waits in a circle
  *   inputs  40 not V of them                 41 a bit above 1         42 fewer than V result places
  *   buffer  50 shorter than the file
+ *   circuit file
+ *           60 size (8 to 16,384 bytes), mark, version, variables (1 to 32) or over 640 wires
+ *           61 unknown code, records or outputs do not end with the file, a bit constant above 1,
+ *              a guard of over 6 wires, a pick of no pair
+ *           62 inputs are not the first records, a wire that is not earlier or of the wrong kind,
+ *              a table bit that no setting has, an output that is no wire or of the wrong kind
  *
  * The place is the offending byte for 2, 3 and 5 to 9, the rule's length for 4, 10 and 11, else 0. */
 #ifndef LINNET_H
@@ -42,8 +48,8 @@ struct linnet_answer {
     uint8_t number; /* 0, or the refusal */
     size_t place;   /* the refusal's place */
     size_t gates;   /* gates of the plain circuit */
-    size_t wires;   /* wires of the fused circuit */
-    size_t bytes;   /* bytes of the fused circuit's file */
+    size_t wires;   /* wires of the fused circuit, or of the circuit file */
+    size_t bytes;   /* bytes of the fused circuit's file, or of the circuit file */
     size_t before;  /* cost of the plain circuit */
     size_t after;   /* cost of the fused circuit */
 };
@@ -57,6 +63,12 @@ struct linnet_shown {
     struct linnet_answer answer;
     uint32_t rows[1024];
     uint64_t needs[256];
+};
+
+/* The part of an array from start on, so many elements. */
+struct linnet_part {
+    size_t start;
+    size_t length;
 };
 
 /* 01 Reads a rule. Answers gates and cost before. Writes nothing. */
@@ -93,6 +105,24 @@ struct linnet_answer linnet_run_fused(
  * Writes nothing. */
 struct linnet_shown linnet_show_plain(
     const uint8_t *rule, size_t rule_count);
+
+/* 07 Reads a circuit file, of whichever house. Answers its wires and bytes. Writes nothing. */
+struct linnet_answer linnet_read_circuit(
+    const uint8_t *file, size_t file_count);
+
+/* 08 The part of a circuit file that holds the record of a wire; start 0 and length 0 for a file that
+ * 07 refuses and for a number that is no wire of it. Writes nothing. */
+struct linnet_part linnet_record(
+    const uint8_t *file, size_t file_count,
+    size_t wire);
+
+/* 09 Runs a circuit file on V inputs, V and kinds being those of its input records. A pick with several
+ * guards at 1 gives the sum of their values, modulo 2 for bits. Answers as 07. Writes every variable's
+ * figure to the first V results, and nothing after. */
+struct linnet_answer linnet_run_circuit(
+    const uint8_t *file, size_t file_count,
+    const uint32_t *inputs, size_t inputs_count,
+    uint32_t *results, size_t results_count);
 
 #ifdef __cplusplus
 }

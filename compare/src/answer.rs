@@ -12,7 +12,7 @@ impl Refusal {
         Refusal { number, place }
     }
 
-    /// For the rows whose place is always 0: 1, 20 to 30, 40 to 42 and 50.
+    /// For the rows whose place is always 0: 1, 20 to 30, 40 to 42, 50 and 60 to 62.
     pub fn nowhere(number: u8) -> Refusal {
         Refusal { number, place: 0 }
     }
@@ -54,6 +54,15 @@ impl Answer {
             bytes,
             before,
             after,
+            ..Answer::default()
+        }
+    }
+
+    /// Reading and running a circuit file work out its wires and bytes.
+    pub fn of_file(wires: usize, bytes: usize) -> Answer {
+        Answer {
+            wires,
+            bytes,
             ..Answer::default()
         }
     }

@@ -1,12 +1,14 @@
 //! How many cases came to each number, by operation, as `make_stream` and `make_limits` print it.
 
-use crate::stream::Case;
+use crate::stream::{Case, LAST};
 use std::collections::BTreeMap;
+
+/// How many cases, by operation; place 0 is not used.
+pub type ByOperation = [u64; LAST as usize + 1];
 
 #[derive(Default)]
 pub struct Counts {
-    /// For each number how many cases, by operation; place 0 is not used.
-    pub by_number: BTreeMap<u8, [u64; 7]>,
+    pub by_number: BTreeMap<u8, ByOperation>,
 }
 
 impl Counts {
@@ -17,7 +19,11 @@ impl Counts {
     }
 
     pub fn print(&self) {
-        eprintln!("number      01      02      03      04      05      06     all");
+        eprint!("number");
+        for operation in 1..=LAST {
+            eprint!("      {operation:02}");
+        }
+        eprintln!("     all");
         for (number, by) in &self.by_number {
             let all: u64 = by.iter().sum();
             eprint!("{number:6}");

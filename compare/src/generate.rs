@@ -1,7 +1,8 @@
-//! A generator of rules, plans, inputs and whole cases: valid, damaged, and at every limit.
+//! A generator of rules, plans, circuit files, inputs and whole cases: valid, damaged, and at every limit.
 //! The same seed always makes the same cases.
 
 pub mod cases;
+pub mod circuits;
 pub mod plans;
 pub mod rules;
 
@@ -63,19 +64,24 @@ impl Random {
     }
 }
 
-/// Changes, cuts, inserts, doubles or drops a byte, at `from` or after it.
+/// Damages a rule or a plan: see `damage_by`.
 pub fn damage(random: &mut Random, bytes: &mut Vec<u8>, from: usize) {
     const TELLING: [u8; 20] = [
         0x00, 0x01, 0x02, 0x03, 0x04, 0x10, 0x11, 0x12, 0x13, 0x1F, 0x20, 0x21, 0x22, 0x23, 0x24,
         0x25, 0x26, 0x27, 0x28, 0xFF,
     ];
+    damage_by(random, bytes, from, &TELLING);
+}
+
+/// Changes, cuts, inserts, doubles or drops a byte, at `from` or after it; a new byte is often a telling one.
+pub fn damage_by(random: &mut Random, bytes: &mut Vec<u8>, from: usize, telling: &[u8]) {
     if bytes.len() <= from {
-        bytes.push(random.pick(&TELLING));
+        bytes.push(random.pick(telling));
         return;
     }
     let place = random.among(from, bytes.len() - 1);
     let byte = if random.chance(70) {
-        random.pick(&TELLING)
+        random.pick(telling)
     } else {
         random.any() as u8
     };

@@ -1,4 +1,4 @@
-//! The numbers, codes and costs of document 01, in one place: later requests move them here.
+//! The numbers, codes and costs of document 01 and of C-11 and C-12, in one place: later requests move them here.
 
 pub const RULE_MARK: [u8; 5] = [0x52, 0x55, 0x4C, 0x00, 0x01];
 pub const PLAN_MARK: [u8; 5] = [0x50, 0x4C, 0x4E, 0x00, 0x01];
@@ -23,6 +23,8 @@ pub const PLAN_BYTES_MAX: usize = 1024;
 pub const GROUP_SIZE_MIN: usize = 2;
 
 pub const WIRES_MAX: usize = 640;
+/// Mark, version, V and wire count.
+pub const CIRCUIT_BYTES_MIN: usize = 8;
 pub const CIRCUIT_BYTES_MAX: usize = 16_384;
 
 // Codes of statements.

@@ -2,6 +2,7 @@
 
 pub mod answer;
 pub mod circuit;
+pub mod circuit_file;
 pub mod counts;
 pub mod direct;
 pub mod examples;

@@ -1,10 +1,11 @@
-//! Fixed cases at the limits of document 01: its examples, every refusal, every limit, for every
-//! operation. Rules and plans are put together from their parts. The number that a case must come to is
-//! written beside it, from document 01, and looked at when the case is added; only the cases of
+//! Fixed cases at the limits of document 01 and of C-11: its examples, every refusal, every limit, for every
+//! operation. Rules, plans and circuits are put together from their parts. The number that a case must come to is
+//! written beside it, from the document, and looked at when the case is added; only the cases of
 //! `reading` and the empty plans of refused rules have none.
 
 mod arguments;
 mod circles;
+mod circuits;
 mod examples;
 mod guards;
 mod large;
@@ -21,7 +22,7 @@ use crate::law::*;
 use crate::stream::{Case, CHECK, DIRECT, FUSED, PLAIN, READ, WRITE};
 use std::collections::HashSet;
 
-/// All fixed cases, each once, in the order of the stored stream.
+/// The fixed cases of operations 01 to 06, each once, in the order of the stored stream.
 pub fn cases() -> Vec<Case> {
     let mut list = List {
         cases: reading::cases(),
@@ -35,13 +36,24 @@ pub fn cases() -> Vec<Case> {
     order::add(&mut list);
     arguments::add(&mut list);
     empty_plans(&mut list);
+    each_once(list.cases)
+}
+
+/// The fixed cases of operations 07 to 09, each once. They come after all that was stored before them.
+pub fn circuit_cases() -> Vec<Case> {
+    let mut list = List { cases: Vec::new() };
+    circuits::add(&mut list);
+    each_once(list.cases)
+}
+
+fn each_once(mut cases: Vec<Case>) -> Vec<Case> {
     let mut seen = HashSet::new();
-    list.cases.retain(|case| {
+    cases.retain(|case| {
         let mut bytes = Vec::new();
         case.put(&mut bytes);
         seen.insert(bytes)
     });
-    list.cases
+    cases
 }
 
 /// The empty plan for every rule of the list; a refused rule's has gate count 0 and must not matter.
@@ -76,10 +88,14 @@ fn plan(gates: usize, groups: &[&[usize]]) -> Vec<u8> {
     bytes_of(gates, &groups)
 }
 
-/// Inputs that an accepted rule takes: bit variables get the bits of `turn`, the first the lowest,
-/// word variables figures that differ. A refused rule gets none.
+/// Inputs that an accepted rule takes. A refused rule gets none.
 fn inputs(rule: &[u8], turn: usize) -> Vec<u32> {
     let kinds = accept(rule).map_or(Vec::new(), |accepted| accepted.rule.kinds);
+    inputs_of(&kinds, turn)
+}
+
+/// Bit variables get the bits of `turn`, the first the lowest, word variables figures that differ.
+fn inputs_of(kinds: &[Kind], turn: usize) -> Vec<u32> {
     let mut bits = 0;
     let one = |(place, kind): (usize, &Kind)| match kind {
         Kind::Word => 3 + 7 * place as u32 + turn as u32,

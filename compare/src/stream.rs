@@ -2,7 +2,8 @@
 
 use crate::answer::Answer;
 use crate::circuit::{accept, preconditions, read_rule, Gate};
-use crate::{direct, plan, run, write};
+use crate::write::Wire;
+use crate::{circuit_file, direct, plan, run, write};
 
 pub const STREAM_MARK: [u8; 5] = [0x43, 0x41, 0x53, 0x00, 0x01];
 
@@ -16,6 +17,11 @@ pub const CHECK: u8 = 0x03;
 pub const WRITE: u8 = 0x04;
 pub const FUSED: u8 = 0x05;
 pub const PLAIN: u8 = 0x06;
+pub const READ_CIRCUIT: u8 = 0x07;
+pub const RECORD: u8 = 0x08;
+pub const RUN_CIRCUIT: u8 = 0x09;
+/// The last operation that is built; they are numbered from 1.
+pub const LAST: u8 = RUN_CIRCUIT;
 
 #[derive(Clone, Debug, Default, PartialEq, Eq)]
 pub struct Case {
@@ -90,6 +96,17 @@ impl Case {
                 Some((answer, results_text(&results)))
             }
             PLAIN => Some((read_rule(&self.first), gates_text(&self.first))),
+            READ_CIRCUIT => Some((circuit_file::read_circuit(&self.first), String::new())),
+            RECORD => {
+                let wire = Wire(usize::from(self.number));
+                let record = circuit_file::record(&self.first, wire);
+                let answer = circuit_file::read_circuit(&self.first);
+                Some((answer, format!(" | {}", hex(record))))
+            }
+            RUN_CIRCUIT => {
+                let answer = run::run_circuit(&self.first, &self.inputs, &mut results);
+                Some((answer, results_text(&results)))
+            }
             _ => None,
         }
     }
@@ -116,17 +133,17 @@ fn results_text(results: &[u32]) -> String {
 
 /// The written bytes, then how many of the others are untouched.
 fn buffer_text(buffer: &[u8], written: usize) -> String {
-    let mut text = String::from(" | ");
-    for byte in &buffer[..written] {
-        text.push_str(&format!("{byte:02X}"));
-    }
-    if written == 0 {
-        text.push('-');
-    }
-    let others = &buffer[written..];
+    let (written, others) = buffer.split_at(written);
     let untouched = others.iter().filter(|&&b| b == UNTOUCHED_BYTE).count();
-    text.push_str(&format!(" {untouched}"));
-    text
+    format!(" | {} {untouched}", hex(written))
+}
+
+/// Hexadecimal pairs, capitals, or `-` for none.
+fn hex(bytes: &[u8]) -> String {
+    match bytes {
+        [] => "-".to_string(),
+        _ => bytes.iter().map(|byte| format!("{byte:02X}")).collect(),
+    }
 }
 
 /// Each gate as CODE.A.B.C.NEEDS; a refused rule has none.

@@ -5,7 +5,7 @@ use crate::circuit::{Accepted, Circuit, Gate, GateNumber, Settings};
 use crate::law::*;
 use crate::plan::{accept_both, Plan};
 
-/// The number of a record of the fused circuit; never that of a gate.
+/// The number of a record of a circuit file; never that of a gate.
 #[derive(Clone, Copy, Debug, PartialEq, Eq, PartialOrd, Ord)]
 pub struct Wire(pub usize);
 
@@ -85,7 +85,8 @@ fn put_wires(wires: &[Wire], file: &mut Vec<u8>) {
     }
 }
 
-/// A fused circuit: one record a wire, and every variable's output wire.
+/// A fused circuit, or one read from a file: one record a wire, and every variable's output wire.
+#[derive(Clone, Debug, PartialEq, Eq)]
 pub struct Fused {
     pub records: Vec<Record>,
     pub outputs: Vec<Wire>,

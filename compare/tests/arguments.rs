@@ -336,7 +336,7 @@ fn turned_gates_are_often_made() {
     let [mut accepted, mut pairs, mut some, mut joined, mut falling] = [0; 5];
     let (mut gates, mut gates_turned) = (0, 0);
     for _ in 0..2000 {
-        let case = cases::case(&mut random);
+        let case = cases::rule_case(&mut random);
         let Ok(Accepted { rule, circuit }) = accept(&case.first) else {
             continue;
         };

@@ -6,7 +6,6 @@ use compare::examples::{P1, R1, R2, R7, R8};
 use compare::law::*;
 use compare::plan::check_plan;
 use compare::rule::{bytes_of, read, Expression, Rule, Statement};
-use compare::run::figures_of_file;
 use compare::{direct, run, write};
 
 const UNTOUCHED: u32 = 3_735_928_559;
@@ -118,8 +117,11 @@ fn example_3_the_whole_file() {
     assert_eq!(write::write(&R1, &P1, &mut buffer), refused(50, 0));
     assert_eq!(buffer, [0xEE; 75]);
 
-    assert_eq!(figures_of_file(&file, &[1, 6, 7]), Some(vec![1, 42, 7]));
-    assert_eq!(figures_of_file(&file, &[0, 6, 7]), Some(vec![0, 49, 7]));
+    for (inputs, wanted) in [([1, 6, 7], [1, 42, 7]), ([0, 6, 7], [0, 49, 7])] {
+        let mut results = [UNTOUCHED; 3];
+        let answer = run::run_circuit(&file, &inputs, &mut results);
+        assert_eq!((answer, results), (Answer::of_file(9, 76), wanted));
+    }
     let mut results = [UNTOUCHED; 4];
     assert_eq!(run::run(&R1, &P1, &[1, 6, 7], &mut results), done);
     assert_eq!(results, [1, 42, 7, UNTOUCHED]);

@@ -2,7 +2,7 @@
 
 use compare::counts::Counts;
 use compare::limits;
-use compare::stream::{Case, CHECK, FUSED, WRITE};
+use compare::stream::{Case, CHECK, FUSED, READ_CIRCUIT, RECORD, RUN_CIRCUIT, WRITE};
 
 #[test]
 fn every_number_comes() {
@@ -39,4 +39,36 @@ fn the_largest_come() {
     // The size byte of a plan's first group.
     let members = largest.filter_map(|case| case.second.get(9)).max();
     assert_eq!(members, Some(&255));
+}
+
+#[test]
+fn every_number_of_circuit_files_comes() {
+    let mut counts = Counts::default();
+    for case in limits::circuit_cases() {
+        counts.count(&case);
+    }
+    let of = |number: u8, operation: u8| counts.by_number[&number][usize::from(operation)];
+    for number in [0, 60, 61, 62] {
+        for operation in [READ_CIRCUIT, RECORD, RUN_CIRCUIT] {
+            assert!(of(number, operation) >= 20, "{number} by {operation:02X}");
+        }
+    }
+    for number in 40..=42 {
+        assert!(of(number, RUN_CIRCUIT) >= 5, "{number}");
+    }
+}
+
+#[test]
+fn the_largest_circuit_files_come() {
+    let cases = limits::circuit_cases();
+    let answers = || {
+        cases
+            .iter()
+            .filter_map(Case::work)
+            .map(|(answer, _)| answer)
+    };
+    assert_eq!(answers().map(|answer| answer.wires).max(), Some(640));
+    assert_eq!(answers().map(|answer| answer.bytes).max(), Some(16_384));
+    let sizes = || cases.iter().map(|case| case.first.len());
+    assert!(sizes().any(|size| size == 16_385) && sizes().any(|size| size == 8));
 }

@@ -130,6 +130,49 @@ fn the_good_rule_is_what_it_should_be() {
     }
 }
 
+/// A bit and a pick of it: operations 07, 08 for every wire and one more, 09, and a refused file.
+fn circuit_stream() -> Vec<u8> {
+    let mut file = CIRCUIT_MARK.to_vec();
+    file.extend([1, 0, 2, 0x01, 0, 0x31, 1, 0, 0, 0, 0, 0, 1]);
+    let mut stream = STREAM_MARK.to_vec();
+    for (operation, number, room, length) in [
+        (7, 0, 0, 18),
+        (8, 0, 0, 18),
+        (8, 1, 0, 18),
+        (8, 2, 0, 18),
+        (9, 0, 2, 18),
+        (9, 0, 0, 18),
+        (7, 0, 0, 17),
+        (8, 0, 0, 17),
+        (9, 0, 1, 7),
+    ] {
+        let case = Case {
+            operation,
+            number,
+            room,
+            first: file[..length].to_vec(),
+            inputs: vec![1],
+            ..Case::default()
+        };
+        case.put(&mut stream);
+    }
+    stream
+}
+
+fn circuit_lines() -> [&'static str; 9] {
+    [
+        "0 0 0 2 18 0 0",
+        "0 0 0 2 18 0 0 | 0100",
+        "0 0 0 2 18 0 0 | 310100000000",
+        "0 0 0 2 18 0 0 | -",
+        "0 0 0 2 18 0 0 | 1 3735928559",
+        "42 0 0 0 0 0 0 |",
+        "61 0 0 0 0 0 0",
+        "61 0 0 0 0 0 0 | -",
+        "60 0 0 0 0 0 0 | 3735928559",
+    ]
+}
+
 #[test]
 fn the_stream_of_conformance() {
     let print = |stream: &[u8]| {
@@ -173,6 +216,7 @@ fn the_stream_of_conformance() {
     ];
     let wanted = wanted.map(String::from);
     assert_eq!(print(&stream), wanted);
+    assert_eq!(print(&circuit_stream()), circuit_lines());
     // Cut inside the last case, and another version.
     let mut cut = wanted.clone();
     *cut.last_mut().unwrap() = "refused".to_string();

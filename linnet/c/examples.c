@@ -1,5 +1,5 @@
 /* Calls every operation of linnet.h on examples of document 01; the exit status is 0 when each
- * answer, byte and untouched place is as document 01 says. */
+ * answer, byte and untouched place is as documents 01 and 02 (C-11) say. */
 #include <stdio.h>
 #include <string.h>
 
@@ -80,6 +80,32 @@ static void run_fused(void) {
     hold(results[3] == 9, "nothing after the results");
 }
 
+static void circuit_files(void) {
+    const uint32_t inputs[3] = {0, 6, 7};
+    const uint32_t wrong[3] = {2, 6, 7};
+    uint32_t results[4] = {9, 9, 9, 9};
+    uint8_t file[76];
+    linnet_write_fused(R1, 29, P1, 14, file, 76);
+    hold(is(linnet_read_circuit(file, 76), 0, 0, 0, 9, 76, 0, 0), "our own file is read");
+    hold(is(linnet_read_circuit(file, 7), 60, 0, 0, 0, 0, 0, 0), "7 bytes: 60");
+    hold(is(linnet_read_circuit(file, 75), 61, 0, 0, 0, 0, 0, 0), "75 bytes: 61");
+    hold(is(linnet_run_circuit(file, 76, inputs, 2, results, 4), 40, 0, 0, 0, 0, 0, 0), "two inputs: 40");
+    hold(is(linnet_run_circuit(file, 76, wrong, 3, results, 4), 41, 0, 0, 0, 0, 0, 0), "2 for a bit: 41");
+    hold(is(linnet_run_circuit(file, 76, inputs, 3, results, 2), 42, 0, 0, 0, 0, 0, 0), "two places: 42");
+    hold(results[0] == 9 && results[1] == 9 && results[2] == 9, "a refusal writes nothing");
+    hold(is(linnet_run_circuit(file, 76, inputs, 3, results, 4), 0, 0, 0, 9, 76, 0, 0), "our own file runs");
+    hold(results[0] == 0 && results[1] == 49 && results[2] == 7, "the file gives 0, 49, 7");
+    hold(results[3] == 9, "nothing after the results");
+    struct linnet_part part = linnet_record(file, 76, 7);
+    hold(part.start == 58 && part.length == 5 && file[58] == 0x22, "wire 7 is the product");
+    part = linnet_record(file, 76, 9);
+    hold(part.start == 0 && part.length == 0, "9 is no wire");
+    file[17] = 1;
+    hold(is(linnet_read_circuit(file, 76), 62, 0, 0, 0, 0, 0, 0), "a guard reads a word: 62");
+    part = linnet_record(file, 76, 7);
+    hold(part.start == 0 && part.length == 0, "a refused file has no records");
+}
+
 int main(void) {
     read_rule();
     run_rule();
@@ -87,5 +113,6 @@ int main(void) {
     check_plan();
     write_fused();
     run_fused();
+    circuit_files();
     return failures != 0;
 }

@@ -4,7 +4,7 @@
 use crate::measure::{caller, Caller};
 use crate::tool::plain_circuit;
 use compare::law::{CIRCUIT_BYTES_MAX, VARIABLES_MAX};
-use compare::stream::{CHECK, DIRECT, FUSED, PLAIN, READ, WRITE};
+use compare::stream::{CHECK, DIRECT, FUSED, PLAIN, READ, READ_CIRCUIT, RUN_CIRCUIT, WRITE};
 use std::hint::black_box;
 use std::mem::MaybeUninit;
 
@@ -23,6 +23,10 @@ macro_rules! lending {
     (run $function:path) => {{
         let mut results = results();
         caller(move |case| $function(&case.rule, &case.inputs, black_box(&mut results)))
+    }};
+    (file $function:path) => {{
+        let mut results = results();
+        caller(move |case| $function(&case.file, &case.inputs, black_box(&mut results)))
     }};
     (write $function:path) => {{
         let mut out = buffer();
@@ -54,6 +58,8 @@ pub fn proved(operation: u8) -> Caller {
             let shown = linnet::show_plain(&case.rule);
             black_box(&shown);
         }),
+        READ_CIRCUIT => caller(|case| linnet::read_circuit(&case.file)),
+        RUN_CIRCUIT => lending!(file linnet::run_circuit),
         operation => unreachable!("operation {operation} is not measured"),
     }
 }
@@ -67,6 +73,8 @@ pub fn plain(operation: u8) -> Caller {
         WRITE => lending!(write compare::write::write),
         FUSED => lending!(fused compare::run::run),
         PLAIN => caller(|case| plain_circuit(&case.rule)),
+        READ_CIRCUIT => caller(|case| compare::circuit_file::read_circuit(&case.file)),
+        RUN_CIRCUIT => lending!(file compare::run::run_circuit),
         operation => unreachable!("operation {operation} is not measured"),
     }
 }
@@ -83,6 +91,8 @@ pub fn tuned(operation: u8) -> Caller {
             let mut room = MaybeUninit::uninit();
             black_box(tuned::show_plain(&case.rule, &mut room));
         }),
+        READ_CIRCUIT => caller(|case| tuned::read_circuit(&case.file)),
+        RUN_CIRCUIT => lending!(file tuned::run_circuit),
         operation => unreachable!("operation {operation} is not measured"),
     }
 }

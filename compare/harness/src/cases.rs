@@ -2,8 +2,9 @@
 
 use crate::differ::differences;
 use crate::tool::Tool;
+use compare::counts::ByOperation;
 use compare::generate::{cases, Random};
-use compare::stream::Case;
+use compare::stream::{Case, LAST};
 use std::collections::BTreeMap;
 use std::sync::atomic::{AtomicU64, Ordering};
 use std::sync::Mutex;
@@ -17,7 +18,7 @@ const KEPT: usize = 10;
 /// How many cases came to each number, by operation; what differed.
 #[derive(Default)]
 pub struct Tally {
-    pub counts: BTreeMap<u8, [u64; 7]>,
+    pub counts: BTreeMap<u8, ByOperation>,
     pub cases: u64,
     pub differing: u64,
     /// Block, case and difference, of the blocks with the lowest numbers.
@@ -43,9 +44,10 @@ impl Tally {
 /// Gives every tool the cases of a block.
 fn block(tools: &[&dyn Tool], seed: u64, block: u64, count: u64) -> Tally {
     let mut random = Random::new(seed.wrapping_mul(0x1_0000_0001).wrapping_add(block));
+    let operations: Vec<u8> = (1..=LAST).collect();
     let mut tally = Tally::default();
     for _ in 0..count {
-        let case = cases::case(&mut random);
+        let case = cases::case(&mut random, &operations);
         let (answer, differs) = differences(tools, &case);
         let by = tally.counts.entry(answer.number).or_default();
         by[usize::from(case.operation)] += 1;

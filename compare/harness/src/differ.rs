@@ -2,19 +2,23 @@
 
 use crate::tool::{Shown, Tool};
 use compare::answer::Answer;
-use compare::stream::{Case, CHECK, DIRECT, FUSED, PLAIN, READ, WRITE};
+use compare::stream::{
+    Case, CHECK, DIRECT, FUSED, PLAIN, READ, READ_CIRCUIT, RECORD, RUN_CIRCUIT, WRITE,
+};
 use std::fmt::UpperHex;
 
 /// So many elements before and after what is lent belong to nobody, and stay as they are.
 const AROUND: usize = 16;
 
-/// What a call leaves: its answer, all that it was lent with what lies around, a circuit shown.
+/// What a call leaves: its answer, all that it was lent with what lies around, a circuit shown, a part of a file.
 #[derive(Clone, Debug, PartialEq, Eq)]
 pub struct Outcome {
     pub answer: Answer,
     pub words: Vec<u32>,
     pub bytes: Vec<u8>,
     pub shown: Option<Box<Shown>>,
+    /// Where in the caller's file the part begins, and its length; 0 and 0 for an empty one.
+    pub part: Option<(usize, usize)>,
 }
 
 /// Calls the case's operation. Buffers hold a pattern before, so that every change shows.
@@ -34,6 +38,15 @@ pub fn outcome(tool: &dyn Tool, case: &Case) -> Outcome {
                 ..answered(shown.answer)
             }
         }
+        READ_CIRCUIT => answered(tool.read_circuit(rule)),
+        RECORD => {
+            let part = tool.record(rule, usize::from(case.number));
+            Outcome {
+                part: Some(place_of(part, rule)),
+                ..answered(tool.read_circuit(rule))
+            }
+        }
+        RUN_CIRCUIT => with_words(case, |results| tool.run_circuit(rule, inputs, results)),
         operation => unreachable!("operation {operation} is not generated"),
     }
 }
@@ -44,6 +57,18 @@ fn answered(answer: Answer) -> Outcome {
         words: Vec::new(),
         bytes: Vec::new(),
         shown: None,
+        part: None,
+    }
+}
+
+/// Where a part of a file begins, and its length. An empty one may lie anywhere.
+fn place_of(part: &[u8], file: &[u8]) -> (usize, usize) {
+    match part.len() {
+        0 => (0, 0),
+        length => {
+            let start = (part.as_ptr() as usize).wrapping_sub(file.as_ptr() as usize);
+            (start, length)
+        }
     }
 }
 
@@ -95,6 +120,10 @@ pub fn difference(one: &Outcome, other: &Outcome) -> Option<String> {
     let mut text = format!("{}\n{}\n", one.answer.line(), other.answer.line());
     text.push_str(&first_place("result", AROUND, &one.words, &other.words));
     text.push_str(&first_place("byte", AROUND, &one.bytes, &other.bytes));
+    if one.part != other.part {
+        let (one, other) = (one.part, other.part);
+        text.push_str(&format!("start and length: {one:?} and {other:?}\n"));
+    }
     if let (Some(one), Some(other)) = (&one.shown, &other.shown) {
         text.push_str(&first_place(
             "number of the rows",

@@ -22,11 +22,8 @@ pub fn ladders() -> Vec<Row> {
 }
 
 fn subject(rule: &Rule, groups: &Groups, inputs: Vec<u32>) -> Subject {
-    Subject {
-        rule: bytes_of(rule),
-        plan: plan_bytes(make(rule).gates.len(), groups),
-        inputs,
-    }
+    let plan = plan_bytes(make(rule).gates.len(), groups);
+    Subject::of_rule(bytes_of(rule), plan, inputs)
 }
 
 fn word(turn: usize) -> Expression {

@@ -3,6 +3,7 @@
 pub mod calls;
 pub mod cases;
 pub mod differ;
+pub mod files;
 pub mod ladder;
 pub mod measure;
 pub mod mixed;

@@ -21,13 +21,9 @@ pub fn mixed() -> Row {
 /// it knows, each with a plan and inputs that all operations take.
 pub fn subjects(count: usize) -> Vec<Subject> {
     let mut random = Random::new(SEED);
-    std::iter::repeat_with(|| cases::case(&mut random))
+    std::iter::repeat_with(|| cases::rule_case(&mut random))
         .filter(|case| case.operation == FUSED)
-        .map(|case| Subject {
-            rule: case.first,
-            plan: case.second,
-            inputs: case.inputs,
-        })
+        .map(|case| Subject::of_rule(case.first, case.second, case.inputs))
         .filter(accepted)
         .take(count)
         .collect()

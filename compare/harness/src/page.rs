@@ -3,18 +3,25 @@
 use crate::calls;
 use crate::measure::{measure, Times};
 use crate::mixed;
-use crate::subject::{Goal, Row};
-use compare::stream::{CHECK, DIRECT, FUSED, PLAIN, READ, WRITE};
+use crate::subject::{Goal, Row, Subject};
+use compare::stream::{CHECK, DIRECT, FUSED, PLAIN, READ, READ_CIRCUIT, RUN_CIRCUIT, WRITE};
 
 /// Operations measured, by number, as the page names them.
-pub const OPERATIONS: [(u8, &str); 6] = [
+pub const OPERATIONS: [(u8, &str); 8] = [
     (READ, "01 read a rule"),
     (DIRECT, "02 direct run"),
     (CHECK, "03 check a plan"),
     (WRITE, "04 write the circuit"),
     (FUSED, "05 run the fused circuit, from the file's bytes"),
     (PLAIN, "06 plain circuit and needed gates"),
+    (READ_CIRCUIT, "07 read a circuit file"),
+    (RUN_CIRCUIT, "09 run a circuit file"),
 ];
+
+/// Whether an operation takes a circuit file and no rule.
+pub fn takes_file(operation: u8) -> bool {
+    matches!(operation, READ_CIRCUIT | RUN_CIRCUIT)
+}
 
 const HEAD: &str = "\
 Nanoseconds a call: the median of TURNS turns, in brackets the least (of the mixed rules, hundred by hundred over MIXED
@@ -35,7 +42,11 @@ a fifth of the gates joined; as many joined pairs as fit, each waiting for the o
 waiting for all of the other half (held up); a group that waits for each of many such pairs, with as many sums that wait
 for it (passed again: the search goes back to that group after every pair, and past the sums, so that this one grows with
 the square of the gates); and COUNT mixed rules, one call each in a row: the first COUNT accepted cases of operation 05
-that the generator of `compare/run` makes from seed SEED, used for every operation.";
+that the generator of `compare/run` makes from seed SEED, used for every operation.
+
+Circuit files, for 07 and 09, with a table at the end: that of R1; files that grow, made of turns of a comparison, two
+guards, two picks, a product, a constant, a sum, a choice and an and; the largest that there is, the same records with
+as many pairs in their picks as fill it; and the files of the mixed rules.";
 
 /// The mixed rules are so many in a row that fewer turns do.
 pub fn mixed_turns(turns: usize) -> usize {
@@ -78,6 +89,7 @@ fn load() -> String {
 
 /// One operation on one row.
 pub struct Measured<'a> {
+    operation: u8,
     row: &'a Row,
     proved: Times,
     plain: Times,
@@ -90,6 +102,14 @@ impl Measured<'_> {
     /// How much longer the proved library takes, by the least times.
     fn ratio(&self) -> f64 {
         self.proved.least / self.tuned.least
+    }
+
+    /// What a call's time is divided by: gates of rules, wires of files.
+    fn size(&self) -> f64 {
+        match takes_file(self.operation) {
+            true => self.row.mean(Subject::wires),
+            false => self.row.mean(Subject::gates),
+        }
     }
 }
 
@@ -108,6 +128,7 @@ pub fn measured(operation: u8, row: &Row, turns: usize) -> Measured<'_> {
     };
     let times = measure(turns, &mut callers, &row.subjects);
     Measured {
+        operation,
         row,
         proved: times[0],
         plain: times[1],
@@ -119,10 +140,14 @@ pub fn measured(operation: u8, row: &Row, turns: usize) -> Measured<'_> {
 /// The table of one operation, and for the fused run a line on the tuned implementation's other way.
 pub fn print_operation(name: &str, all: &[Measured]) {
     println!("\n## {name}\n");
-    println!("| rule | proved, ns | plain, ns | tuned, ns | proved / plain | proved / tuned | proved, ns a gate |");
+    let (what, each) = match all.iter().any(|one| takes_file(one.operation)) {
+        true => ("file", "wire"),
+        false => ("rule", "gate"),
+    };
+    println!("| {what} | proved, ns | plain, ns | tuned, ns | proved / plain | proved / tuned | proved, ns a {each} |");
     println!("|---|---:|---:|---:|---:|---:|---:|");
     for one in all {
-        let gates = one.row.mean(|subject| subject.gates());
+        let size = one.size();
         println!(
             "| {} | {} | {} | {} | {} | {} | {:.1} ({:.1}) |",
             one.row.name,
@@ -131,8 +156,8 @@ pub fn print_operation(name: &str, all: &[Measured]) {
             time(&one.tuned),
             ratio(&one.proved, &one.plain),
             ratio(&one.proved, &one.tuned),
-            one.proved.median / gates,
-            one.proved.least / gates
+            one.proved.median / size,
+            one.proved.least / size
         );
     }
     if all.iter().all(|one| one.unwritten.is_some()) {
@@ -166,24 +191,28 @@ fn print_unwritten(all: &[Measured]) {
 }
 
 /// Kinds of rules with a goal, as the page names them, and the ratio that is to be reached.
-const GOALS: [(Goal, &str, f64); 3] = [
+const GOALS: [(Goal, &str, f64); 4] = [
     (Goal::Mixed, "mixed rules", 2.5),
     (Goal::R1, "R1", 4.0),
     (Goal::Ladder, "ladders", 4.0),
+    (Goal::Files, "growing files", 4.0),
 ];
 
-/// For each operation and kind of rules the greatest ratio, and whether it is low enough.
+/// For each operation and kind of rules the greatest ratio, and whether it is low enough; where the operation has no such
+/// rules, nothing.
 pub fn print_goals(all: &[(&str, Vec<Measured>)]) {
     println!("\n## Goals: proved / tuned at most, by the least times\n");
     let heads = GOALS.map(|(_, name, most)| format!(" {name}: {most:.1} |"));
     println!("| operation |{}", heads.concat());
-    println!("|---|---|---|---|");
+    println!("|---|---|---|---|---|");
     for (name, measured) in all {
         let cells = GOALS.map(|(goal, _, most)| {
             let of_goal = measured.iter().filter(|one| one.row.goal == goal);
-            let worst = of_goal.map(Measured::ratio).fold(0.0, f64::max);
-            let met = if worst <= most { "met" } else { "**not met**" };
-            format!(" {worst:.2} {met} |")
+            match of_goal.map(Measured::ratio).reduce(f64::max) {
+                Some(worst) if worst <= most => format!(" {worst:.2} met |"),
+                Some(worst) => format!(" {worst:.2} **not met** |"),
+                None => " |".to_string(),
+            }
         });
         println!("| {name} |{}", cells.concat());
     }
@@ -202,8 +231,29 @@ pub fn print_rows(rows: &[Row]) {
             row.mean(|subject| subject.plan.len()),
             row.mean(|subject| subject.joined()),
         ];
-        let digits = usize::from(row.subjects.len() > 1);
-        let cells = numbers.map(|number| format!(" {number:.digits$} |"));
-        println!("| {} |{}", row.name, cells.concat());
+        print_row(row, numbers);
     }
+}
+
+/// What the circuit files are; of several in a row, on average.
+pub fn print_files(rows: &[Row]) {
+    println!("\n## The circuit files\n");
+    println!("| file | bytes | wires | variables | guards | pairs of picks |");
+    println!("|---|---:|---:|---:|---:|---:|");
+    for row in rows {
+        let numbers = [
+            row.mean(|subject| subject.file.len()),
+            row.mean(|subject| subject.wires()),
+            row.mean(|subject| subject.inputs.len()),
+            row.mean(|subject| subject.guards()),
+            row.mean(|subject| subject.pairs()),
+        ];
+        print_row(row, numbers);
+    }
+}
+
+fn print_row(row: &Row, numbers: [f64; 5]) {
+    let digits = usize::from(row.subjects.len() > 1);
+    let cells = numbers.map(|number| format!(" {number:.digits$} |"));
+    println!("| {} |{}", row.name, cells.concat());
 }

@@ -1,17 +1,57 @@
-//! What is measured: a rule, a plan and inputs, or several in a row.
+//! What is measured: a rule, a plan, inputs and the circuit file, or several in a row.
 
 use compare::circuit::accept;
+use compare::circuit_file::{self, CircuitFile};
 use compare::examples::{P1, R1};
-use compare::law::PLAN_BYTES_MIN;
+use compare::law::{CIRCUIT_BYTES_MAX, PLAN_BYTES_MIN};
+use compare::write::{write, Record};
 
-/// A rule, a plan that is accepted for it, and inputs.
+/// A rule, a plan that is accepted for it, inputs, and the file of its circuit; or a circuit file and inputs alone.
+#[derive(Clone)]
 pub struct Subject {
     pub rule: Vec<u8>,
     pub plan: Vec<u8>,
     pub inputs: Vec<u32>,
+    pub file: Vec<u8>,
 }
 
 impl Subject {
+    pub fn of_rule(rule: Vec<u8>, plan: Vec<u8>, inputs: Vec<u32>) -> Subject {
+        let mut file = vec![0; CIRCUIT_BYTES_MAX];
+        let answer = write(&rule, &plan, &mut file);
+        file.truncate(answer.bytes);
+        Subject {
+            rule,
+            plan,
+            inputs,
+            file,
+        }
+    }
+
+    pub fn wires(&self) -> usize {
+        self.circuit_file().parts.len()
+    }
+
+    /// Pairs of the file's picks.
+    pub fn pairs(&self) -> usize {
+        let pairs = |record: &Record| match record {
+            Record::Pick(pairs) => pairs.len(),
+            _ => 0,
+        };
+        self.circuit_file().circuit.records.iter().map(pairs).sum()
+    }
+
+    /// Guards of the file.
+    pub fn guards(&self) -> usize {
+        let guard = |record: &&Record| matches!(record, Record::Guard(..));
+        let records = self.circuit_file().circuit.records;
+        records.iter().filter(guard).count()
+    }
+
+    fn circuit_file(&self) -> CircuitFile<'_> {
+        circuit_file::accept(&self.file).expect("an accepted file")
+    }
+
     pub fn gates(&self) -> usize {
         self.circuit().gates.len()
     }
@@ -37,6 +77,7 @@ impl Subject {
 }
 
 /// One line of the page: what is called in a row, and how the page names it.
+#[derive(Clone)]
 pub struct Row {
     pub name: String,
     pub subjects: Vec<Subject>,
@@ -49,6 +90,7 @@ pub enum Goal {
     R1,
     Ladder,
     Mixed,
+    Files,
     /// None is set for plans that are hard to order.
     None,
 }
@@ -70,10 +112,6 @@ impl Row {
 }
 
 pub fn r1() -> Row {
-    let subject = Subject {
-        rule: R1.to_vec(),
-        plan: P1.to_vec(),
-        inputs: vec![1, 6, 7],
-    };
+    let subject = Subject::of_rule(R1.to_vec(), P1.to_vec(), vec![1, 6, 7]);
     Row::one("R1".into(), subject, Goal::R1)
 }

@@ -1,8 +1,9 @@
-//! The six operations as the harness calls them, of each implementation.
+//! The nine operations as the harness calls them, of each implementation.
 
 use compare::answer::Answer;
 use compare::circuit::{accept, preconditions, Circuit, Gate, Settings};
 use compare::law::{CONDITIONS_MAX, GATES_MAX};
+use compare::write::Wire;
 use std::mem::MaybeUninit;
 
 /// What operation 06 gives: the answer, four numbers a gate, and preconditions; zeros after them.
@@ -22,6 +23,9 @@ pub trait Tool: Sync {
     fn write_fused(&self, rule: &[u8], plan: &[u8], out: &mut [u8]) -> Answer;
     fn run_fused(&self, rule: &[u8], plan: &[u8], inputs: &[u32], results: &mut [u32]) -> Answer;
     fn show_plain(&self, rule: &[u8]) -> Shown;
+    fn read_circuit(&self, file: &[u8]) -> Answer;
+    fn record<'a>(&self, file: &'a [u8], wire: usize) -> &'a [u8];
+    fn run_circuit(&self, file: &[u8], inputs: &[u32], results: &mut [u32]) -> Answer;
 }
 
 /// All that are compared; the others are held against the first.
@@ -79,6 +83,18 @@ impl Tool for Proved {
             needs: shown.needs,
         }
     }
+
+    fn read_circuit(&self, file: &[u8]) -> Answer {
+        of!(linnet::read_circuit(file))
+    }
+
+    fn record<'a>(&self, file: &'a [u8], wire: usize) -> &'a [u8] {
+        linnet::record(file, wire)
+    }
+
+    fn run_circuit(&self, file: &[u8], inputs: &[u32], results: &mut [u32]) -> Answer {
+        of!(linnet::run_circuit(file, inputs, results))
+    }
 }
 
 /// The second implementation, in plain Rust.
@@ -122,6 +138,18 @@ impl Tool for Plain {
             }
         }
         shown
+    }
+
+    fn read_circuit(&self, file: &[u8]) -> Answer {
+        compare::circuit_file::read_circuit(file)
+    }
+
+    fn record<'a>(&self, file: &'a [u8], wire: usize) -> &'a [u8] {
+        compare::circuit_file::record(file, Wire(wire))
+    }
+
+    fn run_circuit(&self, file: &[u8], inputs: &[u32], results: &mut [u32]) -> Answer {
+        compare::run::run_circuit(file, inputs, results)
     }
 }
 
@@ -172,6 +200,18 @@ impl Tool for Tuned {
             rows: shown.rows,
             needs: shown.needs,
         }
+    }
+
+    fn read_circuit(&self, file: &[u8]) -> Answer {
+        of!(tuned::read_circuit(file))
+    }
+
+    fn record<'a>(&self, file: &'a [u8], wire: usize) -> &'a [u8] {
+        tuned::record(file, wire)
+    }
+
+    fn run_circuit(&self, file: &[u8], inputs: &[u32], results: &mut [u32]) -> Answer {
+        of!(tuned::run_circuit(file, inputs, results))
     }
 }
 

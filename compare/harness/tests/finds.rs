@@ -1,12 +1,12 @@
 //! The harness finds what differs, the three tools agree, and what is measured is what it is said to be.
 
 use compare::answer::Answer;
-use compare::law::VARIABLES_MAX;
+use compare::law::{CIRCUIT_BYTES_MAX, VARIABLES_MAX, WIRES_MAX};
 use compare::plan::accept_both;
 use harness::cases::compare as compare_tools;
 use harness::subject::{r1, Row, Subject};
 use harness::tool::{plain_circuit, Plain, Proved, Shown, Tool, Tuned, TOOLS};
-use harness::{ladder, mixed};
+use harness::{files, ladder, mixed};
 
 /// What a wrong tool does wrong; the rest it does as the second implementation does.
 #[derive(Clone, Copy, Debug, PartialEq, Eq)]
@@ -17,6 +17,8 @@ enum Fault {
     WriteRefused,
     Row,
     Precondition,
+    PartStart,
+    PartLength,
 }
 
 struct Wrong(Fault);
@@ -77,6 +79,29 @@ impl Tool for Wrong {
         }
         shown
     }
+
+    fn read_circuit(&self, file: &[u8]) -> Answer {
+        Plain.read_circuit(file)
+    }
+
+    fn record<'a>(&self, file: &'a [u8], wire: usize) -> &'a [u8] {
+        let part = Plain.record(file, wire);
+        match self.0 {
+            _ if part.is_empty() => part,
+            Fault::PartLength => &part[1..],
+            // As long, but a byte before.
+            Fault::PartStart => {
+                let start = part.as_ptr() as usize - file.as_ptr() as usize - 1;
+                &file[start..start + part.len()]
+            }
+            _ => part,
+        }
+    }
+
+    fn run_circuit(&self, file: &[u8], inputs: &[u32], results: &mut [u32]) -> Answer {
+        let answer = Plain.run_circuit(file, inputs, results);
+        self.spoil(answer, inputs.len(), results)
+    }
 }
 
 /// Whichever of the three tools has the fault, the others show it.
@@ -88,6 +113,8 @@ fn every_fault_is_found() {
         Fault::WriteRefused,
         Fault::Row,
         Fault::Precondition,
+        Fault::PartStart,
+        Fault::PartLength,
     ] {
         let wrong = Wrong(fault);
         let three: [[&dyn Tool; 3]; 3] = [
@@ -206,6 +233,31 @@ fn passed_again_is_what_it_is_said_to_be() {
     assert!((4..103).all(|sum| waits(&row, sum, 3)));
     assert!((103..154).all(|pair| waits(&row, 3, pair)));
     assert!((103..153).all(|pair| waits(&row, pair, pair + 1)));
+}
+
+/// Files of just so many wires that all tools read and run, and the largest.
+#[test]
+fn growing_files_are_what_they_are_said_to_be() {
+    let rows = files::growing();
+    let wires: Vec<usize> = rows.iter().map(|row| row.subjects[0].wires()).collect();
+    assert_eq!(wires, [40, 80, 160, 320, 640]);
+    let largest = files::largest();
+    let subject = &largest.subjects[0];
+    assert_eq!(
+        (subject.wires(), subject.file.len()),
+        (WIRES_MAX, CIRCUIT_BYTES_MAX)
+    );
+    for row in rows.iter().chain([&largest, &r1()]) {
+        let subject = &row.subjects[0];
+        let mut all = TOOLS.map(|tool| {
+            let mut results = [0; VARIABLES_MAX];
+            let answer = tool.run_circuit(&subject.file, &subject.inputs, &mut results);
+            assert_eq!((answer.number, answer.wires), (0, subject.wires()));
+            results.to_vec()
+        });
+        let first = all[0].clone();
+        assert!(all.iter_mut().all(|results| *results == first));
+    }
 }
 
 #[test]

@@ -1,5 +1,6 @@
-//! `make_limits`: writes a conformance stream of fixed cases at the limits of document 01 to stdout,
-//! over operations 01 to 06, and how many came to each number, by operation, to stderr.
+//! `make_limits [circuits]`: writes a conformance stream of fixed cases to stdout, those of operations 01 to 06 at
+//! the limits of document 01 or, if named, those of circuit files (07 to 09, C-11), and how many came to each
+//! number, by operation, to stderr.
 
 use compare::counts::Counts;
 use compare::limits;
@@ -7,9 +8,18 @@ use compare::stream::STREAM_MARK;
 use std::io::{self, Write};
 
 fn main() -> io::Result<()> {
+    let named: Vec<String> = std::env::args().skip(1).collect();
+    let cases = match named.iter().map(String::as_str).collect::<Vec<_>>()[..] {
+        [] => limits::cases(),
+        ["circuits"] => limits::circuit_cases(),
+        _ => {
+            eprintln!("make_limits [circuits]");
+            std::process::exit(2);
+        }
+    };
     let mut bytes = STREAM_MARK.to_vec();
     let mut counts = Counts::default();
-    for case in limits::cases() {
+    for case in cases {
         case.put(&mut bytes);
         counts.count(&case);
     }

@@ -1,11 +1,11 @@
 //! `make_stream SEED COUNT [OPERATIONS]`: writes a conformance stream of COUNT random cases to
-//! stdout, over operations 01 to 06 or those named (as `1,2,6`), and how many came to each number, by
+//! stdout, over all operations or those named (as `1,2,6`), and how many came to each number, by
 //! operation, to stderr.
 
 use compare::counts::Counts;
 use compare::generate::cases::case;
 use compare::generate::Random;
-use compare::stream::STREAM_MARK;
+use compare::stream::{LAST, STREAM_MARK};
 use std::io::{self, BufWriter, Write};
 
 fn main() -> io::Result<()> {
@@ -16,19 +16,20 @@ fn main() -> io::Result<()> {
         std::process::exit(2);
     };
     let named = arguments.next().unwrap_or_default();
-    let operations: Vec<u8> = named
+    let mut operations: Vec<u8> = named
         .split(',')
         .filter_map(|text| text.parse().ok())
+        .filter(|operation| (1..=LAST).contains(operation))
         .collect();
-    let wanted = |operation| operations.is_empty() || operations.contains(&operation);
+    if operations.is_empty() {
+        operations = (1..=LAST).collect();
+    }
     let mut random = Random::new(seed);
     let mut out = BufWriter::new(io::stdout().lock());
     out.write_all(&STREAM_MARK)?;
     let mut counts = Counts::default();
     for _ in 0..count {
-        let case = std::iter::repeat_with(|| case(&mut random))
-            .find(|case| wanted(case.operation))
-            .expect("an endless supply");
+        let case = case(&mut random, &operations);
         let mut bytes = Vec::new();
         case.put(&mut bytes);
         out.write_all(&bytes)?;

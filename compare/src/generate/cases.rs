@@ -1,10 +1,13 @@
 //! Whole cases of the conformance stream.
 
-use super::{inputs, plans, rules, Random};
+use super::{circuits, inputs, plans, rules, Random};
 use crate::circuit::{accept, preconditions, Accepted};
+use crate::circuit_file;
 use crate::examples::P1;
 use crate::law::*;
-use crate::stream::{Case, CHECK, DIRECT, FUSED, PLAIN, READ, WRITE};
+use crate::stream::{
+    Case, CHECK, DIRECT, FUSED, LAST, PLAIN, READ, READ_CIRCUIT, RECORD, RUN_CIRCUIT, WRITE,
+};
 use crate::write::fuse;
 
 /// What a case should come to. Most cases come to just that, some by chance to something else.
@@ -17,7 +20,28 @@ enum Aim {
     Last,
 }
 
-pub fn case(random: &mut Random) -> Case {
+/// A case of one of these operations, some of which are built. Those of rules alone, 01 to 06, make the same
+/// cases of a seed as before there were others.
+pub fn case(random: &mut Random, operations: &[u8]) -> Case {
+    let rules = operations.iter().any(|one| (READ..=PLAIN).contains(one));
+    let circuits = operations
+        .iter()
+        .any(|one| (READ_CIRCUIT..=LAST).contains(one));
+    assert!(rules || circuits, "no operation that is built");
+    loop {
+        let case = if circuits && (!rules || random.chance(30)) {
+            circuit_case(random)
+        } else {
+            rule_case(random)
+        };
+        if operations.contains(&case.operation) {
+            return case;
+        }
+    }
+}
+
+/// A case of operations 01 to 06.
+pub fn rule_case(random: &mut Random) -> Case {
     let operation = match random.below(100) {
         0..=17 => READ,
         18..=35 => DIRECT,
@@ -118,9 +142,13 @@ fn give_inputs(random: &mut Random, case: &mut Case, aim: Aim, accepted: &Accept
         return;
     }
     case.inputs = inputs(random, kinds);
-    if aim != Aim::Last || case.operation == WRITE {
-        return;
+    if aim == Aim::Last && case.operation != WRITE {
+        spoil_inputs(random, case, kinds);
     }
+}
+
+/// Too few inputs, too many, or a bit above 1; often nothing.
+fn spoil_inputs(random: &mut Random, case: &mut Case, kinds: &[Kind]) {
     if random.chance(35) {
         match random.below(4) {
             0 => case.inputs.clear(),
@@ -155,7 +183,12 @@ fn give_room(random: &mut Random, case: &mut Case, aim: Aim, accepted: &Accepted
         accepted.rule.kinds.len()
     };
     let short = aim == Aim::Last && (case.operation == WRITE || random.chance(40));
-    let room = if short && wanted > 0 {
+    case.room = room(random, case.operation, wanted, short) as u16;
+}
+
+/// Room for what is wanted, just or with more, or less of it.
+fn room(random: &mut Random, operation: u8, wanted: usize, short: bool) -> usize {
+    if short && wanted > 0 {
         match random.below(3) {
             0 => wanted - 1,
             1 => random.below(wanted),
@@ -165,9 +198,61 @@ fn give_room(random: &mut Random, case: &mut Case, aim: Aim, accepted: &Accepted
         match random.below(4) {
             0 => wanted + 1,
             1 => wanted + random.below(20),
-            2 if case.operation == WRITE => CIRCUIT_BYTES_MAX.max(wanted),
+            2 if operation == WRITE => CIRCUIT_BYTES_MAX.max(wanted),
             _ => wanted,
         }
+    }
+}
+
+/// A case of operations 07 to 09.
+pub fn circuit_case(random: &mut Random) -> Case {
+    let (operation, refused) = match random.below(100) {
+        0..=29 => (READ_CIRCUIT, 60),
+        30..=49 => (RECORD, 30),
+        _ => (RUN_CIRCUIT, 35),
     };
-    case.room = room as u16;
+    let first = match random.below(100) {
+        turn if turn < refused => {
+            let wanted = random.pick(&[60, 61, 62, 62]);
+            circuits::refused(random, wanted)
+        }
+        turn if turn < refused + 8 => circuits::damaged(random),
+        _ => circuits::accepted(random).file(),
+    };
+    let mut case = Case {
+        operation,
+        first,
+        ..Case::default()
+    };
+    match operation {
+        RECORD => case.number = wire(random, &case.first),
+        RUN_CIRCUIT => give_run(random, &mut case),
+        _ => {}
+    }
+    case
+}
+
+/// A wire of the file, mostly; the first that is none, and others.
+fn wire(random: &mut Random, file: &[u8]) -> u16 {
+    let wires = circuit_file::read_circuit(file).wires;
+    match random.below(10) {
+        0 => wires as u16,
+        1 => random.pick(&[wires + 1, 640, 65_535]) as u16,
+        _ => random.below(wires.max(9)) as u16,
+    }
+}
+
+/// Inputs and room of a run; a refused file may get any.
+fn give_run(random: &mut Random, case: &mut Case) {
+    let kinds = match circuit_file::accept(&case.first) {
+        Ok(accepted) => accepted.variables(),
+        Err(_) => rules::kinds(random),
+    };
+    case.inputs = inputs(random, &kinds);
+    let last = random.chance(40);
+    if last {
+        spoil_inputs(random, case, &kinds);
+    }
+    let short = last && random.chance(40);
+    case.room = room(random, RUN_CIRCUIT, kinds.len(), short) as u16;
 }

@@ -118,7 +118,8 @@ struct Maker<'a> {
     ifs_left: usize,
 }
 
-fn kinds(random: &mut Random) -> Vec<Kind> {
+/// Kinds of variables, mostly two to six.
+pub(super) fn kinds(random: &mut Random) -> Vec<Kind> {
     let count = match random.below(20) {
         0 => VARIABLES_MIN,
         1 => VARIABLES_MAX,

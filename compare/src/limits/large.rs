@@ -159,6 +159,15 @@ fn exclusive(list: &mut List) {
 /// The longest file: pairs of products that all rest on six conditions. The blocks of the innermost of
 /// six ifs hold a chain of 121 each; 7 starting values and 6 choices besides, and one constant.
 fn longest(list: &mut List) {
+    let (rule, pairs) = longest_pairs();
+    list.rule(&rule, &[63, 31]);
+    list.accepted(&rule, &pairs, &[63, 31, 30]);
+    let across: Vec<[usize; 2]> = (0..121).map(|k| [8 + k, 249 - k]).collect();
+    list.with_plan(&rule, &plan(256, &groups(&across)), 30);
+}
+
+/// Its rule and its plan.
+pub fn longest_pairs() -> (Vec<u8>, Vec<u8>) {
     let chain = || vec![set(6, two(PRODUCT, var(6), var(6))); 121];
     let mut block = vec![when(var(5), chain(), chain())];
     for t in (0..5).rev() {
@@ -167,9 +176,7 @@ fn longest(list: &mut List) {
     block.insert(0, set(6, word(3)));
     let rule = rule(&KINDS[..7], block);
     assert_eq!(read_rule(&rule).gates, GATES_MAX);
-    list.rule(&rule, &[63, 31]);
     let pairs: Vec<[usize; 2]> = (0..121).map(|k| [8 + k, 129 + k]).collect();
-    list.accepted(&rule, &plan(256, &groups(&pairs)), &[63, 31, 30]);
-    let across: Vec<[usize; 2]> = (0..121).map(|k| [8 + k, 249 - k]).collect();
-    list.with_plan(&rule, &plan(256, &groups(&across)), 30);
+    let plan = plan(256, &groups(&pairs));
+    (rule, plan)
 }

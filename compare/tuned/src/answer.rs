@@ -13,6 +13,14 @@ pub struct Answer {
 }
 
 impl Answer {
+    pub(crate) fn of_file(wires: usize, bytes: usize) -> Answer {
+        Answer {
+            wires,
+            bytes,
+            ..Answer::default()
+        }
+    }
+
     pub(crate) fn refused(number: u8, place: usize) -> Answer {
         Answer {
             number,

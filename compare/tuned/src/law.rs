@@ -14,6 +14,7 @@ pub const CONDITIONS_MAX: usize = 6;
 pub const PLAN_BYTES_MIN: usize = 9;
 pub const PLAN_BYTES_MAX: usize = 1024;
 pub const WIRES_MAX: usize = 640;
+pub const CIRCUIT_BYTES_MIN: usize = 8;
 pub const CIRCUIT_BYTES_MAX: usize = 16_384;
 
 pub const CLOSE: u8 = 0x00;

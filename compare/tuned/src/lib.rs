@@ -1,11 +1,12 @@
-//! Document 01's operations 01 to 06 with request C-12, in Rust tuned for speed: a tool to measure the proved
-//! one beside. No allocation, nothing cleared that is not read, one pass over the rule, one over the plan, one
-//! backward over the gates, one to order and one to write.
+//! Document 01's operations 01 to 06 with request C-12, and C-11's 07 to 09, in Rust tuned for speed: a tool to
+//! measure the proved one beside. No allocation, nothing cleared that is not read, one pass over the rule, one
+//! over the plan, one backward over the gates, one to order and one to write; one over a circuit file.
 //!
 //! Indices are mostly not tested and places are read uncleared (`places`): the functions here are safe to call
 //! only because what lies below is right, which nothing proves. The harness compares it with the other two tools.
 
 mod answer;
+mod circuit_file;
 mod law;
 mod needed;
 mod order;
@@ -17,6 +18,7 @@ mod writing;
 
 pub use answer::{Answer, Shown};
 
+use circuit_file::{header, Pass};
 use law::*;
 use needed::{conditions, find_needed};
 use order::{order, Nothing, Order};
@@ -225,4 +227,54 @@ pub fn run_fused_unwritten(
         *result = figures.of(output);
     }
     counted(&circuit, reader)
+}
+
+/// Operation 07: reads a circuit file.
+#[inline(never)]
+pub fn read_circuit(file: &[u8]) -> Answer {
+    let Some(header) = header(file) else {
+        return Answer::refused(60, 0);
+    };
+    match Pass::new(file).whole::<false>(header, &[]) {
+        Some(_) => Answer::of_file(header.wires, file.len()),
+        None => Answer::refused(circuit_file::row(file, header), 0),
+    }
+}
+
+/// Operation 08: the part of a circuit file that holds a wire's record; empty for a refused file or a number that is
+/// no wire.
+#[inline(never)]
+pub fn record(file: &[u8], wire: usize) -> &[u8] {
+    let answer = read_circuit(file);
+    if answer.number != 0 || wire >= answer.wires {
+        return &[];
+    }
+    circuit_file::part(file, wire)
+}
+
+/// Operation 09: runs a circuit file; results in the first V places.
+#[inline(never)]
+pub fn run_circuit(file: &[u8], inputs: &[u32], results: &mut [u32]) -> Answer {
+    let Some(header) = header(file) else {
+        return Answer::refused(60, 0);
+    };
+    let variables = header.variables;
+    if inputs.len() != variables || results.len() < variables {
+        // The file's own refusal comes first.
+        let answer = read_circuit(file);
+        return match answer.number {
+            0 => {
+                let row = circuit_file::inputs_row(file, variables, inputs, results.len());
+                Answer::refused(row, 0)
+            }
+            _ => answer,
+        };
+    }
+    let mut pass = Pass::new(file);
+    match pass.whole::<true>(header, inputs) {
+        Some(false) => pass.results(variables, results),
+        Some(true) => return Answer::refused(41, 0),
+        None => return Answer::refused(circuit_file::row(file, header), 0),
+    }
+    Answer::of_file(header.wires, file.len())
 }

@@ -113,3 +113,90 @@ fn example_5_a_choice_is_not_costly() {
     assert_eq!(line(check_plan(&R1, &plan)), [27, 0, 0, 0, 0, 0, 0]);
     assert_eq!(line(check_plan(&R1, &P1)), [0, 0, 6, 0, 0, 33, 0]);
 }
+
+#[test]
+fn example_3_read_and_run() {
+    assert_eq!(line(read_circuit(&FILE)), [0, 0, 0, 9, 76, 0, 0]);
+    for (inputs, wanted) in [([1, 6, 7], [1, 42, 7]), ([0, 6, 7], [0, 49, 7])] {
+        let mut results = [9; 4];
+        let answer = run_circuit(&FILE, &inputs, &mut results);
+        assert_eq!(line(answer), [0, 0, 0, 9, 76, 0, 0]);
+        assert_eq!((&results[..3], results[3]), (&wanted[..], 9));
+    }
+    let parts: Vec<&[u8]> = (0..9).map(|wire| record(&FILE, wire)).collect();
+    assert_eq!(parts.concat(), FILE[8..70]);
+    assert_eq!(parts[7], [0x22, 0x00, 0x05, 0x00, 0x06]);
+    for none in [9, 65_535, usize::MAX] {
+        assert_eq!(record(&FILE, none), []);
+    }
+}
+
+/// What is refused writes nothing, and the lowest number decides.
+#[test]
+fn refusals_of_circuit_files() {
+    let changed = |changes: &[(usize, u8)]| {
+        let mut file = FILE;
+        changes.iter().for_each(|&(place, byte)| file[place] = byte);
+        file.to_vec()
+    };
+    let mut results = [9; 4];
+    for (file, wanted) in [
+        (Vec::new(), 60),
+        (FILE[..7].to_vec(), 60),
+        (vec![0; 16_385], 60),
+        (changed(&[(0, 0x44)]), 60),
+        (changed(&[(5, 0)]), 60),
+        (changed(&[(5, 33)]), 60),
+        (changed(&[(6, 3)]), 60),
+        (FILE[..8].to_vec(), 61),
+        (FILE[..75].to_vec(), 61),
+        ([&FILE[..], &[0]].concat(), 61),
+        (changed(&[(58, 0x28)]), 61),
+        (changed(&[(15, 7)]), 61),
+        (changed(&[(39, 0)]), 61),
+        // A fault of 62 before one of 61, and after it.
+        (changed(&[(9, 1), (63, 0x33)]), 61),
+        (changed(&[(14, 0x33), (75, 0xFF)]), 61),
+        (changed(&[(9, 1)]), 62),
+        (changed(&[(17, 3)]), 62),
+        (changed(&[(17, 1)]), 62),
+        (changed(&[(25, 4)]), 62),
+        (changed(&[(43, 3)]), 62),
+        (changed(&[(60, 7)]), 62),
+        (changed(&[(71, 1)]), 62),
+        (changed(&[(75, 9)]), 62),
+    ] {
+        assert_eq!(line(read_circuit(&file)), [wanted, 0, 0, 0, 0, 0, 0]);
+        assert_eq!(record(&file, 0), []);
+        for inputs in [&[1, 6, 7][..], &[2, 6, 7], &[]] {
+            let answer = run_circuit(&file, inputs, &mut results);
+            assert_eq!(line(answer), [wanted, 0, 0, 0, 0, 0, 0]);
+        }
+    }
+    assert_eq!(run_circuit(&FILE, &[2, 6], &mut results[..2]).number, 40);
+    assert_eq!(run_circuit(&FILE, &[2, 6, 7], &mut results[..2]).number, 41);
+    assert_eq!(run_circuit(&FILE, &[2, 6, 7], &mut results).number, 41);
+    assert_eq!(run_circuit(&FILE, &[1, 6, 7], &mut results[..2]).number, 42);
+    assert_eq!(results, [9; 4]);
+}
+
+/// Both guards of the picks at 1, for words and, with v1 and v2 bits and an "and", for bits.
+#[test]
+fn a_pick_is_a_sum() {
+    let mut file = FILE;
+    file[25] = 3;
+    file[37] = 3;
+    let mut results = [9; 3];
+    assert_eq!(run_circuit(&file, &[1, 6, 7], &mut results).number, 0);
+    assert_eq!(results, [1, 13 * 14, 7]);
+    let inputs = [0, u32::MAX, 3];
+    assert_eq!(run_circuit(&file, &inputs, &mut results).number, 0);
+    assert_eq!(results, [0, 12, 3]);
+    file[10] = 1;
+    file[12] = 1;
+    file[58] = 0x26;
+    for (inputs, wanted) in [([1, 1, 0], 1), ([1, 1, 1], 0), ([0, 0, 1], 1)] {
+        assert_eq!(run_circuit(&file, &inputs, &mut results).number, 0);
+        assert_eq!(results, [inputs[0], wanted, inputs[2]]);
+    }
+}

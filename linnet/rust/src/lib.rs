@@ -1,5 +1,6 @@
 //! Linnetshelf's proved tool, called from Rust. Every function passes its arguments on to the
-//! function `linnet_` and its name of the archive that `rt staticlib linnet` writes, and adds nothing.
+//! function `linnet_` and its name of the archive that `rt staticlib linnet` writes, and adds nothing;
+//! only `record` makes a slice of the part that it is told.
 //! What each does, and the numbers of the refusals, stands in `linnet.h`.
 
 /// The seven numbers that every operation answers with. A count that an operation does not work
@@ -27,6 +28,13 @@ pub struct Shown {
     pub needs: [u64; 256],
 }
 
+/// The part of an array from `start` on, so many elements.
+#[repr(C)]
+struct Part {
+    start: usize,
+    length: usize,
+}
+
 #[rustfmt::skip]
 extern "C" {
     fn linnet_read_rule(rule: *const u8, rule_count: usize) -> Answer;
@@ -35,6 +43,9 @@ extern "C" {
     fn linnet_check_plan(rule: *const u8, rule_count: usize, plan: *const u8, plan_count: usize) -> Answer;
     fn linnet_write_fused(rule: *const u8, rule_count: usize, plan: *const u8, plan_count: usize, out: *mut u8, out_count: usize) -> Answer;
     fn linnet_run_fused(rule: *const u8, rule_count: usize, plan: *const u8, plan_count: usize, inputs: *const u32, inputs_count: usize, results: *mut u32, results_count: usize) -> Answer;
+    fn linnet_read_circuit(file: *const u8, file_count: usize) -> Answer;
+    fn linnet_record(file: *const u8, file_count: usize, wire: usize) -> Part;
+    fn linnet_run_circuit(file: *const u8, file_count: usize, inputs: *const u32, inputs_count: usize, results: *mut u32, results_count: usize) -> Answer;
 }
 
 // Each call below is sound: a slice is a pointer and a count for the time of the call, the lent
@@ -74,4 +85,23 @@ pub fn write_fused(rule: &[u8], plan: &[u8], out: &mut [u8]) -> Answer {
 #[rustfmt::skip]
 pub fn run_fused(rule: &[u8], plan: &[u8], inputs: &[u32], results: &mut [u32]) -> Answer {
     unsafe { linnet_run_fused(rule.as_ptr(), rule.len(), plan.as_ptr(), plan.len(), inputs.as_ptr(), inputs.len(), results.as_mut_ptr(), results.len()) }
+}
+
+/// Reads a circuit file, of whichever house: its wires and bytes, or a refusal by rows 60 to 62.
+#[rustfmt::skip]
+pub fn read_circuit(file: &[u8]) -> Answer {
+    unsafe { linnet_read_circuit(file.as_ptr(), file.len()) }
+}
+
+/// The part of a circuit file that holds a wire's record; empty for a refused file or a number that is no wire.
+#[rustfmt::skip]
+pub fn record(file: &[u8], wire: usize) -> &[u8] {
+    let part = unsafe { linnet_record(file.as_ptr(), file.len(), wire) };
+    &file[part.start..part.start + part.length]
+}
+
+/// Runs a circuit file: every variable's figure in the first V results; its wires and bytes.
+#[rustfmt::skip]
+pub fn run_circuit(file: &[u8], inputs: &[u32], results: &mut [u32]) -> Answer {
+    unsafe { linnet_run_circuit(file.as_ptr(), file.len(), inputs.as_ptr(), inputs.len(), results.as_mut_ptr(), results.len()) }
 }

@@ -56,22 +56,24 @@ fn with_slices(text: &str, start: &str) -> Vec<Operation> {
     sorted(found)
 }
 
-/// Pairs of a pointer and its count as slices; `split` gives name and type of a pointer or count.
+/// Parameters with pairs of a pointer and its count as slices; `split` gives name and type of each.
 fn slices(list: &str, split: impl Fn(&str) -> Named) -> Vec<Named> {
-    let all: Vec<Named> = parts(list, ',').iter().map(|part| split(part)).collect();
-    assert_eq!(all.len() % 2, 0, "pointers and counts: {list}");
-    all.chunks(2)
-        .map(|pair| {
-            let (name, pointer) = &pair[0];
-            assert_eq!(pair[1], (format!("{name}_count"), "usize".into()));
-            let kind = match pointer.split_once(' ') {
-                Some(("*const", element)) => format!("&[{element}]"),
-                Some(("*mut", element)) => format!("&mut [{element}]"),
-                _ => panic!("no pointer: {pointer}"),
-            };
-            (name.clone(), kind)
-        })
-        .collect()
+    let mut all = parts(list, ',').into_iter().map(|part| split(&part));
+    let mut found = Vec::new();
+    while let Some((name, kind)) = all.next() {
+        let slice = match kind.split_once(' ') {
+            Some(("*const", element)) => format!("&[{element}]"),
+            Some(("*mut", element)) => format!("&mut [{element}]"),
+            _ => {
+                found.push((name, kind));
+                continue;
+            }
+        };
+        let count = (format!("{name}_count"), "usize".to_string());
+        assert_eq!(all.next(), Some(count), "a pointer's count: {list}");
+        found.push((name, slice));
+    }
+    found
 }
 
 /// C's name of a type as Rust writes it.
@@ -83,6 +85,7 @@ fn of_c(kind: &str) -> &str {
         "size_t" => "usize",
         "struct linnet_answer" => "Answer",
         "struct linnet_shown" => "Shown",
+        "struct linnet_part" => "Part",
         _ => panic!("no such type: {kind}"),
     }
 }
@@ -152,28 +155,49 @@ fn of_extern_blocks() -> Vec<Operation> {
 #[test]
 fn every_operation_is_the_same_in_all_texts() {
     let rattle = with_slices(RATTLE, "#[no_mangle]\npub extern \"C\" fn linnet_");
-    assert_eq!(rattle.len(), 6);
+    assert_eq!(rattle.len(), 9);
     assert_eq!(rattle.len(), RATTLE.matches("extern \"C\"").count());
     assert_eq!(of_header(), rattle);
     assert_eq!(of_extern_blocks(), rattle);
-    assert_eq!(with_slices(WRAPPER, "\npub fn "), rattle);
+    assert_eq!(of_wrapper(), rattle);
 }
 
-/// Each function of the wrapper calls its own, with its own parameters in their order.
+/// The wrapper's functions; a slice that one gives stands for the part that the archive tells.
+fn of_wrapper() -> Vec<Operation> {
+    let mut found = with_slices(WRAPPER, "\npub fn ");
+    for operation in &mut found {
+        if operation.answer == "&[u8]" {
+            operation.answer = "Part".into();
+        }
+    }
+    found
+}
+
+/// Each function of the wrapper calls its own, with its own parameters in their order, and gives what that
+/// answers, or the part of the first parameter that it tells.
 #[test]
 fn every_function_of_the_wrapper_passes_its_parameters_on() {
     for Operation {
-        name, parameters, ..
-    } in with_slices(WRAPPER, "\npub fn ")
+        name,
+        parameters,
+        answer,
+    } in of_wrapper()
     {
         let given: Vec<String> = parameters
             .iter()
-            .map(|(name, kind)| match kind.starts_with("&mut ") {
-                true => format!("{name}.as_mut_ptr(), {name}.len()"),
-                false => format!("{name}.as_ptr(), {name}.len()"),
+            .map(|(name, kind)| match kind.split_once('[') {
+                Some(("&mut ", _)) => format!("{name}.as_mut_ptr(), {name}.len()"),
+                Some(_) => format!("{name}.as_ptr(), {name}.len()"),
+                None => name.clone(),
             })
             .collect();
-        let call = format!("    unsafe {{ linnet_{name}({}) }}", given.join(", "));
+        let mut call = format!("unsafe {{ linnet_{name}({}) }}", given.join(", "));
+        if answer == "Part" {
+            let first = &parameters[0].0;
+            let range = "part.start..part.start + part.length";
+            call = format!("let part = {call};\n    &{first}[{range}]");
+        }
+        let call = format!("    {call}");
         let start = format!("\npub fn {name}(");
         let (whole, _) = between(WRAPPER, &start, "\n}").expect("the function");
         assert_eq!(whole.split_once("{\n").expect("a body").1, call);
@@ -181,10 +205,11 @@ fn every_function_of_the_wrapper_passes_its_parameters_on() {
 }
 
 #[test]
-fn both_structs_are_the_same_in_all_texts() {
-    for (name, c, rattle) in [("Answer", "answer", ANSWERS), ("Shown", "shown", RATTLE)] {
+fn all_structs_are_the_same_in_all_texts() {
+    for (name, c) in [("Answer", "answer"), ("Shown", "shown"), ("Part", "part")] {
         let open = format!("#[repr(C)]\npub struct {name} {{");
-        let (fields, _) = between(rattle, &open, "}").expect("the Rattle struct");
+        let found = between(RATTLE, &open, "}").or_else(|| between(ANSWERS, &open, "}"));
+        let (fields, _) = found.expect("the Rattle struct");
         let fields: Vec<Named> = parts(fields, ',').iter().map(|part| named(part)).collect();
 
         let text = without_comments(HEADER);
@@ -196,10 +221,10 @@ fn both_structs_are_the_same_in_all_texts() {
         let (_, of_rust) = WRAPPER
             .split_once("#[repr(C)]\n")
             .expect("laid out as in C");
-        let open = format!("pub struct {name} {{");
+        let open = format!("struct {name} {{");
         let (of_rust, _) = between(of_rust, &open, "}").expect("the Rust struct");
         let of_rust: Vec<Named> = parts(of_rust, ',').iter().map(|part| named(part)).collect();
         assert_eq!(of_rust, fields);
     }
-    assert_eq!(WRAPPER.matches("#[repr(C)]").count(), 2);
+    assert_eq!(WRAPPER.matches("#[repr(C)]").count(), 3);
 }

@@ -90,6 +90,81 @@ fn plans_are_checked_written_and_run() {
     assert_eq!(results, [0, 49, 7, 9]);
 }
 
+/// Example 3's file, 76 bytes.
+fn circuit() -> Vec<u8> {
+    let p1 = [0x50, 0x4C, 0x4E, 0, 1, 0, 6, 0, 1, 2, 0, 3, 0, 4];
+    let mut out = [0; 76];
+    assert_eq!(linnet::write_fused(&R1, &p1, &mut out).number, 0);
+    out.to_vec()
+}
+
+#[test]
+fn circuit_files_are_read_and_run() {
+    let file = circuit();
+    let accepted = Answer {
+        wires: 9,
+        bytes: 76,
+        ..Answer::default()
+    };
+    assert_eq!(linnet::read_circuit(&file), accepted);
+    let mut results = [9; 4];
+    assert_eq!(
+        linnet::run_circuit(&file, &[1, 6, 7], &mut results),
+        accepted
+    );
+    assert_eq!(results, [1, 42, 7, 9]);
+    for (inputs, room, number) in [
+        (&[1, 6][..], 4, 40),
+        (&[2, 6, 7], 4, 41),
+        (&[1, 6, 7], 2, 42),
+    ] {
+        let answer = linnet::run_circuit(&file, inputs, &mut results[..room]);
+        assert_eq!(answer, refused(number, 0));
+    }
+    assert_eq!(results, [1, 42, 7, 9]);
+    // Both guards always at 1: the picks give sums.
+    let mut sums = file.clone();
+    (sums[25], sums[37]) = (3, 3);
+    assert_eq!(
+        linnet::run_circuit(&sums, &[1, 6, 7], &mut results),
+        accepted
+    );
+    assert_eq!(results, [1, 13 * 14, 7, 9]);
+}
+
+#[test]
+fn circuit_files_are_refused() {
+    let file = circuit();
+    let mut results = [9; 3];
+    for (place, byte, number) in [(0, 0x44, 60), (58, 0x28, 61), (17, 1, 62)] {
+        let mut file = file.clone();
+        file[place] = byte;
+        assert_eq!(linnet::read_circuit(&file), refused(number, 0));
+        assert_eq!(linnet::record(&file, 0), []);
+        let answer = linnet::run_circuit(&file, &[2, 6], &mut results);
+        assert_eq!((answer, results), (refused(number, 0), [9; 3]));
+    }
+    assert_eq!(linnet::read_circuit(&file[..8]), refused(61, 0));
+    assert_eq!(linnet::read_circuit(&[]), refused(60, 0));
+}
+
+/// Records follow each other between header and outputs, in the caller's own bytes.
+#[test]
+fn records_are_shown() {
+    let file = circuit();
+    let mut from = 8;
+    for wire in 0..9 {
+        let part = linnet::record(&file, wire);
+        assert!(std::ptr::eq(part, &file[from..from + part.len()]));
+        from += part.len();
+    }
+    assert_eq!(from, 70);
+    assert_eq!(linnet::record(&file, 7), [0x22, 0x00, 0x05, 0x00, 0x06]);
+    for none in [9, 65_535, usize::MAX] {
+        assert_eq!(linnet::record(&file, none), []);
+    }
+}
+
 /// `linnet/c/examples.c`, compiled by gcc with every warning an error, and run.
 #[test]
 fn c_programs_call_it() {

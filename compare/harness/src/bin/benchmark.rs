@@ -6,7 +6,7 @@ use compare::stream::{Case, WRITE};
 use harness::differ::differences;
 use harness::subject::{r1, Row, Subject};
 use harness::tool::TOOLS;
-use harness::{ladder, mixed, page};
+use harness::{files, ladder, mixed, page};
 use std::process::ExitCode;
 
 const TURNS: usize = 501;
@@ -16,7 +16,7 @@ fn main() -> ExitCode {
         eprintln!("benchmark [TURNS] [--only OPERATION]");
         return ExitCode::from(2);
     };
-    let rows = rows();
+    let (rules, files) = rows();
     if only.is_none() {
         page::print_head(&format!("compare/benchmark {turns}"), turns);
     }
@@ -25,6 +25,10 @@ fn main() -> ExitCode {
         if only.is_some_and(|only| only != operation) {
             continue;
         }
+        let rows = match page::takes_file(operation) {
+            true => &files,
+            false => &rules,
+        };
         let measured: Vec<_> = rows
             .iter()
             .map(|row| {
@@ -37,7 +41,8 @@ fn main() -> ExitCode {
     }
     page::print_goals(&all);
     if only.is_none() {
-        page::print_rows(&rows);
+        page::print_rows(&rules);
+        page::print_files(&files);
     }
     ExitCode::SUCCESS
 }
@@ -59,13 +64,18 @@ fn arguments() -> Option<(usize, Option<u8>)> {
     Some((turns, only))
 }
 
-fn rows() -> Vec<Row> {
-    let mut rows = vec![r1()];
-    rows.extend(ladder::ladders());
-    rows.extend([ladder::reversed(256), ladder::held_up(256)]);
-    rows.extend([128, 256].map(ladder::passed_again));
-    rows.push(mixed::mixed());
-    rows
+/// The rules, and the circuit files.
+fn rows() -> (Vec<Row>, Vec<Row>) {
+    let mut rules = vec![r1()];
+    rules.extend(ladder::ladders());
+    rules.extend([ladder::reversed(256), ladder::held_up(256)]);
+    rules.extend([128, 256].map(ladder::passed_again));
+    let mixed = mixed::mixed();
+    let mut files = vec![r1()];
+    files.extend(files::growing());
+    files.extend([files::largest(), mixed.clone()]);
+    rules.push(mixed);
+    (rules, files)
 }
 
 /// All tools give the same and accept, or there is nothing to measure.
@@ -77,7 +87,10 @@ fn agree(operation: u8, subject: &Subject) {
     let case = Case {
         operation,
         room: room as u16,
-        first: subject.rule.clone(),
+        first: match page::takes_file(operation) {
+            true => subject.file.clone(),
+            false => subject.rule.clone(),
+        },
         second: subject.plan.clone(),
         inputs: subject.inputs.clone(),
         ..Case::default()

@@ -3,7 +3,8 @@
 //! Prints how many cases came to each number, by operation, then how many differ; the first differing
 //! ones go to `target/differing.cas`, a conformance stream. The exit status is 0 when none differs.
 
-use compare::stream::STREAM_MARK;
+use compare::counts::ByOperation;
+use compare::stream::{LAST, STREAM_MARK};
 use harness::cases::{compare, Tally};
 use harness::tool::TOOLS;
 use std::process::ExitCode;
@@ -40,8 +41,12 @@ fn main() -> ExitCode {
 }
 
 fn print_counts(tally: &Tally) {
-    println!("number        01        02        03        04        05        06       all");
-    let mut sums = [0; 7];
+    print!("number");
+    for operation in 1..=LAST {
+        print!("        {operation:02}");
+    }
+    println!("       all");
+    let mut sums = ByOperation::default();
     for (number, by) in &tally.counts {
         print_row(&format!("{number:6}"), by);
         for (sum, count) in sums.iter_mut().zip(by) {
@@ -51,7 +56,7 @@ fn print_counts(tally: &Tally) {
     print_row("   all", &sums);
 }
 
-fn print_row(name: &str, by: &[u64; 7]) {
+fn print_row(name: &str, by: &ByOperation) {
     print!("{name}");
     for count in &by[1..] {
         print!("{count:10}");

@@ -1,8 +1,9 @@
-//! `spin OPERATION RULE MILLISECONDS`: calls an operation of the proved library for so long, for a profiler. The rule
-//! is `r1`, a ladder by its gates, as `256`, or `mixed`, the first 200 of the mixed ones, which are soon made.
+//! `spin OPERATION RULE MILLISECONDS`: calls an operation of the proved library for so long, for a profiler; 7 and 9
+//! take the file of the rule's circuit. The rule is `r1`, a ladder by its gates, as `256`, or `mixed`, the first 200
+//! of the mixed ones, which are soon made.
 
 use harness::subject::{r1, Subject};
-use harness::{calls, ladder, mixed};
+use harness::{calls, ladder, mixed, page};
 use std::process::ExitCode;
 use std::time::{Duration, Instant};
 
@@ -26,7 +27,8 @@ fn parsed(arguments: &[String]) -> Option<(u8, Vec<Subject>, Duration)> {
     let [operation, rule, time] = arguments else {
         return None;
     };
-    let operation = operation.parse().ok().filter(|one| (1..=6).contains(one))?;
+    let operation = operation.parse().ok()?;
+    page::OPERATIONS.iter().find(|(one, _)| *one == operation)?;
     let time = Duration::from_millis(time.parse().ok()?);
     let subjects = match rule.as_str() {
         "r1" => r1().subjects,

@@ -1,0 +1,212 @@
+//! A circuit file from any house (C-11): rows 60 to 62, its records, and the part of it that holds one.
+
+use crate::answer::{Answer, Refusal};
+use crate::circuit::Settings;
+use crate::law::*;
+use crate::write::{Fused, Record, Wire};
+
+/// A file that rows 60 and 61 pass; `accept` gives only those that row 62 passes too.
+#[derive(Debug)]
+pub struct CircuitFile<'a> {
+    pub circuit: Fused,
+    /// For each wire the part of the file that holds its record.
+    pub parts: Vec<&'a [u8]>,
+    bytes: usize,
+}
+
+impl CircuitFile<'_> {
+    pub fn answer(&self) -> Answer {
+        Answer::of_file(self.parts.len(), self.bytes)
+    }
+
+    /// The variables' kinds, as the input records have them.
+    pub fn variables(&self) -> Vec<Kind> {
+        let kind = |record: &Record| match record {
+            Record::Input(_, kind) => Some(*kind),
+            _ => None,
+        };
+        self.circuit.records.iter().filter_map(kind).collect()
+    }
+}
+
+/// Checks the rows one after the other, each over the whole file, so the lowest number decides.
+pub fn accept(file: &[u8]) -> Result<CircuitFile<'_>, Refusal> {
+    let (variables, wires) = header(file).ok_or(Refusal::nowhere(60))?;
+    let laid_out = lay_out(file, variables, wires).ok_or(Refusal::nowhere(61))?;
+    if !holds_together(&laid_out.circuit) {
+        return Err(Refusal::nowhere(62));
+    }
+    Ok(laid_out)
+}
+
+/// The operation "read a circuit file".
+pub fn read_circuit(file: &[u8]) -> Answer {
+    match accept(file) {
+        Ok(accepted) => accepted.answer(),
+        Err(refusal) => refusal.into(),
+    }
+}
+
+/// The operation "one record of a circuit file": empty for a refused file or a number that is no wire.
+pub fn record(file: &[u8], wire: Wire) -> &[u8] {
+    match accept(file) {
+        Ok(accepted) => accepted.parts.get(wire.0).copied().unwrap_or(&[]),
+        Err(_) => &[],
+    }
+}
+
+/// V and the wire count, or none by row 60.
+fn header(file: &[u8]) -> Option<(usize, usize)> {
+    if !(CIRCUIT_BYTES_MIN..=CIRCUIT_BYTES_MAX).contains(&file.len()) {
+        return None;
+    }
+    let mut rest = file;
+    if take(&mut rest, 5)? != CIRCUIT_MARK {
+        return None;
+    }
+    let variables = usize::from(byte(&mut rest)?);
+    let wires = number(&mut rest)?;
+    let good = (VARIABLES_MIN..=VARIABLES_MAX).contains(&variables) && wires <= WIRES_MAX;
+    good.then_some((variables, wires))
+}
+
+/// The records and the outputs, ending where the file ends, or none by row 61.
+fn lay_out(file: &[u8], variables: usize, wires: usize) -> Option<CircuitFile<'_>> {
+    let mut rest = &file[CIRCUIT_BYTES_MIN..];
+    let (mut records, mut parts) = (Vec::new(), Vec::new());
+    for _ in 0..wires {
+        let from = rest;
+        records.push(take_record(&mut rest)?);
+        parts.push(&from[..from.len() - rest.len()]);
+    }
+    let outputs = take_wires(&mut rest, variables)?;
+    rest.is_empty().then_some(CircuitFile {
+        circuit: Fused { records, outputs },
+        parts,
+        bytes: file.len(),
+    })
+}
+
+fn take_record(rest: &mut &[u8]) -> Option<Record> {
+    let code = byte(rest)?;
+    let record = match code {
+        WORD_INPUT | BIT_INPUT => Record::Input(usize::from(byte(rest)?), Kind::of_byte(code)?),
+        WORD => Record::Word(u32::from_be_bytes(take(rest, 4)?.try_into().ok()?)),
+        BIT => match byte(rest)? {
+            bit @ (0 | 1) => Record::Bit(bit == 1),
+            _ => return None,
+        },
+        CHOICE => {
+            let wires = take_wires(rest, 3)?;
+            Record::Choice(wires[0], wires[1], wires[2])
+        }
+        PICK => take_pick(rest)?,
+        GUARD => take_guard(rest)?,
+        _ => {
+            let row = operation(code)?;
+            Record::Operation(code, take_wires(rest, row.arguments)?)
+        }
+    };
+    Some(record)
+}
+
+fn take_pick(rest: &mut &[u8]) -> Option<Record> {
+    let count = usize::from(byte(rest)?);
+    if count == 0 {
+        return None;
+    }
+    let wires = take_wires(rest, 2 * count)?;
+    let pairs = wires.chunks(2).map(|pair| (pair[0], pair[1])).collect();
+    Some(Record::Pick(pairs))
+}
+
+fn take_guard(rest: &mut &[u8]) -> Option<Record> {
+    let count = usize::from(byte(rest)?);
+    if count > CONDITIONS_MAX {
+        return None;
+    }
+    let wires = take_wires(rest, count)?;
+    let bytes = take(rest, TABLE_BYTES)?;
+    let mut table = Settings::none();
+    for (j, bit) in table.0.iter_mut().enumerate() {
+        // Big-endian: the last byte holds table bits 0 to 7.
+        *bit = bytes[TABLE_BYTES - 1 - j / 8] >> (j % 8) & 1 == 1;
+    }
+    Some(Record::Guard(wires, table))
+}
+
+/// Row 62.
+fn holds_together(circuit: &Fused) -> bool {
+    inputs_come_first(circuit)
+        && kinds(circuit).is_some_and(|kinds| {
+            let variables = &kinds[..circuit.outputs.len()];
+            let mut outputs = circuit.outputs.iter().zip(variables);
+            outputs.all(|(output, kind)| kinds.get(output.0) == Some(kind))
+        })
+}
+
+/// Whether the inputs are exactly the first V records, in order.
+fn inputs_come_first(circuit: &Fused) -> bool {
+    let variables = circuit.outputs.len();
+    let fits = |(wire, record): (usize, &Record)| match record {
+        Record::Input(variable, _) => wire < variables && *variable == wire,
+        _ => wire >= variables,
+    };
+    circuit.records.len() >= variables && circuit.records.iter().enumerate().all(fits)
+}
+
+/// Every wire's kind, or none where a record reads a wire that is not earlier or of the wrong kind, or a
+/// guard has a table bit set from 2^d up.
+pub fn kinds(circuit: &Fused) -> Option<Vec<Kind>> {
+    let mut kinds = Vec::new();
+    for record in &circuit.records {
+        kinds.push(kind(record, &kinds)?);
+    }
+    Some(kinds)
+}
+
+fn kind(record: &Record, earlier: &[Kind]) -> Option<Kind> {
+    let of = |wire: &Wire| earlier.get(wire.0).copied();
+    let are = |wires: &[Wire], kind: Kind| wires.iter().all(|wire| of(wire) == Some(kind));
+    match record {
+        Record::Input(_, kind) => Some(*kind),
+        Record::Word(_) => Some(Kind::Word),
+        Record::Bit(_) => Some(Kind::Bit),
+        Record::Operation(code, wires) => {
+            let row = operation(*code)?;
+            are(wires, row.takes).then_some(row.gives)
+        }
+        Record::Choice(condition, first, second) => {
+            let kind = of(first)?;
+            (are(&[*condition], Kind::Bit) && are(&[*second], kind)).then_some(kind)
+        }
+        Record::Pick(pairs) => {
+            let (guards, values): (Vec<Wire>, Vec<Wire>) = pairs.iter().copied().unzip();
+            let kind = of(values.first()?)?;
+            (are(&guards, Kind::Bit) && are(&values, kind)).then_some(kind)
+        }
+        Record::Guard(wires, table) => {
+            let above = table.0[1 << wires.len()..].contains(&true);
+            (are(wires, Kind::Bit) && !above).then_some(Kind::Bit)
+        }
+    }
+}
+
+fn take<'a>(rest: &mut &'a [u8], count: usize) -> Option<&'a [u8]> {
+    let taken = rest.get(..count)?;
+    *rest = &rest[count..];
+    Some(taken)
+}
+
+fn byte(rest: &mut &[u8]) -> Option<u8> {
+    Some(take(rest, 1)?[0])
+}
+
+fn number(rest: &mut &[u8]) -> Option<usize> {
+    let two = take(rest, 2)?;
+    Some(usize::from(u16::from_be_bytes([two[0], two[1]])))
+}
+
+fn take_wires(rest: &mut &[u8], count: usize) -> Option<Vec<Wire>> {
+    (0..count).map(|_| number(rest).map(Wire)).collect()
+}
