@@ -1,5 +1,5 @@
 // Reads a conformance stream on standard input and prints one line a case (shared/CONFORMANCE.md).
-// Operations 01 to 06; any other ends the stream with `refused`.
+// Operations 01 to 09; any other ends the stream with `refused`.
 use answers::Answer;
 use libc::STDIN_FILENO;
 use libc::STDOUT_FILENO;
@@ -248,8 +248,22 @@ fn circuit_line(rule: &[u8]) {
     print_gates(&quads, &needs, a.gates);
 }
 
+// One record of a circuit file, or `-` for none.
+fn record_line(file: &[u8], wire: usize) {
+    print_answer(foreign::read(file));
+    print(b" | ");
+    let part = foreign::record(file, wire);
+    print_written(part, part.len());
+}
+
+fn file_line(file: &[u8], inputs: &[u32], results: &mut [u32]) {
+    let a = foreign::run(file, inputs, results);
+    print_answer(a);
+    print_words(results);
+}
+
 // The line of a case, but for an operation that is not built.
-fn work(operation: u8, room: usize, rule: &[u8], plan: &[u8], inputs: &[u32]) -> bool
+fn work(operation: u8, number: usize, room: usize, rule: &[u8], plan: &[u8], inputs: &[u32]) -> bool
     requires { ⌜ room ≤ 65535 ⌝ }
 {
     match operation {
@@ -268,6 +282,12 @@ fn work(operation: u8, room: usize, rule: &[u8], plan: &[u8], inputs: &[u32]) ->
             fused_line(rule, plan, inputs, &mut results[0..room]);
         }
         6 => circuit_line(rule),
+        7 => print_answer(foreign::read(rule)),
+        8 => record_line(rule, number),
+        9 => {
+            let mut results = [UNTOUCHED; 65535];
+            file_line(rule, inputs, &mut results[0..room]);
+        }
         _ => {
             return false;
         }
@@ -295,6 +315,7 @@ fn fields(head: [u8; 6]) -> bool {
     }
     work(
         head[0],
+        words::read16(&head, 2) as usize,
         words::read16(&head, 4) as usize,
         &first[0..n],
         &second[0..m],

@@ -3,7 +3,7 @@ use answers::Answer;
 use codes::Kind;
 ghost use mathlib.Core.Path.{_≡_};
 ghost use Prim.Native.Nat.{_<_};
-ghost use lib.ListN.{length};
+ghost use lib.ListN.{length, take, drop};
 ghost use Rattle.codes.specs.Inputs.{inputsRow};
 ghost use Rattle.records.specs.WireKinds.{wireKind};
 ghost use Rattle.records.specs.FileFigures.{fileVariables, wireCount, fileRecords};
@@ -71,6 +71,7 @@ pub struct Part {
 pub fn part_of(file: &[u8], wire: usize) -> Part
     ensures start { λ r. ⌜ r .start ≡ partStart (now (file .entry)) wire ⌝ }
     ensures length { λ r. ⌜ r .length ≡ partLength (now (file .entry)) wire ⌝ }
+    ensures bytes { λ r. ⌜ take (r .length) (drop (r .start) (now (file .entry))) ≡ recordPart (now (file .entry)) wire ⌝ }
 {
     if circuit_row(file) != 0 {
         return Part {

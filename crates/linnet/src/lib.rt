@@ -1,13 +1,15 @@
 // The tool as C and Rust call it: each operation passed on, with the promise that it has.
 use answers::Answer;
+use foreign::Part;
 ghost use mathlib.Core.Path.{_≡_};
-ghost use lib.ListN.{length};
+ghost use lib.ListN.{length, take, drop};
 ghost use Rattle.circuit.specs.Whole.{ruleAnswer};
 ghost use Rattle.circuit.specs.Built.{builtQuads, builtNeeds};
 ghost use Rattle.plan.specs.Rows.{planAnswer};
 ghost use Rattle.fused.specs.Answers.{fusedAnswer, writeAnswer, writtenOver};
 ghost use Rattle.running.specs.FusedRun.{fusedResults};
 ghost use Rattle.direct.specs.Direct.{runAnswer, runResults};
+ghost use Rattle.foreign.specs.Foreign.{circuitAnswer, partStart, partLength, recordPart, circuitRunAnswer, circuitRunResults};
 
 // Reads a rule: its refusal by rows 1 to 11, or its gates and their cost.
 #[no_mangle]
@@ -90,4 +92,31 @@ pub extern "C" fn linnet_run_fused(
     ensures results { λ _. ⌜ now (results .exit) ≡ fusedResults (now (rule .entry)) (now (plan .entry)) (now (inputs .entry)) (now (results .entry)) ⌝ }
 {
     running::run(rule, plan, inputs, results)
+}
+
+// Operation 07: reads a circuit file of any house.
+#[no_mangle]
+pub extern "C" fn linnet_read_circuit(file: &[u8]) -> Answer
+    ensures { λ r. ⌜ r ≡ circuitAnswer (now (file .entry)) ⌝ }
+{
+    foreign::read(file)
+}
+
+// Operation 08: where a wire's record lies in the caller's file; C cannot be handed the part itself.
+#[no_mangle]
+pub extern "C" fn linnet_record(file: &[u8], wire: usize) -> Part
+    ensures start { λ r. ⌜ r .start ≡ partStart (now (file .entry)) wire ⌝ }
+    ensures length { λ r. ⌜ r .length ≡ partLength (now (file .entry)) wire ⌝ }
+    ensures bytes { λ r. ⌜ take (r .length) (drop (r .start) (now (file .entry))) ≡ recordPart (now (file .entry)) wire ⌝ }
+{
+    foreign::part_of(file, wire)
+}
+
+// Operation 09: runs a circuit file on inputs.
+#[no_mangle]
+pub extern "C" fn linnet_run_circuit(file: &[u8], inputs: &[u32], results: &mut [u32]) -> Answer
+    ensures answer { λ r. ⌜ r ≡ circuitRunAnswer (now (file .entry)) (now (inputs .entry)) (length (now (results .entry))) ⌝ }
+    ensures results { λ _. ⌜ now (results .exit) ≡ circuitRunResults (now (file .entry)) (now (inputs .entry)) (now (results .entry)) ⌝ }
+{
+    foreign::run(file, inputs, results)
 }
