@@ -10,7 +10,7 @@ use lib.ListN.{length, getD}
 use lib.Dec.{eqb, ltb, leb}
 use borrow.Author.Tests.{eq-eqb, ne-eqb, le-ltb, lt-ltb, le-leb, lt-leb, eqb-true, leb-true, ltb-false}
 use Rattle.words.specs.Lists.{_∈_, from, upto}
-use Rattle.words.specs.MemberLaws.{from-in}
+use Rattle.words.specs.MemberLaws.{from-in, from-below}
 use Rattle.words.specs.TestLaws.{split, or-none}
 use Rattle.codes.specs.Codes.{sameKind, Fits}
 use Rattle.codes.specs.declared.Kind.{Kind}
@@ -59,6 +59,16 @@ module _ (v : ℕ) (kinds : ℕ → Kind) (inputs : List ℕ) where
       pub row-none : someAbove kinds inputs (upto v) ≡ false → v ≤ room → inputsRow v kinds inputs room ≡ 0
       unfolding inputsRow
       row-none h r = rw (eq-eqb _ _ n, h, le-leb _ _ r)
+
+-- variables of the same kinds have the same row
+above-same : (j k : ℕ → Kind) (inputs l : List ℕ) → ((x : ℕ) → x ∈ l → j x ≡ k x) → someAbove j inputs l ≡ someAbove k inputs l
+unfolding someAbove
+above-same j k inputs [] h = refl
+above-same j k inputs (x ∷ l) h = rw (h x (inl refl), above-same j k inputs l (λ y m. h y (inr m)))
+
+pub row-same : (v : ℕ) (j k : ℕ → Kind) (inputs : List ℕ) (room : ℕ) → ((x : ℕ) → x < v → j x ≡ k x) → inputsRow v j inputs room ≡ inputsRow v k inputs room
+unfolding inputsRow
+row-same v j k inputs room h = rw (above-same j k inputs (upto v) (λ x m. h x (omega (arith, from-below 0 v x m))))
 
 -- What no row says: v inputs, each of its variable's kind, and places for v results.
 

@@ -2,4 +2,5 @@ pub mod Table
 pub mod AnsweredLaws
 pub mod FusedRunLaws
 pub mod OrderLaws
+pub mod ForeignLaws
 pub mod Demands

@@ -1,4 +1,4 @@
--- Document 01, "Refusals by place": the table, as a relation between a number and its place, for a rule of `size` bytes.
+-- Document 01, "Refusals by place", with document 02's C-11: the table, as a relation between a number and its place, for a rule or circuit file of `size` bytes.
 use Prim.Native.Nat.{ℕ, _≤_, _<_}
 use mathlib.Core.Path.{_≡_}
 use mathlib.Core.Logic.{_⊎_}
@@ -15,6 +15,7 @@ pub data TableRow (size : ℕ) : ℕ → ℕ → Type 0 where
   ofPlan : {number : ℕ} → 20 ≤ number → number ≤ 30 → TableRow size number 0
   ofInputs : {number : ℕ} → 40 ≤ number → number ≤ 42 → TableRow size number 0
   ofBuffer : TableRow size 50 0
+  ofCircuit : {number : ℕ} → 60 ≤ number → number ≤ 62 → TableRow size number 0
 
 -- an answer takes what arrived, with number 0 and place 0; or refuses it by a row of the table, with counts 0
 abbrev pub Answered : ℕ → Answer → Type 0
