@@ -6,6 +6,7 @@ use mathlib.Core.Bool.{true}
 use mathlib.Core.List.{List, [], _∷_, _++_, map}
 use mathlib.Core.Logic.{_↔_}
 use lib.ListN.{length, take, drop}
+use Rattle.codes.specs.Inputs.{FiguresFit}
 use Rattle.words.specs.Lists.{_∈_, elem}
 use Rattle.words.specs.Numbers.{Bytes, Words}
 use Rattle.codes.specs.Codes.{Fits, byteOf, commutes}
@@ -24,7 +25,6 @@ use Rattle.reading.specs.OrderBytes as bytes
 use Rattle.gates.specs.Running.{runRule}
 use Rattle.gates.specs.Gates.{operation, gateAt, figureAt}
 use Rattle.gates.specs.PlainCircuit.{gatesOf, outputsOf}
-use Rattle.gates.specs.KindLaws.{FiguresFit}
 use Rattle.circuit.specs.Whole.{ruleAnswer}
 use Rattle.direct.specs.Direct.{runAnswer, runResults}
 use Rattle.direct.specs.DirectLaws as direct

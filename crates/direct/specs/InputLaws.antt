@@ -3,9 +3,9 @@ use Prim.Native.Nat.{ℕ, _≤_, _<_}
 use mathlib.Core.Path.{_≡_}
 use mathlib.Core.List.{List}
 use lib.ListN.{length, getD}
+use Rattle.codes.specs.Inputs.{FiguresFit}
 use Rattle.codes.specs.InputLaws as any
 use Rattle.reading.specs.Header.{variables, kindAt}
-use Rattle.gates.specs.KindLaws.{FiguresFit}
 use Rattle.direct.specs.Inputs.{inputRow}
 
 module _ (s inputs : List ℕ) (room : ℕ) (h : inputRow s inputs room ≡ 0) where

@@ -10,8 +10,7 @@ use borrow.Author.Tests.{ltb-true, ltb-false}
 use Rattle.words.specs.Lists.{_∈_, Inside}
 use Rattle.words.specs.TestLaws.{split}
 use Rattle.codes.specs.declared.Kind.{Kind}
-use Rattle.records.specs.Records.{Record, input, reads, recordIn}
-use Rattle.records.specs.RecordLaws.{NotInput}
+use Rattle.records.specs.Records.{Record, input, reads, recordIn, NotInput}
 use Rattle.records.specs.FileFigures.{fileVariables, wireCount, fileRecords, fileOutputs}
 use Rattle.records.specs.FilePartLaws.{file-count, record-of}
 use Rattle.records.specs.LaidOut.{recordPlace}

@@ -8,7 +8,7 @@ use Rattle.codes.specs.Codes.{kindOf, startCode}
 use Rattle.codes.specs.CodeLaws.{kind-bit, kind-word}
 use Rattle.codes.specs.declared.Kind.{Kind}
 use Rattle.codes.specs.declared.Kind.the-variants as kind
-use Rattle.records.specs.Records.{Record, input, word, bit, operation, choice, pick, guard}
+use Rattle.records.specs.Records.{Record, input, word, bit, operation, choice, pick, guard, NotInput}
 use Rattle.records.specs.WireKinds.{recordKind, wireKind}
 use Rattle.records.specs.WireKindLaws.{kinds-right}
 use Rattle.records.specs.CircuitFile.{recordBytes}
@@ -17,7 +17,6 @@ use Rattle.records.specs.FilePartLaws.{file-count, record-of}
 use Rattle.records.specs.FileLaws.{place-next}
 use Rattle.records.specs.FoundForms.{form-input, form-word, form-bit, form-choice, form-pick, form-guard, form-operation}
 use Rattle.records.specs.RecordBounds.{Coded, is-input, is-word, is-bit, is-operation, is-choice, is-pick, is-guard, known-coded}
-use Rattle.records.specs.RecordLaws.{NotInput}
 use Rattle.records.specs.InverseLaws.{size-is}
 use Rattle.records.specs.LaidOut.{recordPlace, WholeAt}
 use Rattle.records.specs.FormatLaws.{Passed}

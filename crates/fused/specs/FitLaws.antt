@@ -9,6 +9,7 @@ use native.Mathlib.Omega.{arith}
 use lib.Dec.{eqb}
 use lib.Pow.{pow-mono}
 use lib.ListN.{length, getD, length-map}
+use Rattle.records.specs.FieldLaws.{FieldsFit, AllFieldsFit}
 use Rattle.words.specs.Lists.{from, upto}
 use Rattle.words.specs.ListLaws.{length-from, length-keep}
 use Rattle.settings.specs.Sets.{has, restsOn, rests}
@@ -17,7 +18,6 @@ use Rattle.settings.specs.BitLaws.{collect-below}
 use Rattle.codes.specs.Codes.{entryOf}
 use Rattle.codes.specs.declared.Kind.{Kind}
 use Rattle.codes.specs.declared.Operation.{Operation}
-use Rattle.records.specs.FitRecords.{FieldsFit, AllFieldsFit}
 use Rattle.records.specs.RecordLaws.{along-map}
 use Rattle.gates.specs.Gates.{Gate, Gates, gateAt, arguments}
 use Rattle.gates.specs.Gates as gate

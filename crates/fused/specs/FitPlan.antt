@@ -6,6 +6,7 @@ use native.Mathlib.Omega.{arith}
 use lib.Dec.{eqb, ltb}
 use borrow.Author.Tests.{eqb-true, ltb-true, ltb-false}
 use lib.ListN.{length, length-map, List·getD-eq-default}
+use Rattle.records.specs.FieldLaws.{FieldsFit, AllFieldsFit, all-fit}
 use Rattle.words.specs.Lists.{_∈_, upto}
 use Rattle.words.specs.ListLaws.{length-from, length-keep}
 use Rattle.words.specs.TestLaws.{split}
@@ -33,7 +34,7 @@ use Rattle.records.specs.Records.{Record, word, reads, recordIn, ReadsEarlier}
 use Rattle.records.specs.WireFigures.{wireFigure}
 use Rattle.fused.specs.FusedCircuit.{recordsOf, wireOf, outputWires, fusedFile}
 use Rattle.records.specs.FileFigures.{fileVariables, wireCount, fileRecords, fileOutputs, fileFigures}
-use Rattle.records.specs.FitRecords.{Wires, AllReadBack, FileFits, FieldsFit, AllFieldsFit, all-fit}
+use Rattle.records.specs.FitRecords.{Wires, AllReadBack, FileFits}
 use Rattle.fused.specs.FitLaws.{members-few, emit-sized}
 use Rattle.fused.specs.SizeBounds.{wires-bound, outputs-count}
 use Rattle.records.specs.FileLaws.{file-found}

@@ -4,6 +4,7 @@ use Prim.Native.Nat.{ℕ, _<_}
 use mathlib.Core.Path.{_≡_, sym, _∙_}
 use mathlib.Core.List.{List, map, map-map}
 use lib.ListN.{length}
+use Rattle.codes.specs.Inputs.{FiguresFit}
 use Rattle.words.specs.Lists.{_∈_}
 use Rattle.words.specs.MemberLaws.{map-in}
 use Rattle.words.specs.Numbers.{Bytes}
@@ -17,7 +18,6 @@ use Rattle.reading.specs.Header.{variables, kindAt}
 use Rattle.gates.specs.Running.{runRule}
 use Rattle.gates.specs.Gates.{figureAt}
 use Rattle.gates.specs.PlainCircuit.{gatesOf, outputsOf}
-use Rattle.gates.specs.KindLaws.{FiguresFit}
 use Rattle.gates.specs.StartLaws.{read-run}
 use Rattle.gates.specs.OutputLaws.{output-figures}
 use Rattle.needed.specs.Needed.{Needed, wantedOf, from-start}

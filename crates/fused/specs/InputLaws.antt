@@ -29,8 +29,8 @@ use Rattle.plan.specs.AcceptedLaws.{plan-accepted}
 use Rattle.plan.specs.GroupLaws.{of-member}
 use Rattle.plan.specs.WaitLaws.{order-once}
 use Rattle.plan.specs.FirstLaws.{down, down-in, Alone, order-first, start-alone}
-use Rattle.records.specs.Records.{Record, input, word, recordIn}
-use Rattle.records.specs.RecordLaws.{Along, along-append, along-map, along-any, NotInput}
+use Rattle.records.specs.Records.{Record, input, word, recordIn, NotInput}
+use Rattle.records.specs.RecordLaws.{Along, along-append, along-map, along-any}
 use Rattle.fused.specs.Emission.{alone, gateOperation, guardOf, valuesAt, emit}
 use Rattle.fused.specs.FusedCircuit.{groupRecords, written, fused, recordsOf}
 use Rattle.fused.specs.EmitLaws.{joined-along}

@@ -8,6 +8,7 @@ use native.Mathlib.Nat.{zero-add}
 use lib.Dec.{ltb}
 use lib.ListN.{getD}
 use borrow.Author.Tests.{ltb-true, ltb-false}
+use Rattle.codes.specs.Inputs.{FiguresFit}
 use Rattle.words.specs.Lists.{_∈_}
 use Rattle.words.specs.TestLaws.{split}
 use Rattle.words.specs.Numbers.{Bytes}
@@ -15,7 +16,6 @@ use Rattle.codes.specs.Codes.{Fits}
 use Rattle.codes.specs.declared.Kind.{Kind}
 use Rattle.answers.specs.declared.Answer.{Answer}
 use Rattle.reading.specs.Header.{variables, kindAt}
-use Rattle.gates.specs.KindLaws.{FiguresFit}
 use Rattle.plan.specs.Rows.{planAnswer}
 use Rattle.records.specs.Records.{Pair, input, pick, guard, recordIn, pickFigure, guardFigure}
 use Rattle.records.specs.WireKinds.{valuesOf, wireKind}

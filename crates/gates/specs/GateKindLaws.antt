@@ -6,6 +6,7 @@ use mathlib.Core.Logic.{_⊎_, inl, inr}
 use native.Mathlib.Omega.{arith}
 use lib.ListN.{length, getD, set, length-set}
 use lib.Seq.{getD-set-same, getD-set-other}
+use Rattle.codes.specs.Inputs.{FiguresFit}
 use Rattle.codes.specs.Codes.{Fits}
 use Rattle.words.specs.Lists.{from}
 use Rattle.words.specs.TestLaws.{same?}
@@ -25,7 +26,7 @@ use Rattle.gates.specs.PlainCircuit.{Making, Made, makeExpr, choices, as
 use Rattle.gates.specs.PlainLaws.{extends-trans, expr-extends}
 use Rattle.gates.specs.SoundLaws.{Sound, sound-again, assigned-below, Parts, parts-ready, parts-of, statement-sound}
 use Rattle.gates.specs.HoldLaws.{PresentGives, holds-extends, condition-stays, first-stays, before-stays, parts-hold}
-use Rattle.gates.specs.KindLaws.{kind-same, FiguresFit, block-fits, gate-fits, inputs-fit}
+use Rattle.gates.specs.KindLaws.{kind-same, block-fits, gate-fits, inputs-fit}
 use Rattle.gates.specs.ExprKindLaws.{at, Fit, expr-kinded, choices-fit}
 use Rattle.gates.specs.StartLaws.{starts-sound, starts-hold, read-plain, plain-sound}
 

@@ -15,6 +15,7 @@ use Rattle.codes.specs.Codes.{Fits}
 use Rattle.codes.specs.Results.{resultOf, isOne}
 use Rattle.codes.specs.declared.Kind.{Kind}
 use Rattle.codes.specs.declared.Kind.the-variants as kind
+use Rattle.codes.specs.Inputs.{FiguresFit}
 use Rattle.codes.specs.ResultLaws.{result-fits}
 use Rattle.reading.specs.Tree.{Expr, variable, word, bit, one, two, Statement, assign, skip, branch, Block, end, then}
 use Rattle.reading.specs.Kinds.{Typed, TypedStatement, TypedBlock, WordsFit, WordsStatement, WordsBlock}
@@ -24,10 +25,6 @@ use Rattle.gates.specs.Gates as gate
 use Rattle.gates.specs.GateKinds.{gateKind, kindOfGate, GateFits, GatesFit}
 use Rattle.gates.specs.FigureLaws.{OnArguments, gates-right, figures-right}
 use Rattle.gates.specs.RunLaws.{statement-count}
-
--- each variable's figure is of its kind
-abbrev pub FiguresFit : ℕ → (ℕ → Kind) → List ℕ → Type 0
-FiguresFit v kinds f = (x : ℕ) → x < v → Fits (kinds x) (getD f x 0)
 
 module _ (v : ℕ) (kinds : ℕ → Kind) where
   -- an expression's figure is of its kind

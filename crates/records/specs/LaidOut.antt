@@ -1,4 +1,4 @@
--- Inner, for document 02, C-11, row 61: when bytes are laid out as a circuit file: the mark and version, a known code, all its bytes and no more than it may have for every record,
+-- Document 02, C-11, row 61: when bytes are laid out as a circuit file: the mark and version, a known code, all its bytes and no more than it may have for every record,
 -- and outputs that end where the file ends. It says nothing of what the records read.
 use Prim.Native.Nat.{ℕ, _+_, _*_, _≤_, _<_}
 use mathlib.Core.Path.{_≡_}

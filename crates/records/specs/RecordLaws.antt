@@ -84,16 +84,6 @@ along-any P [] n h d j = d
 along-any P (r ∷ R) n (h, k) d zero = h
 along-any P (r ∷ R) n (h, k) d (suc j) = along-any P R (suc n) k d j
 
--- the record is no input
-abbrev pub NotInput : Record → Type 0
-NotInput (input k x) = ⊥
-NotInput (word n) = Unit {0}
-NotInput (bit b) = Unit {0}
-NotInput (operation op l) = Unit {0}
-NotInput (choice c a b) = Unit {0}
-NotInput (pick l) = Unit {0}
-NotInput (guard cs t) = Unit {0}
-
 -- record i reads only earlier wires; so does each of the records
 abbrev pub ReadsBefore : ℕ → Record → Type 0
 ReadsBefore i r = (a : ℕ) → a ∈ reads r → a < i

@@ -48,6 +48,16 @@ recordIn R i = getD R i (word 0)
 abbrev pub ReadsEarlier : List Record → Type 0
 ReadsEarlier R = (i w : ℕ) → w ∈ reads (recordIn R i) → w < i
 
+-- the record is no input
+abbrev pub NotInput : Record → Type 0
+NotInput (input k x) = ⊥
+NotInput (word n) = Unit {0}
+NotInput (bit b) = Unit {0}
+NotInput (operation op l) = Unit {0}
+NotInput (choice c a b) = Unit {0}
+NotInput (pick l) = Unit {0}
+NotInput (guard cs t) = Unit {0}
+
 -- "A pick (31) gives the value whose guard is 1, else 0", from the figures W of the wires; where several are, the first. (What it gives there in any file: `pickSum`, WireFigures.)
 abbrev pub pickFigure : (ℕ → ℕ) → List Pair → ℕ
 pickFigure W [] = 0

@@ -12,8 +12,8 @@ use borrow.Author.Tests.{leb-true, le-leb, ltb-true, ltb-false}
 use Rattle.words.specs.TestLaws.{split, both, and}
 use Rattle.codes.specs.declared.Kind.{Kind}
 use Rattle.codes.specs.declared.Kind.the-variants as kind
-use Rattle.records.specs.Records.{Record, input, word, bit, operation, choice, pick, guard, recordIn}
-use Rattle.records.specs.RecordLaws.{NotInput, Along, along-each, along-at, ReadsBefore, below-earlier}
+use Rattle.records.specs.Records.{Record, input, word, bit, operation, choice, pick, guard, recordIn, NotInput}
+use Rattle.records.specs.RecordLaws.{Along, along-each, along-at, ReadsBefore, below-earlier}
 use Rattle.records.specs.WireKinds.{wireKind}
 use Rattle.records.specs.FileFigures.{fileVariables, wireCount, fileRecords, fileOutputs}
 use Rattle.records.specs.CircuitRows.{allStand, outputsStand, standing}

@@ -5,8 +5,7 @@ use mathlib.Core.Path.{_≡_}
 use mathlib.Core.List.{List}
 use lib.ListN.{length, getD}
 use Rattle.codes.specs.declared.Kind.{Kind}
-use Rattle.records.specs.Records.{Record, input, word, bit, operation, choice, pick, guard, recordIn, ReadsEarlier}
-use Rattle.records.specs.RecordLaws.{NotInput}
+use Rattle.records.specs.Records.{Record, input, word, bit, operation, choice, pick, guard, recordIn, ReadsEarlier, NotInput}
 use Rattle.records.specs.WireKinds.{wireKind, RecordFits}
 use Rattle.records.specs.CircuitFile.{fileBytes}
 use Rattle.records.specs.FitRecords.{FileFits}

@@ -1,4 +1,4 @@
--- Inner, for document 01, "The fused circuit file" and "arguments to result" of the operation table: the kind of each wire, worked out record by record as figures are.
+-- Document 01, "The rule file", "arguments to result" of the operation table, and document 02, C-11, "a wire .. of the wrong kind": the kind of each wire, worked out record by record as figures are.
 use Prim.Native.Nat.{ℕ}
 use mathlib.Core.Path.{_≡_}
 use mathlib.Core.List.{List, [], _∷_}

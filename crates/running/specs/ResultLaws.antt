@@ -6,12 +6,12 @@ use native.Mathlib.Omega.{arith}
 use lib.Dec.{eqb}
 use lib.ListN.{length}
 use borrow.Author.Tests.{eqb-true, eqb-false}
+use Rattle.codes.specs.Inputs.{FiguresFit}
 use Rattle.words.specs.Buffers.{over}
 use Rattle.words.specs.TestLaws.{split}
 use Rattle.words.specs.Numbers.{Bytes, Words}
 use Rattle.answers.specs.declared.Answer.{Answer}
 use Rattle.reading.specs.Header.{variables, kindAt}
-use Rattle.gates.specs.KindLaws.{FiguresFit}
 use Rattle.plan.specs.Rows.{planAnswer}
 use Rattle.fused.specs.Answers.{fusedAnswer}
 use Rattle.fused.specs.AnswerLaws.{fused-plan}
