@@ -26,11 +26,13 @@
  *   inputs  40 not V of them                 41 a bit above 1         42 fewer than V result places
  *   buffer  50 shorter than the file
  *   circuit file
- *           60 size (8 to 16,384 bytes), mark, version, variables (1 to 32) or over 640 wires
- *           61 unknown code, records or outputs do not end with the file, a bit constant above 1,
- *              a guard of over 6 wires, a pick of no pair
- *           62 inputs are not the first records, a wire that is not earlier or of the wrong kind,
- *              a table bit that no setting has, an output that is no wire or of the wrong kind
+ *           60 size, mark, version, variables or wires (8 to 16,384 bytes, 1 to 32 variables, at
+ *              most 640 wires)
+ *           61 records not laid out: an unknown code, records or outputs that do not end with the
+ *              file, a bit constant above 1, a guard of over 6 wires, a pick of no pair
+ *           62 records do not fit together: inputs that are not just the first V records in order, a
+ *              wire that is not earlier or of the wrong kind, a table bit from 2^d up in a guard of d
+ *              wires, an output that is no wire or of the wrong kind
  *
  * The place is the offending byte for 2, 3 and 5 to 9, the rule's length for 4, 10 and 11, else 0. */
 #ifndef LINNET_H

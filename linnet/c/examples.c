@@ -1,5 +1,6 @@
-/* Calls every operation of linnet.h on examples of document 01; the exit status is 0 when each
- * answer, byte and untouched place is as documents 01 and 02 (C-11) say. */
+/* Calls every operation of linnet.h on examples of document 01 and on a file as another house may
+ * write it; the exit status is 0 when each answer, byte and untouched place is as documents 01 and 02
+ * (C-11) say. */
 #include <stdio.h>
 #include <string.h>
 
@@ -106,6 +107,22 @@ static void circuit_files(void) {
     hold(part.start == 0 && part.length == 0, "a refused file has no records");
 }
 
+/* examples/other-house/charges.cir: a pick of two words by two bits, both of which may be 1. */
+static const uint8_t CHARGES[34] = {
+    0x43, 0x49, 0x52, 0x00, 0x01, 0x04, 0x00, 0x05, 0x01, 0x00, 0x01, 0x01, 0x00, 0x02, 0x00, 0x03, 0x31,
+    0x02, 0x00, 0x00, 0x00, 0x02, 0x00, 0x01, 0x00, 0x03, 0x00, 0x00, 0x00, 0x01, 0x00, 0x04, 0x00, 0x03};
+
+static void other_house(void) {
+    const uint32_t inputs[4] = {1, 1, 500, 250};
+    uint32_t results[4];
+    struct linnet_part part = linnet_record(CHARGES, 34, 4);
+    struct linnet_answer answer = linnet_run_circuit(CHARGES, 34, inputs, 4, results, 4);
+    hold(part.start == 16 && part.length == 10 && CHARGES[16] == 0x31, "wire 4 is the pick");
+    hold(is(answer, 0, 0, 0, 5, 34, 0, 0), "another house's file runs");
+    hold(results[0] == 1 && results[1] == 1 && results[3] == 250, "the other variables");
+    hold(results[2] == 750, "two guards at 1: the sum");
+}
+
 int main(void) {
     read_rule();
     run_rule();
@@ -114,5 +131,6 @@ int main(void) {
     write_fused();
     run_fused();
     circuit_files();
+    other_house();
     return failures != 0;
 }

@@ -3,6 +3,7 @@
 
 const RATTLE: &str = include_str!("../../../crates/linnet/src/lib.rt");
 const ANSWERS: &str = include_str!("../../../crates/answers/src/lib.rt");
+const FOREIGN: &str = include_str!("../../../crates/foreign/src/lib.rt");
 const HEADER: &str = include_str!("../../linnet.h");
 const WRAPPER: &str = include_str!("../src/lib.rs");
 
@@ -208,8 +209,12 @@ fn every_function_of_the_wrapper_passes_its_parameters_on() {
 fn all_structs_are_the_same_in_all_texts() {
     for (name, c) in [("Answer", "answer"), ("Shown", "shown"), ("Part", "part")] {
         let open = format!("#[repr(C)]\npub struct {name} {{");
-        let found = between(RATTLE, &open, "}").or_else(|| between(ANSWERS, &open, "}"));
-        let (fields, _) = found.expect("the Rattle struct");
+        // A struct stands in the crate whose operations give it, and in one crate only.
+        let mut found = [RATTLE, ANSWERS, FOREIGN]
+            .iter()
+            .filter_map(|text| between(text, &open, "}"));
+        let (fields, _) = found.next().expect("the Rattle struct");
+        assert!(found.next().is_none(), "{name} stands twice");
         let fields: Vec<Named> = parts(fields, ',').iter().map(|part| named(part)).collect();
 
         let text = without_comments(HEADER);

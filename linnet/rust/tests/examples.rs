@@ -1,4 +1,4 @@
-//! Examples of document 01, through the wrapper and, from C, through the header.
+//! Examples of document 01 and a file as another house may write it, through the wrapper and, from C, through the header.
 
 use linnet::Answer;
 use std::path::Path;
@@ -162,6 +162,24 @@ fn records_are_shown() {
     assert_eq!(linnet::record(&file, 7), [0x22, 0x00, 0x05, 0x00, 0x06]);
     for none in [9, 65_535, usize::MAX] {
         assert_eq!(linnet::record(&file, none), []);
+    }
+}
+
+const CHARGES: &[u8] = include_bytes!("../../../examples/other-house/charges.cir");
+
+/// A file made by hand, as another house may write it: both guards of its pick are 1.
+#[test]
+fn files_of_another_house_run() {
+    let mut results = [0; 4];
+    let record = linnet::record(CHARGES, 4);
+    let answer = linnet::run_circuit(CHARGES, &[1, 1, 500, 250], &mut results);
+    assert_eq!(record, &CHARGES[16..26]);
+    assert_eq!((answer.number, answer.wires, answer.bytes), (0, 5, 34));
+    assert_eq!(results, [1, 1, 750, 250]);
+    for (bits, sum) in [([0, 0], 0), ([1, 0], 500), ([0, 1], 250)] {
+        let inputs = [bits[0], bits[1], 500, 250];
+        linnet::run_circuit(CHARGES, &inputs, &mut results);
+        assert_eq!(results, [bits[0], bits[1], sum, 250]);
     }
 }
 
