@@ -13,7 +13,7 @@ use Rattle.answers.specs.Answers.{success, refusal}
 use Rattle.answers.specs.declared.Answer.{Answer}
 use Rattle.records.specs.FileFigures.{sizeAt, firstRecord, wireCount}
 use Rattle.records.specs.FileLaws.{place-next}
-use Rattle.records.specs.LaidOut.{recordPlace}
+use Rattle.records.specs.LaidOut.{recordPlace, WholeAt}
 use Rattle.records.specs.CircuitRows.{headed, laid, standing, circuitRow}
 use Rattle.records.specs.FormatLaws.{Passed, row-passed}
 use Rattle.foreign.specs.Foreign.{circuitAnswer, shown, partStart, partLength, recordPart}
@@ -98,8 +98,8 @@ module _ (f : List ℕ) (w at i : ℕ) (p : AmidPlaces f w at i) where
   places-done h = let e : i ≡ w = omega (arith, p .few) in p .place ∙ ap (recordPlace f) e
 
   module _ (h : i < w) where
-    pub place-inside : at + sizeAt f at ≤ length f
-    place-inside = rw (p .place) (p .passed .layout .whole i (omega (arith, p .below)) .inside)
+    pub place-whole : WholeAt f at
+    place-whole = rw (p .place) (p .passed .layout .whole i (omega (arith, p .below)))
 
     pub places-more : (n : ℕ) → n ≡ sizeAt f at → AmidPlaces f w (at + n) (i + 1)
     places-more n e = record {

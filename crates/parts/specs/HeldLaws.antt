@@ -8,8 +8,7 @@ use native.Mathlib.Omega.{arith}
 use lib.ListN.{length, getD}
 use Rattle.words.specs.Numbers.{numberAt}
 use Rattle.words.specs.Lists.{Inside}
-use Rattle.codes.specs.Codes.{codeOf, startCode}
-use Rattle.codes.specs.CodeLaws.{code-operation}
+use Rattle.codes.specs.Codes.{startCode}
 use Rattle.codes.specs.declared.Code.{Code}
 use Rattle.codes.specs.declared.Kind.{Kind}
 use Rattle.codes.specs.declared.Kind.the-variants as kind
@@ -17,7 +16,7 @@ use Rattle.records.specs.Records.{Record, pick, reads}
 use Rattle.records.specs.WireKinds.{recordKind}
 use Rattle.records.specs.FileFigures.{pairsAt, recordAt}
 use Rattle.records.specs.FilePartLaws.{pairs-length}
-use Rattle.records.specs.FoundForms.{OtherByte, form-input, form-word, form-bit, form-choice, form-pick, form-guard, form-other, operation-byte}
+use Rattle.records.specs.FoundForms.{form-input, form-word, form-bit, form-choice, form-pick, form-guard}
 use Rattle.records.specs.Limits.{mostWires}
 use Rattle.records.specs.LaidOut.{Bounded, WholeAt}
 use Rattle.parts.specs.HeldKinds.{isBit, kindBy, heldKind}
@@ -55,12 +54,6 @@ module _ (f : List ℕ) (at : ℕ) (bits : List Bool) where
   choice-kind h w b e q = kind-as _ (form-choice f at h .0) b (q ∙ rw e (sym (bit-back _)))
 
   module _ (whole : WholeAt f at) where
-    pub operation-kind : OtherByte (getD f at 0) → (c : Code) (b : Bool) → c ≡ codeOf (getD f at 0) → b ≡ isBit (c .gives)
-        → b ≡ isBit (recordKind (heldKind bits) (recordAt f at))
-    operation-kind o c b e q =
-        let (l, h) = operation-byte (getD f at 0) (whole .known) o in
-        kind-as _ (form-other f at o .0) b (q ∙ ap (λ (k : Code). isBit (k .gives)) (e ∙ code-operation _ l h))
-
     -- a pick has a first pair
     module _ (h : getD f at 0 ≡ 0x31) where
       some-pair : 1 ≤ getD f (at + 1) 0

@@ -1,6 +1,5 @@
 // Document 01, "The fused circuit file": a record in the bytes of a circuit file: the wire at a place, the record's size, whether its wire is a bit.
 // Which wires are bits lies in an array of plain truth values; a wire's number in hand is a `WireId`.
-use codes::Kind;
 use records::WireId;
 ghost use mathlib.Core.Path.{_≡_};
 ghost use mathlib.Core.Bool.{false};
@@ -23,9 +22,9 @@ pub fn wire_at(file: &[u8], at: usize) -> WireId
     WireId(words::read16(file, at))
 }
 
-// The bytes of the record at a place.
+// The bytes of the record at a place. The arms are constants where they can be: this is asked once a record, by every pass over a file.
 pub fn record_size(file: &[u8], at: usize) -> usize
-    requires { ⌜ at + sizeAt (now file) at ≤ length (now file) ⌝ }
+    requires { ⌜ WholeAt (now file) at ⌝ }
     ensures { λ r. ⌜ r ≡ sizeAt (now (file .entry)) at ⌝ }
 {
     match file[at] {
@@ -33,10 +32,11 @@ pub fn record_size(file: &[u8], at: usize) -> usize
         0x01 => 2,
         0x11 => 5,
         0x12 => 2,
+        0x27 => 3,
         0x30 => 7,
         0x31 => 2 + 4 * words::wide8(file[at + 1]),
         0x32 => 10 + 2 * words::wide8(file[at + 1]),
-        _ => 1 + 2 * words::wide8(codes::code_of(file[at]).arity),
+        _ => 5,
     }
 }
 
@@ -46,16 +46,6 @@ pub fn is_bit(bits: &[bool; 640], w: WireId) -> bool
     ensures { λ r. ⌜ r ≡ getD (now (bits .entry)) (w .0) false ⌝ }
 {
     bits[words::wide16(w.0)]
-}
-
-// The kind as a truth value.
-fn kind_is_bit(k: Kind) -> bool
-    ensures { λ r. ⌜ r ≡ isBit k ⌝ }
-{
-    match k {
-        Kind::Word => false,
-        Kind::Bit => true,
-    }
 }
 
 // Whether the wire of the record at a place is a bit: a choice is of its first value's kind, a pick of its first pair's.
@@ -68,12 +58,12 @@ pub fn record_is_bit(file: &[u8], at: usize, bits: &[bool; 640]) -> bool
         0x01 => true,
         0x11 => false,
         0x12 => true,
+        0x20 => false,
+        0x21 => false,
+        0x22 => false,
         0x30 => is_bit(bits, wire_at(file, at + 3)),
         0x31 => is_bit(bits, wire_at(file, at + 4)),
         0x32 => true,
-        _ => {
-            let gives = codes::code_of(file[at]).gives;
-            kind_is_bit(gives)
-        }
+        _ => true,
     }
 }

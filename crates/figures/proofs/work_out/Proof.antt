@@ -47,7 +47,7 @@ element-write-figures c =
 record-size-requires : tie.Need-record-size-requires Inv-loop μ-loop
 record-size-requires c κs =
     let d = c .before .before .before .before .before in
-    amid-workable _ _ _ _ _ _ _ (d .loop .inv .0) (omega (arith, c .before .before .before .before .loop-test .taken, d .loop .inv .1)) .whole .inside
+    amid-workable _ _ _ _ _ _ _ (d .loop .inv .0) (omega (arith, c .before .before .before .before .loop-test .taken, d .loop .inv .1)) .whole
 
 add-at : tie.Need-add-at Inv-loop μ-loop
 add-at c =

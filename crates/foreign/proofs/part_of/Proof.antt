@@ -32,7 +32,7 @@ record-size-requires : tie.Need-record-size-requires
 record-size-requires c κs =
     rw (c .record-place .ensures)
     (row-passed _ (sym (c .before .before .before .before .before .circuit-row .ensures) ∙ c .before .before .before .before .if1 .left) .layout .whole (c .before .before .before .before .before .before .before .args .wire)
-    (omega (arith, c .before .if2 .left, c .before .before .wide16 .ensures .0, c .before .before .before .read16 .ensures)) .inside)
+    (omega (arith, c .before .if2 .left, c .before .before .wide16 .ensures .0, c .before .before .before .read16 .ensures)))
 
 returns-3 : tie.Need-returns-3
 returns-3 c =

@@ -1,6 +1,6 @@
 use Prim.Native.Nat.{_-_}
 use borrow.Author.Needs.{needs}
-use Rattle.foreign.specs.ReadLaws.{AmidPlaces, places-start, places-done, place-inside, places-more}
+use Rattle.foreign.specs.ReadLaws.{AmidPlaces, places-start, places-done, place-whole, places-more}
 use Rattle.foreign.proofs.record_place.Statement.{statement}
 use Rattle.foreign.proofs.record_place.Tie as tie
 
@@ -14,11 +14,11 @@ loop-holds : tie.Need-loop-holds Inv-loop μ-loop
 loop-holds c = places-start _ _ (c .before .pre .0) (c .before .pre .1)
 
 record-size-requires : tie.Need-record-size-requires Inv-loop μ-loop
-record-size-requires c κs = place-inside _ _ _ _ (c .before .loop .inv) (c .loop-test .taken)
+record-size-requires c κs = place-whole _ _ _ _ (c .before .loop .inv) (c .loop-test .taken)
 
 add-at : tie.Need-add-at Inv-loop μ-loop
 add-at c =
-    let h = place-inside _ _ _ _ (c .before .before .loop .inv) (c .before .loop-test .taken) in
+    let h = place-whole _ _ _ _ (c .before .before .loop .inv) (c .before .loop-test .taken) .inside in
     search needs
 
 loop-again : tie.Need-loop-again Inv-loop μ-loop

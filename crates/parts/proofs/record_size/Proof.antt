@@ -1,30 +1,26 @@
-use Prim.Native.Nat.{ℕ, _+_, _*_}
 use denote.Ref.{now}
-use mathlib.Core.Path.{sym, ap, _∙_}
+use mathlib.Core.Path.{sym}
 use native.Mathlib.Omega.{arith}
 use borrow.Author.Needs.{needs}
-use Rattle.codes.specs.declared.Code.{Code}
 use Rattle.codes.specs.declared.Kind.the-variants as kind
-use Rattle.records.specs.FoundForms.{form-input, form-word, form-bit, form-choice, form-pick, form-guard, form-other}
-use Rattle.parts.specs.FirstByteLaws.{first-inside, other}
+use Rattle.records.specs.FoundForms.{form-input, form-word, form-bit, form-choice, form-pick, form-guard}
+use Rattle.parts.specs.FirstByteLaws.{first-inside}
+use Rattle.parts.specs.OperationLaws.{not-size, two-size}
 use Rattle.parts.proofs.record_size.Statement.{statement}
 use Rattle.parts.proofs.record_size.Tie as tie
 
 shared-slice-read-match : tie.Need-shared-slice-read-match
-shared-slice-read-match c = first-inside _ _ (c .before .before .pre)
+shared-slice-read-match c = first-inside _ _ (c .before .before .pre .inside)
 
 shared-slice-read-wide8 : tie.Need-shared-slice-read-wide8
 shared-slice-read-wide8 c =
     let d = c .before .before .before .before in
-    omega (arith, d .pre, form-pick (now (d .args .file)) (d .args .at) (c .before .match .keys6) .1)
+    omega (arith, d .pre .inside, form-pick (now (d .args .file)) (d .args .at) (c .before .match .keys7) .1)
 
 shared-slice-read-wide8-2 : tie.Need-shared-slice-read-wide8-2
 shared-slice-read-wide8-2 c =
     let d = c .before .before .before .before in
-    omega (arith, d .pre, form-guard (now (d .args .file)) (d .args .at) (c .before .match .keys7) .1)
-
-shared-slice-read-code-of : tie.Need-shared-slice-read-code-of
-shared-slice-read-code-of c = first-inside _ _ (c .before .before .before .before .pre)
+    omega (arith, d .pre .inside, form-guard (now (d .args .file)) (d .args .at) (c .before .match .keys8) .1)
 
 returns : tie.Need-returns
 returns c = sym (form-input _ _ kind.Word (c .match .keys1) .1)
@@ -39,23 +35,23 @@ returns-4 : tie.Need-returns-4
 returns-4 c = sym (form-bit _ _ (c .match .keys4) .1)
 
 returns-5 : tie.Need-returns-5
-returns-5 c = sym (form-choice _ _ (c .match .keys5) .1)
+returns-5 c = not-size _ _ (c .match .keys5)
 
 returns-6 : tie.Need-returns-6
-returns-6 c =
-    let d = c .before .before .before .before .before in
-    omega (arith, c .wide8 .ensures .0, form-pick (now (d .args .file)) (d .args .at) (c .before .before .match .keys6) .1)
+returns-6 c = sym (form-choice _ _ (c .match .keys6) .1)
 
 returns-7 : tie.Need-returns-7
 returns-7 c =
     let d = c .before .before .before .before .before in
-    omega (arith, c .wide82 .ensures .0, form-guard (now (d .args .file)) (d .args .at) (c .before .before .match .keys7) .1)
+    omega (arith, c .wide8 .ensures .0, form-pick (now (d .args .file)) (d .args .at) (c .before .before .match .keys7) .1)
 
 returns-8 : tie.Need-returns-8
 returns-8 c =
-    let d = c .before .before .before .before .before .before in
-    ap (λ (n : ℕ). 1 + 2 * n) (c .wide83 .ensures .0 ∙ ap (λ (k : Code). k .arity) (c .before .code-of .ensures))
-    ∙ sym (form-other (now (d .args .file)) (d .args .at) (other _ (c .before .before .before .match .rest)) .1)
+    let d = c .before .before .before .before .before in
+    omega (arith, c .wide82 .ensures .0, form-guard (now (d .args .file)) (d .args .at) (c .before .before .match .keys8) .1)
+
+returns-9 : tie.Need-returns-9
+returns-9 c = let d = c .before .before .before in two-size (now (d .args .file)) (d .args .at) (d .pre) (c .match .rest)
 
 pub record-size-spec : {M : Type 1} → statement M
 record-size-spec =
@@ -72,11 +68,6 @@ record-size-spec =
     (λ c κs. search needs)
     (λ c. search needs)
     (λ c. search needs)
-    shared-slice-read-code-of
-    (λ c κs. search needs)
-    (λ c κs. search needs)
-    (λ c. search needs)
-    (λ c. search needs)
     returns
     returns-2
     returns-3
@@ -84,4 +75,5 @@ record-size-spec =
     returns-5
     returns-6
     returns-7
-    returns-8)
+    returns-8
+    returns-9)

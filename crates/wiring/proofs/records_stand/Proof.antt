@@ -30,7 +30,7 @@ element-write-bits : tie.Need-element-write-bits Inv-loop μ-loop
 element-write-bits c = record-below _ _ _ _ _ _ (c .before .before .before .before .before .before .loop .inv) (c .before .before .before .before .before .loop-test .taken)
 
 record-size-requires : tie.Need-record-size-requires Inv-loop μ-loop
-record-size-requires c κs = record-whole _ _ _ _ _ _ (c .before .before .before .before .before .before .loop .inv) (c .before .before .before .before .before .loop-test .taken) .inside
+record-size-requires c κs = record-whole _ _ _ _ _ _ (c .before .before .before .before .before .before .loop .inv) (c .before .before .before .before .before .loop-test .taken)
 
 add-at : tie.Need-add-at Inv-loop μ-loop
 add-at c =
