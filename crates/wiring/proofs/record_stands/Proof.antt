@@ -1,7 +1,9 @@
 use mathlib.Core.Path.{_∙_}
 use native.Mathlib.Omega.{arith}
 use borrow.Author.Tests.{le-ltb}
+use denote.Ref.{now}
 use borrow.Author.Needs.{needs}
+use Rattle.parts.specs.HeldKinds.{heldKind}
 use Rattle.parts.specs.FirstByteLaws.{first-inside}
 use Rattle.wiring.specs.RecordLaws.{input-takes, choice-takes, pick-takes, guard-takes, operation-takes, input-in, input-late, early, word-in, bit-in, choice-in, pick-in, guard-in, operation-in, other}
 use Rattle.wiring.proofs.record_stands.Statement.{statement}
@@ -14,7 +16,9 @@ shared-slice-read-wide8 : tie.Need-shared-slice-read-wide8
 shared-slice-read-wide8 c = input-takes _ _ (c .before .before .before .before .before .pre .1) (c .before .before .if1 .taken)
 
 returns : tie.Need-returns
-returns c = input-in _ _ (c .before .before .before .before .before .before .pre .1) _ _ _ (c .before .before .before .if1 .taken) (c .before .before .if2 .taken) _ (c .wide8 .ensures .0)
+returns c =
+    let d = c .before .before .before .before .before .before in
+    input-in _ _ (d .pre .1) _ _ (heldKind (now (d .args .bits))) (c .before .before .before .if1 .taken) (c .before .before .if2 .taken) _ (c .wide8 .ensures .0)
 
 returns-2 : tie.Need-returns-2
 returns-2 c = le-ltb _ _ (c .if2 .left) ∙ input-late _ _ (c .before .before .before .before .pre .1) _ _ _ (c .before .if1 .taken) (c .if2 .left)
