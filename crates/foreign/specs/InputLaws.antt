@@ -65,7 +65,7 @@ module _ (f : List ℕ) (p : Passed f) where
     size = size-is f (recordPlace f x) ∙ ap (λ (r : Record). length (recordBytes r)) (here .1)
 
   -- two bytes each
-  pub input-place : (x : ℕ) → x ≤ fileVariables f → recordPlace f x ≡ 8 + 2 * x
+  input-place : (x : ℕ) → x ≤ fileVariables f → recordPlace f x ≡ 8 + 2 * x
   input-place zero l = refl
   input-place (suc x) l = place-next x f firstRecord ∙ rw (size x l, input-place x (omega arith)) (omega arith)
 

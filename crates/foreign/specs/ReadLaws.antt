@@ -1,13 +1,13 @@
 -- Laws of reading a circuit file and of showing one record, one for each step of the code. Assumes nothing.
-use Prim.Native.Nat.{ℕ, suc, _+_, _≤_, _<_}
+use Prim.Native.Nat.{ℕ, _+_, _≤_, _<_}
 use mathlib.Core.Path.{_≡_, refl, sym, ap, _∙_}
 use mathlib.Core.List.{List}
-use mathlib.Core.Bool.{true, false}
+use mathlib.Core.Bool.{Bool, true, false, not}
 use native.Mathlib.Numerals.{add-one}
 use native.Mathlib.Omega.{arith}
 use lib.Dec.{eqb, ltb}
 use lib.ListN.{length, take, drop}
-use borrow.Author.Tests.{eq-eqb, ne-eqb, eqb-true, eqb-false, ltb-true, lt-ltb, le-ltb}
+use borrow.Author.Tests.{eq-eqb, ne-eqb, eqb-true, eqb-false, ltb-true, lt-ltb, le-ltb, not-true, not-false}
 use Rattle.words.specs.TestLaws.{split, both}
 use Rattle.answers.specs.Answers.{success, refusal}
 use Rattle.answers.specs.declared.Answer.{Answer}
@@ -15,27 +15,38 @@ use Rattle.records.specs.FileFigures.{sizeAt, firstRecord, wireCount}
 use Rattle.records.specs.FileLaws.{place-next}
 use Rattle.records.specs.LaidOut.{recordPlace, WholeAt}
 use Rattle.records.specs.CircuitRows.{headed, laid, standing, circuitRow}
+use Rattle.records.specs.RowLaws.{headed-right}
 use Rattle.records.specs.FormatLaws.{Passed, row-passed}
 use Rattle.foreign.specs.Foreign.{circuitAnswer, shown, partStart, partLength, recordPart}
 
--- the rows in their order
+-- the rows in their order; a, b and c: what the code's tests answer
 module _ (f : List ℕ) where
-  pub row-head : headed f ≡ false → 60 ≡ circuitRow f
-  unfolding circuitRow
-  row-head h = rw h
+  pub head-passed : (a : Bool) → a ≡ headed f → not a ≡ false → headed f ≡ true
+  head-passed a p x = sym p ∙ not-false a x
 
-  pub row-layout : headed f ≡ true → laid f ≡ false → 61 ≡ circuitRow f
-  unfolding circuitRow
-  row-layout h l = rw (h, l)
+  pub head-long : (a : Bool) → a ≡ headed f → not a ≡ false → 8 ≤ length f
+  head-long a p x = headed-right f .0 (head-passed a p x) .long
 
-  pub row-standing : headed f ≡ true → laid f ≡ true → standing f ≡ false → 62 ≡ circuitRow f
+  pub row-head : (a : Bool) → a ≡ headed f → not a ≡ true → 60 ≡ circuitRow f
   unfolding circuitRow
-  row-standing h l s = rw (h, l, s)
+  row-head a p x = rw (← p, not-true a x)
 
-  pub row-none : headed f ≡ true → laid f ≡ true → standing f ≡ true → 0 ≡ circuitRow f
+  pub row-layout : (a b : Bool) → a ≡ headed f → not a ≡ false → b ≡ laid f → not b ≡ true → 61 ≡ circuitRow f
   unfolding circuitRow
-  row-none h l s = rw (h, l, s)
+  row-layout a b p x q y = rw (← p, not-false a x, ← q, not-true b y)
 
+  pub row-standing : (a b c : Bool) → a ≡ headed f → not a ≡ false → b ≡ laid f → not b ≡ false → c ≡ standing f → not c ≡ true → 62 ≡ circuitRow f
+  unfolding circuitRow
+  row-standing a b c p x q y r z = rw (← p, not-false a x, ← q, not-false b y, ← r, not-true c z)
+
+  pub row-none : (a b c : Bool) → a ≡ headed f → not a ≡ false → b ≡ laid f → not b ≡ false → c ≡ standing f → not c ≡ false → 0 ≡ circuitRow f
+  unfolding circuitRow
+  row-none a b c p x q y r z = rw (← p, not-false a x, ← q, not-false b y, ← r, not-false c z)
+
+-- each return of the code takes the one whose tests it made
+pub ruleset rows = (row-head, row-layout, row-standing, row-none)
+
+module _ (f : List ℕ) where
   -- the answer of reading
   pub refused-answer : (circuitRow f ≡ 0 → ⊥) → circuitAnswer f ≡ refusal (circuitRow f) 0
   unfolding circuitAnswer
@@ -53,19 +64,27 @@ module _ (f : List ℕ) where
 
   -- the part of a record
   module _ (w : ℕ) where
-    part-none : shown f w ≡ false → (0 ≡ partStart f w) × (0 ≡ partLength f w)
-    unfolding partStart partLength
-    part-none h = (rw h, rw h)
+    -- a and n: where it begins and how long it is, as the code answers them
+    abbrev pub PartIs : ℕ → ℕ → Type 0
+    PartIs a n = (a ≡ partStart f w) × ((n ≡ partLength f w) × (take n (drop a f) ≡ recordPart f w))
 
-    pub part-refused : (circuitRow f ≡ 0 → ⊥) → (0 ≡ partStart f w) × (0 ≡ partLength f w)
+    part-is : (a n : ℕ) → a ≡ partStart f w → n ≡ partLength f w → PartIs a n
+    unfolding recordPart
+    part-is a n e q = (e, (q, rw (e, q)))
+
+    part-none : shown f w ≡ false → PartIs 0 0
+    unfolding partStart partLength
+    part-none h = part-is 0 0 (rw h) (rw h)
+
+    pub part-refused : (circuitRow f ≡ 0 → ⊥) → PartIs 0 0
     part-refused h = part-none (rw (ne-eqb _ _ h))
 
-    pub part-past : circuitRow f ≡ 0 → wireCount f ≤ w → (0 ≡ partStart f w) × (0 ≡ partLength f w)
+    pub part-past : circuitRow f ≡ 0 → wireCount f ≤ w → PartIs 0 0
     part-past h l = part-none (rw (eq-eqb _ _ h, le-ltb _ _ l))
 
-    pub part-shown : circuitRow f ≡ 0 → w < wireCount f → (recordPlace f w ≡ partStart f w) × (sizeAt f (recordPlace f w) ≡ partLength f w)
+    pub part-shown : circuitRow f ≡ 0 → w < wireCount f → (a n : ℕ) → a ≡ recordPlace f w → n ≡ sizeAt f a → PartIs a n
     unfolding partStart partLength
-    part-shown h l = let t : shown f w ≡ true = rw (eq-eqb _ _ h, lt-ltb _ _ l) in (rw t, rw t)
+    part-shown h l a n e q = let t : shown f w ≡ true = rw (eq-eqb _ _ h, lt-ltb _ _ l) in part-is a n (rw t e) (rw (t, ← e) q)
 
     -- it lies inside the file
     pub part-inside : partStart f w + partLength f w ≤ length f
@@ -75,13 +94,9 @@ module _ (f : List ℕ) where
         let (r, k) = both (eqb (circuitRow f) 0) (ltb w (wireCount f)) t in
         let h = eqb-true (circuitRow f) 0 r in
         let l = ltb-true w (wireCount f) k in
-        let (a, b) = part-shown h l in
+        let (a, (b, _)) = part-shown h l (recordPlace f w) (sizeAt f (recordPlace f w)) refl refl in
         omega (arith, a, b, row-passed f h .layout .whole w l .inside))
-        (λ t. let (a, b) = part-none t in omega (arith, a, b))
-
-    pub part-bytes : (a n : ℕ) → a ≡ partStart f w → n ≡ partLength f w → take n (drop a f) ≡ recordPart f w
-    unfolding recordPart
-    part-bytes a n e q = rw (e, q)
+        (λ t. let (a, (b, _)) = part-none t in omega (arith, a, b))
 
 -- amid the records before wire w
 pub record AmidPlaces (f : List ℕ) (w at i : ℕ) : Type 0 where

@@ -14,34 +14,36 @@ use Rattle.foreign.specs.ReadLaws.{answer-number}
 use Rattle.foreign.specs.RefusalLaws.{fileInputsRow}
 
 -- a: the answer of reading
-module _ (f inputs d : List ℕ) (a : Answer) (e : a ≡ circuitAnswer f) where
+module _ (f : List ℕ) (a : Answer) (e : a ≡ circuitAnswer f) where
   number : a .number ≡ circuitAnswer f .number
   number = ap (λ (b : Answer). b .number) e
 
-  -- a refused file
-  pub file-refused : (a .number ≡ 0 → ⊥) → (a ≡ circuitRunAnswer f inputs (length d)) × (d ≡ circuitRunResults f inputs d)
-  unfolding circuitRunAnswer circuitRunResults
-  file-refused h = let n : circuitAnswer f .number ≡ 0 → ⊥ = λ z. h (number ∙ z) in (rw (ne-eqb _ _ n) e, rw (ne-eqb _ _ n, ne-eqb _ _ n))
+  pub file-taken : a .number ≡ 0 → circuitRow f ≡ 0
+  file-taken z = sym (answer-number f) ∙ sym number ∙ z
 
-  module _ (zero : a .number ≡ 0) where
-    taken : circuitAnswer f .number ≡ 0
-    taken = sym number ∙ zero
-
-    pub file-taken : circuitRow f ≡ 0
-    file-taken = sym (answer-number f) ∙ taken
-
-    -- refused inputs
-    pub inputs-refused : (row : ℕ) → row ≡ fileInputsRow f inputs (length d) → (row ≡ 0 → ⊥) → (b : Answer) → b ≡ refusal row 0
-        → (b ≡ circuitRunAnswer f inputs (length d)) × (d ≡ circuitRunResults f inputs d)
+  -- d: the result places before it
+  module _ (inputs d : List ℕ) where
+    -- a refused file
+    pub file-refused : (a .number ≡ 0 → ⊥) → (a ≡ circuitRunAnswer f inputs (length d)) × (d ≡ circuitRunResults f inputs d)
     unfolding circuitRunAnswer circuitRunResults
-    inputs-refused row q h b r =
-        let n : fileInputsRow f inputs (length d) ≡ 0 → ⊥ = λ z. h (q ∙ z) in
-        (rw (eq-eqb _ _ taken, ne-eqb _ _ n) (r ∙ ap (λ (k : ℕ). refusal k 0) q), rw (eq-eqb _ _ taken, ne-eqb _ _ n, ne-eqb _ _ n))
+    file-refused h = let n : circuitAnswer f .number ≡ 0 → ⊥ = λ z. h (number ∙ z) in (rw (ne-eqb _ _ n) e, rw (ne-eqb _ _ n, ne-eqb _ _ n))
 
-    -- a run
-    pub run-done : (row : ℕ) → row ≡ fileInputsRow f inputs (length d) → row ≡ 0 → (new : List ℕ) → new ≡ over (fileFigures f inputs) d
-        → (a ≡ circuitRunAnswer f inputs (length d)) × (new ≡ circuitRunResults f inputs d)
-    unfolding circuitRunAnswer circuitRunResults
-    run-done row q h new r =
-        let n : fileInputsRow f inputs (length d) ≡ 0 = sym q ∙ h in
-        (rw (eq-eqb _ _ taken, eq-eqb _ _ n) e, rw (eq-eqb _ _ taken, eq-eqb _ _ n, eq-eqb _ _ taken) r)
+    module _ (zero : a .number ≡ 0) where
+      taken : circuitAnswer f .number ≡ 0
+      taken = sym number ∙ zero
+
+      -- refused inputs
+      pub inputs-refused : (row : ℕ) → row ≡ fileInputsRow f inputs (length d) → (row ≡ 0 → ⊥) → (b : Answer) → b ≡ refusal row 0
+          → (b ≡ circuitRunAnswer f inputs (length d)) × (d ≡ circuitRunResults f inputs d)
+      unfolding circuitRunAnswer circuitRunResults
+      inputs-refused row q h b r =
+          let n : fileInputsRow f inputs (length d) ≡ 0 → ⊥ = λ z. h (q ∙ z) in
+          (rw (eq-eqb _ _ taken, ne-eqb _ _ n) (r ∙ ap (λ (k : ℕ). refusal k 0) q), rw (eq-eqb _ _ taken, ne-eqb _ _ n, ne-eqb _ _ n))
+
+      -- a run
+      pub run-done : (row : ℕ) → row ≡ fileInputsRow f inputs (length d) → row ≡ 0 → (new : List ℕ) → new ≡ over (fileFigures f inputs) d
+          → (a ≡ circuitRunAnswer f inputs (length d)) × (new ≡ circuitRunResults f inputs d)
+      unfolding circuitRunAnswer circuitRunResults
+      run-done row q h new r =
+          let n : fileInputsRow f inputs (length d) ≡ 0 = sym q ∙ h in
+          (rw (eq-eqb _ _ taken, eq-eqb _ _ n) e, rw (eq-eqb _ _ taken, eq-eqb _ _ n, eq-eqb _ _ taken) r)

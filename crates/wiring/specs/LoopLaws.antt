@@ -1,11 +1,10 @@
 -- Laws of row 62 over the whole file, one for each step of the code: record after record, output after output. Assumes nothing.
 use Prim.Native.Nat.{ℕ, suc, _+_, _-_, _*_, _≤_, _<_}
 use mathlib.Core.Path.{_≡_, refl, sym, ap, subst, _∙_}
-use mathlib.Core.List.{List, [], _∷_}
+use mathlib.Core.List.{List}
 use mathlib.Core.Bool.{Bool, true, false, _&&_, cond}
 use native.Mathlib.Numerals.{add-one}
 use native.Mathlib.Omega.{arith}
-use lib.Dec.{leb}
 use lib.ListN.{length, set, length-set}
 use borrow.Author.Tests.{lt-leb, le-leb}
 use Rattle.words.specs.Lists.{Inside}

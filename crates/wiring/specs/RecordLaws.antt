@@ -14,7 +14,7 @@ use Rattle.codes.specs.CodeLaws.{code-operation}
 use Rattle.codes.specs.declared.Kind.{Kind}
 use Rattle.codes.specs.declared.Kind.the-variants as kind
 use Rattle.codes.specs.declared.Code.{Code}
-use Rattle.records.specs.Records.{Record, operation, choice, pick, guard}
+use Rattle.records.specs.Records.{Record, pick}
 use Rattle.records.specs.WireKinds.{recordKind}
 use Rattle.records.specs.FileFigures.{wiresAt, pairsAt, recordAt}
 use Rattle.records.specs.FilePartLaws.{wires-length, pairs-length}

@@ -1,8 +1,8 @@
 -- Laws of row 62 from a table of kinds: where it holds the kinds of the earlier wires, what stands by the table stands. Assumes nothing.
 use Prim.Native.Nat.{ℕ, suc, _+_, _≤_, _<_}
-use mathlib.Core.Path.{_≡_, refl, sym, _∙_}
+use mathlib.Core.Path.{_≡_, refl}
 use mathlib.Core.List.{List, [], _∷_}
-use mathlib.Core.Bool.{Bool, true, false, _&&_}
+use mathlib.Core.Bool.{_&&_, and-false}
 use mathlib.Core.Logic.{inl, inr}
 use native.Mathlib.Omega.{arith}
 use lib.Dec.{ltb}
@@ -17,7 +17,7 @@ use Rattle.codes.specs.declared.Kind.the-variants as kind
 use Rattle.records.specs.Records.{Pair, Record, input, word, bit, operation, choice, pick, guard, pairWires, reads}
 use Rattle.records.specs.WireKinds.{guardsOf, valuesOf, recordKind}
 use Rattle.records.specs.WireKindLaws.{kind-same}
-use Rattle.records.specs.CircuitRows.{inputInPlace, kindsFit, tableFits, stands, outputsStand}
+use Rattle.records.specs.CircuitRows.{inputInPlace, kindsFit, stands, outputsStand}
 
 -- the guards and the values of a pick are among its wires
 guards-in : (l : List Pair) (w : ℕ) → w ∈ guardsOf l → w ∈ pairWires l
@@ -53,11 +53,7 @@ module _ (k j : ℕ → Kind) where
   stands-same v i r h =
       split (every (λ w. ltb w i) (reads r))
       (λ t. rw (kinds-same r (λ w m. h w (inside-right i (reads r) .0 t w m))))
-      (λ t. rw t (none (inputInPlace v i r) (kindsFit k r) (tableFits r) ∙ sym (none (inputInPlace v i r) (kindsFit j r) (tableFits r))))
-    where
-      none : (a b c : Bool) → (((a && false) && b) && c) ≡ false
-      none true b c = refl
-      none false b c = refl
+      (λ t. rw (t, and-false (inputInPlace v i r)))
 
   -- outputs of n wires
   pub outputs-same : (n : ℕ) → ((w : ℕ) → w < n → k w ≡ j w) → (x : ℕ) (l : List ℕ) → x + length l ≤ n → outputsStand n k x l ≡ outputsStand n j x l

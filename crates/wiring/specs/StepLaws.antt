@@ -1,7 +1,7 @@
 -- Laws of row 62, one for each step of the code: a wire, wires at equal distances, a guard's table. Assumes nothing.
 use Prim.Native.Nat.{ℕ, zero, suc, _+_, _-_, _*_, _^_, _≤_, _<_}
 use mathlib.Core.Path.{_≡_, refl, sym, ap, _∙_}
-use mathlib.Core.List.{List, [], _∷_}
+use mathlib.Core.List.{List}
 use mathlib.Core.Bool.{Bool, true, false, not, _&&_}
 use native.Mathlib.Nat.{mul-suc}
 use native.Mathlib.Omega.{arith}
@@ -52,7 +52,7 @@ module _ (f : List ℕ) (t : ℕ → Bool) (step at count here left : ℕ) (p : 
     one : left ≡ suc (left - 1)
     one = omega arith
 
-    pub steps : step * left ≡ step + step * (left - 1)
+    steps : step * left ≡ step + step * (left - 1)
     steps = ap (λ (n : ℕ). step * n) one ∙ mul-suc step (left - 1) ∙ omega arith
 
     pub wire-inside : here + 2 ≤ length f
@@ -75,17 +75,21 @@ pub first-late : (f : List ℕ) (t : ℕ → Bool) (step at count : ℕ) → 1 �
 first-late f t step at zero h e = absurd (omega arith)
 first-late f t step at (suc n) h e = rw e
 
--- two tests one after the other
-pub both-left : (a b r : Bool) → a ≡ true → r ≡ b → r ≡ (a && b)
-both-left a b r t e = rw t e
+-- two tests one after the other; t: what the first one answered
+pub both-left : (a b t r : Bool) → t ≡ a → t ≡ true → r ≡ b → r ≡ (a && b)
+both-left a b t r q h e = rw (← q, h) e
 
-pub both-none : (a b : Bool) → a ≡ false → false ≡ (a && b)
-both-none a b t = rw t
+pub both-none : (a b t : Bool) → t ≡ a → t ≡ false → false ≡ (a && b)
+both-none a b t q h = rw (← q, h)
 
 -- a kind by the test whether it is a bit
 pub by-test : (k : Kind) (b : Bool) → b ≡ sameKind k kind.Bit → kindBy b ≡ k
 by-test kind.Word b e = ap kindBy e
 by-test kind.Bit b e = ap kindBy e
+
+-- a guard's table, by the number of its wires as the code has it
+pub table-of : (d n t : ℕ) → d ≡ n → ltb t (2 ^ 2 ^ n) ≡ ltb t (2 ^ 2 ^ d)
+table-of d n t e = rw e
 
 -- a table of 64 bits is never too large
 pub table-whole : (d t : ℕ) → d ≤ 6 → (d ≡ 0 → ⊥) → (d ≡ 1 → ⊥) → (d ≡ 2 → ⊥) → (d ≡ 3 → ⊥) → (d ≡ 4 → ⊥) → (d ≡ 5 → ⊥) → t < 18446744073709551616 → true ≡ ltb t (2 ^ 2 ^ d)

@@ -81,9 +81,9 @@ fn all_alike(
         ⌝ }
     ensures { λ r. ⌜ r ≡ every (fits i (heldKind (now (bits .entry))) (heldKind (now (bits .entry)) (numberAt 2 (now (file .entry)) at))) (wiresBy step count (now (file .entry)) at) ⌝ }
 {
-    let w = parts::wire_at(file, at);
-    if words::wide16(w.0) < i {
-        let want = parts::is_bit(bits, w);
+    let first = parts::wire_at(file, at);
+    if words::wide16(first.0) < i {
+        let want = parts::is_bit(bits, first);
         all_fit(file, at, step, count, i, bits, want)
     } else {
         false

@@ -22,10 +22,12 @@ shared-slice-read-wide8 : tie.Need-shared-slice-read-wide8 Inv-loop μ-loop
 shared-slice-read-wide8 c = omega (arith, row-passed _ (c .before .before .before .pre) .head .long)
 
 returns : tie.Need-returns Inv-loop μ-loop
-returns c = let a = c .before .before .before .before .before .args in count-refused (now (a .file)) (now (a .inputs)) _ (c .before .wide8 .ensures .0) (a .room) (c .if1 .taken)
+returns c =
+    let a = c .before .before .before .before .before .args in
+    count-refused (now (a .file)) (now (a .inputs)) _ (c .before .wide8 .ensures .0) (a .room) (c .if1 .taken)
 
 loop-holds : tie.Need-loop-holds Inv-loop μ-loop
-loop-holds c = let a = c .before .before .before .before .before .args in inputs-start (now (a .file)) (now (a .inputs)) _ (c .before .wide8 .ensures .0) (c .before .before .before .before .before .pre)
+loop-holds c = inputs-start _ _ _ (c .before .wide8 .ensures .0) (c .before .before .before .before .before .pre)
 
 shared-slice-read-kind-of : tie.Need-shared-slice-read-kind-of Inv-loop μ-loop
 shared-slice-read-kind-of c = input-byte _ _ _ _ (c .before .before .before .before .loop .inv) (c .before .before .before .loop-test .taken)

@@ -1,28 +1,21 @@
-use mathlib.Core.Path.{sym, ap, _∙_}
+use mathlib.Core.Path.{sym, _∙_}
 use native.Mathlib.Omega.{arith}
-use denote.Ref.{now}
 use borrow.Author.Needs.{needs}
-use Rattle.records.specs.FileFigures.{sizeAt}
 use Rattle.records.specs.FormatLaws.{row-passed}
-use Rattle.foreign.specs.ReadLaws.{part-refused, part-past, part-shown, part-bytes}
+use Rattle.foreign.specs.ReadLaws.{part-refused, part-past, part-shown}
 use Rattle.foreign.proofs.part_of.Statement.{statement}
 use Rattle.foreign.proofs.part_of.Tie as tie
 
 returns : tie.Need-returns
-returns c =
-    let a = c .before .before .before .args in
-    let (start, size) = part-refused (now (a .file)) (a .wire) (λ z. c .if1 .taken (c .before .circuit-row .ensures ∙ z)) in
-    (start, (size, part-bytes (now (a .file)) (a .wire) _ _ start size))
+returns c = part-refused _ _ (λ z. c .if1 .taken (c .before .circuit-row .ensures ∙ z))
 
 read16-requires : tie.Need-read16-requires
 read16-requires c κs = row-passed _ (sym (c .before .circuit-row .ensures) ∙ c .if1 .left) .head .long
 
 returns-2 : tie.Need-returns-2
 returns-2 c =
-    let a = c .before .before .before .before .before .before .args in
-    let (start, size) = part-past (now (a .file)) (a .wire) (sym (c .before .before .before .before .circuit-row .ensures) ∙ c .before .before .before .if1 .left)
-    (omega (arith, c .if2 .taken, c .before .wide16 .ensures .0, c .before .before .read16 .ensures)) in
-    (start, (size, part-bytes (now (a .file)) (a .wire) _ _ start size))
+    part-past _ _ (sym (c .before .before .before .before .circuit-row .ensures) ∙ c .before .before .before .if1 .left)
+    (omega (arith, c .if2 .taken, c .before .wide16 .ensures .0, c .before .before .read16 .ensures))
 
 record-place-requires : tie.Need-record-place-requires
 record-place-requires c κs =
@@ -36,12 +29,9 @@ record-size-requires c κs =
 
 returns-3 : tie.Need-returns-3
 returns-3 c =
-    let f = now (c .before .before .before .before .before .before .before .before .args .file) in
-    let (start, size) = part-shown f (c .before .before .before .before .before .before .before .before .args .wire) (sym (c .before .before .before .before .before .before .circuit-row .ensures) ∙ c .before .before .before .before .before .if1 .left)
-    (omega (arith, c .before .before .if2 .left, c .before .before .before .wide16 .ensures .0, c .before .before .before .before .read16 .ensures)) in
-    let first = c .before .record-place .ensures ∙ start in
-    let many = c .record-size .ensures ∙ ap (sizeAt f) (c .before .record-place .ensures) ∙ size in
-    (first, (many, part-bytes f (c .before .before .before .before .before .before .before .before .args .wire) _ _ first many))
+    part-shown _ _ (sym (c .before .before .before .before .before .before .circuit-row .ensures) ∙ c .before .before .before .before .before .if1 .left)
+    (omega (arith, c .before .before .if2 .left, c .before .before .before .wide16 .ensures .0, c .before .before .before .before .read16 .ensures)) _ _
+    (c .before .record-place .ensures) (c .record-size .ensures)
 
 pub part-of-spec : {M : Type 1} → statement M
 part-of-spec =

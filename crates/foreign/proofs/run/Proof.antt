@@ -1,5 +1,4 @@
 use mathlib.Core.Path.{sym, _∙_}
-use denote.Ref.{now}
 use borrow.Author.Needs.{needs}
 use Rattle.codes.specs.InputLaws.{inputs-count, inputs-room}
 use Rattle.foreign.specs.RunLaws.{file-refused, file-taken, inputs-refused, run-done}
@@ -7,31 +6,28 @@ use Rattle.foreign.proofs.run.Statement.{statement}
 use Rattle.foreign.proofs.run.Tie as tie
 
 returns : tie.Need-returns
-returns c = let a = c .before .before .before .before .before .before .args in file-refused (now (a .file)) (now (a .inputs)) (now (a .results)) _ (c .before .before .read .ensures) (c .if1 .taken)
+returns c = file-refused _ _ (c .before .before .read .ensures) _ _ (c .if1 .taken)
 
 inputs-refusal-requires : tie.Need-inputs-refusal-requires
 inputs-refusal-requires c κs =
-    let a = c .before .before .before .before .before .before .args in file-taken (now (a .file)) (now (a .inputs)) (now (a .results)) _ (c .before .before .read .ensures) (c .if1 .left)
+    file-taken _ _ (c .before .before .read .ensures) (c .if1 .left)
 
 returns-2 : tie.Need-returns-2
 returns-2 c =
-    let a = c .before .before .before .before .before .before .before .before .before .args in
-    inputs-refused (now (a .file)) (now (a .inputs)) (now (a .results)) _ (c .before .before .before .before .before .read .ensures) (c .before .before .before .if1 .left) _ (c .before .before .inputs-refusal .ensures)
+    inputs-refused _ _ (c .before .before .before .before .before .read .ensures) _ _ (c .before .before .before .if1 .left) _ (c .before .before .inputs-refusal .ensures)
     (c .before .if2 .taken) _ (c .refused .ensures)
 
 run-file-requires : tie.Need-run-file-requires
 run-file-requires c κs =
-    let a = c .before .before .before .before .before .before .before .before .before .args in
     let row = sym (c .before .before .inputs-refusal .ensures) ∙ c .before .if2 .left in (
-      file-taken (now (a .file)) (now (a .inputs)) (now (a .results)) _ (c .before .before .before .before .before .read .ensures) (c .before .before .before .if1 .left),
+      file-taken _ _ (c .before .before .before .before .before .read .ensures) (c .before .before .before .if1 .left),
       inputs-count _ _ _ _ row,
       inputs-room _ _ _ _ row,
     )
 
 returns-3 : tie.Need-returns-3
 returns-3 c =
-    let a = c .before .before .before .before .before .before .before .before .before .before .before .before .args in
-    run-done (now (a .file)) (now (a .inputs)) (now (a .results)) _ (c .before .before .before .before .before .before .before .before .read .ensures) (c .before .before .before .before .before .before .if1 .left) _ (c .before .before .before .before .before .inputs-refusal .ensures)
+    run-done _ _ (c .before .before .before .before .before .before .before .before .read .ensures) _ _ (c .before .before .before .before .before .before .if1 .left) _ (c .before .before .before .before .before .inputs-refusal .ensures)
     (c .before .before .before .before .if2 .left) _ (c .before .before .run-file .ensures)
 
 pub run-spec : {M : Type 1} → statement M

@@ -1,13 +1,7 @@
-use Prim.Native.Nat.{ℕ, _+_, _*_, _≤_}
-use mathlib.Core.Path.{ap, ap₂, _∙_}
+use mathlib.Core.Path.{ap, _∙_}
 use native.Mathlib.Omega.{arith}
-use denote.Ref.{now}
 use borrow.Author.Needs.{needs}
-use Rattle.words.specs.Lists.{every}
-use Rattle.codes.specs.declared.Kind.{Kind}
 use Rattle.codes.specs.declared.Code.{Code}
-use Rattle.parts.specs.HeldKinds.{heldKind}
-use Rattle.wiring.specs.Wires.{fits, wiresBy}
 use Rattle.wiring.specs.StepLaws.{by-test}
 use Rattle.wiring.proofs.operation_wires.Statement.{statement}
 use Rattle.wiring.proofs.operation_wires.Tie as tie
@@ -20,12 +14,9 @@ all-fit-requires c κs =
 
 returns : tie.Need-returns
 returns c =
-    let a = c .before .before .before .before .before .before .args in
-    let is = c .before .before .before .code-of .ensures in
-    c .all-fit .ensures
-    ∙ ap₂ (λ (k : Kind) (n : ℕ). every (fits (a .i) (heldKind (now (a .bits))) k) (wiresBy 2 n (now (a .file)) (a .at + 1)))
-    (by-test _ _ (c .before .before .same-kind .ensures) ∙ ap (λ (x : Code). x .takes) is)
-    (c .before .wide8 .ensures .0 ∙ ap (λ (x : Code). x .arity) is)
+    let is = c .before .before .before .code-of in
+    let bit = c .before .before .same-kind in
+    rw (by-test (is .result .takes) (bit .result) (bit .ensures), c .before .wide8 .ensures .0, is .ensures) at (c .all-fit .ensures)
 
 pub operation-wires-spec : {M : Type 1} → statement M
 operation-wires-spec =

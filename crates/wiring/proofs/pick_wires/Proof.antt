@@ -1,14 +1,13 @@
-use mathlib.Core.Path.{sym, _∙_}
 use borrow.Author.Needs.{needs}
 use Rattle.wiring.specs.StepLaws.{both-left, both-none}
 use Rattle.wiring.proofs.pick_wires.Statement.{statement}
 use Rattle.wiring.proofs.pick_wires.Tie as tie
 
 returns : tie.Need-returns
-returns c = both-left _ _ _ (sym (c .before .before .all-fit .ensures) ∙ c .before .if1 .taken) (c .all-alike .ensures)
+returns c = both-left _ _ _ _ (c .before .before .all-fit .ensures) (c .before .if1 .taken) (c .all-alike .ensures)
 
 returns-2 : tie.Need-returns-2
-returns-2 c = both-none _ _ (sym (c .before .all-fit .ensures) ∙ c .if1 .left)
+returns-2 c = both-none _ _ _ (c .before .all-fit .ensures) (c .if1 .left)
 
 pub pick-wires-spec : {M : Type 1} → statement M
 pick-wires-spec = tie.close (tie.spec (λ c κs. search needs) (λ c. search needs) (λ c κs. search needs) returns returns-2)
