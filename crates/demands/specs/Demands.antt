@@ -44,6 +44,7 @@ use Rattle.fused.specs.OnlyOrderLaws as files
 use Rattle.fused.specs.PickSums as picks
 use Rattle.running.specs.FusedRun.{fusedResults}
 use Rattle.foreign.specs.Foreign.{circuitAnswer, recordPart, circuitRunAnswer, circuitRunResults}
+use Rattle.foreign.specs.RunLaws as files-run
 use Rattle.demands.specs.Table.{Answered}
 use Rattle.demands.specs.AnsweredLaws as answers
 use Rattle.demands.specs.FusedRunLaws as runs
@@ -92,7 +93,7 @@ pub fused-run-untouched : (s p inputs results : List ℕ) → (runAnswer (fusedA
 fused-run-untouched = answers.fused-untouched
 
 pub circuit-run-untouched : (f inputs results : List ℕ) → (circuitRunAnswer f inputs (length results) .number ≡ 0 → ⊥) → circuitRunResults f inputs results ≡ results
-circuit-run-untouched = foreign.run-untouched
+circuit-run-untouched = files-run.refused-results
 
 -- Demand 2. "The plain circuit gives every variable what the rule gives when run statement by statement",
 pub plain-figures : (s inputs : List ℕ) → IsRead (readRule s) → length inputs ≡ variables s

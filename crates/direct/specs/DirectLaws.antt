@@ -43,6 +43,13 @@ module _ (rule : Answer) (s inputs : List ℕ) where
     unfolding runResults
     run-results results h = rw (run-answer (length results) h, eq-eqb _ _ a)
 
+    -- the number is the row
+    pub run-number : (room : ℕ) → runAnswer rule s inputs room .number ≡ inputRow s inputs room
+    run-number room =
+        split (eqb (inputRow s inputs room) 0)
+        (λ t. let z = eqb-true _ _ t in ap (λ (b : Answer). b .number) (run-answer room z) ∙ a ∙ sym z)
+        (λ t. ap (λ (b : Answer). b .number) (inputs-answer room (eqb-false _ _ t)))
+
   -- an answer of number 0: the rule is accepted, and no row refuses the inputs
   module _ (room : ℕ) (h : runAnswer rule s inputs room .number ≡ 0) where
     pub answered-rule : rule .number ≡ 0

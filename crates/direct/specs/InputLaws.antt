@@ -1,12 +1,16 @@
 -- Laws of what no row says of a rule's inputs; each is that of any inputs (`codes`). Assumes nothing.
 use Prim.Native.Nat.{ℕ, _≤_, _<_}
-use mathlib.Core.Path.{_≡_}
+use mathlib.Core.Path.{_≡_, refl}
 use mathlib.Core.List.{List}
 use lib.ListN.{length, getD}
-use Rattle.codes.specs.Inputs.{FiguresFit}
+use Rattle.codes.specs.Inputs.{FiguresFit, inputsRow}
 use Rattle.codes.specs.InputLaws as any
 use Rattle.reading.specs.Header.{variables, kindAt}
 use Rattle.direct.specs.Inputs.{inputRow}
+
+pub row-is : (s inputs : List ℕ) (room : ℕ) → inputRow s inputs room ≡ inputsRow (variables s) (kindAt s) inputs room
+unfolding inputRow
+row-is s inputs room = refl
 
 module _ (s inputs : List ℕ) (room : ℕ) (h : inputRow s inputs room ≡ 0) where
   pub inputs-count : length inputs ≡ variables s

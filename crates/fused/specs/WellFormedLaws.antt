@@ -1,6 +1,6 @@
 -- Laws for document 02, C-11: "Every file that our writer makes is read": the circuit of an accepted plan is well-formed, so rows 60 to 62 find no fault with its file. Assumes nothing.
 use Prim.Native.Nat.{ℕ, _^_, _≤_, _<_}
-use mathlib.Core.Path.{_≡_, sym, ap, _∙_}
+use mathlib.Core.Path.{_≡_, refl, sym, ap, _∙_}
 use mathlib.Core.List.{List, [], _∷_, map}
 use native.Mathlib.Omega.{arith}
 use lib.ListN.{length, getD, length-map}
@@ -21,10 +21,14 @@ use Rattle.plan.specs.PlanFile.{groupsIn}
 use Rattle.plan.specs.Groups.{groupOf, members, restsOf}
 use Rattle.plan.specs.Rows.{planAnswer}
 use Rattle.plan.specs.AcceptedLaws.{plan-accepted}
+use Rattle.plan.specs.RestLaws.{rests-count}
 use Rattle.records.specs.RecordLaws.{Along, along-map, along-at}
 use Rattle.records.specs.WireKinds.{recordKind, wireKind}
 use Rattle.records.specs.WireKindLaws.{kinds-right}
+use Rattle.records.specs.CircuitFile.{fileBytes}
+use Rattle.records.specs.CircuitRows.{circuitRow}
 use Rattle.records.specs.WellFormed.{TableFits, Standing, WellFormed}
+use Rattle.records.specs.FormatLaws.{well-row}
 use Rattle.fused.specs.Emission.{alone, gateOperation, guardOf, valuesAt, emit}
 use Rattle.fused.specs.FusedCircuit.{recordsOf, wireOf, outputWires, fusedFile}
 use Rattle.fused.specs.EmitLaws.{joined-along}
@@ -47,10 +51,7 @@ alone-table s wire (gate.choice c a b) = tt
 module _ (s : List ℕ) (C : Gates) (sets : List ℕ) (wire : ℕ → ℕ) where
   -- that of a member is over the conditions whose wires the guard reads
   guard-table : (m : ℕ) → TableFits (guardOf s C sets wire m)
-  unfolding restsOf
-  guard-table m =
-      let ts : List ℕ = rests mostConditions (getD sets m 0) in
-      rw (length-map (map (λ t. getD (conditions C) t 0) ts) wire, length-map ts (λ t. getD (conditions C) t 0)) (table-below mostConditions (getD sets m 0))
+  guard-table m = rw (length-map (restsOf C sets m) wire, rests-count C sets m) (table-below mostConditions (getD sets m 0))
 
   emit-tables : (n : ℕ) (ms : List ℕ) → Along (λ i. TableFits) n (emit s C sets wire n ms)
   emit-tables n [] = tt
@@ -62,7 +63,7 @@ module _ (s : List ℕ) (C : Gates) (sets : List ℕ) (wire : ℕ → ℕ) where
 
 module _ (s p : List ℕ) (bytes : Bytes s) (h : planAnswer s p .number ≡ 0) where
   -- an input's wire is of its variable's kind
-  input-kind : (x : ℕ) → x < variables s → wireKind (recordsOf s p) x ≡ kindAt s x
+  pub input-kind : (x : ℕ) → x < variables s → wireKind (recordsOf s p) x ≡ kindAt s x
   input-kind x l =
       let (i, e) = input-first s p h x l in
       kinds-right (recordsOf s p) (reads-earlier s p h) x i ∙ ap (recordKind (wireKind (recordsOf s p))) e
@@ -95,3 +96,12 @@ module _ (s p : List ℕ) (bytes : Bytes s) (h : planAnswer s p .number ≡ 0) w
     bounded = fused-bounded s p bytes h;
     standing = fused-standing;
   }
+
+  -- so no row of a circuit file refuses its file, and the file is that of these records and outputs
+  pub fused-row : circuitRow (fusedFile s p) ≡ 0
+  unfolding fusedFile
+  fused-row = well-row (variables s) (recordsOf s p) (outputWires s p) fused-well-formed
+
+pub fused-is : (s p : List ℕ) → fusedFile s p ≡ fileBytes (variables s) (recordsOf s p) (outputWires s p)
+unfolding fusedFile
+fused-is s p = refl

@@ -39,6 +39,11 @@ module _ (C : Gates) (sets : List ℕ) where
   unfolding restsOf
   rests-inside m c h k = let r = map-in (λ t. getD (conditions C) t 0) c (rests mostConditions (getD sets m 0)) k in rw (r .2) (place-inside (r .0) h)
 
+  -- as many as the set rests on
+  pub rests-count : (m : ℕ) → length (restsOf C sets m) ≡ length (rests mostConditions (getD sets m 0))
+  unfolding restsOf
+  rests-count m = length-map (rests mostConditions (getD sets m 0)) (λ t. getD (conditions C) t 0)
+
   pub rests-few : (m : ℕ) → length (restsOf C sets m) ≤ mostConditions
   unfolding restsOf rests
   rests-few m = rw length-map (rw (length-from 0 mostConditions) at (length-keep (restsOn mostConditions (getD sets m 0)) (upto mostConditions)))

@@ -1,4 +1,3 @@
 pub mod FusedRun
-pub mod RunnableLaws
 pub mod ResultLaws
 pub mod StepLaws

@@ -28,7 +28,7 @@ use Rattle.direct.specs.InputLaws.{inputs-count, inputs-room}
 use Rattle.direct.specs.Direct.{runAnswer}
 use Rattle.direct.specs.DirectLaws.{rule-answer, inputs-answer, run-answer}
 use Rattle.running.specs.FusedRun.{fusedResults}
-use Rattle.running.specs.RunnableLaws.{fused-row}
+use Rattle.fused.specs.WellFormedLaws.{fused-row}
 
 -- a: the answer of preparing the circuit
 module _ (s p : List ℕ) (a : Answer) (answer-is : a ≡ fusedAnswer s p) where
