@@ -90,8 +90,7 @@ pub enum Goal {
     R1,
     Ladder,
     Mixed,
-    Files,
-    /// None is set for plans that are hard to order.
+    /// None is set for plans that are hard to order, nor for circuit files.
     None,
 }
 
