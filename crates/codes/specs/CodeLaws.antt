@@ -7,7 +7,7 @@ use mathlib.Core.Bool.{Bool, true, false, _&&_, false≢true, cond}
 use lib.Dec.{eqb, leb}
 use borrow.Author.Tests.{ne-eqb, le-leb, lt-leb, eqb-true, leb-true}
 use Rattle.words.specs.TestLaws.{same?, split}
-use Rattle.codes.specs.Codes.{kindOf, sameKind, plain, entryOf, operationOf, byteOf, codeOf}
+use Rattle.codes.specs.Codes.{kindOf, sameKind, plain, entryOf, operationOf, byteOf, codeOf, startCode}
 use Rattle.codes.specs.declared.Kind.{Kind}
 use Rattle.codes.specs.declared.Kind.the-variants as kind
 use Rattle.codes.specs.declared.Operation.{Operation}
@@ -26,6 +26,12 @@ same-kind kind.Bit kind.Bit h = refl
 pub itself-kind : (a : Kind) → sameKind a a ≡ true
 itself-kind kind.Word = refl
 itself-kind kind.Bit = refl
+
+-- the code of an input says its kind
+pub start-kind : (k : Kind) → kindOf (startCode k) ≡ k
+unfolding kindOf
+start-kind kind.Word = refl
+start-kind kind.Bit = refl
 
 pub kind-bit : (b : ℕ) → b ≡ 1 → kindOf b ≡ kind.Bit
 unfolding kindOf

@@ -9,7 +9,8 @@ use native.Mathlib.Omega.{arith}
 use lib.ListN.{length, getD, take}
 use Rattle.words.specs.Lists.{_∈_}
 use Rattle.words.specs.ListLaws.{map-same}
-use Rattle.codes.specs.Codes.{kindOf, startCode}
+use Rattle.codes.specs.Codes.{startCode}
+use Rattle.codes.specs.CodeLaws.{start-kind}
 use Rattle.codes.specs.declared.Kind.{Kind}
 use Rattle.codes.specs.declared.Kind.the-variants as kind
 use Rattle.reading.specs.Header.{kindAt}
@@ -24,13 +25,8 @@ use Rattle.emitting.specs.Emitted.{aloneOf, aloneIn, Grouped, FitsGate, 
 
 -- Quads that hold a circuit.
 
-kind-back : (k : Kind) → kindOf (startCode k) ≡ k
-unfolding kindOf
-kind-back kind.Word = refl
-kind-back kind.Bit = refl
-
 alone-back : (s : List ℕ) (wire : ℕ → ℕ) (k : Gate) → aloneOf (getD (quadOf s k) 0 0) wire k ≡ alone s wire k
-alone-back s wire (start x) = ap (λ (k : Kind). records.input k x) (kind-back (kindAt s x))
+alone-back s wire (start x) = ap (λ (k : Kind). records.input k x) (start-kind (kindAt s x))
 alone-back s wire (word n) = refl
 alone-back s wire (bit b) = refl
 alone-back s wire (operation op l) = refl

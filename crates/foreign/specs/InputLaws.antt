@@ -5,7 +5,7 @@ use mathlib.Core.List.{List}
 use native.Mathlib.Omega.{arith}
 use lib.ListN.{length, getD}
 use Rattle.codes.specs.Codes.{kindOf, startCode}
-use Rattle.codes.specs.CodeLaws.{kind-bit, kind-word}
+use Rattle.codes.specs.CodeLaws.{start-kind}
 use Rattle.codes.specs.declared.Kind.{Kind}
 use Rattle.codes.specs.declared.Kind.the-variants as kind
 use Rattle.records.specs.Records.{Record, input, word, bit, operation, choice, pick, guard, NotInput}
@@ -20,11 +20,6 @@ use Rattle.records.specs.RecordBounds.{Coded, is-input, is-word, is-bit, is-ope
 use Rattle.records.specs.InverseLaws.{size-is}
 use Rattle.records.specs.LaidOut.{recordPlace, WholeAt}
 use Rattle.records.specs.FormatLaws.{Passed}
-
--- the byte of a kind, and back
-start-kind : (k : Kind) → kindOf (startCode k) ≡ k
-start-kind kind.Word = kind-word 0 (λ e. omega arith)
-start-kind kind.Bit = kind-bit 1 refl
 
 -- an input's first byte is its kind's
 kindIn : Record → Kind

@@ -1,4 +1,4 @@
--- Document 02, C-11, row 61: when bytes are laid out as a circuit file: the mark and version, a known code, all its bytes and no more than it may have for every record,
+-- Document 02, C-11, row 61: when bytes are laid out as a circuit file: the mark and version, a known code, all its bytes and the bounds of its form for every record,
 -- and outputs that end where the file ends. It says nothing of what the records read.
 use Prim.Native.Nat.{ℕ, _+_, _*_, _≤_, _<_}
 use mathlib.Core.Path.{_≡_}
@@ -34,7 +34,7 @@ pub record WholeAt (f : List ℕ) (at : ℕ) : Type 0 where
   pub known : getD f at 0 ∈ recordCodes
   -- its bytes are there
   pub inside : at + sizeAt f at ≤ length f
-  -- and it has no more than it may
+  -- and it keeps within its bounds
   pub bounded : Bounded (recordAt f at)
 
 -- the bytes f are laid out as a circuit file
