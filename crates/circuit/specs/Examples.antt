@@ -2,10 +2,10 @@
 use mathlib.Core.Path.{_≡_, refl}
 use mathlib.Core.List.{[], _∷_, map}
 use Rattle.words.specs.Numbers.{number}
-use Rattle.codes.specs.Codes.{kindOf, operationOf, codeOf}
+use Rattle.codes.specs.Codes.{operationOf, codeOf}
 use Rattle.answers.specs.Answers.{success, refusal}
 use Rattle.answers.specs.Parsing.{readMark}
-use Rattle.reading.specs.Header.{readCount, readKinds, readHeader}
+use Rattle.reading.specs.Header.{kindOf, readCount, readKinds, readHeader}
 use Rattle.reading.specs.Expressions.{readVariable, readWord, readBit, operationWith, exprWith, readExpr}
 use Rattle.reading.specs.Blocks.{readAssign, branchWith, statementWith, blockWith, blockFuel, readBlock}
 use Rattle.reading.specs.Rule.{readRule}

@@ -7,7 +7,7 @@ use mathlib.Core.Bool.{Bool, true, false, _&&_, false≢true, cond}
 use lib.Dec.{eqb, leb}
 use borrow.Author.Tests.{ne-eqb, le-leb, lt-leb, eqb-true, leb-true}
 use Rattle.words.specs.TestLaws.{same?, split}
-use Rattle.codes.specs.Codes.{kindOf, sameKind, plain, entryOf, operationOf, byteOf, codeOf, startCode}
+use Rattle.codes.specs.Codes.{startKind, sameKind, plain, entryOf, operationOf, byteOf, codeOf, startCode}
 use Rattle.codes.specs.declared.Kind.{Kind}
 use Rattle.codes.specs.declared.Kind.the-variants as kind
 use Rattle.codes.specs.declared.Operation.{Operation}
@@ -28,17 +28,17 @@ itself-kind kind.Word = refl
 itself-kind kind.Bit = refl
 
 -- the code of an input says its kind
-pub start-kind : (k : Kind) → kindOf (startCode k) ≡ k
-unfolding kindOf
+pub start-kind : (k : Kind) → startKind (startCode k) ≡ k
+unfolding startKind
 start-kind kind.Word = refl
 start-kind kind.Bit = refl
 
-pub kind-bit : (b : ℕ) → b ≡ 1 → kindOf b ≡ kind.Bit
-unfolding kindOf
+pub kind-bit : (b : ℕ) → b ≡ 1 → startKind b ≡ kind.Bit
+unfolding startKind
 kind-bit b h = rw h
 
-pub kind-word : (b : ℕ) → (b ≡ 1 → ⊥) → kindOf b ≡ kind.Word
-unfolding kindOf
+pub kind-word : (b : ℕ) → (b ≡ 1 → ⊥) → startKind b ≡ kind.Word
+unfolding startKind
 kind-word b h = rw (ne-eqb b 1 h)
 
 -- a byte of the operation range is that operation's entry

@@ -10,10 +10,6 @@ use Rattle.codes.specs.declared.Form.{Form}
 use Rattle.codes.specs.declared.Form.the-variants.{End, Assign, Skip, Branch, Variable, Word, Bit, Apply, Unknown}
 use Rattle.codes.specs.declared.Code.{Code}
 
--- kind byte 00 word, 01 bit
-unfoldable pub kindOf : ℕ → Kind
-kindOf b = cond (eqb b 0x01) kind.Bit kind.Word
-
 abbrev pub sameKind : Kind → Kind → Bool
 sameKind kind.Word kind.Word = true
 sameKind kind.Word kind.Bit = false
@@ -98,6 +94,10 @@ codeOf b =
 abbrev pub startCode : Kind → ℕ
 startCode kind.Word = 0x00
 startCode kind.Bit = 0x01
+
+-- and back: the kind that such a code names
+unfoldable pub startKind : ℕ → Kind
+startKind b = cond (eqb b 0x01) kind.Bit kind.Word
 
 -- "Cost of a circuit: operations as above, choice 3"
 abbrev pub choiceCost : ℕ

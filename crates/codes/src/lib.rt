@@ -4,7 +4,7 @@ ghost use mathlib.Core.Bool.{_&&_, _||_};
 ghost use Prim.Native.Nat.{_≤_};
 ghost use lib.Dec.{eqb};
 ghost use Rattle.codes.specs.Results.{bitOf, resultOf};
-ghost use Rattle.codes.specs.Codes.{kindOf, sameKind, plain, entryOf, commutes, operationOf, byteOf, codeOf};
+ghost use Rattle.codes.specs.Codes.{startKind, sameKind, plain, entryOf, commutes, operationOf, byteOf, codeOf};
 
 // What a figure is: a word of 32 bits or a bit.
 pub enum Kind {
@@ -49,9 +49,9 @@ pub struct Code {
     pub cost: u8,
 }
 
-// The kind that a kind byte names.
-pub fn kind_of(b: u8) -> Kind
-    ensures { λ r. ⌜ r ≡ kindOf b ⌝ }
+// The kind that the code of an input names, in a circuit file.
+pub fn start_kind(b: u8) -> Kind
+    ensures { λ r. ⌜ r ≡ startKind b ⌝ }
 {
     if b == 1 { Kind::Bit } else { Kind::Word }
 }

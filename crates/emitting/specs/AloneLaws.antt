@@ -8,7 +8,7 @@ use lib.ListN.{length, take}
 use Rattle.words.specs.Lists.{_∈_}
 use Rattle.words.specs.TestLaws.{same?}
 use Rattle.words.specs.Numbers.{bytesOf}
-use Rattle.codes.specs.Codes.{kindOf, entryOf, operationOf, codeOf, startCode}
+use Rattle.codes.specs.Codes.{startKind, entryOf, operationOf, codeOf, startCode}
 use Rattle.codes.specs.CodeLaws.{kind-bit, kind-word, code-operation, one-or-two, byte-back}
 use Rattle.codes.specs.declared.Code.{Code}
 use Rattle.gates.specs.Gates.{start, bit, arguments}
@@ -96,7 +96,7 @@ module _ (quads : List ℕ) (g : ℕ) where
     pub start-bytes : codeAt quads g ≤ 1 → recordBytes (aloneIn quads wire g) ≡ codeAt quads g ∷ firstAt quads g ∷ []
     start-bytes h = rw (start-in quads g (omega (arith, h))) (ap (λ (b : ℕ). b ∷ firstAt quads g ∷ []) (go (same? (codeAt quads g) 1)))
       where
-        go : (codeAt quads g ≡ 1) ⊎ (codeAt quads g ≡ 1 → ⊥) → startCode (kindOf (codeAt quads g)) ≡ codeAt quads g
+        go : (codeAt quads g ≡ 1) ⊎ (codeAt quads g ≡ 1 → ⊥) → startCode (startKind (codeAt quads g)) ≡ codeAt quads g
         go (inl e) = rw (kind-bit (codeAt quads g) e) (sym e)
         go (inr n) = rw (kind-word (codeAt quads g) n) (omega (arith, h, n))
 
@@ -133,7 +133,7 @@ module _ (quads : List ℕ) (g : ℕ) where
     bit-long e = rw (bit-in quads g e) (bit-size (firstAt quads g))
 
     pub start-long : codeAt quads g ≤ 1 → length (recordBytes (aloneIn quads wire g)) ≡ 2
-    start-long h = rw (start-in quads g (omega (arith, h))) (input-size (kindOf (codeAt quads g)) (firstAt quads g))
+    start-long h = rw (start-in quads g (omega (arith, h))) (input-size (startKind (codeAt quads g)) (firstAt quads g))
 
     pub unary-long : Applies (codeAt quads g) → codeOf (codeAt quads g) .arity ≡ 1 → length (recordBytes (aloneIn quads wire g)) ≡ 3
     unary-long h e = rw (unary-bytes h e) (ap suc (wires-size (wire (firstAt quads g) ∷ [])))

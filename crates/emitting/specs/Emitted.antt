@@ -3,7 +3,7 @@ use Prim.Native.Nat.{ℕ, _≤_, _<_}
 use mathlib.Core.List.{List, map}
 use lib.ListN.{getD}
 use Rattle.words.specs.Lists.{_∈_}
-use Rattle.codes.specs.Codes.{kindOf}
+use Rattle.codes.specs.Codes.{startKind}
 use Rattle.gates.specs.Gates.{Gate, arguments}
 use Rattle.gates.specs.Gates as gate
 use Rattle.gates.specs.Limits.{mostGates}
@@ -16,7 +16,7 @@ wireIn group wires a = getD wires (getD group a 0) 0
 
 -- a gate alone, by its code: of a starting value 00 says a word, 01 a bit
 abbrev pub aloneOf : ℕ → (ℕ → ℕ) → Gate → Record
-aloneOf code wire (gate.start x) = input (kindOf code) x
+aloneOf code wire (gate.start x) = input (startKind code) x
 aloneOf code wire (gate.word n) = word n
 aloneOf code wire (gate.bit b) = bit b
 aloneOf code wire (gate.operation op l) = operation op (map wire l)

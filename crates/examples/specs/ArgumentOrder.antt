@@ -8,11 +8,11 @@ use Rattle.words.specs.Numbers.{number, bytesOf}
 use Rattle.settings.specs.Sets.{collect, restsOn, rests}
 use Rattle.settings.specs.Numbers.{numbers}
 use Rattle.settings.specs.Guards.{spread, tableOver, table}
-use Rattle.codes.specs.Codes.{kindOf, operationOf, codeOf}
+use Rattle.codes.specs.Codes.{operationOf, codeOf}
 use Rattle.codes.specs.declared.Operation.the-variants.{Sum}
 use Rattle.answers.specs.Answers.{success}
 use Rattle.answers.specs.Parsing.{readMark}
-use Rattle.reading.specs.Header.{readCount, readKinds, readHeader}
+use Rattle.reading.specs.Header.{kindOf, readCount, readKinds, readHeader}
 use Rattle.reading.specs.Expressions.{readVariable, readWord, readBit, operationWith, exprWith, readExpr}
 use Rattle.reading.specs.Blocks.{readAssign, branchWith, statementWith, blockWith, blockFuel, readBlock}
 use Rattle.reading.specs.Rule.{readRule}

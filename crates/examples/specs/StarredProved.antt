@@ -4,12 +4,12 @@ use Rattle.words.specs.Numbers.{number, bytesOf}
 use Rattle.words.specs.Buffers.{over}
 use Rattle.settings.specs.Sets.{collect, restsOn, rests}
 use Rattle.settings.specs.Numbers.{numbers}
-use Rattle.codes.specs.Codes.{kindOf, operationOf, codeOf}
+use Rattle.codes.specs.Codes.{operationOf, codeOf}
 use Rattle.codes.specs.Results.{resultOf}
 use Rattle.codes.specs.Inputs.{someAbove, inputsRow}
 use Rattle.answers.specs.declared.Answer.{Answer}
 use Rattle.answers.specs.Parsing.{readMark}
-use Rattle.reading.specs.Header.{readCount, readKinds, readHeader}
+use Rattle.reading.specs.Header.{kindOf, readCount, readKinds, readHeader}
 use Rattle.reading.specs.Expressions.{readVariable, readWord, readBit, operationWith, exprWith, readExpr}
 use Rattle.reading.specs.Blocks.{readAssign, branchWith, statementWith, blockWith, blockFuel, readBlock}
 use Rattle.reading.specs.Rule.{readRule}

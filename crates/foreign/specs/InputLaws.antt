@@ -4,7 +4,7 @@ use mathlib.Core.Path.{_≡_, refl, sym, ap, subst, _∙_}
 use mathlib.Core.List.{List}
 use native.Mathlib.Omega.{arith}
 use lib.ListN.{length, getD}
-use Rattle.codes.specs.Codes.{kindOf, startCode}
+use Rattle.codes.specs.Codes.{startKind, startCode}
 use Rattle.codes.specs.CodeLaws.{start-kind}
 use Rattle.codes.specs.declared.Kind.{Kind}
 use Rattle.codes.specs.declared.Kind.the-variants as kind
@@ -71,11 +71,11 @@ module _ (f : List ℕ) (p : Passed f) where
       omega (arith, w, size x l, at)
 
   -- the first of them says the variable's kind
-  pub input-kind : (x : ℕ) → x < fileVariables f → wireKind (fileRecords f) x ≡ kindOf (getD f (8 + 2 * x) 0)
+  pub input-kind : (x : ℕ) → x < fileVariables f → wireKind (fileRecords f) x ≡ startKind (getD f (8 + 2 * x) 0)
   input-kind x l =
       let (k, e) = here x l in
       kinds-right (fileRecords f) (p .stand .earlier) x (p .stand .first x l .0)
       ∙ ap (recordKind (wireKind (fileRecords f))) (record-of f x (below x l) ∙ e)
       ∙ sym (start-kind k)
-      ∙ ap kindOf (sym (input-code f (recordPlace f x) (p .layout .whole x (below x l)) k x e))
-      ∙ ap (λ (n : ℕ). kindOf (getD f n 0)) (input-place x (omega arith))
+      ∙ ap startKind (sym (input-code f (recordPlace f x) (p .layout .whole x (below x l)) k x e))
+      ∙ ap (λ (n : ℕ). startKind (getD f n 0)) (input-place x (omega arith))

@@ -6,7 +6,7 @@ use mathlib.Core.Bool.{Bool, true, false}
 use native.Mathlib.Omega.{arith}
 use lib.ListN.{length, getD}
 use Rattle.words.specs.Lists.{from, upto}
-use Rattle.codes.specs.Codes.{kindOf, sameKind}
+use Rattle.codes.specs.Codes.{startKind, sameKind}
 use Rattle.codes.specs.declared.Kind.{Kind}
 use Rattle.codes.specs.declared.Kind.the-variants as kind
 use Rattle.codes.specs.Inputs.{someAbove, inputsRow}
@@ -43,16 +43,16 @@ module _ (f inputs : List ℕ) (v x : ℕ) (p : AmidInputs f inputs v x) where
     pub input-byte : 8 + 2 * x < length f
     input-byte = input-inside f (p .passed) x (omega (arith, p .count))
 
-    here : (b : Bool) → b ≡ sameKind (kindOf (getD f (8 + 2 * x) 0)) kind.Bit → sameKind (k x) kind.Bit ≡ b
+    here : (b : Bool) → b ≡ sameKind (startKind (getD f (8 + 2 * x) 0)) kind.Bit → sameKind (k x) kind.Bit ≡ b
     here b e = ap (λ (j : Kind). sameKind j kind.Bit) (input-kind f (p .passed) x (omega (arith, p .count))) ∙ sym e
 
-    pub input-refused : length inputs ≡ v → 1 < getD inputs x 0 → (b : Bool) → b ≡ sameKind (kindOf (getD f (8 + 2 * x) 0)) kind.Bit → b ≡ true
+    pub input-refused : length inputs ≡ v → 1 < getD inputs x 0 → (b : Bool) → b ≡ sameKind (startKind (getD f (8 + 2 * x) 0)) kind.Bit → b ≡ true
         → (room : ℕ) → 41 ≡ fileInputsRow f inputs room
     input-refused n a b e t room =
         sym (row-bit (fileVariables f) k inputs room (n ∙ p .count)
         (ap (λ (m : ℕ). someAbove k inputs (upto m)) (sym (p .count)) ∙ p .same ∙ above-here v k inputs x h a (here b e ∙ t)))
 
-    pub input-word : 1 < getD inputs x 0 → (b : Bool) → b ≡ sameKind (kindOf (getD f (8 + 2 * x) 0)) kind.Bit → b ≡ false → AmidInputs f inputs v (x + 1)
+    pub input-word : 1 < getD inputs x 0 → (b : Bool) → b ≡ sameKind (startKind (getD f (8 + 2 * x) 0)) kind.Bit → b ≡ false → AmidInputs f inputs v (x + 1)
     input-word a b e t = record { passed = p .passed; count = p .count; few = omega arith; same = p .same ∙ above-word v k inputs x h a (here b e ∙ t) }
 
     pub input-low : getD inputs x 0 ≤ 1 → AmidInputs f inputs v (x + 1)

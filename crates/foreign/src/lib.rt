@@ -114,7 +114,7 @@ fn inputs_refusal(file: &[u8], inputs: &[u32], room: usize) -> u8
     let mut x: usize = 0;
     while x < v {
         if 1 < inputs[x] {
-            if codes::same_kind(codes::kind_of(file[8 + 2 * x]), Kind::Bit) {
+            if codes::same_kind(codes::start_kind(file[8 + 2 * x]), Kind::Bit) {
                 return 41;
             }
         }

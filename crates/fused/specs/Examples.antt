@@ -1,10 +1,10 @@
 -- Examples of document 01, "Examples": 3, R1 with P1, whole, computed from the definitions.
 use mathlib.Core.Path.{_≡_, refl}
 use Rattle.words.specs.Numbers.{number, bytesOf}
-use Rattle.codes.specs.Codes.{kindOf, operationOf, codeOf}
+use Rattle.codes.specs.Codes.{operationOf, codeOf}
 use Rattle.answers.specs.Answers.{success, refusal}
 use Rattle.answers.specs.Parsing.{readMark}
-use Rattle.reading.specs.Header.{readCount, readKinds, readHeader}
+use Rattle.reading.specs.Header.{kindOf, readCount, readKinds, readHeader}
 use Rattle.reading.specs.Expressions.{readVariable, readWord, readBit, operationWith, exprWith, readExpr}
 use Rattle.reading.specs.Blocks.{readAssign, branchWith, statementWith, blockWith, blockFuel, readBlock}
 use Rattle.reading.specs.Rule.{readRule}

@@ -9,12 +9,11 @@ use lib.Seq.{getD-take}
 use Rattle.words.specs.Lists.{upto}
 use Rattle.words.specs.ListLaws.{keep-same}
 use Rattle.answers.specs.Parsing.{Parsed, parsed, refused, IsRead}
-use Rattle.reading.specs.Header.{variables, kindAt}
+use Rattle.reading.specs.Header.{kindOf, variables, kindAt}
 use Rattle.reading.specs.Tree.{Expr, Statement, Block}
 use Rattle.reading.specs.Rule.{readRule}
 use Rattle.reading.specs.OrderLaws.{both-read}
 use Rattle.reading.specs.OnlyOrder.{ExprUpToOrder, same, turned, inOne, inTwo, StatementUpToOrder, assign, skip, branch, BlockUpToOrder, end, then, ReadUpToOrder, OnlyOrder}
-use Rattle.codes.specs.Codes.{kindOf}
 use Rattle.gates.specs.Gates.{Gates}
 use Rattle.gates.specs.PlainCircuit.{Making, add, makeExpr, assignsIn, assigns, assignedIn, asBefore, makeStatement, makeBlock, conditionMade, firstMade, starts, plainOf, plainRead, plainCircuit}
 use Rattle.gates.specs.ApplyLaws.{apply-commutes}

@@ -7,11 +7,10 @@ use mathlib.Core.List.{List, [], _∷_, _++_, append-nil}
 use borrow.Author.Tests.{lt-ltb, le-leb}
 use lib.ListN.{length, getD, drop, length-append, List·getD-append}
 use lib.Seq.{drop-append-seam, getD-append-add}
-use Rattle.codes.specs.Codes.{kindOf}
 use Rattle.codes.specs.declared.Kind.{Kind}
 use Rattle.answers.specs.Parsing.{parsed, readMark}
 use Rattle.reading.specs.Limits.{lastKind, nested}
-use Rattle.reading.specs.Header.{mark, kindAt, readCount, readKinds, readHeader}
+use Rattle.reading.specs.Header.{kindOf, mark, kindAt, readCount, readKinds, readHeader}
 use Rattle.reading.specs.Tree.{Expr, Block}
 use Rattle.reading.specs.Blocks.{readBlock}
 use Rattle.reading.specs.Rule.{readRule}

@@ -4,12 +4,12 @@ use mathlib.Core.Path.{_≡_, refl}
 use mathlib.Core.List.{List, [], _∷_, _++_, map}
 use lib.ListN.{set, take, drop}
 use Rattle.words.specs.Numbers.{number}
-use Rattle.codes.specs.Codes.{kindOf, operationOf, codeOf}
+use Rattle.codes.specs.Codes.{operationOf, codeOf}
 use Rattle.codes.specs.declared.Operation.the-variants.{Product}
 use Rattle.answers.specs.Parsing.{parsed, stepOf, readMark}
 use Rattle.answers.specs.Answers.{success, refusal, answerOf}
 use Rattle.answers.specs.declared.Answer.{Answer}
-use Rattle.reading.specs.Header.{readCount, readKinds, readHeader}
+use Rattle.reading.specs.Header.{kindOf, readCount, readKinds, readHeader}
 use Rattle.reading.specs.Tree.{variable, two, assign, branch, Block, end, then}
 use Rattle.reading.specs.Expressions.{readVariable, readWord, readBit, operationWith, exprWith, readExpr}
 use Rattle.reading.specs.Blocks.{readAssign, branchWith, statementWith, blockWith, blockFuel, readBlock}

@@ -3,10 +3,10 @@ use Prim.Native.Nat.{ℕ, suc, _≤_, _<_, max}
 use mathlib.Core.List.{List, [], _∷_, _++_}
 use lib.ListN.{length, getD, take, drop}
 use Rattle.words.specs.Numbers.{bytesOf}
-use Rattle.codes.specs.Codes.{kindOf, byteOf}
+use Rattle.codes.specs.Codes.{byteOf}
 use Rattle.codes.specs.declared.Kind.{Kind}
 use Rattle.reading.specs.Limits.{mostBytes, mostVariables, lastKind, deepest, nested}
-use Rattle.reading.specs.Header.{mark, variables}
+use Rattle.reading.specs.Header.{kindOf, mark, variables}
 use Rattle.reading.specs.Tree.{Expr, variable, word, bit, one, two, Statement, assign, skip, branch, Block, end, then}
 use Rattle.reading.specs.Kinds.{EachExpr, TypedBlock, WordsBlock}
 

@@ -9,12 +9,11 @@ use lib.ListN.{length, getD, drop, length-drop, take-append-drop, drop-of-length
 use lib.Seq.{drop-drop, getD-take, getD-drop, length-take-le}
 use Rattle.words.specs.Numbers.{Bytes}
 use Rattle.words.specs.ListLaws.{drop-one}
-use Rattle.codes.specs.Codes.{kindOf}
 use Rattle.codes.specs.declared.Kind.{Kind}
 use Rattle.answers.specs.Parsing.{Parsed, parsed, refused, _>>=_}
 use Rattle.answers.specs.ParsingLaws.{Finds, found, none, finds-read, finds-unless, read-is}
 use Rattle.reading.specs.Limits.{leastBytes, mostBytes, nested}
-use Rattle.reading.specs.Header.{mark, variables, kindAt, readHeader}
+use Rattle.reading.specs.Header.{kindOf, mark, variables, kindAt, readHeader}
 use Rattle.reading.specs.Tree.{Expr, Block}
 use Rattle.reading.specs.Blocks.{readBlock}
 use Rattle.reading.specs.Rule.{nothingAfter, readRule}

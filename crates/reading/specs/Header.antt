@@ -2,15 +2,20 @@
 use Prim.Native.Nat.{ℕ, zero, suc, _+_, _≤_}
 use mathlib.Core.List.{List, [], _∷_}
 use lib.ListN.{length, getD}
-use lib.Dec.{ltb, leb}
-use Rattle.codes.specs.Codes.{kindOf}
+use mathlib.Core.Bool.{cond}
+use lib.Dec.{eqb, ltb, leb}
 use Rattle.codes.specs.declared.Kind.{Kind}
+use Rattle.codes.specs.declared.Kind.the-variants as kind
 use Rattle.answers.specs.Parsing.{Parsed, parsed, unless, _>>=_, readMark}
 use Rattle.reading.specs.Limits.{mostVariables, lastKind}
 
 -- "RUL" and the version
 abbrev pub mark : List ℕ
 mark = 0x52 ∷ 0x55 ∷ 0x4C ∷ 0x00 ∷ 0x01 ∷ []
+
+-- what a kind byte says: told here, and asked by every layer above
+unfoldable pub kindOf : ℕ → Kind
+kindOf b = cond (eqb b 0x01) kind.Bit kind.Word
 
 -- V, and the kind of variable x, as the file gives them
 abbrev pub variables : List ℕ → ℕ

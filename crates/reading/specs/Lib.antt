@@ -1,5 +1,6 @@
 pub mod Limits
 pub mod Header
+pub mod HeaderLaws
 pub mod Tree
 pub mod Expressions
 pub mod Blocks

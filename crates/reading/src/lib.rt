@@ -33,7 +33,8 @@ pub fn kind_at(s: &[u8], x: u8) -> Kind
     requires { ⌜ 6 + x < length (now s) ⌝ }
     ensures { λ r. ⌜ r ≡ kindAt (now (s .entry)) x ⌝ }
 {
-    codes::kind_of(s[6 + x as usize])
+    let b = s[6 + x as usize];
+    if b == 1 { Kind::Bit } else { Kind::Word }
 }
 
 // 10 variable, its code at `at`.

@@ -1,7 +1,7 @@
 use mathlib.Core.Path.{sym}
 use Rattle.codes.specs.CodeLaws.{kind-bit, kind-word}
-use Rattle.codes.proofs.kind_of.Statement.{statement}
-use Rattle.codes.proofs.kind_of.Tie as tie
+use Rattle.codes.proofs.start_kind.Statement.{statement}
+use Rattle.codes.proofs.start_kind.Tie as tie
 
 returns : tie.Need-returns
 returns c = sym (kind-bit _ (c .if1 .taken))
@@ -9,5 +9,5 @@ returns c = sym (kind-bit _ (c .if1 .taken))
 returns-2 : tie.Need-returns-2
 returns-2 c = sym (kind-word _ (c .if1 .left))
 
-pub kind-of-spec : {M : Type 1} → statement M
-kind-of-spec = tie.close (tie.spec returns returns-2)
+pub start-kind-spec : {M : Type 1} → statement M
+start-kind-spec = tie.close (tie.spec returns returns-2)
