@@ -2,8 +2,11 @@
 use answers::Answer;
 ghost use mathlib.Core.Path.{_≡_};
 ghost use Prim.Native.Nat.{_≤_};
-ghost use lib.ListN.{replicate};
+ghost use lib.ListN.{take, replicate};
+ghost use Rattle.reading.specs.Limits.{mostVariables};
+ghost use Rattle.reading.specs.Header.{variables, HasKinds};
 ghost use Rattle.gates.specs.Gates.{Earlier};
+ghost use Rattle.needed.specs.Needed.{wantedAmong};
 ghost use Rattle.needed.specs.Held.{gatesIn};
 ghost use Rattle.needed.specs.Ranks.{Marked};
 ghost use Rattle.circuit.specs.Whole.{ruleAnswer};
@@ -54,6 +57,24 @@ pub fn read_rule(rule: &[u8]) -> Answer
     whole(rule.len(), &quads, count, &mut ranks)
 }
 
+// The gates that are wanted from the start, out of every variable's last gate: those of the result variables, at the start of `wanted`. Gives how many they are.
+fn list_wanted(rule: &[u8], outputs: &[u16; 32], wanted: &mut [u16; 32]) -> usize
+    requires { ⌜ HasKinds (now rule) × (variables (now rule) ≤ mostVariables) ⌝ }
+    ensures { λ r. ⌜ (r ≤ mostVariables) × (take r (now (wanted .exit)) ≡ wantedAmong (now (rule .entry)) (now (outputs .entry))) ⌝ }
+{
+    let v = rule[5];
+    let mut k: usize = 0;
+    let mut x: u8 = 0;
+    while x < v {
+        if !reading::working_at(rule, x) {
+            wanted[k] = outputs[x as usize];
+            k = k + 1;
+        }
+        x = x + 1;
+    }
+    k
+}
+
 // Builds the plain circuit of a rule into arrays that are lent clear: four numbers a gate, each gate's precondition, every variable's last gate,
 // and each condition's gate; zeros after them. A refused rule leaves them clear.
 pub fn build(
@@ -83,9 +104,10 @@ pub fn build(
         return answer;
     }
     let n = count as usize;
-    let v = rule[5] as usize;
     needed::number_marked(n, &mut ranks);
-    passing::find_needed(quads, n, &ranks, outputs, v, needs);
+    let mut wanted = [0u16; 32];
+    let k = list_wanted(rule, outputs, &mut wanted);
+    passing::find_needed(quads, n, &ranks, &wanted[0..k], needs);
     needed::condition_gates(&ranks, n, conditions);
     answer
 }

@@ -1,4 +1,4 @@
--- Document 01, "The rule file": "The run gives every variable's figure at its end. A refused rule or refused inputs have no run."
+-- Document 01, "The rule file": "The run gives every variable's figure at its end. A refused rule or refused inputs have no run." Document 02, C-13: for a working variable it writes 0.
 -- What a direct run answers and writes, given how its rule was answered.
 use mathlib.Core.Bool.{cond}
 use Prim.Native.Nat.{ℕ}
@@ -8,7 +8,7 @@ use lib.Dec.{eqb}
 use Rattle.words.specs.Buffers.{over}
 use Rattle.answers.specs.Answers.{thenRow}
 use Rattle.answers.specs.declared.Answer.{Answer}
-use Rattle.gates.specs.Running.{runRule}
+use Rattle.gates.specs.Running.{runWrites}
 use Rattle.direct.specs.Inputs.{inputRow}
 
 -- rule before inputs
@@ -18,4 +18,4 @@ runAnswer rule s inputs room = thenRow rule (inputRow s inputs room)
 -- the result places after it: a refusal writes to none, success the first V and nothing after
 unfoldable pub runResults : Answer → List ℕ → List ℕ → List ℕ → List ℕ
 runResults rule s inputs results =
-    cond (eqb (runAnswer rule s inputs (length results) .number) 0) (over (runRule s inputs) results) results
+    cond (eqb (runAnswer rule s inputs (length results) .number) 0) (over (runWrites s inputs) results) results

@@ -1,32 +1,54 @@
-// Runs a rule directly on its inputs: rows 40 to 42, and every variable's figure at its end.
+// Runs a rule directly on its inputs: rows 40 to 42, and every result variable's figure at its end.
 use answers::Answer;
 use codes::Kind;
 ghost use mathlib.Core.Path.{_≡_};
 ghost use Prim.Native.Nat.{_≤_};
-ghost use lib.ListN.{length};
+ghost use mathlib.Core.List.{map};
+ghost use lib.ListN.{length, getD};
+ghost use Rattle.words.specs.Lists.{upto};
 ghost use Rattle.words.specs.Buffers.{over};
 ghost use Rattle.answers.specs.Parsing.{IsRead};
+ghost use Rattle.reading.specs.Limits.{mostVariables};
 ghost use Rattle.reading.specs.Header.{variables, HasKinds};
 ghost use Rattle.reading.specs.Rule.{readRule};
-ghost use Rattle.gates.specs.Running.{runRule};
+ghost use Rattle.gates.specs.Running.{writtenFor, runWrites};
 ghost use Rattle.circuit.specs.Whole.{ruleAnswer};
 ghost use Rattle.direct.specs.Inputs.{inputRow};
 ghost use Rattle.direct.specs.Direct.{runAnswer, runResults};
 
-// The run of an accepted rule on V inputs: every variable's figure at its end into the first V results.
+// What a run writes of the figures at its end, into the first V results: 0 for a working variable.
+fn write_results(rule: &[u8], figures: &[u32; 32], results: &mut [u32])
+    requires { ⌜ HasKinds (now rule) × (variables (now rule) ≤ mostVariables) × (variables (now rule) ≤ length (now results)) ⌝ }
+    ensures { λ _. ⌜ now (results .exit) ≡ over (map (λ x. writtenFor (now (rule .entry)) x (getD (now (figures .entry)) x 0)) (upto (variables (now (rule .entry))))) (now (results .entry)) ⌝ }
+{
+    let v = rule[5];
+    let mut x: u8 = 0;
+    while x < v {
+        let i = words::wide8(x);
+        let figure = if reading::working_at(rule, x) {
+            0
+        } else {
+            figures[i]
+        };
+        results[i] = figure;
+        x = x + 1;
+    }
+}
+
+// The run of an accepted rule on V inputs, its working figures kept to its end, and what it writes into the first V results.
 fn run_checked(rule: &[u8], inputs: &[u32], results: &mut [u32])
     requires { ⌜
         IsRead (readRule (now rule))
         × (length (now inputs) ≡ variables (now rule))
         × (variables (now rule) ≤ length (now results))
         ⌝ }
-    ensures { λ _. ⌜ now (results .exit) ≡ over (runRule (now (rule .entry)) (now (inputs .entry))) (now (results .entry)) ⌝ }
+    ensures { λ _. ⌜ now (results .exit) ≡ over (runWrites (now (rule .entry)) (now (inputs .entry))) (now (results .entry)) ⌝ }
 {
     let v = rule[5] as usize;
     let mut figures = [0u32; 32];
     words::copy32(inputs, &mut figures);
     walking::run_block(rule, 6 + v, reading::NESTED, &mut figures);
-    words::copy32(&figures[0..v], results);
+    write_results(rule, &figures, results);
 }
 
 // Rows 40 to 42 of the inputs, the lowest first; 0 when none of them applies. `room` is how many results there is place for.
@@ -53,7 +75,7 @@ pub fn inputs_refusal(rule: &[u8], inputs: &[u32], room: usize) -> u8
     0
 }
 
-// A direct run of a rule on its inputs: the answer, and every variable's figure at its end in the first V results. A refusal writes nothing.
+// A direct run of a rule on its inputs: the answer, and in the first V results every variable's figure at its end, 0 for a working one. A refusal writes nothing.
 pub fn run(rule: &[u8], inputs: &[u32], results: &mut [u32]) -> Answer
     ensures answer { λ r. ⌜ r ≡ runAnswer (ruleAnswer (now (rule .entry))) (now (rule .entry)) (now (inputs .entry)) (length (now (results .entry))) ⌝ }
     ensures results { λ _. ⌜ now (results .exit) ≡ runResults (ruleAnswer (now (rule .entry))) (now (rule .entry)) (now (inputs .entry)) (now (results .entry)) ⌝ }

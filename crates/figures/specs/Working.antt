@@ -2,14 +2,17 @@
 -- which wires are bits: document 02, C-11, asks for it where a pick is summed.
 use Prim.Native.Nat.{ℕ, _%_, _≤_, _<_}
 use mathlib.Core.Path.{_≡_}
-use mathlib.Core.Bool.{Bool}
+use mathlib.Core.Bool.{Bool, cond}
+use mathlib.Core.Logic.{_⊎_}
 use mathlib.Core.List.{List, []}
+use lib.Dec.{eqb}
 use lib.ListN.{length, getD}
 use Rattle.words.specs.Lists.{Inside}
 use Rattle.words.specs.Buffers.{over}
 use Rattle.words.specs.Runs.{run}
 use Rattle.codes.specs.declared.Kind.{Kind}
 use Rattle.records.specs.Records.{Pair, input, reads, recordFigure}
+use Rattle.records.specs.CircuitFile.{noWire}
 use Rattle.records.specs.WireKinds.{wireKind}
 use Rattle.records.specs.WireFigures.{figuresIn, sumFigure, pickSum}
 use Rattle.records.specs.FileFigures.{recordAt, recordsFrom, firstRecord, fileVariables, wireCount, fileRecords}
@@ -22,6 +25,14 @@ use Rattle.parts.specs.TableLaws.{HoldsKinds}
 -- the figure that an array holds for a wire
 abbrev pub held : List ℕ → ℕ → ℕ
 held figures w = getD figures w 0
+
+-- an output that can be given: no wire, or one that the array holds
+abbrev pub Output : ℕ → Type 0
+Output w = (w ≡ noWire) ⊎ (w < mostWires)
+
+-- what a run writes for an output, by the figures that an array holds
+abbrev pub outputHeld : List ℕ → ℕ → ℕ
+outputHeld figures w = cond (eqb w noWire) 0 (held figures w)
 
 -- what a pick gives that is told whether its values are bits
 abbrev pub pickBy : Bool → (ℕ → ℕ) → List Pair → ℕ

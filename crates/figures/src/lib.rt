@@ -5,7 +5,7 @@ use records::WireId;
 ghost use mathlib.Core.Path.{_≡_};
 ghost use mathlib.Core.Bool.{cond};
 ghost use mathlib.Core.List.{map, [], _∷_};
-ghost use Prim.Native.Nat.{_+_, _*_, _<_, _≤_};
+ghost use Prim.Native.Nat.{ℕ, _+_, _*_, _<_, _≤_};
 ghost use lib.ListN.{length, getD};
 ghost use Rattle.words.specs.Numbers.{numberAt};
 ghost use Rattle.words.specs.Buffers.{over};
@@ -18,7 +18,7 @@ ghost use Rattle.records.specs.FileFigures.{wiresAt, pairsAt, recordAt, fileVar
 ghost use Rattle.records.specs.Limits.{mostWires, mostGuardWires};
 ghost use Rattle.records.specs.LaidOut.{recordPlace};
 ghost use Rattle.records.specs.CircuitRows.{circuitRow};
-ghost use Rattle.figures.specs.Working.{held, pickBy, Workable, figuresOf};
+ghost use Rattle.figures.specs.Working.{held, outputHeld, Output, pickBy, Workable, figuresOf};
 
 // The figure of a wire that is worked out.
 fn figure_of(figures: &[u32; 640], w: WireId) -> u32
@@ -169,26 +169,38 @@ fn work_out(file: &[u8], inputs: &[u32], figures: &mut [u32; 640]) -> usize
     at
 }
 
-// The figure of every variable's output wire; the output wires stand from `at` on.
+// What a run writes for the output that stands at a place: the figure of its wire, 0 where it is no wire.
+fn output_figure(file: &[u8], at: usize, figures: &[u32; 640]) -> u32
+    requires { ⌜ (at + 2 ≤ length (now file)) × Output (numberAt 2 (now file) at) ⌝ }
+    ensures { λ r. ⌜ r ≡ outputHeld (now (figures .entry)) (numberAt 2 (now (file .entry)) at) ⌝ }
+{
+    let w = parts::wire_at(file, at);
+    if w.0 == records::NO_WIRE {
+        return 0;
+    }
+    figure_of(figures, w)
+}
+
+// What a run writes for every variable; the outputs stand from `at` on.
 fn give_outputs(file: &[u8], at: usize, figures: &[u32; 640], results: &mut [u32])
     requires { ⌜
         (8 ≤ length (now file))
         × (at + 2 * fileVariables (now file) ≤ length (now file))
-        × Inside mostWires (wiresAt (fileVariables (now file)) (now file) at)
+        × ((x : ℕ) → x < fileVariables (now file) → Output (numberAt 2 (now file) (at + 2 * x)))
         × (fileVariables (now file) ≤ length (now results))
         ⌝ }
-    ensures { λ _. ⌜ now (results .exit) ≡ over (map (held (now (figures .entry))) (wiresAt (fileVariables (now (file .entry))) (now (file .entry)) at)) (now (results .entry)) ⌝ }
+    ensures { λ _. ⌜ now (results .exit) ≡ over (map (outputHeld (now (figures .entry))) (wiresAt (fileVariables (now (file .entry))) (now (file .entry)) at)) (now (results .entry)) ⌝ }
 {
     let v = words::wide8(file[5]);
     let mut x: usize = 0;
     while x < v {
-        let figure = figure_at(file, at + 2 * x, figures);
+        let figure = output_figure(file, at + 2 * x, figures);
         results[x] = figure;
         x = x + 1;
     }
 }
 
-// Of a file that passes rows 60 to 62: every variable's figure into the first results, from the inputs; nothing after them is touched.
+// Of a file that passes rows 60 to 62: what a run writes for every variable into the first results, from the inputs; nothing after them is touched.
 pub fn run_file(file: &[u8], inputs: &[u32], results: &mut [u32])
     requires { ⌜
         (circuitRow (now file) ≡ 0)

@@ -4,9 +4,11 @@ use mathlib.Core.Path.{_≡_}
 use mathlib.Core.List.{List, map}
 use mathlib.Core.Bool.{cond}
 use lib.Dec.{eqb}
-use lib.ListN.{length, getD, take}
+use lib.ListN.{length, getD}
+use Rattle.words.specs.Lists.{upto}
 use Rattle.records.specs.Records.{recordsCost}
-use Rattle.records.specs.CircuitFile.{recordsBytes, fileBytes}
+use Rattle.records.specs.CircuitFile.{recordsBytes, fileBytes, noWire}
+use Rattle.reading.specs.Header.{variables, workingAt}
 use Rattle.emitting.specs.Emitted.{wireIn, Grouped, Coded, Writable}
 use Rattle.joining.specs.Joined.{Joinable, JoinWritable}
 use Rattle.filing.specs.Staged.{stage, Turnable}
@@ -45,8 +47,12 @@ pub record OutputsPlaced (outputs : List ℕ) (v : ℕ) (group : List ℕ) : Typ
   pub few : v ≤ 32
   pub placed : (x : ℕ) → x < v → Grouped group (getD outputs x 0)
 
--- the file of v variables: outputs: the gate that gives each variable's result
-abbrev pub fileIn : List ℕ → List ℕ → ℕ → List ℕ → List ℕ → List ℕ → List ℕ → ℕ → ℕ → List ℕ → List ℕ
-fileIn p quads count needs group places ord groups v outputs =
-    fileBytes v (stage p quads count needs group places ord groups .records)
-    (map (wireIn group (stage p quads count needs group places ord groups .wires)) (take v outputs))
+-- the output of variable x of the rule s: the wire of its last gate, no wire for a working one
+abbrev pub outputIn : List ℕ → List ℕ → List ℕ → List ℕ → ℕ → ℕ
+outputIn s outputs group wires x = cond (workingAt s x) noWire (wireIn group wires (getD outputs x 0))
+
+-- the file of the rule s: outputs: every variable's last gate
+abbrev pub fileIn : List ℕ → List ℕ → List ℕ → ℕ → List ℕ → List ℕ → List ℕ → List ℕ → ℕ → List ℕ → List ℕ
+fileIn s p quads count needs group places ord groups outputs =
+    fileBytes (variables s) (stage p quads count needs group places ord groups .records)
+    (map (outputIn s outputs group (stage p quads count needs group places ord groups .wires)) (upto (variables s)))

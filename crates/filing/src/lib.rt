@@ -5,17 +5,19 @@ use measuring::Size;
 use records::WireId;
 ghost use mathlib.Core.Path.{_≡_};
 ghost use mathlib.Core.List.{List, _∷_, _++_, map};
-ghost use Prim.Native.Nat.{ℕ, _*_, _≤_, _<_};
-ghost use lib.ListN.{length, take, replicate};
+ghost use Prim.Native.Nat.{ℕ, _+_, _*_, _≤_, _<_};
+ghost use lib.ListN.{length, getD, replicate};
+ghost use Rattle.words.specs.Lists.{upto};
 ghost use Rattle.words.specs.Numbers.{bytesOf};
 ghost use Rattle.words.specs.Buffers.{over};
 ghost use Rattle.gates.specs.Limits.{mostGates};
 ghost use Rattle.records.specs.CircuitFile.{mark, wiresBytes, recordsBytes};
-ghost use Rattle.emitting.specs.Emitted.{wireIn};
+ghost use Rattle.reading.specs.Header.{variables, HasKinds};
+ghost use Rattle.emitting.specs.Emitted.{wireIn, Grouped};
 ghost use Rattle.joining.specs.Joined.{emitIn};
 ghost use Rattle.measuring.specs.Sizes.{Measured};
 ghost use Rattle.filing.specs.Staged.{membersOf, stage, Turnable};
-ghost use Rattle.filing.specs.Turns.{wiresOf, Measurable, Puttable, Measures, Sum, OutputsPlaced, fileIn};
+ghost use Rattle.filing.specs.Turns.{wiresOf, Measurable, Puttable, Measures, Sum, OutputsPlaced, outputIn, fileIn};
 
 // The bytes before the first record.
 pub const HEAD: usize = 8;
@@ -157,21 +159,39 @@ fn put_records(
     at
 }
 
-// The wires of the first v outputs.
+// The output of variable x of a rule: the wire of its last gate, no wire for a working one.
+fn output_of(
+    rule: &[u8],
+    x: u8,
+    outputs: &[u16; 32],
+    group: &[u16; 256],
+    wires: &[u16; 256],
+) -> WireId
+    requires { ⌜ (6 + x < length (now rule)) × (x < 32) × Grouped (now group) (getD (now outputs) x 0) ⌝ }
+    ensures { λ r. ⌜ r .0 ≡ outputIn (now (rule .entry)) (now (outputs .entry)) (now (group .entry)) (now (wires .entry)) x ⌝ }
+{
+    if reading::working_at(rule, x) {
+        return WireId(records::NO_WIRE);
+    }
+    emitting::wire_of(group, wires, GateId(outputs[x as usize]))
+}
+
+// The outputs of a rule's variables.
 fn put_outputs(
     out: &mut [u8],
+    rule: &[u8],
     outputs: &[u16; 32],
-    v: usize,
     group: &[u16; 256],
     wires: &[u16; 256],
 )
-    requires { ⌜ OutputsPlaced (now outputs) v (now group) × (2 * v ≤ length (now out)) ⌝ }
-    ensures { λ r. ⌜ now (out .exit) ≡ over (wiresBytes (map (wireIn (now (group .entry)) (now (wires .entry))) (take v (now (outputs .entry))))) (now (out .entry)) ⌝ }
+    requires { ⌜ (HasKinds (now rule) × OutputsPlaced (now outputs) (variables (now rule)) (now group)) × (2 * variables (now rule) ≤ length (now out)) ⌝ }
+    ensures { λ r. ⌜ now (out .exit) ≡ over (wiresBytes (map (outputIn (now (rule .entry)) (now (outputs .entry)) (now (group .entry)) (now (wires .entry))) (upto (variables (now (rule .entry)))))) (now (out .entry)) ⌝ }
 {
-    let mut x: usize = 0;
+    let v = rule[5];
+    let mut x: u8 = 0;
     while x < v {
-        let w = emitting::wire_of(group, wires, GateId(outputs[x]));
-        words::put16(&mut out[2 * x..], w.0);
+        let w = output_of(rule, x, outputs, group, wires);
+        words::put16(&mut out[2 * words::wide8(x)..], w.0);
         x = x + 1;
     }
 }
@@ -190,10 +210,10 @@ fn put_head(out: &mut [u8], v: u8, count: u16)
     words::put16(&mut out[6..], count);
 }
 
-// The whole file of v variables; `wired` is how many records it has.
+// The whole file of a rule; `wired` is how many records it has.
 pub fn put_file(
     out: &mut [u8],
-    v: u8,
+    rule: &[u8],
     wired: u16,
     plan: &[u8],
     quads: &[u32; 1024],
@@ -206,13 +226,13 @@ pub fn put_file(
     order: &[u16; 256],
     groups: usize,
 )
-    requires { ⌜ (length (fileIn (now plan) (now quads) count (now needs) (now group) (now places) (now order) groups v (now outputs)) ≤ length (now out))
+    requires { ⌜ (length (fileIn (now rule) (now plan) (now quads) count (now needs) (now group) (now places) (now order) groups (now outputs)) ≤ length (now out))
         × (Turnable (now plan) (now quads) count (now needs) (now group) (now places) (now conditions) (now order) groups
         × ((wired ≡ length (stage (now plan) (now quads) count (now needs) (now group) (now places) (now order) groups .records))
-        × OutputsPlaced (now outputs) v (now group))) ⌝ }
-    ensures { λ r. ⌜ now (out .exit) ≡ over (fileIn (now (plan .entry)) (now (quads .entry)) count (now (needs .entry)) (now (group .entry)) (now (places .entry)) (now (order .entry)) groups v (now (outputs .entry))) (now (out .entry)) ⌝ }
+        × (HasKinds (now rule) × OutputsPlaced (now outputs) (variables (now rule)) (now group)))) ⌝ }
+    ensures { λ r. ⌜ now (out .exit) ≡ over (fileIn (now (rule .entry)) (now (plan .entry)) (now (quads .entry)) count (now (needs .entry)) (now (group .entry)) (now (places .entry)) (now (order .entry)) groups (now (outputs .entry))) (now (out .entry)) ⌝ }
 {
-    put_head(out, v, wired);
+    put_head(out, rule[5], wired);
     let mut wires = [0u16; 256];
     let n = put_records(
         &mut out[HEAD..],
@@ -227,5 +247,5 @@ pub fn put_file(
         groups,
         &mut wires,
     );
-    put_outputs(&mut out[HEAD + n..], outputs, v as usize, group, &wires);
+    put_outputs(&mut out[HEAD + n..], rule, outputs, group, &wires);
 }

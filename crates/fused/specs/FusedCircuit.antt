@@ -3,10 +3,11 @@ use Prim.Native.Nat.{ℕ, _+_, _-_}
 use mathlib.Core.List.{List, [], _∷_, _++_, map}
 use mathlib.Core.Bool.{cond}
 use lib.Dec.{eqb}
-use lib.ListN.{length}
+use lib.ListN.{length, getD}
+use Rattle.words.specs.Lists.{upto}
 use Rattle.records.specs.Records.{Record, recordsCost}
-use Rattle.records.specs.CircuitFile.{fileBytes}
-use Rattle.reading.specs.Header.{variables}
+use Rattle.records.specs.CircuitFile.{fileBytes, noWire}
+use Rattle.reading.specs.Header.{variables, workingAt}
 use Rattle.gates.specs.Gates.{Gates}
 use Rattle.gates.specs.PlainCircuit.{gatesOf, outputsOf}
 use Rattle.needed.specs.Pass.{rulePreconditions}
@@ -47,12 +48,16 @@ fused s p =
 abbrev pub recordsOf : List ℕ → List ℕ → List Record
 recordsOf s p = fused s p .records
 
--- the wire that stands for gate g, and the output wires: those of every variable's last gate
+-- the wire that stands for gate g
 abbrev pub wireOf : List ℕ → List ℕ → ℕ → ℕ
 wireOf s p g = fused s p .wire (groupOf (groupsIn p) g)
 
+-- the output of variable x: the wire of its last gate. Document 02, C-13: "a working variable's output is FF FF, which names no wire"
+abbrev pub outputWire : List ℕ → List ℕ → ℕ → ℕ
+outputWire s p x = cond (workingAt s x) noWire (wireOf s p (getD (outputsOf s) x 0))
+
 abbrev pub outputWires : List ℕ → List ℕ → List ℕ
-outputWires s p = map (wireOf s p) (outputsOf s)
+outputWires s p = map (outputWire s p) (upto (variables s))
 
 -- the cost after fusing
 abbrev pub costAfter : List ℕ → List ℕ → ℕ

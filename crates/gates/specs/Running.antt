@@ -1,11 +1,13 @@
 -- Document 01, "The rule file": "A direct run is fed the rule's bytes and V inputs". The run goes by the tree that reading gives.
 -- A figure is a word or a bit as a number; a run holds one figure for each variable, at first its input.
 use Prim.Native.Nat.{ℕ}
-use mathlib.Core.List.{List, []}
+use mathlib.Core.List.{List, [], map}
 use mathlib.Core.Bool.{cond}
 use lib.ListN.{getD, set}
+use Rattle.words.specs.Lists.{upto}
 use Rattle.codes.specs.Results.{isOne, resultOf}
 use Rattle.answers.specs.Parsing.{Parsed, parsed, refused}
+use Rattle.reading.specs.Header.{variables, workingAt}
 use Rattle.reading.specs.Rule.{readRule}
 use Rattle.reading.specs.Tree.{Expr, variable, word, bit, one, two, Statement, assign, skip, branch, Block, end, then}
 
@@ -38,3 +40,11 @@ runRead (refused number place) inputs = []
 -- the run of a rule's bytes on V inputs
 unfoldable pub runRule : List ℕ → List ℕ → List ℕ
 runRule s inputs = runRead (readRule s) inputs
+
+-- Document 02, C-13: what a run writes for variable x, whose figure at its end is n. "a direct run keeps working figures to its end but writes 0 for them"
+abbrev pub writtenFor : List ℕ → ℕ → ℕ → ℕ
+writtenFor s x n = cond (workingAt s x) 0 n
+
+-- the V numbers that it writes
+unfoldable pub runWrites : List ℕ → List ℕ → List ℕ
+runWrites s inputs = map (λ x. writtenFor s x (getD (runRule s inputs) x 0)) (upto (variables s))

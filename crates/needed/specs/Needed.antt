@@ -1,8 +1,10 @@
 -- Document 01, "Needed gates (000 Def. 4)": which gates are needed under a setting. A setting gives each condition, named by its gate, 0 or 1 freely.
 use Prim.Native.Nat.{ℕ}
-use mathlib.Core.List.{List, [], _∷_}
+use mathlib.Core.List.{List, [], _∷_, map}
 use mathlib.Core.Bool.{cond}
+use lib.ListN.{getD}
 use Rattle.words.specs.Lists.{_∈_}
+use Rattle.reading.specs.Header.{resultVariables}
 use Rattle.gates.specs.Gates.{Gate, start, word, bit, operation, choice, Gates, gateAt}
 use Rattle.gates.specs.PlainCircuit.{outputsOf}
 use Rattle.settings.specs.Settings.{Setting}
@@ -15,14 +17,18 @@ asks σ (bit b) = []
 asks σ (operation op l) = l
 asks σ (choice c a b) = c ∷ cond (σ c) a b ∷ []
 
--- gate g is needed under σ: it is wanted from the start (in document 01 every output is), or a needed gate asks for it
+-- gate g is needed under σ: it is wanted from the start, or a needed gate asks for it
 pub data Needed (C : Gates) (wanted : List ℕ) (σ : Setting) : ℕ → Type 0 where
   from-start : {g : ℕ} → g ∈ wanted → Needed C wanted σ g
   asked : {g h : ℕ} → Needed C wanted σ h → g ∈ asks σ (gateAt C h) → Needed C wanted σ g
 
--- Under a setting, every output is needed: what a rule wants from the start
+-- of the outputs of a rule's variables, those of its result variables
+abbrev pub wantedAmong : List ℕ → List ℕ → List ℕ
+wantedAmong s outputs = map (λ x. getD outputs x 0) (resultVariables s)
+
+-- what a rule wants from the start. Document 02, C-13: "Only the other variables' last gates are needed from the start", not the working ones'
 abbrev pub wantedOf : List ℕ → List ℕ
-wantedOf s = outputsOf s
+wantedOf s = wantedAmong s (outputsOf s)
 
 -- two gates exclude each other if no setting needs both
 abbrev pub Exclude : Gates → List ℕ → ℕ → ℕ → Type 0

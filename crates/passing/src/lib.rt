@@ -102,19 +102,17 @@ fn pass(quads: &[u32; 1024], count: usize, ranks: &[u16; 256], sets: &mut [u64; 
     }
 }
 
-// Every gate's precondition, in sets that are lent clear.
+// Every gate's precondition, for the gates that are wanted from the start, in sets that are lent clear.
 pub fn find_needed(
     quads: &[u32; 1024],
     count: usize,
     ranks: &[u16; 256],
-    outputs: &[u16; 32],
-    v: usize,
+    wanted: &[u16],
     sets: &mut [u64; 256],
 )
-    requires { ⌜ (Passable (now quads) (now ranks) count × ((v ≤ 32) × Inside count (take v (now outputs)))) × (now sets ≡ replicate 256 0) ⌝ }
-    ensures { λ r. ⌜ now (sets .exit) ≡ preconditionSets mostConditions (gatesIn (now (quads .entry)) count) (take v (now (outputs .entry))) ++ replicate (mostGates - count) 0 ⌝ }
+    requires { ⌜ (Passable (now quads) (now ranks) count × Inside count (now wanted)) × (now sets ≡ replicate 256 0) ⌝ }
+    ensures { λ r. ⌜ now (sets .exit) ≡ preconditionSets mostConditions (gatesIn (now (quads .entry)) count) (now (wanted .entry)) ++ replicate (mostGates - count) 0 ⌝ }
 {
-    let all = &outputs[..];
-    want_all(&all[0..v], sets);
+    want_all(wanted, sets);
     pass(quads, count, ranks, sets);
 }

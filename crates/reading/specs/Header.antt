@@ -1,9 +1,10 @@
--- Document 01, "The rule file": 52 55 4C ("RUL"), version 00 01, one byte V (1 to 32), V kind bytes (00 word, 01 bit).
+-- Document 01, "The rule file": 52 55 4C ("RUL"), version 00 01, one byte V (1 to 32), V kind bytes (00 word, 01 bit). Document 02, C-13: 02 working word, 03 working bit.
 use Prim.Native.Nat.{ℕ, zero, suc, _+_, _≤_}
 use mathlib.Core.List.{List, [], _∷_}
 use lib.ListN.{length, getD}
-use mathlib.Core.Bool.{cond}
+use mathlib.Core.Bool.{Bool, not, _||_, cond}
 use lib.Dec.{eqb, ltb, leb}
+use Rattle.words.specs.Lists.{keep, upto}
 use Rattle.codes.specs.declared.Kind.{Kind}
 use Rattle.codes.specs.declared.Kind.the-variants as kind
 use Rattle.answers.specs.Parsing.{Parsed, parsed, unless, _>>=_, readMark}
@@ -15,14 +16,25 @@ mark = 0x52 ∷ 0x55 ∷ 0x4C ∷ 0x00 ∷ 0x01 ∷ []
 
 -- what a kind byte says: told here, and asked by every layer above
 unfoldable pub kindOf : ℕ → Kind
-kindOf b = cond (eqb b 0x01) kind.Bit kind.Word
+kindOf b = cond (eqb b 0x01 || eqb b 0x03) kind.Bit kind.Word
 
--- V, and the kind of variable x, as the file gives them
+-- Document 02, C-13: a working variable holds "only a scrap of working": its figure is no result. Every other variable is a result variable.
+unfoldable pub workingOf : ℕ → Bool
+workingOf b = eqb b 0x02 || eqb b 0x03
+
+-- V, the kind of variable x and whether it is a working one, as the file gives them
 abbrev pub variables : List ℕ → ℕ
 variables s = getD s 5 0
 
 abbrev pub kindAt : List ℕ → ℕ → Kind
 kindAt s x = kindOf (getD s (6 + x) 0)
+
+abbrev pub workingAt : List ℕ → ℕ → Bool
+workingAt s x = workingOf (getD s (6 + x) 0)
+
+-- the result variables, rising
+abbrev pub resultVariables : List ℕ → List ℕ
+resultVariables s = keep (λ x. not (workingAt s x)) (upto (variables s))
 
 -- the file has a kind byte for every variable
 abbrev pub HasKinds : List ℕ → Type 0

@@ -14,7 +14,7 @@ mostVariables = 32
 
 -- kind bytes are 00 word and 01 bit
 abbrev pub lastKind : ℕ
-lastKind = 1
+lastKind = 3
 
 -- expressions are at most 8 deep
 abbrev pub deepest : ℕ

@@ -10,7 +10,7 @@ ghost use lib.ListN.{length};
 ghost use Rattle.answers.specs.Answers.{answerOf};
 ghost use Rattle.answers.specs.Parsing.{stepOf};
 ghost use Rattle.answers.specs.declared.Step.the-variants.{Past};
-ghost use Rattle.reading.specs.Header.{HasKinds, kindAt, readKinds, readHeader};
+ghost use Rattle.reading.specs.Header.{HasKinds, kindAt, workingAt, readKinds, readHeader};
 ghost use Rattle.reading.specs.Expressions.{readVariable, readWord, readBit, readExpr};
 ghost use Rattle.reading.specs.Blocks.{readAssign, readStatement, readBlock};
 ghost use Rattle.reading.specs.Rule.{readRule};
@@ -22,7 +22,7 @@ const MOST_BYTES: usize = 4096;
 
 const MOST_VARIABLES: u8 = 32;
 
-const LAST_KIND: u8 = 1;
+const LAST_KIND: u8 = 3;
 
 pub const DEEPEST: u8 = 8;
 
@@ -33,8 +33,23 @@ pub fn kind_at(s: &[u8], x: u8) -> Kind
     requires { ⌜ 6 + x < length (now s) ⌝ }
     ensures { λ r. ⌜ r ≡ kindAt (now (s .entry)) x ⌝ }
 {
-    let b = s[6 + x as usize];
-    if b == 1 { Kind::Bit } else { Kind::Word }
+    match s[6 + x as usize] {
+        1 => Kind::Bit,
+        3 => Kind::Bit,
+        _ => Kind::Word,
+    }
+}
+
+// Whether variable x, which the header has, is a working one.
+pub fn working_at(s: &[u8], x: u8) -> bool
+    requires { ⌜ 6 + x < length (now s) ⌝ }
+    ensures { λ r. ⌜ r ≡ workingAt (now (s .entry)) x ⌝ }
+{
+    match s[6 + x as usize] {
+        2 => true,
+        3 => true,
+        _ => false,
+    }
 }
 
 // 10 variable, its code at `at`.

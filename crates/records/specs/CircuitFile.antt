@@ -10,6 +10,10 @@ use Rattle.records.specs.Records.{Record, input, word, bit, operation, c
 abbrev pub mark : List ℕ
 mark = 0x43 ∷ 0x49 ∷ 0x52 ∷ 0x00 ∷ 0x01 ∷ []
 
+-- Document 02, C-13: as an output, FF FF "names no wire"
+abbrev pub noWire : ℕ
+noWire = 0xFFFF
+
 -- two-byte wires
 abbrev pub wiresBytes : List ℕ → List ℕ
 wiresBytes [] = []

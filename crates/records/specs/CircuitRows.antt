@@ -1,7 +1,7 @@
 -- Document 02, C-11: the rows 60, 61 and 62 of a circuit file, each over the whole file, as tests. Which files pass them, said without a reader: `WellFormed` (WellFormed.antt).
 use Prim.Native.Nat.{ℕ, zero, suc, _+_, _*_, _^_}
 use mathlib.Core.List.{List, [], _∷_}
-use mathlib.Core.Bool.{Bool, true, _&&_, cond}
+use mathlib.Core.Bool.{Bool, true, _&&_, _||_, cond}
 use lib.Dec.{eqb, leb, ltb}
 use lib.ListN.{length, take, getD}
 use Rattle.words.specs.Lists.{elem, every, same}
@@ -10,7 +10,7 @@ use Rattle.codes.specs.declared.Kind.{Kind}
 use Rattle.codes.specs.declared.Kind.the-variants as kind
 use Rattle.records.specs.Records.{Record, input, word, bit, operation, choice, pick, guard, reads}
 use Rattle.records.specs.WireKinds.{guardsOf, valuesOf, recordKind, wireKind}
-use Rattle.records.specs.CircuitFile.{mark}
+use Rattle.records.specs.CircuitFile.{mark, noWire}
 use Rattle.records.specs.FileFigures.{recordAt, sizeAt, firstRecord, fileVariables, wireCount, fileRecords, fileOutputs}
 use Rattle.records.specs.Limits.{mostFileBytes, mostFileVariables, mostWires, mostGuardWires}
 use Rattle.records.specs.LaidOut.{recordCodes}
@@ -81,10 +81,14 @@ abbrev pub allStand : ℕ → (ℕ → Kind) → ℕ → List Record → Bool
 allStand v k i [] = true
 allStand v k i (r ∷ R) = stands v k i r && allStand v k (suc i) R
 
--- the outputs of the variables from x on, of n wires; a variable's kind is that of its input's wire
+-- the output of variable x, of n wires: a wire of its kind, which is that of its input's wire. Document 02, C-13: "the circuit reader admits FF FF as an output"
+abbrev pub outputStands : ℕ → (ℕ → Kind) → ℕ → ℕ → Bool
+outputStands n k x w = eqb w noWire || (ltb w n && sameKind (k w) (k x))
+
+-- the outputs of the variables from x on
 abbrev pub outputsStand : ℕ → (ℕ → Kind) → ℕ → List ℕ → Bool
 outputsStand n k x [] = true
-outputsStand n k x (w ∷ l) = (ltb w n && sameKind (k w) (k x)) && outputsStand n k (suc x) l
+outputsStand n k x (w ∷ l) = outputStands n k x w && outputsStand n k (suc x) l
 
 unfoldable pub standing : List ℕ → Bool
 standing f =

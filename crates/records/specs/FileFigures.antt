@@ -9,7 +9,7 @@ use Rattle.codes.specs.Codes.{operationOf, codeOf}
 use Rattle.codes.specs.declared.Kind.the-variants as kind
 use Rattle.records.specs.Records.{Pair, Record, input, word, bit, operation, choice, pick, guard}
 use Rattle.records.specs.WireFigures.{wireFigure}
-use Rattle.records.specs.CircuitFile.{recordBytes}
+use Rattle.records.specs.CircuitFile.{recordBytes, noWire}
 
 -- n two-byte wires from the place at on
 abbrev pub wiresAt : ℕ → List ℕ → ℕ → List ℕ
@@ -63,6 +63,10 @@ fileRecords f = recordsFrom (wireCount f) f firstRecord
 unfoldable pub fileOutputs : List ℕ → List ℕ
 fileOutputs f = wiresAt (fileVariables f) f (placeAfter (wireCount f) f firstRecord)
 
--- "A variable's figure is that of its output wire": every variable's figure
+-- "A variable's figure is that of its output wire". Document 02, C-13: where that is FF FF, "running writes 0 for it"
+abbrev pub outputFigure : List ℕ → List Record → ℕ → ℕ
+outputFigure inputs R w = cond (eqb w noWire) 0 (wireFigure inputs R w)
+
+-- what running the file writes, for every variable
 unfoldable pub fileFigures : List ℕ → List ℕ → List ℕ
-fileFigures f inputs = map (wireFigure inputs (fileRecords f)) (fileOutputs f)
+fileFigures f inputs = map (outputFigure inputs (fileRecords f)) (fileOutputs f)

@@ -2,12 +2,13 @@
 -- That a file passes the rows exactly when it is the bytes of one: `circuit-format` (FormatLaws).
 use Prim.Native.Nat.{ℕ, _^_, _≤_, _<_}
 use mathlib.Core.Path.{_≡_}
+use mathlib.Core.Logic.{_⊎_}
 use mathlib.Core.List.{List}
 use lib.ListN.{length, getD}
 use Rattle.codes.specs.declared.Kind.{Kind}
 use Rattle.records.specs.Records.{Record, input, word, bit, operation, choice, pick, guard, recordIn, ReadsEarlier, NotInput}
 use Rattle.records.specs.WireKinds.{wireKind, RecordFits}
-use Rattle.records.specs.CircuitFile.{fileBytes}
+use Rattle.records.specs.CircuitFile.{fileBytes, noWire}
 use Rattle.records.specs.FitRecords.{FileFits}
 use Rattle.records.specs.LaidOut.{Bounded}
 use Rattle.records.specs.Limits.{mostFileBytes, mostFileVariables, mostWires}
@@ -31,8 +32,8 @@ pub record Standing (v : ℕ) (R : List Record) (outputs : List ℕ) : Type 0 wh
   pub earlier : ReadsEarlier R
   pub kinds : (i : ℕ) → i < length R → RecordFits (wireKind R) (recordIn R i)
   pub tables : (i : ℕ) → i < length R → TableFits (recordIn R i)
-  -- an output is a wire of its variable's kind, which is that of its input's wire
-  pub outs : (x : ℕ) → x < length outputs → (getD outputs x 0 < length R) × (wireKind R (getD outputs x 0) ≡ wireKind R x)
+  -- an output is no wire, FF FF (C-13), or a wire of its variable's kind, which is that of its input's wire
+  pub outs : (x : ℕ) → x < length outputs → (getD outputs x 0 ≡ noWire) ⊎ ((getD outputs x 0 < length R) × (wireKind R (getD outputs x 0) ≡ wireKind R x))
 
 pub record WellFormed (v : ℕ) (R : List Record) (outputs : List ℕ) : Type 0 where
   -- 60: 1 to 32 variables, at most 640 wires and 16,384 bytes

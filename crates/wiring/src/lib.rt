@@ -13,7 +13,7 @@ ghost use Rattle.records.specs.WireKinds.{wireKind};
 ghost use Rattle.records.specs.FileFigures.{wiresAt, recordAt, fileVariables, wireCount, fileRecords};
 ghost use Rattle.records.specs.Limits.{mostFileBytes, mostWires, mostGuardWires};
 ghost use Rattle.records.specs.LaidOut.{recordPlace, WholeAt, LaidOut};
-ghost use Rattle.records.specs.CircuitRows.{headed, laid, stands, allStand, outputsStand, standing};
+ghost use Rattle.records.specs.CircuitRows.{headed, laid, stands, allStand, outputStands, outputsStand, standing};
 ghost use Rattle.records.specs.RowLaws.{Headed};
 ghost use Rattle.parts.specs.HeldKinds.{kindBy, heldKind};
 ghost use Rattle.parts.specs.TableLaws.{HoldsKinds};
@@ -203,14 +203,26 @@ fn records_stand(file: &[u8], v: usize, count: usize, bits: &mut [bool; 640]) ->
     at
 }
 
-// The outputs of the variables, which stand from `at` on: each a wire of its variable's kind.
+// The output of variable x, which stands at a place: no wire, or a wire of its kind.
+fn output_stands(file: &[u8], at: usize, x: usize, count: usize, bits: &[bool; 640]) -> bool
+    requires { ⌜ (at + 2 ≤ length (now file)) × (x < mostWires) × (count ≤ mostWires) ⌝ }
+    ensures { λ r. ⌜ r ≡ outputStands count (heldKind (now (bits .entry))) x (numberAt 2 (now (file .entry)) at) ⌝ }
+{
+    let w = parts::wire_at(file, at);
+    if w.0 == records::NO_WIRE {
+        return true;
+    }
+    wire_fits(file, at, count, bits, bits[x])
+}
+
+// The outputs of the variables, which stand from `at` on.
 fn outputs_stand(file: &[u8], at: usize, v: usize, count: usize, bits: &[bool; 640]) -> bool
     requires { ⌜ (at + 2 * v ≤ length (now file)) × (v ≤ count) × (count ≤ mostWires) ⌝ }
     ensures { λ r. ⌜ r ≡ outputsStand count (heldKind (now (bits .entry))) 0 (wiresAt v (now (file .entry)) at) ⌝ }
 {
     let mut x: usize = 0;
     while x < v {
-        if !wire_fits(file, at + 2 * x, count, bits, bits[x]) {
+        if !output_stands(file, at + 2 * x, x, count, bits) {
             return false;
         }
         x = x + 1;

@@ -95,7 +95,7 @@ pub fn put(
     let answer = prepared.answer;
     filing::put_file(
         out,
-        rule[5],
+        rule,
         answer.wires as u16,
         plan,
         quads,
