@@ -12,7 +12,7 @@ use Rattle.codes.specs.Codes.{operationOf, codeOf}
 use Rattle.codes.specs.declared.Operation.the-variants.{Sum}
 use Rattle.answers.specs.Answers.{success}
 use Rattle.answers.specs.Parsing.{readMark}
-use Rattle.reading.specs.Header.{kindOf, readCount, readKinds, readHeader}
+use Rattle.reading.specs.Header.{kindOf, workingOf, readCount, readKinds, readHeader}
 use Rattle.reading.specs.Expressions.{readVariable, readWord, readBit, operationWith, exprWith, readExpr}
 use Rattle.reading.specs.Blocks.{readAssign, branchWith, statementWith, blockWith, blockFuel, readBlock}
 use Rattle.reading.specs.Rule.{readRule}
@@ -67,20 +67,20 @@ no-groups = 0x50 ∷ 0x4C ∷ 0x4E ∷ 0x00 ∷ 0x01 ∷ 0x00 ∷ 0x04 ∷ 0x00 
 -- a difference and a less-than still depend on their order: in either the rule is accepted and its file has 25 bytes, of which 15 and 16 are the record's first wire
 pub ordered-accepted : map (λ s. writeAnswer s no-groups 25) (from-two 0x21 0x00 0 1 ∷ from-two 0x21 0x00 1 0 ∷ from-two 0x23 0x01 0 1 ∷ from-two 0x23 0x01 1 0 ∷ [])
     ≡ success 4 4 25 0 0 ∷ success 4 4 25 0 0 ∷ success 4 4 25 40 40 ∷ success 4 4 25 40 40 ∷ []
-unfolding number kindOf operationOf codeOf readMark readCount readKinds readHeader readVariable readWord readBit operationWith exprWith readExpr readAssign branchWith
+unfolding number kindOf workingOf operationOf codeOf readMark readCount readKinds readHeader readVariable readWord readBit operationWith exprWith readExpr readAssign branchWith
     statementWith blockWith blockFuel readBlock readRule applyGate makeExpr assignsIn assigns choices makeStatement makeBlock plainCircuit conditions collect numbers
     preconditions preconditionSets costs wholeWithin ruleAnswer restsOn rests groupsIn groups restsOf waitsFor order planRow planAnswer bytesOf spread tableOver table
     written fused fusedFile recordsCost fusedCounts writeAnswer
 ordered-accepted = refl
 
 pub difference-ordered : fusedFile (from-two 0x21 0x00 0 1) no-groups ≡ fusedFile (from-two 0x21 0x00 1 0) no-groups → ⊥
-unfolding number kindOf operationOf codeOf readMark readCount readKinds readHeader readVariable readWord readBit operationWith exprWith readExpr readAssign branchWith
+unfolding number kindOf workingOf operationOf codeOf readMark readCount readKinds readHeader readVariable readWord readBit operationWith exprWith readExpr readAssign branchWith
     statementWith blockWith blockFuel readBlock readRule applyGate makeExpr assignsIn assigns choices makeStatement makeBlock plainCircuit conditions collect numbers
     preconditions preconditionSets restsOn rests groupsIn groups restsOf waitsFor order bytesOf spread tableOver table written fused fusedFile
 difference-ordered e = omega (arith, ap (λ (f : List ℕ). getD f 16 0) e)
 
 pub less-than-ordered : fusedFile (from-two 0x23 0x01 0 1) no-groups ≡ fusedFile (from-two 0x23 0x01 1 0) no-groups → ⊥
-unfolding number kindOf operationOf codeOf readMark readCount readKinds readHeader readVariable readWord readBit operationWith exprWith readExpr readAssign branchWith
+unfolding number kindOf workingOf operationOf codeOf readMark readCount readKinds readHeader readVariable readWord readBit operationWith exprWith readExpr readAssign branchWith
     statementWith blockWith blockFuel readBlock readRule applyGate makeExpr assignsIn assigns choices makeStatement makeBlock plainCircuit conditions collect numbers
     preconditions preconditionSets restsOn rests groupsIn groups restsOf waitsFor order bytesOf spread tableOver table written fused fusedFile
 less-than-ordered e = omega (arith, ap (λ (f : List ℕ). getD f 16 0) e)
@@ -103,7 +103,7 @@ abbrev pub late-plan : List ℕ
 late-plan = 0x50 ∷ 0x4C ∷ 0x4E ∷ 0x00 ∷ 0x01 ∷ 0x00 ∷ 0x0B ∷ 0x00 ∷ 0x01 ∷ 0x02 ∷ 0x00 ∷ 0x03 ∷ 0x00 ∷ 0x07 ∷ []
 
 pub late-accepted : writeAnswer late late-plan 107 ≡ success 11 14 107 79 74
-unfolding number kindOf operationOf codeOf readMark readCount readKinds readHeader readVariable readWord readBit operationWith exprWith readExpr readAssign branchWith
+unfolding number kindOf workingOf operationOf codeOf readMark readCount readKinds readHeader readVariable readWord readBit operationWith exprWith readExpr readAssign branchWith
     statementWith blockWith blockFuel readBlock readRule applyGate makeExpr assignsIn assigns choices makeStatement makeBlock plainCircuit conditions collect numbers
     preconditions preconditionSets costs wholeWithin ruleAnswer restsOn rests groupsIn groups restsOf waitsFor order planRow planAnswer bytesOf spread tableOver table
     written fused fusedFile recordsCost fusedCounts writeAnswer
@@ -117,7 +117,7 @@ unfolding number kindOf operationOf codeOf readMark readCount readKinds readHead
 late-gate = refl
 
 pub late-record : getD (recordsOf late late-plan) 10 (records.word 0) ≡ records.operation Sum (9 ∷ 3 ∷ [])
-unfolding number kindOf operationOf codeOf readMark readCount readKinds readHeader readVariable readWord readBit operationWith exprWith readExpr readAssign branchWith
+unfolding number kindOf workingOf operationOf codeOf readMark readCount readKinds readHeader readVariable readWord readBit operationWith exprWith readExpr readAssign branchWith
     statementWith blockWith blockFuel readBlock readRule applyGate makeExpr assignsIn assigns choices makeStatement makeBlock plainCircuit conditions collect numbers
     preconditions preconditionSets restsOn rests groupsIn groups restsOf waitsFor order bytesOf spread tableOver table written fused fusedFile
 late-record = refl

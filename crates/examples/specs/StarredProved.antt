@@ -9,7 +9,7 @@ use Rattle.codes.specs.Results.{resultOf}
 use Rattle.codes.specs.Inputs.{someAbove, inputsRow}
 use Rattle.answers.specs.declared.Answer.{Answer}
 use Rattle.answers.specs.Parsing.{readMark}
-use Rattle.reading.specs.Header.{kindOf, readCount, readKinds, readHeader}
+use Rattle.reading.specs.Header.{kindOf, workingOf, readCount, readKinds, readHeader}
 use Rattle.reading.specs.Expressions.{readVariable, readWord, readBit, operationWith, exprWith, readExpr}
 use Rattle.reading.specs.Blocks.{readAssign, branchWith, statementWith, blockWith, blockFuel, readBlock}
 use Rattle.reading.specs.Rule.{readRule}
@@ -33,7 +33,7 @@ use Rattle.examples.specs.Starred.{Starred, bothGroup}
 use Rattle.examples.specs.MeaningLaws.{precondition, unneeded, rests-on, waits-for, written-whole, written-short}
 
 pub starred : Starred
-unfolding number bytesOf kindOf operationOf codeOf resultOf readMark readCount readKinds readHeader readVariable readWord readBit operationWith exprWith readExpr
+unfolding number bytesOf kindOf workingOf operationOf codeOf resultOf readMark readCount readKinds readHeader readVariable readWord readBit operationWith exprWith readExpr
     readAssign branchWith statementWith blockWith blockFuel readBlock readRule figureOf runStatement runBlock runRule applyGate makeExpr assignsIn assigns choices
     makeStatement makeBlock plainCircuit costs conditions collect numbers preconditions preconditionSets wholeWithin ruleAnswer restsOn rests groupsIn groups restsOf
     waitsFor order planRow planAnswer over someAbove inputsRow inputRow runAnswer runResults

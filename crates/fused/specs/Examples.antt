@@ -4,7 +4,7 @@ use Rattle.words.specs.Numbers.{number, bytesOf}
 use Rattle.codes.specs.Codes.{operationOf, codeOf}
 use Rattle.answers.specs.Answers.{success, refusal}
 use Rattle.answers.specs.Parsing.{readMark}
-use Rattle.reading.specs.Header.{kindOf, readCount, readKinds, readHeader}
+use Rattle.reading.specs.Header.{kindOf, workingOf, readCount, readKinds, readHeader}
 use Rattle.reading.specs.Expressions.{readVariable, readWord, readBit, operationWith, exprWith, readExpr}
 use Rattle.reading.specs.Blocks.{readAssign, branchWith, statementWith, blockWith, blockFuel, readBlock}
 use Rattle.reading.specs.Rule.{readRule}
@@ -28,21 +28,21 @@ use Rattle.fused.specs.Answers.{fusedCounts, writeAnswer}
 
 -- example 3, whole
 pub example-3 : fusedFile r1 p1 ≡ file3
-unfolding number kindOf operationOf codeOf readMark readCount readKinds readHeader readVariable readWord readBit operationWith exprWith readExpr readAssign branchWith
+unfolding number kindOf workingOf operationOf codeOf readMark readCount readKinds readHeader readVariable readWord readBit operationWith exprWith readExpr readAssign branchWith
     statementWith blockWith blockFuel readBlock readRule applyGate makeExpr assignsIn assigns choices makeStatement makeBlock plainCircuit conditions collect numbers
     preconditions preconditionSets restsOn rests groupsIn groups restsOf waitsFor order bytesOf spread tableOver table written fused fusedFile
 example-3 = refl
 
 -- its counts: 6 gates, 9 wires, 76 bytes, cost 33 before and 28 after; a buffer of 75: 50
 pub example-3-answer : writeAnswer r1 p1 76 ≡ success 6 9 76 33 28
-unfolding number kindOf operationOf codeOf readMark readCount readKinds readHeader readVariable readWord readBit operationWith exprWith readExpr readAssign branchWith
+unfolding number kindOf workingOf operationOf codeOf readMark readCount readKinds readHeader readVariable readWord readBit operationWith exprWith readExpr readAssign branchWith
     statementWith blockWith blockFuel readBlock readRule applyGate makeExpr assignsIn assigns choices makeStatement makeBlock plainCircuit conditions collect numbers
     preconditions preconditionSets costs wholeWithin ruleAnswer restsOn rests groupsIn groups restsOf waitsFor order planRow planAnswer bytesOf spread tableOver table
     written fused fusedFile recordsCost fusedCounts writeAnswer
 example-3-answer = refl
 
 pub example-3-short : writeAnswer r1 p1 75 ≡ refusal 50 0
-unfolding number kindOf operationOf codeOf readMark readCount readKinds readHeader readVariable readWord readBit operationWith exprWith readExpr readAssign branchWith
+unfolding number kindOf workingOf operationOf codeOf readMark readCount readKinds readHeader readVariable readWord readBit operationWith exprWith readExpr readAssign branchWith
     statementWith blockWith blockFuel readBlock readRule applyGate makeExpr assignsIn assigns choices makeStatement makeBlock plainCircuit conditions collect numbers
     preconditions preconditionSets costs wholeWithin ruleAnswer restsOn rests groupsIn groups restsOf waitsFor order planRow planAnswer bytesOf spread tableOver table
     written fused fusedFile recordsCost fusedCounts writeAnswer

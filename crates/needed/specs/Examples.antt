@@ -8,7 +8,7 @@ use lib.ListN.{getD}
 use Rattle.words.specs.Numbers.{number}
 use Rattle.codes.specs.Codes.{operationOf, codeOf}
 use Rattle.answers.specs.Parsing.{readMark}
-use Rattle.reading.specs.Header.{kindOf, readCount, readKinds, readHeader}
+use Rattle.reading.specs.Header.{kindOf, workingOf, readCount, readKinds, readHeader}
 use Rattle.reading.specs.Expressions.{readVariable, readWord, readBit, operationWith, exprWith, readExpr}
 use Rattle.reading.specs.Blocks.{readAssign, branchWith, statementWith, blockWith, blockFuel, readBlock}
 use Rattle.reading.specs.Rule.{readRule}
@@ -27,7 +27,7 @@ set s g = getD (rulePreconditions s) g 0
 -- example 1: AAAAAAAAAAAAAAAA and 5555555555555555 for gates 3 and 4
 pub example-1 : rulePreconditions r1 ≡
     0xFFFFFFFFFFFFFFFF ∷ 0xAAAAAAAAAAAAAAAA ∷ 0xFFFFFFFFFFFFFFFF ∷ 0xAAAAAAAAAAAAAAAA ∷ 0x5555555555555555 ∷ 0xFFFFFFFFFFFFFFFF ∷ []
-unfolding number kindOf operationOf codeOf readMark readCount readKinds readHeader readVariable readWord readBit operationWith exprWith readExpr readAssign branchWith
+unfolding number kindOf workingOf operationOf codeOf readMark readCount readKinds readHeader readVariable readWord readBit operationWith exprWith readExpr readAssign branchWith
     statementWith blockWith blockFuel readBlock readRule applyGate makeExpr assignsIn assigns choices makeStatement makeBlock plainCircuit conditions collect numbers
     preconditions preconditionSets
 example-1 = refl
@@ -39,34 +39,34 @@ unfolding number kindOf operationOf codeOf readMark readCount readKinds readHead
 example-6-conditions = refl
 
 pub example-6 : map (set r2) (4 ∷ 5 ∷ 6 ∷ 7 ∷ []) ≡ 0xAAAAAAAAAAAAAAAA ∷ 0xAAAAAAAAAAAAAAAA ∷ 0x5555555555555555 ∷ 0x4444444444444444 ∷ []
-unfolding number kindOf operationOf codeOf readMark readCount readKinds readHeader readVariable readWord readBit operationWith exprWith readExpr readAssign branchWith
+unfolding number kindOf workingOf operationOf codeOf readMark readCount readKinds readHeader readVariable readWord readBit operationWith exprWith readExpr readAssign branchWith
     statementWith blockWith blockFuel readBlock readRule applyGate makeExpr assignsIn assigns choices makeStatement makeBlock plainCircuit conditions collect numbers
     preconditions preconditionSets
 example-6 = refl
 
 -- so 4 and 7 exclude each other, and 5 and 6
 pub example-6-excludes : excludes (set r2 4) (set r2 7) ∷ excludes (set r2 5) (set r2 6) ∷ [] ≡ true ∷ true ∷ []
-unfolding number kindOf operationOf codeOf readMark readCount readKinds readHeader readVariable readWord readBit operationWith exprWith readExpr readAssign branchWith
+unfolding number kindOf workingOf operationOf codeOf readMark readCount readKinds readHeader readVariable readWord readBit operationWith exprWith readExpr readAssign branchWith
     statementWith blockWith blockFuel readBlock readRule applyGate makeExpr assignsIn assigns choices makeStatement makeBlock plainCircuit conditions collect numbers
     preconditions preconditionSets
 example-6-excludes = refl
 
 -- example 7: nothing needs gates 0 to 2
 pub example-7 : rulePreconditions r7 ≡ 0 ∷ 0 ∷ 0 ∷ 0xFFFFFFFFFFFFFFFF ∷ []
-unfolding number kindOf operationOf codeOf readMark readCount readKinds readHeader readVariable readWord readBit operationWith exprWith readExpr readAssign branchWith
+unfolding number kindOf workingOf operationOf codeOf readMark readCount readKinds readHeader readVariable readWord readBit operationWith exprWith readExpr readAssign branchWith
     statementWith blockWith blockFuel readBlock readRule applyGate makeExpr assignsIn assigns choices makeStatement makeBlock plainCircuit conditions collect numbers
     preconditions preconditionSets
 example-7 = refl
 
 -- example 8: gate 5 is needed where condition 0 is 1, gate 9 where condition 1 is 1; a setting that gives both 1 needs both, so they do not exclude each other
 pub example-8 : set r8 5 ∷ set r8 9 ∷ bitAnd (set r8 5) (set r8 9) ∷ [] ≡ 0xAAAAAAAAAAAAAAAA ∷ 0xCCCCCCCCCCCCCCCC ∷ 0x8888888888888888 ∷ []
-unfolding number kindOf operationOf codeOf readMark readCount readKinds readHeader readVariable readWord readBit operationWith exprWith readExpr readAssign branchWith
+unfolding number kindOf workingOf operationOf codeOf readMark readCount readKinds readHeader readVariable readWord readBit operationWith exprWith readExpr readAssign branchWith
     statementWith blockWith blockFuel readBlock readRule applyGate makeExpr assignsIn assigns choices makeStatement makeBlock plainCircuit conditions collect numbers
     preconditions preconditionSets
 example-8 = refl
 
 pub example-8-excludes : excludes (set r8 5) (set r8 9) ≡ false
-unfolding number kindOf operationOf codeOf readMark readCount readKinds readHeader readVariable readWord readBit operationWith exprWith readExpr readAssign branchWith
+unfolding number kindOf workingOf operationOf codeOf readMark readCount readKinds readHeader readVariable readWord readBit operationWith exprWith readExpr readAssign branchWith
     statementWith blockWith blockFuel readBlock readRule applyGate makeExpr assignsIn assigns choices makeStatement makeBlock plainCircuit conditions collect numbers
     preconditions preconditionSets
 example-8-excludes = refl

@@ -1,4 +1,5 @@
 pub mod Needed
+pub mod WantedLaws
 pub mod Pass
 pub mod Held
 pub mod Ranks

@@ -3,7 +3,6 @@ use Prim.Native.Nat.{ℕ, zero, suc, _+_, _-_, _^_, _≤_, _<_}
 use mathlib.Core.Path.{_≡_, refl, sym, ap, _∙_}
 use mathlib.Core.List.{List, [], _∷_, _++_}
 use mathlib.Core.Logic.{inl, inr}
-use native.Mathlib.Nat.{sub-zero}
 use native.Mathlib.Omega.{arith}
 use lib.ListN.{length, getD, take, replicate, length-replicate}
 use lib.Seq.{take-suc, take-length}
@@ -138,7 +137,7 @@ walking-end quads ranks M₀ M count (suc i) w l = absurd (omega arith)
 
 -- Both: the sets that are wanted, then the pass, give the preconditions, and empty sets past the gates.
 
-found-needed : (quads ranks wanted M₁ M₂ M₃ : List ℕ) (count : ℕ) → Passable quads ranks count → Inside count wanted
+pub found-needed : (quads ranks wanted M₁ M₂ M₃ : List ℕ) (count : ℕ) → Passable quads ranks count → Inside count wanted
     → M₁ ≡ replicate 256 0 → M₂ ≡ addNumbers wanted (whole 64) M₁ → M₃ ≡ passGates (gatesIn quads count) count M₂
     → M₃ ≡ preconditionSets 6 (gatesIn quads count) wanted ++ replicate (256 - count) 0
 unfolding passGates preconditionSets numbers
@@ -152,17 +151,8 @@ found-needed quads ranks wanted M₁ M₂ M₃ count p i e₁ e₂ e₃ =
     ∙ ap (λ (k : ℕ). passSets S C k (addAll S wanted (whole 64) (replicate (length C + (256 - count)) 0))) (sym n)
     ∙ preconditions-room S C wanted (p .earlier) (λ g m. rw n (i g m)) (256 - count)
 
--- the part lent from 0 to v is the first v
-part-zero : (v : ℕ) (l : List ℕ) → take (v - 0) l ≡ take v l
-part-zero v l = rw sub-zero
-
-pub wanted-room : (quads ranks outputs : List ℕ) (count v : ℕ) → Passable quads ranks count → Inside count (take v outputs) → Inside 256 (take (v - 0) outputs)
-wanted-room quads ranks outputs count v p i a m = omega (arith, i a (rw (part-zero v outputs) at m), p .room)
-
-pub found-part : (quads ranks outputs M₁ M₂ M₃ : List ℕ) (count v : ℕ) → Passable quads ranks count → Inside count (take v outputs)
-    → M₁ ≡ replicate 256 0 → M₂ ≡ addNumbers (take (v - 0) outputs) (whole 64) M₁ → M₃ ≡ passGates (gatesIn quads count) count M₂
-    → M₃ ≡ preconditionSets 6 (gatesIn quads count) (take v outputs) ++ replicate (256 - count) 0
-found-part quads ranks outputs M₁ M₂ M₃ count v p i e₁ e₂ e₃ = found-needed quads ranks (take v outputs) M₁ M₂ M₃ count p i e₁ (rw (part-zero v outputs) at e₂) e₃
+pub wanted-room : (quads ranks wanted : List ℕ) (count : ℕ) → Passable quads ranks count → Inside count wanted → Inside 256 wanted
+wanted-room quads ranks wanted count p i a m = omega (arith, i a m, p .room)
 
 -- Reading the sets: the first are the preconditions, and so is the set of each gate.
 

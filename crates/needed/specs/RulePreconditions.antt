@@ -12,11 +12,12 @@ use Rattle.reading.specs.Tree.{Block}
 use Rattle.reading.specs.Rule.{readRule}
 use Rattle.gates.specs.Limits.{mostConditions}
 use Rattle.gates.specs.Gates.{Earlier, conditions}
-use Rattle.gates.specs.PlainCircuit.{gatesOf}
+use Rattle.gates.specs.PlainCircuit.{gatesOf, outputsOf}
 use Rattle.gates.specs.StartLaws.{plain-sound}
 use Rattle.settings.specs.Settings.{settingOf}
 use Rattle.settings.specs.Sets.{has, excludes}
 use Rattle.needed.specs.Needed.{Needed, wantedOf, Exclude}
+use Rattle.needed.specs.WantedLaws.{wanted-output}
 use Rattle.needed.specs.Pass.{rulePreconditions}
 use Rattle.needed.specs.PreconditionLaws.{precondition-right, exclude-right}
 
@@ -26,7 +27,7 @@ module _ (s : List ℕ) (b : Block) (n : ℕ) (read : readRule s ≡ parsed b n)
 
   -- what is wanted from the start is a gate
   pub wanted-inside : (g : ℕ) → g ∈ wantedOf s → g < length (gatesOf s)
-  wanted-inside = plain-sound s b n read .inside
+  wanted-inside g m = plain-sound s b n read .inside g (wanted-output s (outputsOf s) (plain-sound s b n read .count) g m)
 
   module _ (few : length (conditions (gatesOf s)) ≤ mostConditions) where
     pub rule-precondition : (g j : ℕ) → j < 2 ^ mostConditions

@@ -10,7 +10,8 @@ use Rattle.reading.specs.Rule.{readRule}
 use Rattle.gates.specs.Limits.{mostGates, mostConditions}
 use Rattle.gates.specs.Gates.{Gates, Earlier, conditions}
 use Rattle.gates.specs.Quads.{quadsOf}
-use Rattle.gates.specs.PlainCircuit.{gatesOf, outputsOf, gateCount}
+use Rattle.gates.specs.PlainCircuit.{gatesOf, gateCount}
+use Rattle.needed.specs.Needed.{wantedOf}
 use Rattle.needed.specs.Pass.{preconditionSets, rulePreconditions}
 use Rattle.needed.specs.RulePreconditions.{rule-earlier, wanted-inside}
 use Rattle.needed.specs.Held.{gatesIn}
@@ -31,9 +32,9 @@ module _ (s : List ℕ) (b : Block) (n : ℕ) (read : readRule s ≡ parsed b n)
       → ranks ≡ ranksOf (gatesIn quads (gateCount s)) mostGates → Passable quads ranks (gateCount s)
   quads-passable ranks h f p = record { room = h; earlier = quads-earlier; few = rw same f; placed = p }
 
-  pub quads-wanted : (l : List ℕ) → l ≡ outputsOf s → Inside (gateCount s) l
+  pub quads-wanted : (l : List ℕ) → l ≡ wantedOf s → Inside (gateCount s) l
   quads-wanted l e = rw e (wanted-inside s b n read)
 
   -- what find_needed gives
-  pub quads-preconditions : (l : List ℕ) → l ≡ outputsOf s → preconditionSets mostConditions (gatesIn quads (gateCount s)) l ≡ rulePreconditions s
+  pub quads-preconditions : (l : List ℕ) → l ≡ wantedOf s → preconditionSets mostConditions (gatesIn quads (gateCount s)) l ≡ rulePreconditions s
   quads-preconditions l e = ap (λ (C : Gates). preconditionSets mostConditions C l) same ∙ ap (preconditionSets mostConditions (gatesOf s)) e
