@@ -1,5 +1,6 @@
 pub mod Whole
 pub mod Making
+pub mod WantingLaws
 pub mod Built
 pub mod WholeLaws
 pub mod MakingLaws

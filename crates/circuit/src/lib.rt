@@ -1,14 +1,19 @@
 // Reading a rule as its caller sees it, rows 1 to 11, and building its plain circuit.
 use answers::Answer;
 ghost use mathlib.Core.Path.{_≡_};
-ghost use Prim.Native.Nat.{_≤_};
+ghost use mathlib.Core.List.{_++_};
+ghost use Prim.Native.Nat.{_-_, _≤_};
 ghost use lib.ListN.{take, replicate};
 ghost use Rattle.reading.specs.Limits.{mostVariables};
 ghost use Rattle.reading.specs.Header.{variables, HasKinds};
+ghost use Rattle.words.specs.Lists.{Inside};
+ghost use Rattle.gates.specs.Limits.{mostGates, mostConditions};
 ghost use Rattle.gates.specs.Gates.{Earlier};
 ghost use Rattle.needed.specs.Needed.{wantedAmong};
 ghost use Rattle.needed.specs.Held.{gatesIn};
 ghost use Rattle.needed.specs.Ranks.{Marked};
+ghost use Rattle.needed.specs.Pass.{preconditionSets};
+ghost use Rattle.needed.specs.Passing.{Passable};
 ghost use Rattle.circuit.specs.Whole.{ruleAnswer};
 ghost use Rattle.circuit.specs.Built.{builtQuads, builtNeeds, builtOutputs, builtConditions};
 ghost use Rattle.circuit.specs.Making.{wholeIn};
@@ -75,6 +80,24 @@ fn list_wanted(rule: &[u8], outputs: &[u16; 32], wanted: &mut [u16; 32]) -> usiz
     k
 }
 
+// Every gate's precondition, from what the rule wants of its outputs, in sets that are lent clear.
+fn find_needed(
+    rule: &[u8],
+    quads: &[u32; 1024],
+    count: usize,
+    ranks: &[u16; 256],
+    outputs: &[u16; 32],
+    needs: &mut [u64; 256],
+)
+    requires { ⌜ ((HasKinds (now rule) × (variables (now rule) ≤ mostVariables)) × (Passable (now quads) (now ranks) count × Inside count (wantedAmong (now rule) (now outputs))))
+        × (now needs ≡ replicate 256 0) ⌝ }
+    ensures { λ r. ⌜ now (needs .exit) ≡ preconditionSets mostConditions (gatesIn (now (quads .entry)) count) (wantedAmong (now (rule .entry)) (now (outputs .entry))) ++ replicate (mostGates - count) 0 ⌝ }
+{
+    let mut wanted = [0u16; 32];
+    let k = list_wanted(rule, outputs, &mut wanted);
+    passing::find_needed(quads, count, ranks, &wanted[0..k], needs);
+}
+
 // Builds the plain circuit of a rule into arrays that are lent clear: four numbers a gate, each gate's precondition, every variable's last gate,
 // and each condition's gate; zeros after them. A refused rule leaves them clear.
 pub fn build(
@@ -105,9 +128,7 @@ pub fn build(
     }
     let n = count as usize;
     needed::number_marked(n, &mut ranks);
-    let mut wanted = [0u16; 32];
-    let k = list_wanted(rule, outputs, &mut wanted);
-    passing::find_needed(quads, n, &ranks, &wanted[0..k], needs);
+    find_needed(rule, quads, n, &ranks, outputs, needs);
     needed::condition_gates(&ranks, n, conditions);
     answer
 }

@@ -21,7 +21,7 @@ use Rattle.settings.specs.GuardLaws.{spread-below, chosen-rests}
 use Rattle.settings.specs.PlaceLaws.{few-rests}
 use lib.Pow.{pow-mono}
 use Rattle.settings.specs.BitLaws.{collect-below}
-use Rattle.settings.specs.ListLaws.{keep-yes, keep-no}
+use Rattle.words.specs.ListLaws.{keep-yes, keep-no}
 
 -- a bit above all others is put in by "or"
 or-power : (t r y : ℕ) → r < 2 ^ t → y ≡ 2 ^ t → bitOr r y ≡ r + 2 ^ t

@@ -52,15 +52,3 @@ keep-none p (a ∷ l) h = rw (h a (inl refl)) (keep-none p l (λ b m. h b (inr m
 pub keep-once : (p : ℕ → Bool) (l : List ℕ) → Once l → Once (keep p l)
 keep-once p [] o = tt
 keep-once p (a ∷ l) (new, o) = split (p a) (λ e. rw e (λ m. new (keep-from p l a m .0), keep-once p l o)) (λ e. rw e (keep-once p l o))
-
--- one number more of a run, kept or not
-kept-next : (p : ℕ → Bool) (n : ℕ) → keep p (upto (n + 1)) ≡ keep p (upto n) ++ cond (p n) (n ∷ []) []
-kept-next p n =
-    let e : n + 1 ≡ suc n = omega arith in
-    rw e (ap (keep p) (from-more 0 n ∙ ap (λ (k : ℕ). upto n ++ (k ∷ [])) (zero-add n)) ∙ keep-more p (upto n) n)
-
-pub keep-yes : (p : ℕ → Bool) (n : ℕ) → p n ≡ true → keep p (upto (n + 1)) ≡ keep p (upto n) ++ (n ∷ [])
-keep-yes p n h = kept-next p n ∙ rw h
-
-pub keep-no : (p : ℕ → Bool) (n : ℕ) → p n ≡ false → keep p (upto (n + 1)) ≡ keep p (upto n)
-keep-no p n h = kept-next p n ∙ rw h (append-nil (keep p (upto n)))

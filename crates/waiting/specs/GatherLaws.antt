@@ -9,10 +9,10 @@ use lib.Dec.{eqb}
 use lib.ListN.{length, getD, replicate}
 use borrow.Author.Tests.{eq-eqb, ne-eqb}
 use Rattle.words.specs.Lists.{_∈_, elem, keep, upto, flat}
+use Rattle.words.specs.ListLaws.{keep-yes, keep-no}
 use Rattle.words.specs.MemberLaws.{map-in}
 use Rattle.words.specs.TestLaws.{same?}
 use Rattle.settings.specs.Sets.{rests}
-use Rattle.settings.specs.ListLaws.{keep-yes, keep-no}
 use Rattle.gates.specs.Gates.{Gates, gateAt, arguments}
 use Rattle.needed.specs.Held.{gatesIn}
 use Rattle.needed.specs.HeldLaws.{gates-length, gates-at}

@@ -7,8 +7,8 @@ use lib.Dec.{eqb}
 use lib.ListN.{length, getD, replicate, length-append}
 use borrow.Author.Tests.{eq-eqb, ne-eqb}
 use Rattle.words.specs.Lists.{elem, keep, upto}
+use Rattle.words.specs.ListLaws.{keep-yes, keep-no}
 use Rattle.words.specs.MemberLaws.{elem-more}
-use Rattle.settings.specs.ListLaws.{keep-yes, keep-no}
 use Rattle.plan.specs.Groups.{groups}
 use Rattle.plan.specs.GroupLaws.{groups-kept}
 use Rattle.waiting.specs.Tables.{HasWords, bitIn, putBit}

@@ -1,15 +1,15 @@
 -- Laws of lists that crates above cite: mapped lists, the members that pass a test, runs of numbers, places inside a list, the rest from a place on.
 use mathlib.Core.Path.{_≡_, refl, sym, ap, _∙_}
-use mathlib.Core.Bool.{Bool, cond}
-use mathlib.Core.List.{List, [], _∷_, _++_, map}
+use mathlib.Core.Bool.{Bool, true, false, cond}
+use mathlib.Core.List.{List, [], _∷_, _++_, map, append-nil}
 use mathlib.Core.Logic.{_⊎_, inl, inr}
 use Prim.Native.Nat.{ℕ, zero, suc, _+_, _-_, _≤_, _<_}
-use native.Mathlib.Nat.{add-zero}
+use native.Mathlib.Nat.{zero-add, add-zero}
 use native.Mathlib.Numerals.{add-one}
 use native.Mathlib.Omega.{arith}
 use lib.ListN.{length, getD, take, drop, replicate}
 use lib.Seq.{drop-cons}
-use Rattle.words.specs.Lists.{_∈_, keep, from}
+use Rattle.words.specs.Lists.{_∈_, keep, from, upto}
 use Rattle.words.specs.TestLaws.{split}
 
 -- one more
@@ -35,6 +35,18 @@ getD-from i (suc n) (suc k) h = getD-from (suc i) n k (omega arith) ∙ omega ar
 pub from-more : (i n : ℕ) → from i (suc n) ≡ from i n ++ ((i + n) ∷ [])
 from-more i zero = ap (λ (k : ℕ). k ∷ []) (sym (add-zero i))
 from-more i (suc n) = ap (λ (l : List ℕ). i ∷ l) (from-more (suc i) n ∙ ap (λ (k : ℕ). from (suc i) n ++ (k ∷ [])) (omega arith))
+
+-- one number more of a run, kept or not
+kept-next : (p : ℕ → Bool) (n : ℕ) → keep p (upto (n + 1)) ≡ keep p (upto n) ++ cond (p n) (n ∷ []) []
+kept-next p n =
+    let e : n + 1 ≡ suc n = omega arith in
+    rw e (ap (keep p) (from-more 0 n ∙ ap (λ (k : ℕ). upto n ++ (k ∷ [])) (zero-add n)) ∙ keep-more p (upto n) n)
+
+pub keep-yes : (p : ℕ → Bool) (n : ℕ) → p n ≡ true → keep p (upto (n + 1)) ≡ keep p (upto n) ++ (n ∷ [])
+keep-yes p n h = kept-next p n ∙ rw h
+
+pub keep-no : (p : ℕ → Bool) (n : ℕ) → p n ≡ false → keep p (upto (n + 1)) ≡ keep p (upto n)
+keep-no p n h = kept-next p n ∙ rw h (append-nil (keep p (upto n)))
 
 -- two functions that are the same on a list map it to the same list
 pub map-same : {A : Type 0} (v w : ℕ → A) (l : List ℕ) → ((a : ℕ) → a ∈ l → v a ≡ w a) → map v l ≡ map w l
