@@ -2,7 +2,9 @@
 use Prim.Native.Nat.{ℕ, zero, suc, _+_, _*_, _<_}
 use mathlib.Core.Path.{_≡_, refl, ap, subst, _∙_}
 use mathlib.Core.List.{List, [], _∷_, _++_, map}
+use mathlib.Core.Bool.{cond}
 use native.Mathlib.Omega.{arith}
+use lib.Dec.{eqb}
 use lib.ListN.{length, getD}
 use Rattle.words.specs.Lists.{_∈_, Inside}
 use Rattle.words.specs.MemberLaws.{getD-in}
@@ -11,7 +13,8 @@ use Rattle.words.specs.Runs.{run}
 use Rattle.records.specs.Records.{Record, word, recordIn, recordFigure}
 use Rattle.records.specs.WireKinds.{wireKind}
 use Rattle.records.specs.WireFigures.{pickSum, wireFigure}
-use Rattle.records.specs.FileFigures.{wiresAt, pairsAt, recordAt, sizeAt, recordsFrom, placeAfter, firstRecord, fileVariables, wireCount, fileRecords, fileOutputs, fileFigures}
+use Rattle.records.specs.CircuitFile.{noWire}
+use Rattle.records.specs.FileFigures.{wiresAt, pairsAt, recordAt, sizeAt, recordsFrom, placeAfter, firstRecord, fileVariables, wireCount, fileRecords, fileOutputs, outputFigure, fileFigures}
 
 -- one wire more
 pub wires-next : (n : ℕ) (f : List ℕ) (at : ℕ) → wiresAt (suc n) f at ≡ wiresAt n f at ++ (numberAt 2 f (at + 2 * n) ∷ [])
@@ -59,7 +62,7 @@ pub file-count : (f : List ℕ) → length (fileRecords f) ≡ wireCount f
 unfolding fileRecords
 file-count f = records-length (wireCount f) f firstRecord
 
--- record i of a file, its output wires, and its figures: at each output wire, what a run of its records gives there
+-- record i of a file, its output wires, and its figures: at each output wire, what a run of its records gives there, 0 where there is none
 pub record-of : (f : List ℕ) (i : ℕ) → i < wireCount f → recordIn (fileRecords f) i ≡ recordAt f (placeAfter i f firstRecord)
 unfolding fileRecords
 record-of f i h = records-at (wireCount f) f firstRecord i (word 0) h
@@ -68,11 +71,12 @@ pub outputs-of : (f : List ℕ) → fileOutputs f ≡ wiresAt (fileVariables f) 
 unfolding fileOutputs
 outputs-of f = refl
 
-pub figures-at : (f inputs : List ℕ) → fileFigures f inputs ≡ map (wireFigure inputs (fileRecords f)) (fileOutputs f)
+pub figures-at : (f inputs : List ℕ) → fileFigures f inputs ≡ map (outputFigure inputs (fileRecords f)) (fileOutputs f)
 unfolding fileFigures
 figures-at f inputs = refl
 
 pub figures-of : (f inputs : List ℕ)
-    → fileFigures f inputs ≡ map (λ w. getD (run 0 (recordFigure inputs (pickSum (wireKind (fileRecords f)))) (recordsFrom (wireCount f) f firstRecord) []) w 0) (fileOutputs f)
+    → fileFigures f inputs
+    ≡ map (λ w. cond (eqb w noWire) 0 (getD (run 0 (recordFigure inputs (pickSum (wireKind (fileRecords f)))) (recordsFrom (wireCount f) f firstRecord) []) w 0)) (fileOutputs f)
 unfolding fileFigures wireFigure fileRecords
 figures-of f inputs = refl
