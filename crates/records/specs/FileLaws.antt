@@ -153,9 +153,9 @@ file-found v R outputs f = (
 )
 
 -- so its figures, worked out from its bytes, are those of its records at its outputs
-pub output-figures : (v : ℕ) (R : List Record) (outputs : List ℕ) → FileFits v R outputs → (inputs : List ℕ)
+pub file-figures : (v : ℕ) (R : List Record) (outputs : List ℕ) → FileFits v R outputs → (inputs : List ℕ)
     → fileFigures (fileBytes v R outputs) inputs ≡ map (outputFigure inputs R) outputs
-output-figures v R outputs f inputs =
+file-figures v R outputs f inputs =
     let found = file-found v R outputs f in
     figures-at (fileBytes v R outputs) inputs
     ∙ ap₂ (λ (Q : List Record) (l : List ℕ). map (outputFigure inputs Q) l) (found .0) (found .1)

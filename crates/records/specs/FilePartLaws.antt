@@ -6,7 +6,7 @@ use mathlib.Core.Bool.{cond}
 use native.Mathlib.Omega.{arith}
 use lib.Dec.{eqb}
 use lib.ListN.{length, getD}
-use Rattle.words.specs.Lists.{_∈_, Inside}
+use Rattle.words.specs.Lists.{_∈_}
 use Rattle.words.specs.MemberLaws.{getD-in}
 use Rattle.words.specs.Numbers.{numberAt}
 use Rattle.words.specs.Runs.{run}
@@ -23,7 +23,7 @@ wires-next (suc n) f at =
     let e : at + 2 + 2 * n ≡ at + 2 * suc n = omega arith in
     ap (λ (l : List ℕ). numberAt 2 f at ∷ l) (wires-next n f (at + 2) ∙ ap (λ (k : ℕ). wiresAt n f (at + 2) ++ (numberAt 2 f k ∷ [])) e)
 
--- n wires, and each of them is one of them
+-- n wires, and each of them is as all of them are
 pub wires-length : (n : ℕ) (f : List ℕ) (at : ℕ) → length (wiresAt n f at) ≡ n
 wires-length zero f at = refl
 wires-length (suc n) f at = ap suc (wires-length n f (at + 2))
@@ -38,9 +38,8 @@ wires-at (suc n) f at zero h = let e : at ≡ at + 2 * 0 = omega arith in ap (nu
 wires-at (suc n) f at (suc k) h =
     let e : at + 2 + 2 * k ≡ at + 2 * suc k = omega arith in wires-at n f (at + 2) k (omega arith) ∙ ap (numberAt 2 f) e
 
-pub wire-of : (k n : ℕ) (f : List ℕ) (at i : ℕ) → Inside k (wiresAt n f at) → i < n → numberAt 2 f (at + 2 * i) < k
-wire-of k n f at i w h =
-    w _ (subst (λ (a : ℕ). a ∈ wiresAt n f at) (wires-at n f at i h) (getD-in (wiresAt n f at) i (rw (wires-length n f at) h)))
+pub wire-of : (P : ℕ → Type 0) (n : ℕ) (f : List ℕ) (at i : ℕ) → ((w : ℕ) → w ∈ wiresAt n f at → P w) → i < n → P (numberAt 2 f (at + 2 * i))
+wire-of P n f at i w h = subst P (wires-at n f at i h) (w _ (getD-in (wiresAt n f at) i (rw (wires-length n f at) h)))
 
 -- one record more
 pub records-next : (n : ℕ) (f : List ℕ) (at : ℕ) → recordsFrom (suc n) f at ≡ recordsFrom n f at ++ (recordAt f (placeAfter n f at) ∷ [])
