@@ -1,31 +1,34 @@
 -- Laws of a file that passes rows 60 to 62: what a run of it relies on. Assumes nothing.
 use Prim.Native.Nat.{ℕ, suc, _<_}
-use mathlib.Core.Path.{_≡_, sym, subst, _∙_}
+use mathlib.Core.Path.{_≡_, sym, subst, subst⁻¹, _∙_}
 use mathlib.Core.List.{List, [], _∷_}
-use mathlib.Core.Logic.{inl, inr}
+use mathlib.Core.Logic.{_⊎_, inl, inr, ⊎-map}
 use native.Mathlib.Omega.{arith}
 use lib.Dec.{ltb}
 use lib.ListN.{length, getD}
 use borrow.Author.Tests.{ltb-true, ltb-false}
-use Rattle.words.specs.Lists.{_∈_, Inside}
+use Rattle.words.specs.Lists.{_∈_}
 use Rattle.words.specs.TestLaws.{split}
 use Rattle.codes.specs.declared.Kind.{Kind}
 use Rattle.records.specs.Records.{Record, input, reads, recordIn, NotInput}
+use Rattle.records.specs.CircuitFile.{noWire}
 use Rattle.records.specs.FileFigures.{fileVariables, wireCount, fileRecords, fileOutputs}
 use Rattle.records.specs.FilePartLaws.{file-count, record-of}
 use Rattle.records.specs.LaidOut.{recordPlace}
 use Rattle.records.specs.FormatLaws.{Passed}
 use Rattle.figures.specs.Working.{Workable}
 
--- a list whose every place holds a number below n
-each-inside : (n : ℕ) (l : List ℕ) → ((x : ℕ) → x < length l → getD l x 0 < n) → Inside n l
-each-inside n [] h w m = absurd m
-each-inside n (a ∷ l) h w (inl e) = rw e (h 0 (omega arith))
-each-inside n (a ∷ l) h w (inr m) = each-inside n l (λ x k. h (suc x) (omega arith)) w m
+-- what holds at every place of a list holds of every number in it
+each-in : (P : ℕ → Type 0) (l : List ℕ) → ((x : ℕ) → x < length l → P (getD l x 0)) → (w : ℕ) → w ∈ l → P w
+each-in P [] h w m = absurd m
+each-in P (a ∷ l) h w (inl e) = subst⁻¹ P e (h 0 (omega arith))
+each-in P (a ∷ l) h w (inr m) = each-in P l (λ x k. h (suc x) (omega arith)) w m
 
 module _ (f : List ℕ) (p : Passed f) where
-  pub outputs-there : Inside (wireCount f) (fileOutputs f)
-  outputs-there = each-inside (wireCount f) (fileOutputs f) (λ x h. rw (← file-count f) (p .stand .outs x h .0))
+  -- every output is no wire, or a wire of the file
+  pub outputs-there : (w : ℕ) → w ∈ fileOutputs f → (w ≡ noWire) ⊎ (w < wireCount f)
+  outputs-there =
+      each-in (λ w. (w ≡ noWire) ⊎ (w < wireCount f)) (fileOutputs f) (λ x h. ⊎-map (λ e. e) (λ o. rw (← file-count f) (o .0)) (p .stand .outs x h))
 
   -- an input record is one of the first V, each its own variable's
   input-below : (i : ℕ) (k : Kind) (x : ℕ) → recordIn (fileRecords f) i ≡ input k x → x < fileVariables f

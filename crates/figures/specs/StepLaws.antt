@@ -122,7 +122,7 @@ module _ (f figures : List ℕ) (at count t j : ℕ) (p : CountingWires f figure
 
   module _ (h : 0 < t) where
     pub wire-inside : numberAt 2 f (at + 2 * (t - 1)) < mostWires
-    wire-inside = wire-of mostWires count f at (t - 1) (p .wires) (omega (arith, p .below))
+    wire-inside = wire-of (λ w. w < mostWires) count f at (t - 1) (p .wires) (omega (arith, p .below))
 
     -- the wire before them
     before : numberOf (wiresAt (count - (t - 1)) f (at + 2 * (t - 1))) (λ w. isOne (held figures w))

@@ -1,7 +1,8 @@
--- Document 01, "Examples": 3, the file of R1 with P1: no row refuses it, and its figures, computed from its bytes; document 02, C-11: picks with several guards at 1.
+-- Document 01, "Examples": 3, the file of R1 with P1: no row refuses it, and its figures, computed from its bytes; document 02, C-11: picks with several guards at 1; C-13: outputs that name no wire.
 use Prim.Native.Nat.{ℕ}
 use mathlib.Core.Path.{_≡_, refl}
 use mathlib.Core.List.{List, [], _∷_, map}
+use lib.ListN.{set}
 use Rattle.words.specs.Numbers.{number, bytesOf}
 use Rattle.codes.specs.Results.{resultOf}
 use Rattle.codes.specs.Codes.{operationOf, codeOf}
@@ -57,3 +58,29 @@ pub sums-run : map (λ x. fileFigures fileOfSums x) ((0 ∷ 6 ∷ 7 ∷ []) ∷ 
     ≡ (0 ∷ 0 ∷ 7 ∷ []) ∷ (0 ∷ 13 ∷ 7 ∷ []) ∷ (0 ∷ 6 ∷ 7 ∷ []) ∷ []
 unfolding number bytesOf operationOf codeOf resultOf recordAt sizeAt fileRecords fileOutputs wireKind wireFigure fileFigures
 sums-run = refl
+
+-- Document 02, C-13: "a working variable's output is FF FF, which names no wire". A file made by hand, a record a line: a bit and two words, of which only the last has an output wire.
+abbrev pub fileOfScraps : List ℕ
+fileOfScraps =
+    0x43 ∷ 0x49 ∷ 0x52 ∷ 0x00 ∷ 0x01 ∷ 0x03 ∷ 0x00 ∷ 0x04
+    ∷ 0x01 ∷ 0x00
+    ∷ 0x00 ∷ 0x01
+    ∷ 0x00 ∷ 0x02
+    ∷ 0x30 ∷ 0x00 ∷ 0x00 ∷ 0x00 ∷ 0x01 ∷ 0x00 ∷ 0x02
+    ∷ 0xFF ∷ 0xFF ∷ 0xFF ∷ 0xFF ∷ 0x00 ∷ 0x03
+    ∷ []
+
+-- "the circuit reader admits FF FF as an output", of a bit and of a word
+pub scraps-row : circuitRow fileOfScraps ≡ 0
+unfolding number bytesOf operationOf codeOf recordAt sizeAt fileRecords fileOutputs wireKind headed wholeAt laid stands standing circuitRow
+scraps-row = refl
+
+-- "and running writes 0 for it"
+pub scraps-run : map (λ x. fileFigures fileOfScraps x) ((1 ∷ 6 ∷ 7 ∷ []) ∷ (0 ∷ 6 ∷ 7 ∷ []) ∷ []) ≡ (0 ∷ 0 ∷ 6 ∷ []) ∷ (0 ∷ 0 ∷ 7 ∷ []) ∷ []
+unfolding number bytesOf operationOf codeOf resultOf recordAt sizeAt fileRecords fileOutputs wireKind wireFigure fileFigures
+scraps-run = refl
+
+-- FF FE is no such number: with it in the place of the first output, row 62 refuses the file
+pub scraps-other : circuitRow (set fileOfScraps 22 0xFE) ≡ 62
+unfolding number bytesOf operationOf codeOf recordAt sizeAt fileRecords fileOutputs wireKind headed wholeAt laid stands standing circuitRow
+scraps-other = refl

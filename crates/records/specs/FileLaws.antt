@@ -1,7 +1,7 @@
 -- Laws for document 01, "The fused circuit file": "Each record begins where the one before ended." A circuit file put together and taken apart again
--- gives its records and its output wires; where each record lies. Assumes nothing.
+-- gives its records and its outputs, and so its figures; where each record lies. Assumes nothing.
 use mathlib.Core.Path.{_≡_, refl, sym, ap, ap₂, _∙_}
-use mathlib.Core.List.{List, [], _∷_, _++_, append-assoc, append-nil}
+use mathlib.Core.List.{List, [], _∷_, _++_, map, append-assoc, append-nil}
 use Prim.Native.Nat.{ℕ, zero, suc, _+_, _*_, _^_, _≤_, _<_}
 use native.Mathlib.Omega.{arith}
 use lib.ListN.{length, take, drop, getD, length-append, take-append-drop}
@@ -10,9 +10,10 @@ use Rattle.words.specs.Numbers.{bytesOf}
 use Rattle.words.specs.NumberLaws.{length-bytes, number-found}
 use Rattle.records.specs.Records.{Record, recordIn}
 use Rattle.records.specs.CircuitFile.{mark, wiresBytes, recordBytes, recordsBytes, fileBytes}
-use Rattle.records.specs.FileFigures.{wiresAt, recordAt, sizeAt, recordsFrom, placeAfter, firstRecord, fileVariables, wireCount, fileRecords, fileOutputs}
+use Rattle.records.specs.FileFigures.{wiresAt, recordAt, sizeAt, recordsFrom, placeAfter, firstRecord, fileVariables, wireCount, fileRecords, fileOutputs, outputFigure, fileFigures}
 use Rattle.records.specs.FitRecords.{Wires, AllReadBack, FileFits}
 use Rattle.records.specs.SizeLaws.{size-append, file-size}
+use Rattle.records.specs.FilePartLaws.{figures-at}
 use Rattle.records.specs.FoundWires.{wires-found}
 use Rattle.records.specs.FoundRecords.{record-found}
 
@@ -150,3 +151,11 @@ file-found v R outputs f = (
   variables-found v R outputs,
   count-found v R outputs (f .few),
 )
+
+-- so its figures, worked out from its bytes, are those of its records at its outputs
+pub file-figures : (v : ℕ) (R : List Record) (outputs : List ℕ) → FileFits v R outputs → (inputs : List ℕ)
+    → fileFigures (fileBytes v R outputs) inputs ≡ map (outputFigure inputs R) outputs
+file-figures v R outputs f inputs =
+    let found = file-found v R outputs f in
+    figures-at (fileBytes v R outputs) inputs
+    ∙ ap₂ (λ (Q : List Record) (l : List ℕ). map (outputFigure inputs Q) l) (found .0) (found .1)

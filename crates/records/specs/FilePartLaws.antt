@@ -2,16 +2,19 @@
 use Prim.Native.Nat.{ℕ, zero, suc, _+_, _*_, _<_}
 use mathlib.Core.Path.{_≡_, refl, ap, subst, _∙_}
 use mathlib.Core.List.{List, [], _∷_, _++_, map}
+use mathlib.Core.Bool.{cond}
 use native.Mathlib.Omega.{arith}
+use lib.Dec.{eqb}
 use lib.ListN.{length, getD}
-use Rattle.words.specs.Lists.{_∈_, Inside}
+use Rattle.words.specs.Lists.{_∈_}
 use Rattle.words.specs.MemberLaws.{getD-in}
 use Rattle.words.specs.Numbers.{numberAt}
 use Rattle.words.specs.Runs.{run}
 use Rattle.records.specs.Records.{Record, word, recordIn, recordFigure}
 use Rattle.records.specs.WireKinds.{wireKind}
 use Rattle.records.specs.WireFigures.{pickSum, wireFigure}
-use Rattle.records.specs.FileFigures.{wiresAt, pairsAt, recordAt, sizeAt, recordsFrom, placeAfter, firstRecord, fileVariables, wireCount, fileRecords, fileOutputs, fileFigures}
+use Rattle.records.specs.CircuitFile.{noWire}
+use Rattle.records.specs.FileFigures.{wiresAt, pairsAt, recordAt, sizeAt, recordsFrom, placeAfter, firstRecord, fileVariables, wireCount, fileRecords, fileOutputs, outputFigure, fileFigures}
 
 -- one wire more
 pub wires-next : (n : ℕ) (f : List ℕ) (at : ℕ) → wiresAt (suc n) f at ≡ wiresAt n f at ++ (numberAt 2 f (at + 2 * n) ∷ [])
@@ -20,7 +23,7 @@ wires-next (suc n) f at =
     let e : at + 2 + 2 * n ≡ at + 2 * suc n = omega arith in
     ap (λ (l : List ℕ). numberAt 2 f at ∷ l) (wires-next n f (at + 2) ∙ ap (λ (k : ℕ). wiresAt n f (at + 2) ++ (numberAt 2 f k ∷ [])) e)
 
--- n wires, and each of them is one of them
+-- n wires, and each of them is as all of them are
 pub wires-length : (n : ℕ) (f : List ℕ) (at : ℕ) → length (wiresAt n f at) ≡ n
 wires-length zero f at = refl
 wires-length (suc n) f at = ap suc (wires-length n f (at + 2))
@@ -35,9 +38,8 @@ wires-at (suc n) f at zero h = let e : at ≡ at + 2 * 0 = omega arith in ap (nu
 wires-at (suc n) f at (suc k) h =
     let e : at + 2 + 2 * k ≡ at + 2 * suc k = omega arith in wires-at n f (at + 2) k (omega arith) ∙ ap (numberAt 2 f) e
 
-pub wire-of : (k n : ℕ) (f : List ℕ) (at i : ℕ) → Inside k (wiresAt n f at) → i < n → numberAt 2 f (at + 2 * i) < k
-wire-of k n f at i w h =
-    w _ (subst (λ (a : ℕ). a ∈ wiresAt n f at) (wires-at n f at i h) (getD-in (wiresAt n f at) i (rw (wires-length n f at) h)))
+pub wire-of : (P : ℕ → Type 0) (n : ℕ) (f : List ℕ) (at i : ℕ) → ((w : ℕ) → w ∈ wiresAt n f at → P w) → i < n → P (numberAt 2 f (at + 2 * i))
+wire-of P n f at i w h = subst P (wires-at n f at i h) (w _ (getD-in (wiresAt n f at) i (rw (wires-length n f at) h)))
 
 -- one record more
 pub records-next : (n : ℕ) (f : List ℕ) (at : ℕ) → recordsFrom (suc n) f at ≡ recordsFrom n f at ++ (recordAt f (placeAfter n f at) ∷ [])
@@ -59,7 +61,7 @@ pub file-count : (f : List ℕ) → length (fileRecords f) ≡ wireCount f
 unfolding fileRecords
 file-count f = records-length (wireCount f) f firstRecord
 
--- record i of a file, its output wires, and its figures: at each output wire, what a run of its records gives there
+-- record i of a file, its output wires, and its figures: at each output wire, what a run of its records gives there, 0 where there is none
 pub record-of : (f : List ℕ) (i : ℕ) → i < wireCount f → recordIn (fileRecords f) i ≡ recordAt f (placeAfter i f firstRecord)
 unfolding fileRecords
 record-of f i h = records-at (wireCount f) f firstRecord i (word 0) h
@@ -68,11 +70,12 @@ pub outputs-of : (f : List ℕ) → fileOutputs f ≡ wiresAt (fileVariables f) 
 unfolding fileOutputs
 outputs-of f = refl
 
-pub figures-at : (f inputs : List ℕ) → fileFigures f inputs ≡ map (wireFigure inputs (fileRecords f)) (fileOutputs f)
+pub figures-at : (f inputs : List ℕ) → fileFigures f inputs ≡ map (outputFigure inputs (fileRecords f)) (fileOutputs f)
 unfolding fileFigures
 figures-at f inputs = refl
 
 pub figures-of : (f inputs : List ℕ)
-    → fileFigures f inputs ≡ map (λ w. getD (run 0 (recordFigure inputs (pickSum (wireKind (fileRecords f)))) (recordsFrom (wireCount f) f firstRecord) []) w 0) (fileOutputs f)
+    → fileFigures f inputs
+    ≡ map (λ w. cond (eqb w noWire) 0 (getD (run 0 (recordFigure inputs (pickSum (wireKind (fileRecords f)))) (recordsFrom (wireCount f) f firstRecord) []) w 0)) (fileOutputs f)
 unfolding fileFigures wireFigure fileRecords
 figures-of f inputs = refl

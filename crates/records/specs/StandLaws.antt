@@ -3,7 +3,7 @@ use Prim.Native.Nat.{ℕ, zero, suc, _+_, _^_, _≤_, _<_}
 use mathlib.Core.Path.{_≡_, refl}
 use mathlib.Core.List.{List, [], _∷_}
 use mathlib.Core.Bool.{true, _&&_}
-use mathlib.Core.Logic.{_↔_}
+use mathlib.Core.Logic.{_⊎_, inl, inr, _↔_}
 use native.Mathlib.Nat.{add-zero}
 use native.Mathlib.Omega.{arith}
 use lib.Dec.{eqb, ltb}
@@ -11,7 +11,7 @@ use lib.ListN.{length, getD}
 use borrow.Author.Tests.{eqb-true, eq-eqb, leb-true, le-leb, ltb-true, lt-ltb}
 use Rattle.words.specs.Lists.{every}
 use Rattle.words.specs.MemberLaws.{every-right, inside-right}
-use Rattle.words.specs.TestLaws.{both, and}
+use Rattle.words.specs.TestLaws.{both, and, either, or-left, or-right}
 use Rattle.codes.specs.Codes.{sameKind, entryOf}
 use Rattle.codes.specs.CodeLaws.{same-kind, itself-kind}
 use Rattle.codes.specs.declared.Kind.{Kind}
@@ -19,7 +19,8 @@ use Rattle.codes.specs.declared.Kind.the-variants as kind
 use Rattle.records.specs.Records.{Record, input, word, bit, operation, choice, pick, guard, reads}
 use Rattle.records.specs.RecordLaws.{Along, ReadsBefore}
 use Rattle.records.specs.WireKinds.{guardsOf, valuesOf, recordKind, AllOf, RecordFits}
-use Rattle.records.specs.CircuitRows.{inputInPlace, allOf, kindsFit, tableFits, stands, allStand, outputsStand}
+use Rattle.records.specs.CircuitFile.{noWire}
+use Rattle.records.specs.CircuitRows.{inputInPlace, allOf, kindsFit, tableFits, stands, allStand, outputStands, outputsStand}
 use Rattle.records.specs.WellFormed.{TableFits}
 
 -- record i among v inputs and the other wires
@@ -107,26 +108,34 @@ module _ (v : ℕ) (k : ℕ → Kind) where
   all-back i [] h = refl
   all-back i (r ∷ R) (h, g) = and (stands-back i r h) (all-back (suc i) R g)
 
--- an output of its variable's kind
+-- an output that names no wire, or a wire of its variable's kind
 abbrev pub Out : ℕ → (ℕ → Kind) → ℕ → ℕ → Type 0
-Out n k x w = (w < n) × (k w ≡ k x)
+Out n k x w = (w ≡ noWire) ⊎ ((w < n) × (k w ≡ k x))
+
+output-right : (n : ℕ) (k : ℕ → Kind) (x w : ℕ) → (outputStands n k x w ≡ true) ↔ Out n k x w
+output-right n k x w = (λ h. to (either (eqb w noWire) (ltb w n && sameKind (k w) (k x)) h), back)
+  where
+    to : (eqb w noWire ≡ true) ⊎ ((ltb w n && sameKind (k w) (k x)) ≡ true) → Out n k x w
+    to (inl e) = inl (eqb-true w noWire e)
+    to (inr h) = let (p, q) = both (ltb w n) (sameKind (k w) (k x)) h in inr (ltb-true w n p, same-kind (k w) (k x) q)
+
+    back : Out n k x w → outputStands n k x w ≡ true
+    back (inl e) = or-left (eqb w noWire) (ltb w n && sameKind (k w) (k x)) (eq-eqb w noWire e)
+    back (inr (a, b)) = or-right (eqb w noWire) (ltb w n && sameKind (k w) (k x)) (and (lt-ltb w n a) (alike (k w) (k x) .1 b))
 
 module _ (n : ℕ) (k : ℕ → Kind) where
   pub outs-to : (x : ℕ) (l : List ℕ) → outputsStand n k x l ≡ true → (y : ℕ) → y < length l → Out n k (x + y) (getD l y 0)
   outs-to x [] h y b = absurd (omega arith)
   outs-to x (w ∷ l) h y b =
-      let (o, r) = both (ltb w n && sameKind (k w) (k x)) (outputsStand n k (suc x) l) h in
-      let (p, q) = both (ltb w n) (sameKind (k w) (k x)) o in
-      go (ltb-true w n p, same-kind (k w) (k x) q) (outs-to (suc x) l r) y b
+      let (o, r) = both (outputStands n k x w) (outputsStand n k (suc x) l) h in
+      go (output-right n k x w .0 o) (outs-to (suc x) l r) y b
     where
-      go : (w < n) × (k w ≡ k x) → ((y : ℕ) → y < length l → Out n k (suc x + y) (getD l y 0)) → (y : ℕ) → y < suc (length l)
-          → (getD (w ∷ l) y 0 < n) × (k (getD (w ∷ l) y 0) ≡ k (x + y))
+      go : Out n k x w → ((y : ℕ) → y < length l → Out n k (suc x + y) (getD l y 0)) → (y : ℕ) → y < suc (length l) → Out n k (x + y) (getD (w ∷ l) y 0)
       go o r zero b = rw add-zero o
       go o r (suc y) b = let e : x + suc y ≡ suc x + y = omega arith in rw e (r y (omega arith))
 
   pub outs-back : (x : ℕ) (l : List ℕ) → ((y : ℕ) → y < length l → Out n k (x + y) (getD l y 0)) → outputsStand n k x l ≡ true
   outs-back x [] h = refl
   outs-back x (w ∷ l) h =
-      let (a, b) = h 0 (omega arith) in
-      and (and (lt-ltb w n a) (alike (k w) (k x) .1 (rw add-zero at b)))
+      and (output-right n k x w .1 (rw add-zero at (h 0 (omega arith))))
       (outs-back (suc x) l (λ y m. let e : suc x + y ≡ x + suc y = omega arith in rw e (h (suc y) (omega arith))))

@@ -20,12 +20,11 @@ use Rattle.records.specs.FileLaws.{place-next}
 use Rattle.records.specs.InverseLaws.{place-is}
 use Rattle.records.specs.Limits.{mostWires}
 use Rattle.records.specs.LaidOut.{recordPlace, WholeAt, LaidOut}
-use Rattle.records.specs.CircuitRows.{stands, allStand, outputsStand, standing}
+use Rattle.records.specs.CircuitRows.{stands, allStand, outputStands, outputsStand, standing}
 use Rattle.records.specs.RowLaws.{Headed}
 use Rattle.records.specs.StandLaws.{stands-to}
 use Rattle.parts.specs.HeldKinds.{isBit, heldKind}
 use Rattle.parts.specs.TableLaws.{HoldsKinds, holds-none, holds-more}
-use Rattle.wiring.specs.Wires.{fits}
 use Rattle.wiring.specs.SameLaws.{stands-same, outputs-same}
 
 -- amid the outputs: those that are left decide
@@ -42,16 +41,16 @@ module _ (f : List ℕ) (k : ℕ → Kind) (n at v x : ℕ) (p : AmidOutputs f k
 
   module _ (h : x < v) where
     next : outputsStand n k x (wiresAt (v - x) f (at + 2 * x))
-        ≡ (fits n k (k x) (numberAt 2 f (at + 2 * x)) && outputsStand n k (x + 1) (wiresAt (v - (x + 1)) f (at + 2 * (x + 1))))
+        ≡ (outputStands n k x (numberAt 2 f (at + 2 * x)) && outputsStand n k (x + 1) (wiresAt (v - (x + 1)) f (at + 2 * (x + 1))))
     next =
         let e : v - x ≡ suc (v - (x + 1)) = omega arith in
         let a : at + 2 * x + 2 ≡ at + 2 * (x + 1) = omega arith in
         ap (λ (m : ℕ). outputsStand n k x (wiresAt m f (at + 2 * x))) e ∙ rw (a, add-one x)
 
-    pub output-fails : (b : Bool) → b ≡ fits n k (k x) (numberAt 2 f (at + 2 * x)) → b ≡ false → false ≡ outputsStand n k 0 (wiresAt v f at)
+    pub output-fails : (b : Bool) → b ≡ outputStands n k x (numberAt 2 f (at + 2 * x)) → b ≡ false → false ≡ outputsStand n k 0 (wiresAt v f at)
     output-fails b e z = sym (p .same ∙ next ∙ rw (sym e ∙ z))
 
-    pub output-more : (b : Bool) → b ≡ fits n k (k x) (numberAt 2 f (at + 2 * x)) → b ≡ true → AmidOutputs f k n at v (x + 1)
+    pub output-more : (b : Bool) → b ≡ outputStands n k x (numberAt 2 f (at + 2 * x)) → b ≡ true → AmidOutputs f k n at v (x + 1)
     output-more b e z = record { few = omega arith; same = p .same ∙ next ∙ rw (sym e ∙ z) }
 
 -- amid the records: those that are left decide, and the table holds the kinds of the wires so far

@@ -2,7 +2,7 @@
 use Prim.Native.Nat.{ℕ, suc, _+_, _≤_, _<_}
 use mathlib.Core.Path.{_≡_, refl}
 use mathlib.Core.List.{List, [], _∷_}
-use mathlib.Core.Bool.{_&&_, and-false}
+use mathlib.Core.Bool.{and-false}
 use mathlib.Core.Logic.{inl, inr}
 use native.Mathlib.Omega.{arith}
 use lib.Dec.{ltb}
@@ -17,7 +17,7 @@ use Rattle.codes.specs.declared.Kind.the-variants as kind
 use Rattle.records.specs.Records.{Pair, Record, input, word, bit, operation, choice, pick, guard, pairWires, reads}
 use Rattle.records.specs.WireKinds.{guardsOf, valuesOf, recordKind}
 use Rattle.records.specs.WireKindLaws.{kind-same}
-use Rattle.records.specs.CircuitRows.{inputInPlace, kindsFit, stands, outputsStand}
+use Rattle.records.specs.CircuitRows.{inputInPlace, kindsFit, stands, outputStands, outputsStand}
 
 -- the guards and the values of a pick are among its wires
 guards-in : (l : List Pair) (w : ℕ) → w ∈ guardsOf l → w ∈ pairWires l
@@ -61,5 +61,5 @@ module _ (k j : ℕ → Kind) where
   outputs-same n h x (w ∷ l) b =
       rw (one, outputs-same n h (suc x) l (omega arith))
     where
-      one : (ltb w n && sameKind (k w) (k x)) ≡ (ltb w n && sameKind (j w) (j x))
+      one : outputStands n k x w ≡ outputStands n j x w
       one = split (ltb w n) (λ t. rw (h w (ltb-true w n t), h x (omega arith))) (λ t. rw t)

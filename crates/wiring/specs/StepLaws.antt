@@ -1,4 +1,4 @@
--- Laws of row 62, one for each step of the code: a wire, wires at equal distances, a guard's table. Assumes nothing.
+-- Laws of row 62, one for each step of the code: a wire, an output, wires at equal distances, a guard's table. Assumes nothing.
 use Prim.Native.Nat.{ℕ, zero, suc, _+_, _-_, _*_, _^_, _≤_, _<_}
 use mathlib.Core.Path.{_≡_, refl, sym, ap, _∙_}
 use mathlib.Core.List.{List}
@@ -7,12 +7,14 @@ use native.Mathlib.Nat.{mul-suc}
 use native.Mathlib.Omega.{arith}
 use lib.Dec.{ltb}
 use lib.ListN.{length, getD}
-use borrow.Author.Tests.{lt-ltb, le-ltb}
+use borrow.Author.Tests.{eq-eqb, ne-eqb, lt-ltb, le-ltb}
 use Rattle.words.specs.Lists.{every}
 use Rattle.words.specs.Numbers.{numberAt}
 use Rattle.codes.specs.Codes.{sameKind}
 use Rattle.codes.specs.declared.Kind.{Kind}
 use Rattle.codes.specs.declared.Kind.the-variants as kind
+use Rattle.records.specs.CircuitFile.{noWire}
+use Rattle.records.specs.CircuitRows.{outputStands}
 use Rattle.parts.specs.HeldKinds.{kindBy, heldKind}
 use Rattle.wiring.specs.Wires.{fits, wiresBy}
 
@@ -35,6 +37,14 @@ module _ (i : ℕ) (bits : List Bool) (n w : ℕ) (e : n ≡ w) where
         go : (b : Bool) → not b ≡ sameKind (kindBy b) kind.Word
         go true = refl
         go false = refl
+
+-- an output: n is its number as the code has it
+module _ (count : ℕ) (k : ℕ → Kind) (x n w : ℕ) (e : n ≡ w) where
+  pub output-none : n ≡ noWire → true ≡ outputStands count k x w
+  output-none h = rw (eq-eqb w noWire (sym e ∙ h))
+
+  pub output-wire : (n ≡ noWire → ⊥) → (b : Bool) → b ≡ fits count k (k x) w → b ≡ outputStands count k x w
+  output-wire h b q = rw (ne-eqb w noWire (λ z. h (e ∙ z))) q
 
 -- wires at equal distances: those that are left decide
 pub record AmidWires (f : List ℕ) (t : ℕ → Bool) (step at count here left : ℕ) : Type 0 where

@@ -2,7 +2,7 @@ use mathlib.Core.Path.{_≡_}
 use Prim.Native.Nat.{_-_}
 use borrow.Author.Needs.{needs}
 use native.Mathlib.Omega.{arith}
-use Rattle.figures.specs.GivingLaws.{Giving, giving-start, giving-length, giving-wire, giving-more, giving-end}
+use Rattle.figures.specs.GivingLaws.{Giving, giving-start, giving-length, giving-output, giving-more, giving-end}
 use Rattle.records.specs.FileFigures.{fileVariables}
 use Rattle.figures.proofs.give_outputs.Statement.{statement}
 use Rattle.figures.proofs.give_outputs.Tie as tie
@@ -21,10 +21,10 @@ loop-holds c =
     let d = c .before .before .before .before in
     (giving-start _ _ _ _ (d .pre .1) (d .pre .2) (d .pre .3), c .wide8 .ensures .0)
 
-figure-at-requires : tie.Need-figure-at-requires Inv-loop μ-loop
-figure-at-requires c κs =
+output-figure-requires : tie.Need-output-figure-requires Inv-loop μ-loop
+output-figure-requires c κs =
     let d = c .before in
-    giving-wire _ _ _ _ _ _ (d .loop .inv .0) (omega (arith, c .loop-test .taken, d .loop .inv .1))
+    giving-output _ _ _ _ _ _ (d .loop .inv .0) (omega (arith, c .loop-test .taken, d .loop .inv .1))
 
 slice-write-results : tie.Need-slice-write-results Inv-loop μ-loop
 slice-write-results c =
@@ -34,7 +34,7 @@ slice-write-results c =
 loop-again : tie.Need-loop-again Inv-loop μ-loop
 loop-again c =
     let d = c .before .before in
-    (giving-more _ _ _ _ _ _ (d .loop .inv .0) (omega (arith, c .before .loop-test .taken, d .loop .inv .1)) _ (c .figure-at .ensures), d .loop .inv .1)
+    (giving-more _ _ _ _ _ _ (d .loop .inv .0) (omega (arith, c .before .loop-test .taken, d .loop .inv .1)) _ (c .output-figure .ensures), d .loop .inv .1)
 
 same-length : tie.Need-same-length Inv-loop μ-loop
 same-length c = giving-length _ _ _ _ _ _ (c .before .loop .inv .0)
@@ -55,7 +55,7 @@ give-outputs-spec =
     loop-holds
     (λ c. search needs)
     (λ c. search needs)
-    figure-at-requires
+    output-figure-requires
     (λ c. search needs)
     slice-write-results
     (λ c. search needs)

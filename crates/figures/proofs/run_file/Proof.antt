@@ -1,7 +1,7 @@
 use denote.Ref.{now}
 use borrow.Author.Needs.{needs}
 use Rattle.records.specs.FormatLaws.{row-passed}
-use Rattle.figures.specs.GivingLaws.{outputs-whole, outputs-inside, outputs-given}
+use Rattle.figures.specs.GivingLaws.{outputs-whole, outputs-fine, outputs-given}
 use Rattle.figures.proofs.run_file.Statement.{statement}
 use Rattle.figures.proofs.run_file.Tie as tie
 
@@ -11,7 +11,7 @@ give-outputs-requires c κs =
     let p = row-passed (now (d .args .file)) (d .pre .0) in (
       p .head .long,
       outputs-whole (now (d .args .file)) (now (d .args .inputs)) p _ (c .before .before .work-out .ensures .0),
-      outputs-inside (now (d .args .file)) (now (d .args .inputs)) p _ (c .before .before .work-out .ensures .0),
+      outputs-fine (now (d .args .file)) (now (d .args .inputs)) p _ (c .before .before .work-out .ensures .0),
       d .pre .2,
     )
 

@@ -29,13 +29,13 @@ returns c =
 loop-holds : tie.Need-loop-holds Inv-loop μ-loop
 loop-holds c = inputs-start _ _ _ (c .before .wide8 .ensures .0) (c .before .before .before .before .before .pre)
 
-shared-slice-read-kind-of : tie.Need-shared-slice-read-kind-of Inv-loop μ-loop
-shared-slice-read-kind-of c = input-byte _ _ _ _ (c .before .before .before .before .loop .inv) (c .before .before .before .loop-test .taken)
+shared-slice-read-start-kind : tie.Need-shared-slice-read-start-kind Inv-loop μ-loop
+shared-slice-read-start-kind c = input-byte _ _ _ _ (c .before .before .before .before .loop .inv) (c .before .before .before .loop-test .taken)
 
 returns-2 : tie.Need-returns-2 Inv-loop μ-loop
 returns-2 c =
     input-refused _ _ _ _ (c .before .before .before .before .before .before .before .loop .inv) (c .before .before .before .before .before .before .loop-test .taken) (c .before .before .before .before .before .before .before .before .if1 .left) (c .before .before .before .before .if2 .taken) _
-    (c .before .same-kind .ensures ∙ ap (λ (k : Kind). sameKind k Bit) (c .before .before .kind-of .ensures)) (c .if3 .taken) _
+    (c .before .same-kind .ensures ∙ ap (λ (k : Kind). sameKind k Bit) (c .before .before .start-kind .ensures)) (c .if3 .taken) _
 
 loop-again : tie.Need-loop-again Inv-loop μ-loop
 loop-again c =
@@ -65,7 +65,7 @@ inputs-refusal-spec =
     (λ c. search needs)
     (λ c. search needs)
     (λ c. search needs)
-    shared-slice-read-kind-of
+    shared-slice-read-start-kind
     (λ c κs. search needs)
     (λ c κs. search needs)
     returns-2

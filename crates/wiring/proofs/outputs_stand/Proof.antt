@@ -16,14 +16,17 @@ abbrev μ-loop : tie.MeasureT-loop
 loop-holds : tie.Need-loop-holds Inv-loop μ-loop
 loop-holds c = outputs-start _ _ _ _ _
 
-wire-fits-requires : tie.Need-wire-fits-requires Inv-loop μ-loop
-wire-fits-requires c κs = let p = c .before .before .before .before .pre in (omega (arith, p .0, c .before .loop-test .taken), p .2)
+output-stands-requires : tie.Need-output-stands-requires Inv-loop μ-loop
+output-stands-requires c κs =
+    let p = c .before .before .before .pre in
+    let h = c .loop-test .taken in
+    (omega (arith, p .0, h), omega (arith, p .1, p .2, h), p .2)
 
 returns : tie.Need-returns Inv-loop μ-loop
-returns c = output-fails _ _ _ _ _ _ (c .before .before .before .before .loop .inv) (c .before .before .before .loop-test .taken) _ (c .before .wire-fits .ensures) (not-true _ (c .if1 .taken))
+returns c = output-fails _ _ _ _ _ _ (c .before .before .before .loop .inv) (c .before .before .loop-test .taken) _ (c .before .output-stands .ensures) (not-true _ (c .if1 .taken))
 
 loop-again : tie.Need-loop-again Inv-loop μ-loop
-loop-again c = output-more _ _ _ _ _ _ (c .before .before .before .before .loop .inv) (c .before .before .before .loop-test .taken) _ (c .before .wire-fits .ensures) (not-false _ (c .if1 .left))
+loop-again c = output-more _ _ _ _ _ _ (c .before .before .before .loop .inv) (c .before .before .loop-test .taken) _ (c .before .output-stands .ensures) (not-false _ (c .if1 .left))
 
 returns-2 : tie.Need-returns-2 Inv-loop μ-loop
 returns-2 c = outputs-done _ _ _ _ _ _ (c .before .loop .inv) (c .loop-test .left)
@@ -37,8 +40,7 @@ outputs-stand-spec =
     loop-holds
     (λ c. search needs)
     (λ c. search needs)
-    (λ c. search needs)
-    wire-fits-requires
+    output-stands-requires
     returns
     (λ c. search needs)
     (λ c. search needs)
