@@ -3,14 +3,16 @@ use Prim.Native.Nat.{ℕ, zero, suc, _-_, _*_, _≤_}
 use native.Mathlib.Omega.{arith}
 use mathlib.Core.Path.{_≡_, sym, ap, subst⁻¹, _∙_}
 use mathlib.Core.List.{List, [], _++_}
-use lib.ListN.{length, take, drop, replicate}
+use lib.ListN.{length, getD, take, drop, replicate}
 use borrow.Author.Tests.{eq-eqb, ne-eqb}
 use Rattle.words.specs.Buffers.{over, padded}
+use Rattle.words.specs.BufferLaws.{padded-at}
+use Rattle.words.specs.ListLaws.{map-same}
 use Rattle.words.specs.Lists.{Inside}
 use Rattle.answers.specs.ParsingLaws.{is-read}
 use Rattle.answers.specs.declared.Answer.{Answer}
 use Rattle.reading.specs.Limits.{mostVariables}
-use Rattle.reading.specs.Header.{variables}
+use Rattle.reading.specs.Header.{variables, HasKinds, resultVariables}
 use Rattle.reading.specs.FirstStatement.{rule-read}
 use Rattle.reading.specs.Rule.{readRule}
 use Rattle.gates.specs.Limits.{mostGates, mostConditions}
@@ -18,6 +20,7 @@ use Rattle.gates.specs.Gates.{conditions}
 use Rattle.gates.specs.PlainCircuit.{gatesOf, outputsOf, gateCount}
 use Rattle.gates.specs.Quads.{quadsOf}
 use Rattle.making.specs.RuleMade.{RuleMade}
+use Rattle.needed.specs.Needed.{wantedAmong, wantedOf}
 use Rattle.needed.specs.Pass.{preconditionSets, rulePreconditions}
 use Rattle.needed.specs.Held.{gatesIn}
 use Rattle.needed.specs.HeldQuads.{rule-held}
@@ -30,7 +33,7 @@ use Rattle.circuit.specs.Whole.{ruleAnswer}
 use Rattle.circuit.specs.WholeLaws.{Accepted}
 use Rattle.circuit.specs.Built.{ifAccepted, builtQuads, builtNeeds, builtOutputs, builtConditions}
 use Rattle.circuit.specs.Making.{MadeWhole}
-use Rattle.circuit.specs.MakingLaws.{made-held, made-outputs}
+use Rattle.circuit.specs.MakingLaws.{made-held}
 
 -- of a refused rule nothing is built, of an accepted one the list
 pub refused-shows : (s : List ℕ) → (ruleAnswer s .number ≡ 0 → ⊥) → (l : List ℕ) → ifAccepted s l ≡ []
@@ -73,8 +76,8 @@ module _ (s quads present ranks : List ℕ) (count : ℕ) (ready : MadeWhole s q
   ready-room : count ≤ mostGates
   ready-room = rw counted (acc .gates)
 
-  pub ready-variables : variables s ≤ mostVariables
-  ready-variables = rule-read s (acc .read) .header .few
+  pub ready-variables : HasKinds s × (variables s ≤ mostVariables)
+  ready-variables = let h = rule-read s (acc .read) .header in (h .kinds, h .few)
 
   placed : ranks ≡ ranksOf (gatesIn quads (gateCount s)) mostGates
   placed = ready .placed ready-room ∙ ap (λ (n : ℕ). ranksOf (gatesIn quads n) mostGates) counted
@@ -82,18 +85,21 @@ module _ (s quads present ranks : List ℕ) (count : ℕ) (ready : MadeWhole s q
   held : take (4 * gateCount s) quads ≡ quadsOf s (gatesOf s)
   held = made-held s quads present count (acc .read) made (acc .gates)
 
-  outputs : take (variables s) present ≡ outputsOf s
-  outputs = made-outputs s quads present count (acc .read) made (acc .gates)
+  -- what is wanted of the outputs, as they lie in the array, is what the rule wants
+  wanted : wantedAmong s present ≡ wantedOf s
+  wanted =
+      map-same (λ x. getD present x 0) (λ x. getD (outputsOf s) x 0) (resultVariables s)
+      (λ x _. ap (λ (l : List ℕ). getD l x 0) (made .outputs (acc .gates)) ∙ padded-at mostVariables (outputsOf s) x)
 
   pub ready-passable : Passable quads ranks count
   ready-passable =
       let r = is-read (readRule s) (acc .read) in
       subst⁻¹ (Passable quads ranks) counted (quads-passable s (r .0) (r .1) (r .2) quads held ranks (acc .gates) (acc .conds) placed)
 
-  pub ready-wanted : Inside count (take (variables s) present)
+  pub ready-wanted : Inside count (wantedAmong s present)
   ready-wanted =
       let r = is-read (readRule s) (acc .read) in
-      subst⁻¹ (λ (n : ℕ). Inside n (take (variables s) present)) counted (quads-wanted s (r .0) (r .1) (r .2) quads held (take (variables s) present) outputs)
+      subst⁻¹ (λ (n : ℕ). Inside n (wantedAmong s present)) counted (quads-wanted s (r .0) (r .1) (r .2) quads held (wantedAmong s present) wanted)
 
   -- the conditions' gates are those that have a number
   same-conditions : markedIn ranks count ≡ conditions (gatesOf s)
@@ -119,13 +125,13 @@ module _ (s quads present ranks : List ℕ) (count : ℕ) (ready : MadeWhole s q
       e ∙ ap (λ (l : List ℕ). over l (replicate mostConditions 0)) same-conditions
       ∙ over-zeros (conditions (gatesOf s)) mostConditions ∙ ap (padded mostConditions) (sym (accepted-is (conditions (gatesOf s))))
 
-  pub ready-needs : (needs : List ℕ) → needs ≡ preconditionSets mostConditions (gatesIn quads count) (take (variables s) present) ++ replicate (mostGates - count) 0
+  pub ready-needs : (needs : List ℕ) → needs ≡ preconditionSets mostConditions (gatesIn quads count) (wantedAmong s present) ++ replicate (mostGates - count) 0
       → needs ≡ builtNeeds s
   ready-needs needs e =
       let r = is-read (readRule s) (acc .read) in
-      let sets : preconditionSets mostConditions (gatesIn quads count) (take (variables s) present) ≡ rulePreconditions s
-      = ap (λ (n : ℕ). preconditionSets mostConditions (gatesIn quads n) (take (variables s) present)) counted
-      ∙ quads-preconditions s (r .0) (r .1) (r .2) quads held (take (variables s) present) outputs in
+      let sets : preconditionSets mostConditions (gatesIn quads count) (wantedAmong s present) ≡ rulePreconditions s
+      = ap (λ (n : ℕ). preconditionSets mostConditions (gatesIn quads n) (wantedAmong s present)) counted
+      ∙ quads-preconditions s (r .0) (r .1) (r .2) quads held (wantedAmong s present) wanted in
       e ∙ ap (λ (l : List ℕ). l ++ replicate (mostGates - count) 0) sets
-      ∙ ap (λ (n : ℕ). rulePreconditions s ++ replicate (mostGates - n) 0) (counted ∙ sym (sets-length mostConditions (gatesOf s) (outputsOf s)))
+      ∙ ap (λ (n : ℕ). rulePreconditions s ++ replicate (mostGates - n) 0) (counted ∙ sym (sets-length mostConditions (gatesOf s) (wantedOf s)))
       ∙ ap (padded mostGates) (sym (accepted-is (rulePreconditions s)))

@@ -12,11 +12,10 @@ use Rattle.answers.specs.Answers.{success, refusal, answerOf}
 use Rattle.answers.specs.ParsingLaws.{is-read}
 use Rattle.answers.specs.Parsing.{IsRead, stepOf}
 use Rattle.answers.specs.declared.Answer.{Answer}
-use Rattle.reading.specs.Header.{variables}
 use Rattle.reading.specs.Rule.{readRule}
 use Rattle.gates.specs.Limits.{mostGates, mostConditions}
 use Rattle.gates.specs.Gates.{Gates, Earlier, costs, conditions}
-use Rattle.gates.specs.PlainCircuit.{gatesOf, outputsOf}
+use Rattle.gates.specs.PlainCircuit.{gatesOf}
 use Rattle.gates.specs.Quads.{quadsOf}
 use Rattle.gates.specs.QuadLaws.{quads-length}
 use Rattle.gates.specs.StartLaws.{plain-sound}
@@ -64,13 +63,6 @@ module _ (s quads present : List ℕ) (count : ℕ) (read : IsRead (readRule s))
   made-held few =
       ap (take (4 * length (gatesOf s))) (made .lie few)
       ∙ take-at (quadsOf s (gatesOf s)) (replicate (1024 - length (quadsOf s (gatesOf s))) 0) (4 * length (gatesOf s)) (quads-length s (gatesOf s))
-
-  -- and its outputs
-  pub made-outputs : length (gatesOf s) ≤ mostGates → take (variables s) present ≡ outputsOf s
-  made-outputs few =
-      let r = is-read (readRule s) read in
-      ap (take (variables s)) (made .outputs few)
-      ∙ take-at (outputsOf s) (replicate (32 - length (outputsOf s)) 0) (variables s) (plain-sound s (r .0) (r .1) (r .2) .count)
 
   pub made-gates : count ≤ mostGates → gatesIn quads count ≡ gatesOf s
   made-gates h =

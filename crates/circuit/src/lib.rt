@@ -3,7 +3,7 @@ use answers::Answer;
 ghost use mathlib.Core.Path.{_≡_};
 ghost use mathlib.Core.List.{_++_};
 ghost use Prim.Native.Nat.{_-_, _≤_};
-ghost use lib.ListN.{take, replicate};
+ghost use lib.ListN.{length, take, replicate};
 ghost use Rattle.reading.specs.Limits.{mostVariables};
 ghost use Rattle.reading.specs.Header.{variables, HasKinds};
 ghost use Rattle.words.specs.Lists.{Inside};
@@ -64,8 +64,9 @@ pub fn read_rule(rule: &[u8]) -> Answer
 
 // The gates that are wanted from the start, out of every variable's last gate: those of the result variables, at the start of `wanted`. Gives how many they are.
 fn list_wanted(rule: &[u8], outputs: &[u16; 32], wanted: &mut [u16; 32]) -> usize
-    requires { ⌜ HasKinds (now rule) × (variables (now rule) ≤ mostVariables) ⌝ }
-    ensures { λ r. ⌜ (r ≤ mostVariables) × (take r (now (wanted .exit)) ≡ wantedAmong (now (rule .entry)) (now (outputs .entry))) ⌝ }
+    requires { ⌜ (HasKinds (now rule) × (variables (now rule) ≤ mostVariables)) × (length (now wanted) ≡ mostVariables) ⌝ }
+    ensures listed { λ r. ⌜ take r (now (wanted .exit)) ≡ wantedAmong (now (rule .entry)) (now (outputs .entry)) ⌝ }
+    ensures within { λ r. ⌜ r ≤ length (now (wanted .exit)) ⌝ }
 {
     let v = rule[5];
     let mut k: usize = 0;
@@ -81,7 +82,7 @@ fn list_wanted(rule: &[u8], outputs: &[u16; 32], wanted: &mut [u16; 32]) -> usiz
 }
 
 // Every gate's precondition, from what the rule wants of its outputs, in sets that are lent clear.
-fn find_needed(
+fn rule_needs(
     rule: &[u8],
     quads: &[u32; 1024],
     count: usize,
@@ -128,7 +129,7 @@ pub fn build(
     }
     let n = count as usize;
     needed::number_marked(n, &mut ranks);
-    find_needed(rule, quads, n, &ranks, outputs, needs);
+    rule_needs(rule, quads, n, &ranks, outputs, needs);
     needed::condition_gates(&ranks, n, conditions);
     answer
 }

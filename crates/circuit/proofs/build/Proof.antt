@@ -1,8 +1,6 @@
 use borrow.Author.Needs.{needs}
-use native.Mathlib.Omega.{arith}
 use mathlib.Core.Path.{refl}
 use denote.Ref.{now}
-use Rattle.reading.specs.FirstStatement.{rule-read}
 use Rattle.circuit.specs.WholeLaws.{answer-refused, answer-read}
 use Rattle.circuit.specs.MakingLaws.{made-earlier, whole-answer, whole-few, whole-ready}
 use Rattle.circuit.specs.BuiltLaws.{built-nothing, ready-variables, ready-passable, ready-wanted, ready-few, ready-quads, ready-needs, ready-outputs, ready-conditions}
@@ -33,49 +31,37 @@ returns-2 c =
     built-nothing s _ _ _ _ _ (whole-answer s _ (x .before .before .before .before .before .before .before .before .before .before .read-rule .ensures) (x .before .before .before .before .before .before .before .before .if1 .left) _ _ _ (x .before .before .before .before .before .make-rule .ensures) _ (x .before .before .whole .ensures .0)) (x .if2 .taken)
     (refl, (p .1 .0, (refl, p .1 .1 .1)))
 
-shared-slice-read-v : tie.Need-shared-slice-read-v
-shared-slice-read-v c =
-    let x = c .before in
-    let s = now (x .before .before .before .before .before .before .before .before .before .before .before .before .args .rule) in
-    omega (arith, rule-read s (answer-read s _ (x .before .before .before .before .before .before .before .before .before .before .read-rule .ensures) (x .before .before .before .before .before .before .before .before .if1 .left)) .header .kinds)
-
-cast-v : tie.Need-cast-v
-cast-v c =
-    let x = c .before in
-    let s = now (x .before .before .before .before .before .before .before .before .before .before .before .before .args .rule) in
-    record { fits = omega (arith, rule-read s (answer-read s _ (x .before .before .before .before .before .before .before .before .before .before .read-rule .ensures) (x .before .before .before .before .before .before .before .before .if1 .left)) .header .few) }
-
 number-marked-requires : tie.Need-number-marked-requires
 number-marked-requires c κs =
-    let x = c .before .before in
+    let x = c .before in
     let s = now (x .before .before .before .before .before .before .before .before .before .before .before .before .args .rule) in
     let h = whole-few s _ (x .before .before .before .before .before .before .before .before .before .before .read-rule .ensures) (x .before .before .before .before .before .before .before .before .if1 .left) _ _ _ (x .before .before .before .before .before .make-rule .ensures) _ (x .before .before .whole .ensures .0) (x .if2 .left) in
     (h, x .before .before .whole .ensures .1 h .size)
 
-find-needed-requires : tie.Need-find-needed-requires
-find-needed-requires c κs =
-    let x = c .before .before .before .before .before .before .before in
+rule-needs-requires : tie.Need-rule-needs-requires
+rule-needs-requires c κs =
+    let x = c .before .before .before .before .before .before in
     let s = now (x .before .before .before .before .before .before .before .before .before .before .before .before .args .rule) in
     let r = whole-ready s _ (x .before .before .before .before .before .before .before .before .before .before .read-rule .ensures) (x .before .before .before .before .before .before .before .before .if1 .left) _ _ _ (x .before .before .before .before .before .make-rule .ensures) _ (x .before .before .whole .ensures .0) (x .if2 .left) _ _ (x .before .before .whole .ensures .1) (c .before .before .before .before .number-marked .ensures) in
-    ((ready-passable _ _ _ _ _ r, (ready-variables _ _ _ _ _ r, ready-wanted _ _ _ _ _ r)), x .before .before .before .before .before .before .before .before .before .before .before .before .pre .1 .0)
+    ((ready-variables _ _ _ _ _ r, (ready-passable _ _ _ _ _ r, ready-wanted _ _ _ _ _ r)), x .before .before .before .before .before .before .before .before .before .before .before .before .pre .1 .0)
 
 condition-gates-requires : tie.Need-condition-gates-requires
 condition-gates-requires c κs =
-    let x = c .before .before .before .before .before .before .before .before .before .before in
+    let x = c .before .before .before .before .before .before .before .before .before in
     let s = now (x .before .before .before .before .before .before .before .before .before .before .before .before .args .rule) in
     let r = whole-ready s _ (x .before .before .before .before .before .before .before .before .before .before .read-rule .ensures) (x .before .before .before .before .before .before .before .before .if1 .left) _ _ _ (x .before .before .before .before .before .make-rule .ensures) _ (x .before .before .whole .ensures .0) (x .if2 .left) _ _ (x .before .before .whole .ensures .1) (c .before .before .before .before .before .before .before .number-marked .ensures) in
     (ready-few _ _ _ _ _ r, x .before .before .before .before .before .before .before .before .before .before .before .before .pre .1 .1 .1)
 
 returns-3 : tie.Need-returns-3
 returns-3 c =
-    let x = c .before .before .before .before .before .before .before .before .before .before .before in
+    let x = c .before .before .before .before .before .before .before .before .before .before in
     let s = now (x .before .before .before .before .before .before .before .before .before .before .before .before .args .rule) in
     let m = x .before .before .before .before .before .make-rule .ensures in
     let r = whole-ready s _ (x .before .before .before .before .before .before .before .before .before .before .read-rule .ensures) (x .before .before .before .before .before .before .before .before .if1 .left) _ _ _ m _ (x .before .before .whole .ensures .0) (x .if2 .left) _ _ (x .before .before .whole .ensures .1) (c .before .before .before .before .before .before .before .before .number-marked .ensures) in (
       whole-answer s _ (x .before .before .before .before .before .before .before .before .before .before .read-rule .ensures) (x .before .before .before .before .before .before .before .before .if1 .left) _ _ _ m _ (x .before .before .whole .ensures .0),
       (
         ready-quads _ _ _ _ _ r,
-        (ready-needs _ _ _ _ _ r _ (c .before .before .before .find-needed .ensures), (ready-outputs _ _ _ _ _ r, ready-conditions _ _ _ _ _ r _ (c .condition-gates .ensures))),
+        (ready-needs _ _ _ _ _ r _ (c .before .before .before .rule-needs .ensures), (ready-outputs _ _ _ _ _ r, ready-conditions _ _ _ _ _ r _ (c .condition-gates .ensures))),
       ),
     )
 
@@ -89,9 +75,7 @@ build-spec =
     whole-requires
     returns-2
     (λ c. search needs)
-    shared-slice-read-v
-    cast-v
     number-marked-requires
-    find-needed-requires
+    rule-needs-requires
     condition-gates-requires
     returns-3)
