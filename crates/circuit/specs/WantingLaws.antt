@@ -6,7 +6,7 @@ use mathlib.Core.Path.{_≡_, refl, sym, ap, _∙_}
 use mathlib.Core.List.{List, [], _∷_, _++_, map, map-append}
 use mathlib.Core.Bool.{Bool, true, false, not}
 use lib.ListN.{length, getD, set, take, replicate, length-set}
-use lib.Seq.{take-suc-set}
+use lib.Seq.{take-set-le, take-suc-set}
 use Rattle.words.specs.Lists.{Inside, keep, upto}
 use Rattle.words.specs.ListLaws.{keep-yes, keep-no}
 use Rattle.reading.specs.Limits.{mostVariables}
@@ -30,33 +30,34 @@ pub record Listing (s outputs wanted : List ℕ) (x k : ℕ) : Type 0 where
 pub listing-start : (s outputs wanted : List ℕ) → variables s ≤ mostVariables → length wanted ≡ mostVariables → Listing s outputs wanted 0 0
 listing-start s outputs wanted f r = record { low = omega arith; few = f; room = r; so-far = omega arith; listed = refl }
 
--- a result variable's gate is put behind those listed; a working one's is passed over
-pub listing-one : (s outputs wanted new : List ℕ) (x k n : ℕ) (b : Bool) → Listing s outputs wanted x k → x < variables s → b ≡ workingAt s x → b ≡ false
-    → new ≡ set wanted k (getD outputs x 0) → n ≡ k + 1 → Listing s outputs new (x + 1) n
-listing-one s outputs wanted new x k n b i l e f q h =
-    let m : n ≡ suc k = omega arith in
-    let r : k < length wanted = omega (arith, i .room, i .so-far, i .few) in
-    record {
-      low = omega arith;
-      few = i .few;
-      room = rw q (length-set wanted k _ ∙ i .room);
-      so-far = omega (arith, i .so-far);
-      listed = rw (m, q) (take-suc-set wanted k (getD outputs x 0) r)
-          ∙ ap (λ (z : List ℕ). z ++ (getD outputs x 0 ∷ [])) (i .listed)
-          ∙ sym (map-append (λ y. getD outputs y 0) (keep (λ y. not (workingAt s y)) (upto x)) (x ∷ []))
-          ∙ ap (map (λ y. getD outputs y 0)) (sym (keep-yes (λ y. not (workingAt s y)) x (ap not (sym e ∙ f))));
-    }
+-- one variable more: its gate is put down behind those listed, and stays if it is a result
+module _ (s outputs wanted : List ℕ) (x k m : ℕ) (b : Bool) (i : Listing s outputs wanted x k) (l : x < variables s) (e : b ≡ workingAt s x) where
+  pub listing-result : b ≡ false → m ≡ 1 → Listing s outputs (set wanted k (getD outputs x 0)) (x + 1) (k + m)
+  listing-result f h =
+      let n : k + m ≡ suc k = omega arith in
+      let r : k < length wanted = omega (arith, i .room, i .so-far, i .few) in
+      record {
+        low = omega arith;
+        few = i .few;
+        room = length-set wanted k _ ∙ i .room;
+        so-far = omega (arith, i .so-far);
+        listed = rw n (take-suc-set wanted k (getD outputs x 0) r)
+            ∙ ap (λ (z : List ℕ). z ++ (getD outputs x 0 ∷ [])) (i .listed)
+            ∙ sym (map-append (λ y. getD outputs y 0) (keep (λ y. not (workingAt s y)) (upto x)) (x ∷ []))
+            ∙ ap (map (λ y. getD outputs y 0)) (sym (keep-yes (λ y. not (workingAt s y)) x (ap not (sym e ∙ f))));
+      }
 
-pub listing-none : (s outputs wanted new : List ℕ) (x k n : ℕ) (b : Bool) → Listing s outputs wanted x k → x < variables s → b ≡ workingAt s x → b ≡ true
-    → new ≡ wanted → n ≡ k → Listing s outputs new (x + 1) n
-listing-none s outputs wanted new x k n b i l e f q h =
-    record {
-      low = omega arith;
-      few = i .few;
-      room = rw q (i .room);
-      so-far = omega (arith, i .so-far);
-      listed = rw (q, h) (i .listed) ∙ ap (map (λ y. getD outputs y 0)) (sym (keep-no (λ y. not (workingAt s y)) x (ap not (sym e ∙ f))));
-    }
+  pub listing-working : b ≡ true → m ≡ 0 → Listing s outputs (set wanted k (getD outputs x 0)) (x + 1) (k + m)
+  listing-working t h =
+      let n : k + m ≡ k = omega arith in
+      record {
+        low = omega arith;
+        few = i .few;
+        room = length-set wanted k _ ∙ i .room;
+        so-far = omega (arith, i .so-far);
+        listed = rw n (take-set-le k wanted k _ (omega arith)) ∙ i .listed
+            ∙ ap (map (λ y. getD outputs y 0)) (sym (keep-no (λ y. not (workingAt s y)) x (ap not (sym e ∙ t))));
+      }
 
 pub listing-end : (s outputs wanted : List ℕ) (x k : ℕ) → Listing s outputs wanted x k → variables s ≤ x
     → (take k wanted ≡ wantedAmong s outputs) × (k ≤ length wanted)

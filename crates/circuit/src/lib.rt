@@ -72,10 +72,10 @@ fn list_wanted(rule: &[u8], outputs: &[u16; 32], wanted: &mut [u16; 32]) -> usiz
     let mut k: usize = 0;
     let mut x: u8 = 0;
     while x < v {
-        if !reading::working_at(rule, x) {
-            wanted[k] = outputs[x as usize];
-            k = k + 1;
-        }
+        // Each is put down, and stays if its variable is a result.
+        wanted[k] = outputs[x as usize];
+        let more: usize = if reading::working_at(rule, x) { 0 } else { 1 };
+        k = k + more;
         x = x + 1;
     }
     k

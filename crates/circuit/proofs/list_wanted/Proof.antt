@@ -1,10 +1,9 @@
 use borrow.Author.Needs.{needs}
-use borrow.Author.Tests.{not-true, not-false}
 use native.Mathlib.Omega.{arith}
 use mathlib.Core.Logic.{⊎-elim}
-use Prim.Native.Nat.{_-_}
+use Prim.Native.Nat.{_-_, _≤_}
 use Rattle.reading.specs.Header.{variables}
-use Rattle.circuit.specs.WantingLaws.{Listing, listing-start, listing-one, listing-none, listing-end}
+use Rattle.circuit.specs.WantingLaws.{Listing, listing-start, listing-working, listing-result, listing-end}
 use Rattle.circuit.proofs.list_wanted.Statement.{statement}
 use Rattle.circuit.proofs.list_wanted.Tie as tie
 
@@ -20,26 +19,33 @@ loop-holds c = let d = c .before .before in listing-start _ _ _ (d .pre .0 .1) (
 shared-slice-read-v : tie.Need-shared-slice-read-v Inv-loop μ-loop
 shared-slice-read-v c = let d = c .before .before in omega (arith, d .pre .0 .0)
 
-working-at-requires : tie.Need-working-at-requires Inv-loop μ-loop
-working-at-requires c κs = let d = c .before .before .before .before in omega (arith, d .pre .0 .0, c .loop-test .taken)
-
 element-copy-out-wanted : tie.Need-element-copy-out-wanted Inv-loop μ-loop
-element-copy-out-wanted c = omega (arith, c .before .before .before .loop .inv .few, c .before .before .loop-test .taken)
+element-copy-out-wanted c = omega (arith, c .before .loop .inv .few, c .loop-test .taken)
 
 element-write-wanted : tie.Need-element-write-wanted Inv-loop μ-loop
-element-write-wanted c = let i = c .before .before .before .before .loop .inv in omega (arith, i .few, i .so-far, c .before .before .before .loop-test .taken)
+element-write-wanted c = let i = c .before .before .loop .inv in omega (arith, i .few, i .so-far, c .before .loop-test .taken)
+
+working-at-requires : tie.Need-working-at-requires Inv-loop μ-loop
+working-at-requires c κs = let d = c .before .before .before .before .before in omega (arith, d .pre .0 .0, c .before .loop-test .taken)
+
+add-k : tie.Need-add-k Inv-loop μ-loop
+add-k c =
+    let i = c .before .before .before .before .before .loop .inv in
+    let low : c .before .if1 .more ≤ 1 = ⊎-elim (λ w. omega (arith, w .1)) (λ f. omega (arith, f .1)) (c .before .if1 .came) in
+    record { fits = omega (arith, i .few, i .so-far, c .before .before .before .before .loop-test .taken, low) }
 
 add-x : tie.Need-add-x Inv-loop μ-loop
-add-x c = record { fits = omega (arith, c .before .before .before .loop .inv .few, c .before .before .loop-test .taken) }
+add-x c = record { fits = omega (arith, c .before .before .before .before .before .loop .inv .few, c .before .before .before .before .loop-test .taken) }
 
 loop-again : tie.Need-loop-again Inv-loop μ-loop
 loop-again c =
-    let i = c .before .before .before .loop .inv in
-    let l = c .before .before .loop-test .taken in
+    let i = c .before .before .before .before .before .loop .inv in
+    let l = c .before .before .before .before .loop-test .taken in
+    let e = c .before .before .working-at .ensures in
     ⊎-elim
-    (λ w. listing-one _ _ _ _ _ _ _ _ i l (c .before .working-at .ensures) (not-true _ (w .0 .taken)) (w .2) (w .3))
-    (λ w. listing-none _ _ _ _ _ _ _ _ i l (c .before .working-at .ensures) (not-false _ (w .0 .left)) (w .1) (w .2))
-    (c .if1 .came)
+    (λ w. listing-working _ _ _ _ _ _ _ i l e (w .0 .taken) (w .1))
+    (λ f. listing-result _ _ _ _ _ _ _ i l e (f .0 .left) (f .1))
+    (c .before .if1 .came)
 
 returns : tie.Need-returns Inv-loop μ-loop
 returns c = listing-end _ _ _ _ _ (c .before .loop .inv) (c .loop-test .left)
@@ -52,13 +58,13 @@ list-wanted-spec =
     μ-loop
     shared-slice-read-v
     loop-holds
-    working-at-requires
     (λ c. search needs)
     (λ c. search needs)
     element-copy-out-wanted
     (λ c. search needs)
     element-write-wanted
-    (λ c. search needs)
+    working-at-requires
+    add-k
     add-x
     (λ c. search needs)
     loop-again
