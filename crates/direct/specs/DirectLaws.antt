@@ -5,7 +5,7 @@ use mathlib.Core.List.{List}
 use lib.Dec.{eqb}
 use lib.ListN.{length}
 use borrow.Author.Tests.{eq-eqb, ne-eqb, eqb-true, eqb-false}
-use Rattle.gates.specs.Running.{runRule}
+use Rattle.gates.specs.Running.{runWrites}
 use Rattle.words.specs.Buffers.{over}
 use Rattle.words.specs.TestLaws.{split}
 use Rattle.answers.specs.Answers.{refusal}
@@ -39,7 +39,7 @@ module _ (rule : Answer) (s inputs : List ℕ) where
     unfolding runAnswer
     run-answer room h = rw (eq-eqb _ _ a, eq-eqb _ _ h)
 
-    pub run-results : (results : List ℕ) → inputRow s inputs (length results) ≡ 0 → runResults rule s inputs results ≡ over (runRule s inputs) results
+    pub run-results : (results : List ℕ) → inputRow s inputs (length results) ≡ 0 → runResults rule s inputs results ≡ over (runWrites s inputs) results
     unfolding runResults
     run-results results h = rw (run-answer (length results) h, eq-eqb _ _ a)
 
@@ -61,7 +61,7 @@ module _ (rule : Answer) (s inputs : List ℕ) where
         (λ t. ap (λ (a : Answer). a .number) (sym (inputs-answer answered-rule room (eqb-false _ _ t))) ∙ h)
 
   -- the results by that number
-  pub answered-results : (results : List ℕ) → runAnswer rule s inputs (length results) .number ≡ 0 → runResults rule s inputs results ≡ over (runRule s inputs) results
+  pub answered-results : (results : List ℕ) → runAnswer rule s inputs (length results) .number ≡ 0 → runResults rule s inputs results ≡ over (runWrites s inputs) results
   answered-results results h = run-results (answered-rule (length results) h) results (answered-inputs (length results) h)
 
   pub refused-results : (results : List ℕ) → (runAnswer rule s inputs (length results) .number ≡ 0 → ⊥) → runResults rule s inputs results ≡ results

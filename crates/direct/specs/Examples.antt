@@ -9,12 +9,12 @@ use Rattle.codes.specs.Results.{resultOf}
 use Rattle.codes.specs.Inputs.{someAbove, inputsRow}
 use Rattle.answers.specs.Parsing.{readMark}
 use Rattle.answers.specs.Answers.{success, refusal}
-use Rattle.reading.specs.Header.{kindOf, readCount, readKinds, readHeader}
+use Rattle.reading.specs.Header.{kindOf, workingOf, readCount, readKinds, readHeader}
 use Rattle.reading.specs.Expressions.{readVariable, readWord, readBit, operationWith, exprWith, readExpr}
 use Rattle.reading.specs.Blocks.{readAssign, branchWith, statementWith, blockWith, blockFuel, readBlock}
 use Rattle.reading.specs.Rule.{readRule}
 use Rattle.reading.specs.Examples.{r1}
-use Rattle.gates.specs.Running.{figureOf, runStatement, runBlock, runRule}
+use Rattle.gates.specs.Running.{figureOf, runStatement, runBlock, runRule, runWrites}
 use Rattle.gates.specs.Gates.{costs, conditions}
 use Rattle.gates.specs.PlainCircuit.{applyGate, makeExpr, assignsIn, assigns, choices, makeStatement, makeBlock, plainCircuit}
 use Rattle.circuit.specs.Whole.{wholeWithin, ruleAnswer}
@@ -37,8 +37,8 @@ example-2-rows = refl
 -- the places of the results, one more than are needed
 example-2-run : runResults (ruleAnswer r1) r1 (1 ∷ 6 ∷ 7 ∷ []) (9 ∷ 9 ∷ 9 ∷ 9 ∷ []) ∷ runResults (ruleAnswer r1) r1 (2 ∷ 6 ∷ 7 ∷ []) (9 ∷ 9 ∷ 9 ∷ 9 ∷ []) ∷ []
     ≡ (1 ∷ 42 ∷ 7 ∷ 9 ∷ []) ∷ (9 ∷ 9 ∷ 9 ∷ 9 ∷ []) ∷ []
-unfolding over number kindOf operationOf codeOf resultOf readMark readCount readKinds readHeader readVariable readWord readBit operationWith exprWith readExpr readAssign
-    branchWith statementWith blockWith blockFuel readBlock readRule figureOf runStatement runBlock someAbove inputsRow inputRow runRule runAnswer runResults applyGate makeExpr
+unfolding over number kindOf workingOf operationOf codeOf resultOf readMark readCount readKinds readHeader readVariable readWord readBit operationWith exprWith readExpr readAssign
+    branchWith statementWith blockWith blockFuel readBlock readRule figureOf runStatement runBlock someAbove inputsRow inputRow runRule runWrites runAnswer runResults applyGate makeExpr
     assignsIn assigns choices makeStatement makeBlock plainCircuit costs conditions wholeWithin ruleAnswer
 example-2-run = refl
 

@@ -1,6 +1,7 @@
 pub mod Inputs
 pub mod Direct
 pub mod ResultLaws
+pub mod WritingLaws
 pub mod InputLaws
 pub mod RangeLaws
 pub mod DirectLaws

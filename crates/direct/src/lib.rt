@@ -25,12 +25,13 @@ fn write_results(rule: &[u8], figures: &[u32; 32], results: &mut [u32])
     let mut x: u8 = 0;
     while x < v {
         let i = words::wide8(x);
-        let figure = if reading::working_at(rule, x) {
+        let figure = figures[i];
+        let written = if reading::working_at(rule, x) {
             0
         } else {
-            figures[i]
+            figure
         };
-        results[i] = figure;
+        results[i] = written;
         x = x + 1;
     }
 }

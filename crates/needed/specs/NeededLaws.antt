@@ -1,7 +1,7 @@
--- Laws of needed gates: what is asked for is an argument; what is needed is of the circuit; settings that agree on the needed conditions need the same gates.
+-- Laws of needed gates: what is asked for is an argument; what is needed is of the circuit, and follows what is wanted; settings that agree on the needed conditions need the same gates.
 use Prim.Native.Nat.{ℕ, _<_}
 use mathlib.Core.Path.{_≡_, refl}
-use mathlib.Core.List.{List}
+use mathlib.Core.List.{List, []}
 use mathlib.Core.Logic.{inl, inr}
 use native.Mathlib.Omega.{arith}
 use lib.ListN.{length}
@@ -25,6 +25,15 @@ pub needed-inside : (C : Gates) (wanted : List ℕ) (σ : Setting) → Earlier C
     → (g : ℕ) → Needed C wanted σ g → g < length C
 needed-inside C wanted σ e i g (from-start m) = i g m
 needed-inside C wanted σ e i g (asked {h = h} n m) = omega (arith, needed-inside C wanted σ e i h n, e h g (asks-arguments σ (gateAt C h) g m))
+
+-- where nothing is wanted nothing is needed, and where more is wanted what was needed still is
+pub none-needed : (C : Gates) (σ : Setting) (g : ℕ) → Needed C [] σ g → ⊥
+none-needed C σ g (from-start m) = m
+none-needed C σ g (asked {h = h} n m) = none-needed C σ h n
+
+pub more-wanted : (C : Gates) (less more : List ℕ) (σ : Setting) → ((g : ℕ) → g ∈ less → g ∈ more) → (g : ℕ) → Needed C less σ g → Needed C more σ g
+more-wanted C less more σ i g (from-start m) = from-start (i g m)
+more-wanted C less more σ i g (asked {h = h} n m) = asked (more-wanted C less more σ i h n) m
 
 -- two settings that agree on the conditions needed under the first need the same gates: a choice consults only a condition that is thereby needed
 module _ (C : Gates) (wanted : List ℕ) (σ τ : Setting) (agree : (c : ℕ) → Condition C c → Needed C wanted σ c → σ c ≡ τ c) where

@@ -31,7 +31,8 @@ kinds-back (suc n) s at l known =
     (kinds-back n s (at + 1) (omega arith) (λ x i. let e : at + suc x ≡ at + 1 + x = omega arith in rw e at (known (suc x) (omega arith))) ∙ ap (parsed tt) q)
 
 module _ (kinds : List ℕ) (b : Block) where
-  kind-byte : (x : ℕ) → x < length kinds → getD (ruleBytes kinds b) (6 + x) 0 ≡ getD kinds x 0
+  -- a kind byte stands where it was written
+  pub kind-byte : (x : ℕ) → x < length kinds → getD (ruleBytes kinds b) (6 + x) 0 ≡ getD kinds x 0
   kind-byte x l = getD-append-add (mark ++ (length kinds ∷ [])) (kinds ++ blockBytes b) x 0 ∙ List·getD-append kinds (blockBytes b) 0 x l
 
   same-kinds : (x : ℕ) → x < length kinds → kindIn kinds x ≡ kindAt (ruleBytes kinds b) x

@@ -8,6 +8,7 @@ pub mod Kinds
 pub mod Format
 pub mod Rule
 pub mod OnlyOrder
+pub mod OnlyWorking
 pub mod Standing
 pub mod ExpressionLaws
 pub mod EachLaws
@@ -23,6 +24,7 @@ pub mod BackExprLaws
 pub mod BackLaws
 pub mod BackRuleLaws
 pub mod RuleFormat
+pub mod WorkingLaws
 pub mod StandingLaws
 pub mod OrderLaws
 pub mod OrderBytes

@@ -28,4 +28,5 @@ pub mod FigureKindLaws
 pub mod BackLaws
 pub mod InverseLaws
 pub mod FormatLaws
+pub mod NoWireLaws
 pub mod Examples

@@ -2,14 +2,12 @@ use native.Mathlib.Omega.{arith}
 use mathlib.Core.Path.{_≡_, ap, subst, _∙_}
 use mathlib.Core.List.{List}
 use Prim.Native.Nat.{ℕ}
-use lib.ListN.{length}
 use denote.Ref.{now}
 use Rattle.words.specs.Buffers.{over}
-use Rattle.words.specs.ListLaws.{front}
 use Rattle.answers.specs.Parsing.{IsRead}
-use Rattle.reading.specs.Header.{variables}
 use Rattle.reading.specs.FirstStatement.{rule-read}
-use Rattle.direct.specs.ResultLaws.{rule-ran, rule-long}
+use Rattle.direct.specs.ResultLaws.{rule-ran}
+use Rattle.direct.specs.WritingLaws.{run-written}
 use borrow.Author.Needs.{needs}
 use Rattle.direct.proofs.run_checked.Statement.{statement}
 use Rattle.direct.proofs.run_checked.Tie as tie
@@ -25,19 +23,18 @@ run-block-requires c κs =
     let d = c .before .before .before .before .before .before .before .before in let r = rule-read (now (d .args .rule)) (d .pre .0) in
     ((r .header .kinds, r .header .few), subst IsRead (r .block) (d .pre .0))
 
-part-copy32-end : tie.Need-part-copy32-end
-part-copy32-end c =
-    let d = c .before .before .before .before .before .before .before .before .before .before in let few = rule-read (now (d .args .rule)) (d .pre .0) .header .few in
-    let long : length (c .before .run-block .last .1 .1 .1 .0) ≡ 32 = rule-long (now (d .args .inputs)) _ _ _ _ _ (omega (arith, few, d .pre .1))
-    (c .before .before .before .before .copy32 .ensures) (c .before .run-block .ensures) in
-    omega (arith, few, long)
+write-results-requires : tie.Need-write-results-requires
+write-results-requires c κs =
+    let d = c .before .before .before .before .before .before .before .before .before .before .before in
+    let r = rule-read (now (d .args .rule)) (d .pre .0) in
+    (r .header .kinds, r .header .few, d .pre .2)
 
 returns : tie.Need-returns
 returns c =
-    let d = c .before .before .before .before .before .before .before .before .before .before .before .before .before .before .before in let a = d .args in
-    c .before .before .copy322 .ensures ∙ ap (λ (t : List ℕ). over t (now (a .results)))
-    (front (variables (now (a .rule))) _ ∙ rule-ran (now (a .rule)) (now (a .inputs)) _ _ _ _ (d .pre .0) (d .pre .1)
-    (c .before .before .before .before .before .before .before .before .before .copy32 .ensures) (c .before .before .before .before .before .before .run-block .ensures))
+    let d = c .before .before .before .before .before .before .before .before .before .before .before .before .before .before in let a = d .args in
+    c .before .before .write-results .ensures ∙ ap (λ (t : List ℕ). over t (now (a .results)))
+    (run-written (now (a .rule)) (now (a .inputs)) _ (rule-ran (now (a .rule)) (now (a .inputs)) _ _ _ _ (d .pre .0) (d .pre .1)
+    (c .before .before .before .before .before .before .before .before .copy32 .ensures) (c .before .before .before .before .before .run-block .ensures)))
 
 pub run-checked-spec : {M : Type 1} → statement M
 run-checked-spec =
@@ -49,9 +46,6 @@ run-checked-spec =
     copy-requires
     (λ c. search needs)
     run-block-requires
-    (λ c. search needs)
-    (λ c. search needs)
-    part-copy32-end
-    (λ c κs. search needs)
+    write-results-requires
     (λ c. search needs)
     returns)

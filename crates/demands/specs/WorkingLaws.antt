@@ -1,0 +1,106 @@
+-- Laws for document 02, C-13: what works changes no rule's answer and makes no gate needed; what the file and every run give for working and for result variables. Assumes nothing.
+use Prim.Native.Nat.{ℕ, _+_, _<_}
+use native.Mathlib.Omega.{arith}
+use mathlib.Core.Path.{_≡_, sym, ap, subst, subst⁻¹, _∙_}
+use mathlib.Core.Bool.{true, false, cond}
+use mathlib.Core.List.{List, [], map}
+use mathlib.Core.Logic.{_↔_}
+use lib.ListN.{length, getD, set}
+use Rattle.words.specs.Lists.{_∈_, upto}
+use Rattle.words.specs.ListLaws.{getD-run}
+use Rattle.words.specs.Numbers.{Bytes}
+use Rattle.words.specs.TestLaws.{split}
+use Rattle.settings.specs.Settings.{Setting}
+use Rattle.answers.specs.Parsing.{IsRead, parsed}
+use Rattle.answers.specs.declared.Answer.{Answer}
+use Rattle.reading.specs.Header.{variables, workingOf, workingAt}
+use Rattle.reading.specs.Tree.{Block}
+use Rattle.reading.specs.Rule.{readRule}
+use Rattle.reading.specs.Format.{ruleBytes}
+use Rattle.reading.specs.Format as rules
+use Rattle.reading.specs.RuleFormat.{rule-back}
+use Rattle.reading.specs.OnlyWorking.{OnlyWorking, MoreWorking}
+use Rattle.reading.specs.WorkingLaws.{rule-working, same-size, well-working}
+use Rattle.gates.specs.Running.{runRule, writtenFor, runWrites}
+use Rattle.gates.specs.Gates.{Gates}
+use Rattle.gates.specs.Limits.{mostGates, mostConditions}
+use Rattle.gates.specs.PlainCircuit.{Making, plainOf, plainCircuit, gatesOf, outputsOf}
+use Rattle.gates.specs.StartLaws.{read-plain}
+use Rattle.needed.specs.Needed.{Needed, wantedOf}
+use Rattle.needed.specs.NeededLaws.{none-needed, more-wanted}
+use Rattle.needed.specs.WantedLaws.{result-wanted, wanted-result, all-working}
+use Rattle.circuit.specs.Whole.{wholeWithin, ruleAnswer}
+use Rattle.circuit.specs.WholeLaws.{answer-whole}
+use Rattle.plan.specs.Rows.{planAnswer}
+use Rattle.records.specs.Records.{Record}
+use Rattle.records.specs.CircuitFile.{fileBytes, noWire}
+use Rattle.records.specs.FileFigures.{wireCount, fileOutputs, fileFigures}
+use Rattle.records.specs.WellFormed as circuits
+use Rattle.records.specs.FormatLaws.{well-row}
+use Rattle.records.specs.NoWireLaws.{well-less, figures-less}
+use Rattle.foreign.specs.Foreign.{circuitAnswer}
+use Rattle.foreign.specs.ReadLaws.{answer-number}
+use Rattle.fused.specs.FusedCircuit.{recordsOf, wireOf, outputWire, outputWires, fusedFile}
+
+-- what is wanted from the start
+pub wanted-are : (s : List ℕ) (g : ℕ) → (g ∈ wantedOf s) ↔ ((x : ℕ) × (x < variables s) × (workingAt s x ≡ false) × (g ≡ getD (outputsOf s) x 0))
+wanted-are s g = (wanted-result s (outputsOf s) g, λ r. subst⁻¹ (λ (h : ℕ). h ∈ wantedOf s) (r .3) (result-wanted s (r .0) (r .1) (r .2)))
+
+pub nothing-needed : (s : List ℕ) → ((x : ℕ) → x < variables s → workingAt s x ≡ true) → (σ : Setting) (g : ℕ) → Needed (gatesOf s) (wantedOf s) σ g → ⊥
+nothing-needed s h σ g n = none-needed (gatesOf s) σ g (subst (λ (w : List ℕ). Needed (gatesOf s) w σ g) (all-working s h) n)
+
+-- two rules that differ only in which variables work
+module _ (kinds other : List ℕ) (o : OnlyWorking kinds other) (b : Block) (w : rules.WellFormed kinds b) where
+  abbrev s : List ℕ
+  s = ruleBytes kinds b
+
+  abbrev t : List ℕ
+  t = ruleBytes other b
+
+  same-plain : plainCircuit s ≡ plainCircuit t
+  same-plain =
+      read-plain s b (length s) (rule-back kinds b w) ∙ ap (λ (v : ℕ). plainOf v b) (o .many)
+      ∙ sym (read-plain t b (length t) (rule-back other b (well-working kinds other o b w)))
+
+  pub same-answer : ruleAnswer (ruleBytes kinds b) ≡ ruleAnswer (ruleBytes other b)
+  same-answer =
+      answer-whole s (subst⁻¹ IsRead (rule-back kinds b w) tt)
+      ∙ ap (λ (m : Making). wholeWithin mostGates mostConditions (m .gates) (length s)) same-plain
+      ∙ ap (wholeWithin mostGates mostConditions (gatesOf t)) (same-size kinds other o b)
+      ∙ sym (answer-whole t (subst⁻¹ IsRead (rule-back other b (well-working kinds other o b w)) tt))
+
+  -- where more work, no gate is needed that was not
+  pub fewer-needed : ((x : ℕ) → x < length kinds → workingOf (getD kinds x 0) ≡ true → workingOf (getD other x 0) ≡ true) → (σ : Setting) (g : ℕ)
+      → Needed (gatesOf (ruleBytes other b)) (wantedOf (ruleBytes other b)) σ g → Needed (gatesOf (ruleBytes kinds b)) (wantedOf (ruleBytes kinds b)) σ g
+  fewer-needed more σ g n =
+      subst⁻¹ (λ (m : Making). Needed (m .gates) (wantedOf s) σ g) same-plain (more-wanted (gatesOf t) (wantedOf t) (wantedOf s) σ among g n)
+    where
+      among : (h : ℕ) → h ∈ wantedOf t → h ∈ wantedOf s
+      among h m =
+          let (x, l, f, e) = wanted-result t (outputsOf t) h m in
+          let k : x < length kinds = omega (arith, l, o .many) in
+          let works : workingAt s x ≡ false = split (workingOf (getD kinds x 0)) (λ y. absurd (contrary x k y f)) (λ n. rule-working kinds b x k ∙ n) in
+          subst⁻¹ (λ (h : ℕ). h ∈ wantedOf s) (e ∙ ap (λ (m : Making). getD (m .present) x 0) (sym same-plain)) (result-wanted s x k works)
+        where
+          contrary : (x : ℕ) → x < length kinds → workingOf (getD kinds x 0) ≡ true → workingAt t x ≡ false → ⊥
+          contrary x k y f = true≢false (sym (more x k y) ∙ sym (rule-working other b x (omega (arith, k, o .many))) ∙ f)
+
+-- what a run of a rule writes for a variable
+module _ (s inputs : List ℕ) (x : ℕ) (l : x < variables s) where
+  at : getD (runWrites s inputs) x 0 ≡ writtenFor s x (getD (runRule s inputs) x 0)
+  unfolding runWrites
+  at = getD-run (λ y. writtenFor s y (getD (runRule s inputs) y 0)) 0 0 (variables s) x l ∙ rw zero-add
+
+  pub writes-result : workingAt s x ≡ false → getD (runWrites s inputs) x 0 ≡ getD (runRule s inputs) x 0
+  writes-result f = at ∙ rw f
+
+  pub writes-working : workingAt s x ≡ true → getD (runWrites s inputs) x 0 ≡ 0
+  writes-working t = at ∙ rw t
+
+-- any output of a circuit that is read may be made no wire
+pub no-wire-read : (v : ℕ) (R : List Record) (outputs : List ℕ) → circuits.WellFormed v R outputs → (x : ℕ) → circuitAnswer (fileBytes v R (set outputs x noWire)) .number ≡ 0
+no-wire-read v R outputs w x = answer-number (fileBytes v R (set outputs x noWire)) ∙ well-row v R (set outputs x noWire) (well-less v R outputs x w)
+
+pub no-wire-run : (v : ℕ) (R : List Record) (outputs : List ℕ) → circuits.WellFormed v R outputs → (x : ℕ) (inputs : List ℕ)
+    → fileFigures (fileBytes v R (set outputs x noWire)) inputs ≡ set (fileFigures (fileBytes v R outputs) inputs) x 0
+no-wire-run v R outputs w x = figures-less v R outputs x (w .fits)
