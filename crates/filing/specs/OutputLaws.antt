@@ -2,63 +2,82 @@
 use Prim.Native.Nat.{ℕ, zero, suc, _+_, _-_, _*_, _≤_, _<_}
 use mathlib.Core.Path.{_≡_, refl, sym, ap, _∙_}
 use mathlib.Core.List.{List, [], _∷_, _++_, map, map-append, append-assoc, append-nil}
+use mathlib.Core.Bool.{Bool, true, false}
+use native.Mathlib.Nat.{zero-add}
 use native.Mathlib.Omega.{arith}
 use lib.ListN.{length, getD, take, drop, length-append, length-map}
-use lib.Seq.{sets, take-suc, length-take-le}
+use lib.Seq.{sets}
 use borrow.Rule.Slice.PartMut.{putMid}
+use Rattle.words.specs.Lists.{upto}
+use Rattle.words.specs.ListLaws.{length-from, from-more}
 use Rattle.words.specs.Numbers.{bytesOf}
 use Rattle.words.specs.NumberLaws.{length-bytes}
 use Rattle.words.specs.Buffers.{over}
 use Rattle.words.specs.BufferLaws.{length-over, room-rest, sets-over}
 use Rattle.records.specs.Records.{Record}
-use Rattle.records.specs.CircuitFile.{mark, wiresBytes, recordsBytes, fileBytes}
+use Rattle.records.specs.CircuitFile.{mark, wiresBytes, recordsBytes, fileBytes, noWire}
 use Rattle.records.specs.SizeLaws.{wires-size, wires-append, file-size}
-use Rattle.emitting.specs.FillLaws.{pieces, pieces-none, pieces-next, Filling, filling-start, filling-room, filling-fits, filling-length, filling-step, filling-end}
+use Rattle.emitting.specs.FillLaws.{pieces, pieces-none, pieces-next, Filling, filling-start, filling-room, filling-fits, filling-step, filling-end}
 use Rattle.emitting.specs.ByteLaws.{behind}
+use Rattle.emitting.specs.Emitted.{wireIn}
+use Rattle.reading.specs.Header.{variables, workingAt}
+use Rattle.filing.specs.Turns.{outputIn}
 
--- The outputs: piece x is the wire of variable x.
+-- One output, by what reading says of its variable.
 
-module _ (outputs : List ℕ) (wire : ℕ → ℕ) where
+module _ (s outputs group wires : List ℕ) (x : ℕ) (b : Bool) (e : b ≡ workingAt s x) where
+  pub output-none : b ≡ true → noWire ≡ outputIn s outputs group wires x
+  output-none h = rw (sym e ∙ h)
+
+  pub output-wire : b ≡ false → (w : ℕ) → w ≡ wireIn group wires (getD outputs x 0) → w ≡ outputIn s outputs group wires x
+  output-wire h w q = rw (sym e ∙ h) q
+
+-- The outputs: piece x is that of variable x.
+
+module _ (wire : ℕ → ℕ) where
   abbrev pub outputPiece : ℕ → List ℕ
-  outputPiece x = bytesOf 2 (wire (getD outputs x 0))
+  outputPiece x = bytesOf 2 (wire x)
 
-  output-pieces : (v : ℕ) → v ≤ length outputs → pieces outputPiece v ≡ wiresBytes (map wire (take v outputs))
-  output-pieces zero h = pieces-none outputPiece
-  output-pieces (suc v) h =
+  output-pieces : (v : ℕ) → pieces outputPiece v ≡ wiresBytes (map wire (upto v))
+  output-pieces zero = pieces-none outputPiece
+  output-pieces (suc v) =
       pieces-next outputPiece v
-      ∙ ap (λ (b : List ℕ). b ++ outputPiece v) (output-pieces v (omega (arith, h)))
+      ∙ ap (λ (b : List ℕ). b ++ outputPiece v) (output-pieces v)
       ∙ sym
-      (ap (λ (l : List ℕ). wiresBytes (map wire l)) (take-suc outputs v 0 h) ∙ ap wiresBytes (map-append wire (take v outputs) (getD outputs v 0 ∷ []))
-      ∙ wires-append (map wire (take v outputs)) (wire (getD outputs v 0) ∷ []) ∙ ap (λ (b : List ℕ). wiresBytes (map wire (take v outputs)) ++ b)
-      (append-nil (outputPiece v)))
+      (ap (λ (l : List ℕ). wiresBytes (map wire l)) (rw zero-add at (from-more 0 v)) ∙ ap wiresBytes (map-append wire (upto v) (v ∷ []))
+      ∙ wires-append (map wire (upto v)) (wire v ∷ []) ∙ ap (λ (b : List ℕ). wiresBytes (map wire (upto v)) ++ b) (append-nil (outputPiece v)))
 
-  -- a wire for each variable
-  pub outputs-count : (v : ℕ) → v ≤ length outputs → length (map wire (take v outputs)) ≡ v
-  outputs-count v h = length-map (take v outputs) wire ∙ length-take-le v outputs h
+  -- one for each variable
+  pub outputs-count : (v : ℕ) → length (map wire (upto v)) ≡ v
+  outputs-count v = length-map (upto v) wire ∙ length-from 0 v
 
-  pub outputs-start : (out : List ℕ) (v : ℕ) → v ≤ length outputs → 2 * v ≤ length out → Filling outputPiece out out v 0 0
-  outputs-start out v h room =
-      filling-start outputPiece out v (rw (output-pieces v h, wires-size (map wire (take v outputs)), outputs-count v h) room)
+  pub outputs-start : (out : List ℕ) (v : ℕ) → 2 * v ≤ length out → Filling outputPiece out out v 0 0
+  outputs-start out v room = filling-start outputPiece out v (rw (output-pieces v, wires-size (map wire (upto v)), outputs-count v) room)
 
   module _ (out out₀ : List ℕ) (v x : ℕ) (l : Filling outputPiece out out₀ v (2 * x) x) where
-    module _ (h : x < v) where
+    -- i: x as an index
+    module _ (h : x < v) (i : ℕ) (e : i ≡ x) where
       size : length (outputPiece x) ≡ 2
-      size = length-bytes 2 (wire (getD outputs x 0))
+      size = length-bytes 2 (wire x)
 
-      pub outputs-fits : (2 * x + 2 ≤ length out) × (length out ≡ length out₀)
-      outputs-fits = (omega (arith, filling-fits outputPiece out out₀ v (2 * x) x l h, size), filling-length outputPiece out out₀ v (2 * x) x l h)
+      pub outputs-fits : 2 * i + 2 ≤ length out
+      outputs-fits = omega (arith, e, filling-fits outputPiece out out₀ v (2 * x) x l h, size)
 
-      pub outputs-room : 2 ≤ length (take (length out - 2 * x) (drop (2 * x) out))
-      outputs-room = omega (arith, filling-room outputPiece out out₀ v (2 * x) x l h, size)
+      pub outputs-room : 2 ≤ length (take (length out - 2 * i) (drop (2 * i) out))
+      outputs-room = rw e (omega (arith, filling-room outputPiece out out₀ v (2 * x) x l h, size))
 
-      pub outputs-step : (w : ℕ) (ys : List ℕ) → w ≡ wire (getD outputs x 0) → ys ≡ over (bytesOf 2 w) (take (length out - 2 * x) (drop (2 * x) out))
-          → Filling outputPiece (putMid (2 * x) (length out - 2 * x) out ys) out₀ v (2 * (x + 1)) (x + 1)
+      pub outputs-step : (w : ℕ) (ys : List ℕ) → w ≡ wire x → ys ≡ over (bytesOf 2 w) (take (length out - 2 * i) (drop (2 * i) out))
+          → Filling outputPiece (putMid (2 * i) (length out - 2 * i) out ys) out₀ v (2 * (x + 1)) (x + 1)
       outputs-step w ys q r =
-          let e : 2 * (x + 1) ≡ 2 * x + 2 = omega arith in
-          rw e (filling-step outputPiece out out₀ v (2 * x) x l h 2 ys (sym size) (rw q at r))
+          let n : 2 * (x + 1) ≡ 2 * x + 2 = omega arith in
+          rw (n, e) (filling-step outputPiece out out₀ v (2 * x) x l h 2 ys (sym size) (rw (e, q) at r))
 
-    pub outputs-end : v ≤ length outputs → v ≤ x → out ≡ over (wiresBytes (map wire (take v outputs))) out₀
-    outputs-end h e = filling-end outputPiece out out₀ v (2 * x) x l e .1 ∙ ap (λ (b : List ℕ). over b out₀) (output-pieces v h)
+    pub outputs-end : v ≤ x → out ≡ over (wiresBytes (map wire (upto v))) out₀
+    outputs-end e = filling-end outputPiece out out₀ v (2 * x) x l e .1 ∙ ap (λ (b : List ℕ). over b out₀) (output-pieces v)
+
+-- those of a rule
+abbrev pub outputsIn : List ℕ → List ℕ → List ℕ → List ℕ → List ℕ
+outputsIn s outputs group wires = map (outputIn s outputs group wires) (upto (variables s))
 
 -- The head.
 

@@ -1,5 +1,7 @@
--- Examples of document 01, "Examples": 3, R1 with P1, whole, computed from the definitions.
+-- Examples of document 01, "Examples": 3, R1 with P1, whole, computed from the definitions; document 02, C-13: the file of a rule with working variables.
+use Prim.Native.Nat.{ℕ}
 use mathlib.Core.Path.{_≡_, refl}
+use mathlib.Core.List.{List, [], _∷_}
 use Rattle.words.specs.Numbers.{number, bytesOf}
 use Rattle.codes.specs.Codes.{operationOf, codeOf}
 use Rattle.answers.specs.Answers.{success, refusal}
@@ -47,3 +49,28 @@ unfolding number kindOf workingOf operationOf codeOf readMark readCount readKind
     preconditions preconditionSets costs wholeWithin ruleAnswer restsOn rests groupsIn groups restsOf waitsFor order planRow planAnswer bytesOf spread tableOver table
     written fused fusedFile recordsCost fusedCounts writeAnswer
 example-3-short = refl
+
+-- Document 02, C-13: a word, a working word and a working bit: v1 := v0 + v0, then v0 := v1 × v1
+abbrev working-rule : List ℕ
+working-rule =
+    0x52 ∷ 0x55 ∷ 0x4C ∷ 0x00 ∷ 0x01 ∷ 0x03 ∷ 0x00 ∷ 0x02 ∷ 0x03 ∷ 0x01 ∷ 0x01 ∷ 0x20 ∷ 0x10 ∷ 0x00 ∷ 0x10 ∷ 0x00 ∷
+    0x01 ∷ 0x00 ∷ 0x22 ∷ 0x10 ∷ 0x01 ∷ 0x10 ∷ 0x01 ∷ 0x00 ∷ []
+
+-- a plan of its five gates and no group
+abbrev working-plan : List ℕ
+working-plan = 0x50 ∷ 0x4C ∷ 0x4E ∷ 0x00 ∷ 0x01 ∷ 0x00 ∷ 0x05 ∷ 0x00 ∷ 0x00 ∷ []
+
+-- its file, a record a line: the inputs have the codes of words and bits, the outputs of the working variables are FF FF
+pub example-working : fusedFile working-rule working-plan ≡
+    0x43 ∷ 0x49 ∷ 0x52 ∷ 0x00 ∷ 0x01 ∷ 0x03 ∷ 0x00 ∷ 0x05
+    ∷ 0x00 ∷ 0x00
+    ∷ 0x00 ∷ 0x01
+    ∷ 0x01 ∷ 0x02
+    ∷ 0x20 ∷ 0x00 ∷ 0x00 ∷ 0x00 ∷ 0x00
+    ∷ 0x22 ∷ 0x00 ∷ 0x03 ∷ 0x00 ∷ 0x03
+    ∷ 0x00 ∷ 0x04 ∷ 0xFF ∷ 0xFF ∷ 0xFF ∷ 0xFF
+    ∷ []
+unfolding number kindOf workingOf operationOf codeOf readMark readCount readKinds readHeader readVariable readWord readBit operationWith exprWith readExpr readAssign branchWith
+    statementWith blockWith blockFuel readBlock readRule applyGate makeExpr assignsIn assigns choices makeStatement makeBlock plainCircuit conditions collect numbers
+    preconditions preconditionSets restsOn rests groupsIn groups restsOf waitsFor order bytesOf spread tableOver table written fused fusedFile
+example-working = refl

@@ -1,11 +1,12 @@
--- Laws for document 01, "The fused circuit file": the records and output wires of an accepted plan fit their bytes; so its file, taken apart, gives them back.
-use mathlib.Core.Path.{_≡_, sym, ap₂, _∙_}
+-- Laws for document 01, "The fused circuit file": the records and outputs of an accepted plan fit their bytes; so its file, taken apart, gives them back.
+use mathlib.Core.Path.{_≡_, sym, _∙_}
 use mathlib.Core.List.{List, map}
+use mathlib.Core.Logic.{_⊎_, ⊎-elim}
 use Prim.Native.Nat.{ℕ, _+_, _≤_, _<_}
 use native.Mathlib.Omega.{arith}
 use lib.Dec.{eqb, ltb}
 use borrow.Author.Tests.{eqb-true, ltb-true, ltb-false}
-use lib.ListN.{length, length-map, List·getD-eq-default}
+use lib.ListN.{length, List·getD-eq-default}
 use Rattle.records.specs.FieldLaws.{FieldsFit, AllFieldsFit, all-fit}
 use Rattle.words.specs.Lists.{_∈_, upto}
 use Rattle.words.specs.ListLaws.{length-from, length-keep}
@@ -20,7 +21,7 @@ use Rattle.reading.specs.FirstStatement.{rule-read}
 use Rattle.gates.specs.Gates.{gateAt, start, operation}
 use Rattle.gates.specs.GateKinds.{kindOfGate}
 use Rattle.gates.specs.GateKindLaws.{plain-fits}
-use Rattle.gates.specs.PlainCircuit.{gatesOf, outputsOf, gateCount}
+use Rattle.gates.specs.PlainCircuit.{gatesOf, gateCount}
 use Rattle.gates.specs.EachGateLaws.{rule-starting, rule-start}
 use Rattle.needed.specs.Pass.{rulePreconditions}
 use Rattle.circuit.specs.WholeLaws.{Accepted, accepted}
@@ -30,15 +31,15 @@ use Rattle.plan.specs.GroupLaws.{member-of}
 use Rattle.plan.specs.Rows.{planAnswer}
 use Rattle.plan.specs.AcceptedLaws.{plan-accepted}
 use Rattle.plan.specs.JoinedLaws.{members-costly}
-use Rattle.records.specs.Records.{Record, word, reads, recordIn, ReadsEarlier}
-use Rattle.records.specs.WireFigures.{wireFigure}
-use Rattle.fused.specs.FusedCircuit.{recordsOf, wireOf, outputWires, fusedFile}
-use Rattle.records.specs.FileFigures.{fileVariables, wireCount, fileRecords, fileOutputs, fileFigures}
+use Rattle.records.specs.CircuitFile.{noWire}
+use Rattle.records.specs.Records.{word, reads, recordIn, ReadsEarlier}
+use Rattle.fused.specs.FusedCircuit.{recordsOf, outputWires, fusedFile}
+use Rattle.fused.specs.OutputLaws.{outputs-length}
+use Rattle.records.specs.FileFigures.{fileVariables, wireCount, fileRecords, fileOutputs, outputFigure, fileFigures}
 use Rattle.records.specs.FitRecords.{Wires, AllReadBack, FileFits}
 use Rattle.fused.specs.FitLaws.{members-few, emit-sized}
 use Rattle.fused.specs.SizeBounds.{wires-bound, outputs-count}
-use Rattle.records.specs.FileLaws.{file-found}
-use Rattle.records.specs.FilePartLaws.{figures-at}
+use Rattle.records.specs.FileLaws.{file-found, file-figures}
 use Rattle.records.specs.FileBytes.{file-bytes}
 use Rattle.fused.specs.BoundLaws.{fused-along}
 
@@ -87,29 +88,27 @@ module _ (s p : List ℕ) (h : planAnswer s p .number ≡ 0) where
       pub fused-fits : AllReadBack (recordsOf s p)
       fused-fits = all-fit (recordsOf s p) 0 fused-sized reads-small
 
-      -- and every output wire is a wire, so the file fits its bytes
-      pub fused-file-fits : ((w : ℕ) → w ∈ outputWires s p → w < length (recordsOf s p)) → FileFits (variables s) (recordsOf s p) (outputWires s p)
-      fused-file-fits inside = record {
-        each = fused-fits;
-        few = omega (arith, wires-bound s p h);
-        wires = λ w m. omega (arith, inside w m, wires-bound s p h);
-        count = length-map (outputsOf s) (wireOf s p) ∙ outputs-count s p h .0;
-      }
+      -- and every output is no wire or a record's
+      module _ (inside : (w : ℕ) → w ∈ outputWires s p → (w ≡ noWire) ⊎ (w < length (recordsOf s p))) where
+        -- so the file fits its bytes
+        pub fused-file-fits : FileFits (variables s) (recordsOf s p) (outputWires s p)
+        fused-file-fits = record {
+          each = fused-fits;
+          few = omega (arith, wires-bound s p h);
+          wires = λ w m. ⊎-elim (λ e. omega (arith, e)) (λ l. omega (arith, l, wires-bound s p h)) (inside w m);
+          count = outputs-length s p;
+        }
 
-      -- taken apart, it gives its records and its output wires
-      pub fused-found : ((w : ℕ) → w ∈ outputWires s p → w < length (recordsOf s p))
-          → (fileRecords (fusedFile s p) ≡ recordsOf s p) × (fileOutputs (fusedFile s p) ≡ outputWires s p)
-          × (fileVariables (fusedFile s p) ≡ variables s) × (wireCount (fusedFile s p) ≡ length (recordsOf s p))
-      unfolding fusedFile
-      fused-found inside = file-found (variables s) (recordsOf s p) (outputWires s p) (fused-file-fits inside)
+        -- taken apart, it gives its records and its outputs
+        pub fused-found : (fileRecords (fusedFile s p) ≡ recordsOf s p) × (fileOutputs (fusedFile s p) ≡ outputWires s p)
+            × (fileVariables (fusedFile s p) ≡ variables s) × (wireCount (fusedFile s p) ≡ length (recordsOf s p))
+        unfolding fusedFile
+        fused-found = file-found (variables s) (recordsOf s p) (outputWires s p) fused-file-fits
 
-      -- so its figures, worked out from its bytes, are those of its records at its output wires
-      pub fused-file-figures : ((w : ℕ) → w ∈ outputWires s p → w < length (recordsOf s p)) → (inputs : List ℕ)
-          → fileFigures (fusedFile s p) inputs ≡ map (wireFigure inputs (recordsOf s p)) (outputWires s p)
-      fused-file-figures inside inputs =
-          let f = fused-found inside in
-          figures-at (fusedFile s p) inputs
-          ∙ ap₂ (λ (R : List Record) (l : List ℕ). map (wireFigure inputs R) l) (f .0) (f .1)
+        -- so its figures, worked out from its bytes, are those of its records at its outputs
+        pub fused-file-figures : (inputs : List ℕ) → fileFigures (fusedFile s p) inputs ≡ map (outputFigure inputs (recordsOf s p)) (outputWires s p)
+        unfolding fusedFile
+        fused-file-figures inputs = file-figures (variables s) (recordsOf s p) (outputWires s p) fused-file-fits inputs
 
 -- the file of an accepted plan consists of bytes
 pub fused-bytes : (s p : List ℕ) → planAnswer s p .number ≡ 0 → Bytes s → ReadsEarlier (recordsOf s p) → Bytes (fusedFile s p)

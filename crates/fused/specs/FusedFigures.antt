@@ -1,48 +1,68 @@
--- Laws of the fused circuit of an accepted plan: its records read only earlier wires, and its figures, from its records and from its file's bytes, are the direct run's.
+-- Laws of the fused circuit of an accepted plan: its records read only earlier wires, and the figures of its result variables, from its records and from its file's bytes,
+-- are the direct run's; for a working variable it gives 0, so that it gives what a direct run writes.
 -- The inputs are of their variables' kinds: with a bit above 1 there is no direct run (row 41), and no input has more than 32 bits. (There a pick would be cut to its kind.)
 use Prim.Native.Nat.{ℕ, _<_}
-use mathlib.Core.Path.{_≡_, sym, _∙_}
-use mathlib.Core.List.{List, map, map-map}
-use lib.ListN.{length}
+use mathlib.Core.Path.{_≡_, sym, ap, _∙_}
+use mathlib.Core.List.{List, map-map}
+use mathlib.Core.Bool.{true, false}
+use mathlib.Core.Logic.{_⊎_, inl, inr}
+use native.Mathlib.Nat.{zero-add}
+use native.Mathlib.Omega.{arith}
+use lib.ListN.{length, getD}
+use borrow.Author.Tests.{ne-eqb}
 use Rattle.codes.specs.Inputs.{FiguresFit}
-use Rattle.words.specs.Lists.{_∈_}
-use Rattle.words.specs.MemberLaws.{map-in}
+use Rattle.words.specs.Lists.{_∈_, upto}
+use Rattle.words.specs.MemberLaws.{map-in, from-below}
 use Rattle.words.specs.Numbers.{Bytes}
-use Rattle.words.specs.ListLaws.{map-same}
+use Rattle.words.specs.ListLaws.{map-same, getD-run}
+use Rattle.words.specs.TestLaws.{split}
 use Rattle.answers.specs.declared.Answer.{Answer}
 use Rattle.records.specs.Records.{ReadsEarlier}
 use Rattle.records.specs.WireFigures.{wireFigure}
-use Rattle.records.specs.FileFigures.{fileFigures}
+use Rattle.records.specs.CircuitFile.{noWire}
+use Rattle.records.specs.FileFigures.{outputFigure, fileFigures}
 use Rattle.codes.specs.Results.{isOne}
-use Rattle.reading.specs.Header.{variables, kindAt}
-use Rattle.gates.specs.Running.{runRule}
+use Rattle.reading.specs.Header.{variables, kindAt, workingAt}
+use Rattle.gates.specs.Running.{runRule, writtenFor, runWrites}
 use Rattle.gates.specs.Gates.{figureAt}
 use Rattle.gates.specs.PlainCircuit.{gatesOf, outputsOf}
 use Rattle.gates.specs.StartLaws.{read-run}
-use Rattle.gates.specs.OutputLaws.{output-figures}
+use Rattle.gates.specs.OutputLaws.{output-figure}
 use Rattle.needed.specs.Needed.{Needed, wantedOf, from-start}
 use Rattle.needed.specs.NeededLaws.{needed-inside}
+use Rattle.needed.specs.WantedLaws.{result-wanted}
 use Rattle.needed.specs.Pass.{rulePreconditions}
 use Rattle.plan.specs.PlanFile.{groupsIn}
 use Rattle.plan.specs.Groups.{groupOf}
 use Rattle.plan.specs.Order.{order}
 use Rattle.plan.specs.WaitLaws.{order-ordered, order-once}
 use Rattle.plan.specs.Rows.{planAnswer}
-use Rattle.fused.specs.FusedCircuit.{fused, recordsOf, wireOf, outputWires, fusedFile}
+use Rattle.fused.specs.FusedCircuit.{fused, recordsOf, wireOf, outputWire, outputWires, fusedFile}
+use Rattle.fused.specs.OutputLaws.{working-wire, result-wire}
+use Rattle.fused.specs.SizeBounds.{wires-bound}
 use Rattle.fused.specs.FitPlan.{fused-file-figures}
 use Rattle.fused.specs.RightLaws.{written-right}
 use Rattle.fused.specs.PickSums.{fused-figured}
-use Rattle.fused.specs.PlannedLaws.{planned-read, planned-gates, planned-wanted, planned-few, planned-joined, planned-group, planned-earlier, planned-wire}
+use Rattle.fused.specs.PlannedLaws.{planned-read, planned-gates, planned-wanted, planned-output, planned-few, planned-joined, planned-group, planned-earlier, planned-wire}
 
 -- every record reads only earlier wires
 pub reads-earlier : (s p : List ℕ) → planAnswer s p .number ≡ 0 → ReadsEarlier (recordsOf s p)
 reads-earlier = planned-earlier
 
--- every output wire is a record's
-pub output-earlier : (s p : List ℕ) → planAnswer s p .number ≡ 0 → (w : ℕ) → w ∈ outputWires s p → w < length (recordsOf s p)
+-- a result variable's output is a record's wire
+pub result-earlier : (s p : List ℕ) → planAnswer s p .number ≡ 0 → (x : ℕ) → x < variables s → workingAt s x ≡ false → outputWire s p x < length (recordsOf s p)
+result-earlier s p h x l t = rw (result-wire s p x t) (planned-wire s p h (getD (outputsOf s) x 0) (planned-output s p h x l))
+
+-- so every output is no wire, or a record's
+pub output-earlier : (s p : List ℕ) → planAnswer s p .number ≡ 0 → (w : ℕ) → w ∈ outputWires s p → (w ≡ noWire) ⊎ (w < length (recordsOf s p))
 output-earlier s p h w m =
-    let r = map-in (wireOf s p) w (outputsOf s) m in
-    rw (r .2) (planned-wire s p h (r .0) (planned-wanted s p h (r .0) (r .1)))
+    let r = map-in (outputWire s p) w (upto (variables s)) m in
+    let b = from-below 0 (variables s) (r .0) (r .1) .1 in
+    rw (r .2) (split (workingAt s (r .0)) (λ t. inl (working-wire s p (r .0) t)) (λ t. inr (result-earlier s p h (r .0) (omega (arith, b)) t)))
+
+-- whatever the inputs, a working variable's output gives 0
+pub working-figure : (s p inputs : List ℕ) (x : ℕ) → workingAt s x ≡ true → outputFigure inputs (recordsOf s p) (outputWire s p x) ≡ 0
+working-figure s p inputs x t = rw t
 
 -- on inputs that fit their variables' kinds
 module _ (s p : List ℕ) (bytes : Bytes s) (h : planAnswer s p .number ≡ 0) (inputs : List ℕ) (fit : FiguresFit (variables s) (kindAt s) inputs) where
@@ -60,20 +80,39 @@ module _ (s p : List ℕ) (bytes : Bytes s) (h : planAnswer s p .number ≡ 0) (
       (fused-figured s p h bytes inputs fit) g
       (planned-group s p h g (needed-inside C (wantedOf s) (λ c. isOne (figureAt inputs C c)) earlier inside g d)) d
 
-  -- the output wires have the figures of the plain circuit's outputs
-  pub fused-figures : map (wireFigure inputs (recordsOf s p)) (outputWires s p) ≡ map (figureAt inputs (gatesOf s)) (outputsOf s)
-  fused-figures =
-      map-map (wireFigure inputs (recordsOf s p)) (wireOf s p) (outputsOf s)
-      ∙ map-same (λ g. wireFigure inputs (recordsOf s p) (wireOf s p g)) (figureAt inputs (gatesOf s)) (outputsOf s)
-      (λ g m. needed-figure g (from-start m))
-
+  -- there are V of them
   module _ (l : length inputs ≡ variables s) where
-    -- and those that the direct run ends with
-    pub fused-run : map (wireFigure inputs (recordsOf s p)) (outputWires s p) ≡ runRule s inputs
-    fused-run =
+    -- a result variable's output has the figure that the direct run ends with
+    pub result-figure : (x : ℕ) → x < variables s → workingAt s x ≡ false → outputFigure inputs (recordsOf s p) (outputWire s p x) ≡ getD (runRule s inputs) x 0
+    result-figure x v t =
         let r = planned-read s p h in
-        fused-figures ∙ output-figures s (r .0) (r .1) (r .2) inputs l ∙ sym (read-run s (r .0) (r .1) (r .2) inputs)
+        let some : outputWire s p x ≡ noWire → ⊥ = λ e. omega (arith, e, result-earlier s p h x v t, wires-bound s p h) in
+        rw (ne-eqb _ _ some, result-wire s p x t)
+        (needed-figure (getD (outputsOf s) x 0) (from-start (result-wanted s x v t))
+        ∙ output-figure s (r .0) (r .1) (r .2) inputs l x v
+        ∙ ap (λ (f : List ℕ). getD f x 0) (sym (read-run s (r .0) (r .1) (r .2) inputs)))
 
-    -- so the file's own bytes, worked out record by record, give every variable the figure of a direct run
-    pub file-run : fileFigures (fusedFile s p) inputs ≡ runRule s inputs
-    file-run = fused-file-figures s p h bytes (reads-earlier s p h) (output-earlier s p h) inputs ∙ fused-run
+    -- every output gives what the direct run writes
+    output-written : (x : ℕ) → x < variables s → outputFigure inputs (recordsOf s p) (outputWire s p x) ≡ writtenFor s x (getD (runRule s inputs) x 0)
+    output-written x v = split (workingAt s x) (λ t. working-figure s p inputs x t ∙ rw t) (λ t. result-figure x v t ∙ rw t)
+
+    -- so the file's own bytes, worked out record by record, give what a direct run writes
+    pub file-run : fileFigures (fusedFile s p) inputs ≡ runWrites s inputs
+    unfolding runWrites
+    file-run =
+        fused-file-figures s p h bytes (reads-earlier s p h) (output-earlier s p h) inputs
+        ∙ map-map (outputFigure inputs (recordsOf s p)) (outputWire s p) (upto (variables s))
+        ∙ map-same (λ x. outputFigure inputs (recordsOf s p) (outputWire s p x)) (λ x. writtenFor s x (getD (runRule s inputs) x 0)) (upto (variables s))
+        (λ x m. output-written x (let b = from-below 0 (variables s) x m .1 in omega (arith, b)))
+
+    file-at : (x : ℕ) → x < variables s → getD (fileFigures (fusedFile s p) inputs) x 0 ≡ writtenFor s x (getD (runRule s inputs) x 0)
+    unfolding runWrites
+    file-at x v = ap (λ (f : List ℕ). getD f x 0) file-run
+        ∙ rw zero-add at (getD-run (λ y. writtenFor s y (getD (runRule s inputs) y 0)) 0 0 (variables s) x v)
+
+    -- the direct run's figure at its end for a result variable, 0 for a working one
+    pub file-result : (x : ℕ) → x < variables s → workingAt s x ≡ false → getD (fileFigures (fusedFile s p) inputs) x 0 ≡ getD (runRule s inputs) x 0
+    file-result x v t = file-at x v ∙ rw t
+
+    pub file-working : (x : ℕ) → x < variables s → workingAt s x ≡ true → getD (fileFigures (fusedFile s p) inputs) x 0 ≡ 0
+    file-working x v t = file-at x v ∙ rw t

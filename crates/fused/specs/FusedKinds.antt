@@ -1,13 +1,13 @@
--- Laws of the kinds of the fused circuit of an accepted plan: every record reads wires of the right kinds, a gate's wire is of the gate's kind, an output of its variable's. Assumes nothing.
+-- Laws of the kinds of the fused circuit of an accepted plan: every record reads wires of the right kinds, a gate's wire is of the gate's kind, a result variable's output of the variable's. Assumes nothing.
 use Prim.Native.Nat.{ℕ, _<_}
 use mathlib.Core.Path.{_≡_, ap, _∙_}
 use mathlib.Core.List.{List}
+use mathlib.Core.Bool.{false}
+use native.Mathlib.Omega.{arith}
 use lib.ListN.{length, getD}
-use Rattle.words.specs.MemberLaws.{getD-in}
 use Rattle.words.specs.Numbers.{Bytes}
-use Rattle.gates.specs.FigureLaws.{map-at}
 use Rattle.answers.specs.declared.Answer.{Answer}
-use Rattle.reading.specs.Header.{kindAt}
+use Rattle.reading.specs.Header.{variables, kindAt, workingAt}
 use Rattle.gates.specs.PlainCircuit.{gatesOf, outputsOf}
 use Rattle.gates.specs.GateKinds.{kindOfGate}
 use Rattle.gates.specs.GateKindLaws.{plain-fits, output-kinds}
@@ -22,10 +22,12 @@ use Rattle.records.specs.Records.{recordIn}
 use Rattle.records.specs.WireKinds.{wireKind, RecordFits}
 use Rattle.records.specs.WireKindLaws.{run-kinds}
 use Rattle.records.specs.RecordLaws.{Along, along-at}
-use Rattle.fused.specs.FusedCircuit.{fused, recordsOf, wireOf, outputWires}
+use Rattle.fused.specs.FusedCircuit.{fused, recordsOf, wireOf, outputWire}
+use Rattle.fused.specs.OutputLaws.{result-wire}
 use Rattle.fused.specs.KindedLaws.{FitsAt}
 use Rattle.fused.specs.KindWritten.{written-kinds}
-use Rattle.fused.specs.PlannedLaws.{planned-read, planned-gates, planned-wanted, planned-few, planned-joined, planned-group, planned-earlier}
+use Rattle.fused.specs.PlannedLaws.{planned-read, planned-gates, planned-wanted, planned-output, planned-few, planned-joined, planned-group, planned-earlier}
+use Rattle.fused.specs.SizeBounds.{outputs-count}
 
 module _ (s p : List ℕ) (bytes : Bytes s) (h : planAnswer s p .number ≡ 0) where
   both : Along (FitsAt (wireKind (recordsOf s p))) 0 (recordsOf s p)
@@ -47,10 +49,10 @@ module _ (s p : List ℕ) (bytes : Bytes s) (h : planAnswer s p .number ≡ 0) w
   pub fused-kinds : (g : ℕ) → g < length (gatesOf s) → wireKind (recordsOf s p) (wireOf s p g) ≡ kindOfGate (kindAt s) (gatesOf s) g
   fused-kinds = both .1
 
-  -- an output wire is of its variable's kind
-  pub output-wire-kinds : (x : ℕ) → x < length (outputsOf s) → wireKind (recordsOf s p) (getD (outputWires s p) x 0) ≡ kindAt s x
-  output-wire-kinds x l =
+  -- a result variable's output is of the variable's kind
+  pub output-wire-kinds : (x : ℕ) → x < variables s → workingAt s x ≡ false → wireKind (recordsOf s p) (outputWire s p x) ≡ kindAt s x
+  output-wire-kinds x l t =
       let r = planned-read s p h in
-      ap (wireKind (recordsOf s p)) (map-at (wireOf s p) (outputsOf s) x l)
-      ∙ fused-kinds (getD (outputsOf s) x 0) (planned-wanted s p h (getD (outputsOf s) x 0) (getD-in (outputsOf s) x l))
-      ∙ output-kinds s bytes (r .0) (r .1) (r .2) x l
+      ap (wireKind (recordsOf s p)) (result-wire s p x t)
+      ∙ fused-kinds (getD (outputsOf s) x 0) (planned-output s p h x l)
+      ∙ output-kinds s bytes (r .0) (r .1) (r .2) x (omega (arith, l, outputs-count s p h .0))

@@ -1,6 +1,7 @@
 pub mod Emission
 pub mod FusedCircuit
 pub mod Answers
+pub mod OutputLaws
 pub mod EmitLaws
 pub mod WrittenLaws
 pub mod PickLaws

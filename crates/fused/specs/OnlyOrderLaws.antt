@@ -2,16 +2,22 @@
 use Prim.Native.Nat.{ℕ, _<_, _≤_}
 use mathlib.Core.Path.{_≡_, refl, sym, ap, ap₂, subst, _∙_}
 use mathlib.Core.List.{List, [], _∷_, map}
-use lib.ListN.{length}
+use mathlib.Core.Bool.{Bool, not, cond}
+use native.Mathlib.Omega.{arith}
+use lib.ListN.{length, getD}
+use Rattle.words.specs.Lists.{_∈_, keep, upto}
+use Rattle.words.specs.MemberLaws.{from-below}
+use Rattle.words.specs.ListLaws.{map-same, keep-same}
 use Rattle.answers.specs.Answers.{success}
 use Rattle.answers.specs.ParsingLaws.{is-read}
 use Rattle.records.specs.Records.{Record, input}
-use Rattle.reading.specs.Header.{variables, kindAt}
+use Rattle.records.specs.CircuitFile.{noWire}
+use Rattle.reading.specs.Header.{variables, kindAt, workingAt, resultVariables}
 use Rattle.reading.specs.Rule.{readRule}
 use Rattle.reading.specs.OnlyOrder.{OnlyOrder}
 use Rattle.gates.specs.Gates.{Gate, start, word, bit, operation, choice, Gates, gateAt, costs, conditions}
 use Rattle.gates.specs.PlainCircuit.{Making, gatesOf}
-use Rattle.gates.specs.OnlyOrderLaws.{same-variables, same-kind, second-read, same-plain}
+use Rattle.gates.specs.OnlyOrderLaws.{same-variables, same-kind, same-working, second-read, same-plain}
 use Rattle.gates.specs.Limits.{mostGates, mostConditions}
 use Rattle.gates.specs.EachGateLaws.{StartGate, Starting, rule-starting}
 use Rattle.needed.specs.Needed.{wantedOf}
@@ -24,7 +30,7 @@ use Rattle.plan.specs.Order.{order}
 use Rattle.plan.specs.Rows.{planAnswer}
 use Rattle.plan.specs.SameLaws.{row-same}
 use Rattle.fused.specs.Emission.{alone, emit}
-use Rattle.fused.specs.FusedCircuit.{Written, written, fused, recordsOf, outputWires, costAfter, fusedFile}
+use Rattle.fused.specs.FusedCircuit.{Written, written, fused, recordsOf, outputWire, outputWires, costAfter, fusedFile}
 use Rattle.fused.specs.Answers.{fusedCounts, writeAnswer, writtenOver}
 
 -- a rule's bytes are asked only for the kinds of starting values
@@ -53,8 +59,17 @@ module _ (s t : List ℕ) (o : OnlyOrder s t) where
   same-gates : gatesOf s ≡ gatesOf t
   same-gates = ap (λ (m : Making). m .gates) (same-plain s t o)
 
+  -- the same variables are working ones
+  works : (x : ℕ) → x ∈ upto (variables s) → workingAt s x ≡ workingAt t x
+  works x m = same-working s t o x (let b = from-below 0 (variables s) x m .1 in omega (arith, b))
+
+  same-results : resultVariables s ≡ resultVariables t
+  same-results =
+      keep-same (λ x. not (workingAt s x)) (λ x. not (workingAt t x)) (upto (variables s)) (λ x m. ap not (works x m))
+      ∙ ap (λ (v : ℕ). keep (λ x. not (workingAt t x)) (upto v)) (same-variables s t o)
+
   same-wanted : wantedOf s ≡ wantedOf t
-  same-wanted = ap (λ (m : Making). m .present) (same-plain s t o)
+  same-wanted = ap₂ (λ (m : Making) (l : List ℕ). map (λ x. getD (m .present) x 0) l) (same-plain s t o) same-results
 
   same-sets : rulePreconditions s ≡ rulePreconditions t
   same-sets = ap₂ (preconditionSets mostConditions) same-gates same-wanted
@@ -86,11 +101,15 @@ module _ (s t : List ℕ) (o : OnlyOrder s t) where
     same-records p = ap (λ (w : Written). w .records) (same-fused p)
 
     same-outputs : (p : List ℕ) → outputWires s p ≡ outputWires t p
-    same-outputs p = ap₂ (λ (w : Written) (m : Making). map (λ g. w .wire (groupOf (groupsIn p) g)) (m .present)) (same-fused p) (same-plain s t o)
+    same-outputs p =
+        map-same (outputWire s p) (outputWire t p) (upto (variables s))
+        (λ x m. ap₂ (λ (b : Bool) (w : ℕ). cond b noWire w) (works x m)
+        (ap₂ (λ (w : Written) (m : Making). w .wire (groupOf (groupsIn p) (getD (m .present) x 0))) (same-fused p) (same-plain s t o)))
+        ∙ ap (λ (v : ℕ). map (outputWire t p) (upto v)) (same-variables s t o)
 
     pub same-file : (p : List ℕ) → fusedFile s p ≡ fusedFile t p
     unfolding fusedFile
-    same-file p = rw (same-variables s t o, same-records p, same-outputs p)
+    same-file p = rw (same-outputs p, same-records p, same-variables s t o)
 
     same-counts : (p : List ℕ) → fusedCounts s p ≡ fusedCounts t p
     unfolding fusedCounts

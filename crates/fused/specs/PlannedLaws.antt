@@ -4,18 +4,22 @@ use Prim.Native.Nat.{ℕ, _≤_, _<_}
 use mathlib.Core.Path.{_≡_, sym, ap, _∙_}
 use mathlib.Core.List.{List}
 use native.Mathlib.Nat.{zero-add}
-use lib.ListN.{length}
+use native.Mathlib.Omega.{arith}
+use lib.ListN.{length, getD}
 use Rattle.words.specs.Lists.{_∈_}
+use Rattle.words.specs.MemberLaws.{getD-in}
 use Rattle.codes.specs.Codes.{entryOf}
 use Rattle.codes.specs.declared.Operation.{Operation}
 use Rattle.answers.specs.Parsing.{parsed}
 use Rattle.answers.specs.ParsingLaws.{is-read}
 use Rattle.answers.specs.declared.Answer.{Answer}
+use Rattle.reading.specs.Header.{variables}
 use Rattle.reading.specs.Tree.{Block}
 use Rattle.reading.specs.Rule.{readRule}
 use Rattle.gates.specs.Gates.{Gate, operation, gateAt, arguments, Earlier, conditions}
 use Rattle.gates.specs.Limits.{mostConditions}
-use Rattle.gates.specs.PlainCircuit.{gatesOf}
+use Rattle.gates.specs.PlainCircuit.{gatesOf, outputsOf}
+use Rattle.gates.specs.StartLaws.{plain-sound}
 use Rattle.needed.specs.Held.{ShapedGate}
 use Rattle.needed.specs.Needed.{wantedOf}
 use Rattle.needed.specs.Pass.{rulePreconditions}
@@ -66,6 +70,12 @@ module _ (s p : List ℕ) (h : planAnswer s p .number ≡ 0) where
 
   pub planned-wanted : (g : ℕ) → g ∈ wantedOf s → g < length (gatesOf s)
   planned-wanted = wanted-inside s (planned-read .0) (planned-read .1) (planned-read .2)
+
+  -- every variable's last gate is a gate, a working one's too
+  pub planned-output : (x : ℕ) → x < variables s → getD (outputsOf s) x 0 < length (gatesOf s)
+  planned-output x l =
+      let sound = plain-sound s (planned-read .0) (planned-read .1) (planned-read .2) in
+      sound .inside (getD (outputsOf s) x 0) (getD-in (outputsOf s) x (omega (arith, l, sound .count)))
 
   pub planned-few : length (conditions (gatesOf s)) ≤ mostConditions
   planned-few = rule .conds

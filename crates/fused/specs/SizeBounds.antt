@@ -3,7 +3,7 @@ use mathlib.Core.Path.{_≡_, ap, _∙_}
 use mathlib.Core.List.{List, [], _∷_}
 use Prim.Native.Nat.{ℕ, _+_, _*_, _≤_}
 use native.Mathlib.Omega.{arith}
-use lib.ListN.{length, length-append, length-map}
+use lib.ListN.{length, length-append}
 use Rattle.words.specs.Lists.{upto}
 use Rattle.words.specs.ListLaws.{length-from}
 use Rattle.settings.specs.Settings.{Once}
@@ -31,7 +31,8 @@ use Rattle.plan.specs.Accepted.{OneCostly}
 use Rattle.plan.specs.AcceptedLaws.{plan-accepted}
 use Rattle.plan.specs.JoinedLaws.{members-costly}
 use Rattle.plan.specs.WaitLaws.{order-once}
-use Rattle.fused.specs.FusedCircuit.{groupRecords, written, fused, recordsOf, wireOf, outputWires, costAfter, fusedFile}
+use Rattle.fused.specs.FusedCircuit.{groupRecords, written, fused, recordsOf, outputWires, costAfter, fusedFile}
+use Rattle.fused.specs.OutputLaws.{outputs-length}
 use Rattle.fused.specs.SizeEmit.{emit-most}
 use Rattle.fused.specs.SizeTotal.{total, total-le}
 
@@ -96,7 +97,7 @@ pub fused-size : (s p : List ℕ) → planAnswer s p .number ≡ 0 → length (f
 unfolding fusedFile
 fused-size s p h =
     file-size (variables s) (recordsOf s p) (outputWires s p)
-    ∙ ap (λ (k : ℕ). 8 + length (recordsBytes (recordsOf s p)) + 2 * k) (length-map (outputsOf s) (wireOf s p) ∙ outputs-count s p h .0)
+    ∙ ap (λ (k : ℕ). 8 + length (recordsBytes (recordsOf s p)) + 2 * k) (outputs-length s p)
 
 -- at most 16,384 bytes
 pub bytes-bound : (s p : List ℕ) → planAnswer s p .number ≡ 0 → length (fusedFile s p) ≤ 16384

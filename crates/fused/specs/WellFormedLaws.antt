@@ -2,19 +2,20 @@
 use Prim.Native.Nat.{ℕ, _^_, _≤_, _<_}
 use mathlib.Core.Path.{_≡_, refl, sym, ap, _∙_}
 use mathlib.Core.List.{List, [], _∷_, map}
+use mathlib.Core.Logic.{_⊎_, inl, inr}
 use native.Mathlib.Omega.{arith}
 use lib.ListN.{length, getD, length-map}
 use Rattle.words.specs.Lists.{upto}
-use Rattle.words.specs.MemberLaws.{getD-in}
+use Rattle.words.specs.TestLaws.{split}
 use Rattle.words.specs.Numbers.{Bytes}
 use Rattle.settings.specs.Sets.{rests}
 use Rattle.answers.specs.declared.Answer.{Answer}
-use Rattle.reading.specs.Header.{variables, kindAt}
+use Rattle.reading.specs.Header.{variables, kindAt, workingAt}
 use Rattle.reading.specs.FirstStatement.{rule-read}
 use Rattle.gates.specs.Gates.{Gate, Gates, gateAt, arguments, conditions}
 use Rattle.gates.specs.Gates as gate
 use Rattle.gates.specs.Limits.{mostConditions}
-use Rattle.gates.specs.PlainCircuit.{gatesOf, outputsOf, gateCount}
+use Rattle.gates.specs.PlainCircuit.{gatesOf, gateCount}
 use Rattle.needed.specs.Pass.{rulePreconditions}
 use Rattle.circuit.specs.WholeLaws.{accepted}
 use Rattle.plan.specs.PlanFile.{groupsIn}
@@ -25,12 +26,13 @@ use Rattle.plan.specs.RestLaws.{rests-count}
 use Rattle.records.specs.RecordLaws.{Along, along-map, along-at}
 use Rattle.records.specs.WireKinds.{recordKind, wireKind}
 use Rattle.records.specs.WireKindLaws.{kinds-right}
-use Rattle.records.specs.CircuitFile.{fileBytes}
+use Rattle.records.specs.CircuitFile.{fileBytes, noWire}
 use Rattle.records.specs.CircuitRows.{circuitRow}
 use Rattle.records.specs.WellFormed.{TableFits, Standing, WellFormed}
 use Rattle.records.specs.FormatLaws.{well-row}
 use Rattle.fused.specs.Emission.{alone, gateOperation, guardOf, valuesAt, emit}
-use Rattle.fused.specs.FusedCircuit.{recordsOf, wireOf, outputWires, fusedFile}
+use Rattle.fused.specs.FusedCircuit.{recordsOf, outputWire, outputWires, fusedFile}
+use Rattle.fused.specs.OutputLaws.{outputs-length, output-at, working-wire}
 use Rattle.fused.specs.EmitLaws.{joined-along}
 use Rattle.fused.specs.BoundLaws.{fused-along, fused-bounded}
 use Rattle.fused.specs.FitLaws.{table-below}
@@ -38,7 +40,7 @@ use Rattle.fused.specs.FitPlan.{fused-file-fits}
 use Rattle.fused.specs.SizeBounds.{wires-bound, outputs-count, bytes-bound}
 use Rattle.fused.specs.FusedKinds.{fused-fits, output-wire-kinds}
 use Rattle.fused.specs.InputLaws.{input-first, input-last}
-use Rattle.fused.specs.FusedFigures.{reads-earlier, output-earlier}
+use Rattle.fused.specs.FusedFigures.{reads-earlier, result-earlier, output-earlier}
 
 -- only a guard has a table
 alone-table : (s : List ℕ) (wire : ℕ → ℕ) (k : Gate) → TableFits (alone s wire k)
@@ -68,6 +70,13 @@ module _ (s p : List ℕ) (bytes : Bytes s) (h : planAnswer s p .number ≡ 0) w
       let (i, e) = input-first s p h x l in
       kinds-right (recordsOf s p) (reads-earlier s p h) x i ∙ ap (recordKind (wireKind (recordsOf s p))) e
 
+  -- an output is no wire, or a record's and of its variable's kind
+  output-stands : (x : ℕ) → x < variables s
+      → (outputWire s p x ≡ noWire) ⊎ ((outputWire s p x < length (recordsOf s p)) × (wireKind (recordsOf s p) (outputWire s p x) ≡ wireKind (recordsOf s p) x))
+  output-stands x l =
+      split (workingAt s x) (λ t. inl (working-wire s p x t))
+      (λ t. inr (result-earlier s p h x l t, output-wire-kinds s p bytes h x l t ∙ sym (input-kind x l)))
+
   -- what row 62 asks
   fused-standing : Standing (variables s) (recordsOf s p) (outputWires s p)
   fused-standing = record {
@@ -79,10 +88,8 @@ module _ (s p : List ℕ) (bytes : Bytes s) (h : planAnswer s p .number ≡ 0) w
         (fused-along s p (λ i. TableFits)
         (λ wire n q. emit-tables s (gatesOf s) (rulePreconditions s) wire n (members (gateCount s) (groupOf (groupsIn p)) q)));
     outs = λ x l.
-        let o : x < length (outputsOf s) = omega (arith, l, length-map (outputsOf s) (wireOf s p)) in (
-          output-earlier s p h (getD (outputWires s p) x 0) (getD-in (outputWires s p) x l),
-          output-wire-kinds s p bytes h x o ∙ sym (input-kind x (omega (arith, o, outputs-count s p h .0))),
-        );
+        let v : x < variables s = omega (arith, l, outputs-length s p) in
+        rw (output-at s p x v) (output-stands x v);
   }
 
   pub fused-well-formed : WellFormed (variables s) (recordsOf s p) (outputWires s p)

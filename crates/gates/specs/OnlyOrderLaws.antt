@@ -9,7 +9,7 @@ use lib.Seq.{getD-take}
 use Rattle.words.specs.Lists.{upto}
 use Rattle.words.specs.ListLaws.{keep-same}
 use Rattle.answers.specs.Parsing.{Parsed, parsed, refused, IsRead}
-use Rattle.reading.specs.Header.{kindOf, variables, kindAt}
+use Rattle.reading.specs.Header.{kindOf, workingOf, variables, kindAt, workingAt}
 use Rattle.reading.specs.Tree.{Expr, Statement, Block}
 use Rattle.reading.specs.Rule.{readRule}
 use Rattle.reading.specs.OrderLaws.{both-read}
@@ -69,6 +69,9 @@ module _ (s t : List ℕ) (o : OnlyOrder s t) where
 
   pub same-kind : (x : ℕ) → x < variables s → kindAt s x ≡ kindAt t x
   same-kind x h = ap kindOf (header-byte (6 + x) (omega arith))
+
+  pub same-working : (x : ℕ) → x < variables s → workingAt s x ≡ workingAt t x
+  same-working x h = ap workingOf (header-byte (6 + x) (omega arith))
 
   read-same : (r q : Parsed Block) → ReadUpToOrder r q → plainRead (variables s) r ≡ plainRead (variables t) q
   read-same (parsed b n) (parsed d m) h = ap (λ (v : ℕ). plainOf v b) same-variables ∙ block-same h (starts (variables t))

@@ -3,13 +3,14 @@ use Prim.Native.Nat.{ℕ, _+_, _*_, _≤_, _<_}
 use native.Mathlib.Omega.{arith}
 use mathlib.Core.Path.{_≡_, sym, ap, ap₂, _∙_}
 use mathlib.Core.List.{List, map}
-use lib.ListN.{length, getD, take}
+use lib.ListN.{length, getD}
 use borrow.Author.Tests.{eq-eqb}
+use Rattle.words.specs.Lists.{upto}
 use Rattle.words.specs.BufferLaws.{padded-length}
 use Rattle.words.specs.Numbers.{Bytes}
 use Rattle.answers.specs.Answers.{success}
 use Rattle.answers.specs.declared.Answer.{Answer}
-use Rattle.reading.specs.Header.{variables}
+use Rattle.reading.specs.Header.{variables, HasKinds}
 use Rattle.reading.specs.Limits.{mostVariables}
 use Rattle.reading.specs.FirstStatement.{rule-read}
 use Rattle.gates.specs.PlainCircuit.{outputsOf, gateCount, costBefore}
@@ -29,15 +30,17 @@ use Rattle.records.specs.CircuitFile.{recordsBytes, fileBytes}
 use Rattle.fused.specs.Answers.{fusedCounts, fusedAnswer}
 use Rattle.fused.specs.AnswerLaws.{fused-refused, fused-plan, answer-bytes}
 use Rattle.fused.specs.SizeBounds.{fused-size, wires-bound, bytes-bound}
-use Rattle.emitting.specs.Emitted.{wireIn}
 use Rattle.filing.specs.Staged.{stage, Turnable}
-use Rattle.filing.specs.Turns.{Sum, OutputsPlaced, fileIn}
+use Rattle.filing.specs.Turns.{Sum, OutputsPlaced, outputIn, fileIn}
 use Rattle.writing.specs.ArrayLaws.{rule-taken}
 use Rattle.writing.specs.TopLaws.{plan-turnable, last-records, last-outputs, table-named}
 
--- the byte V of a rule with an accepted plan is there
+-- a rule with an accepted plan has its kind bytes, and before them V
+kinds-there : (s p : List ℕ) → planAnswer s p .number ≡ 0 → HasKinds s
+kinds-there s p taken = rule-read s (accepted s (rule-taken s p taken) .read) .header .kinds
+
 pub rule-long : (s p : List ℕ) → planAnswer s p .number ≡ 0 → 5 < length s
-rule-long s p taken = omega (arith, rule-read s (accepted s (rule-taken s p taken) .read) .header .kinds)
+rule-long s p taken = omega (arith, kinds-there s p taken)
 
 -- what the check answers
 module _ (s p : List ℕ) (a : Answer) (e : a ≡ planAnswer s p) where
@@ -97,11 +100,11 @@ module _ (s p : List ℕ) (taken : planAnswer s p .number ≡ 0) (quads needs ou
   records-are : stage p quads count needs group places ord groups .records ≡ recordsOf s p
   records-are = rw (k .quads-are, k .needs-are, k .group-is, k .places-are, k .order-is, gates-are, groups-all) (last-records s p taken)
 
-  outputs-are : map (wireIn group (stage p quads count needs group places ord groups .wires)) (take (variables s) outputs) ≡ outputWires s p
+  outputs-are : map (outputIn s outputs group (stage p quads count needs group places ord groups .wires)) (upto (variables s)) ≡ outputWires s p
   outputs-are = rw (k .quads-are, k .needs-are, k .outputs-are, k .group-is, k .places-are, k .order-is, gates-are, groups-all) (last-outputs s p taken)
 
   -- the file that the arrays give is the one that the rules fix
-  pub file-is : fileIn p quads count needs group places ord groups (variables s) outputs ≡ fusedFile s p
+  pub file-is : fileIn s p quads count needs group places ord groups outputs ≡ fusedFile s p
   unfolding fusedFile
   file-is = ap₂ (fileBytes (variables s)) records-are outputs-are
 
@@ -124,12 +127,12 @@ module _ (s p : List ℕ) (taken : planAnswer s p .number ≡ 0) (quads needs ou
 
   -- what writing the file asks for
   pub file-ready : Bytes s → (wires : ℕ) → wires ≡ length (recordsOf s p) → (d : List ℕ) → length (fusedFile s p) ≤ length d
-      → (length (fileIn p quads count needs group places ord groups (variables s) outputs) ≤ length d)
+      → (length (fileIn s p quads count needs group places ord groups outputs) ≤ length d)
       × (Turnable p quads count needs group places conds ord groups
-      × ((wires ≡ length (stage p quads count needs group places ord groups .records)) × OutputsPlaced outputs (variables s) group))
+      × ((wires ≡ length (stage p quads count needs group places ord groups .records)) × (HasKinds s × OutputsPlaced outputs (variables s) group)))
   file-ready b wires w d l =
-      let e : length (fileIn p quads count needs group places ord groups (variables s) outputs) ≡ length (fusedFile s p) = ap length file-is in
-      (rw e l, (arrays-turnable b, (w ∙ ap length (sym records-are), outputs-placed)))
+      let e : length (fileIn s p quads count needs group places ord groups outputs) ≡ length (fusedFile s p) = ap length file-is in
+      (rw e l, (arrays-turnable b, (w ∙ ap length (sym records-are), (kinds-there s p taken, outputs-placed))))
 
   -- the file's counts, from what is measured
   module _ (wires bytes cost : ℕ) (m : Sum p quads count needs group places ord groups wires bytes cost) where

@@ -3,26 +3,24 @@ use Prim.Native.Nat.{ℕ, _≤_, _<_}
 use native.Mathlib.Omega.{arith}
 use mathlib.Core.Path.{_≡_, sym, ap, _∙_}
 use mathlib.Core.List.{List, map}
-use lib.ListN.{length, getD, take, length-reverse}
-use lib.Seq.{take-at}
-use Rattle.words.specs.Lists.{_∈_}
+use mathlib.Core.Bool.{cond}
+use lib.ListN.{length, getD, length-reverse}
+use Rattle.words.specs.Lists.{_∈_, upto}
+use Rattle.words.specs.MemberLaws.{from-below}
 use Rattle.words.specs.Numbers.{Bytes}
 use Rattle.words.specs.ListLaws.{map-same}
 use Rattle.codes.specs.declared.Kind.{Kind}
-use Rattle.reading.specs.Header.{variables, kindAt}
-use Rattle.reading.specs.Limits.{mostVariables}
+use Rattle.reading.specs.Header.{variables, kindAt, workingAt}
 use Rattle.gates.specs.Gates.{Gate, start, operation, choice, gateAt}
 use Rattle.gates.specs.Gates as gate
 use Rattle.gates.specs.GateKinds.{kindOfGate, GateFits}
 use Rattle.gates.specs.GateKindLaws.{plain-fits}
 use Rattle.gates.specs.Limits.{mostGates}
-use Rattle.gates.specs.PlainCircuit.{gatesOf, outputsOf, gateCount}
+use Rattle.gates.specs.PlainCircuit.{gatesOf, gateCount}
 use Rattle.gates.specs.EachGateLaws.{StartGate, rule-starting}
 use Rattle.needed.specs.Pass.{rulePreconditions}
 use Rattle.circuit.specs.Built.{builtQuads, builtNeeds, builtOutputs, builtConditions}
-use Rattle.words.specs.Buffers.{padded}
-use Rattle.circuit.specs.BuiltLaws.{accepted-builds}
-use Rattle.circuit.specs.BuiltParts.{built-room, built-earlier, built-condition, built-outputs-length, built-outputs-inside, built-variables}
+use Rattle.circuit.specs.BuiltParts.{built-room, built-earlier, built-condition, built-output, built-output-inside, built-variables}
 use Rattle.plan.specs.PlanFile.{groupsIn}
 use Rattle.plan.specs.Groups.{groupOf}
 use Rattle.plan.specs.Order.{order}
@@ -32,7 +30,8 @@ use Rattle.plan.specs.PlaceLaws.{group-listed}
 use Rattle.plan.specs.CountLaws.{order-length}
 use Rattle.checking.specs.Checked.{writingOrder, checkedGroups, checkedPlaces, checkedOrder}
 use Rattle.checking.specs.CheckedLaws.{group-is, place-is, turn-is}
-use Rattle.fused.specs.FusedCircuit.{written, fused, recordsOf, wireOf, outputWires}
+use Rattle.records.specs.CircuitFile.{noWire}
+use Rattle.fused.specs.FusedCircuit.{written, fused, recordsOf, wireOf, outputWire, outputWires}
 use Rattle.fused.specs.PlannedLaws.{planned-read, planned-named, planned-group}
 use Rattle.fused.specs.SizeBounds.{plan-written}
 use Rattle.emitting.specs.Emitted.{wireIn, Writable}
@@ -41,6 +40,7 @@ use Rattle.emitting.specs.HeldLaws.{SmallGate, writable-held}
 use Rattle.joining.specs.HeldLaws.{joining-held}
 use Rattle.plan.specs.NumberLaws.{length-group}
 use Rattle.filing.specs.Staged.{Turnable}
+use Rattle.filing.specs.Turns.{outputIn}
 use Rattle.writing.specs.ArrayLaws.{rule-taken, plan-taken, gates-shaped, quads-held, members-two}
 use Rattle.writing.specs.DoneLaws.{doneAt, done-once, done-all, next-group}
 use Rattle.writing.specs.StageLaws.{checkedStage, stage-same}
@@ -137,15 +137,11 @@ module _ (s p : List ℕ) (h : planAnswer s p .number ≡ 0) where
       ∙ m .wires (groupOf (groupsIn p) a) d
       ∙ ap (λ (d : List ℕ). written s (gatesOf s) (rulePreconditions s) (groupOf (groupsIn p)) d .wire (groupOf (groupsIn p) a)) (done-all s p)
 
-  outputs-are : take (variables s) (builtOutputs s) ≡ outputsOf s
-  outputs-are =
-      ap (λ (l : List ℕ). take (variables s) (padded mostVariables l)) (accepted-builds s (rule-taken s p h) (outputsOf s))
-      ∙ take-at (outputsOf s) _ (variables s) (built-outputs-length s (rule-taken s p h))
-
-  pub last-outputs : map (wireIn (checkedGroups s p)
-      (checkedStage s p (length (writingOrder s p)) .wires)) (take (variables s) (builtOutputs s))
-      ≡ outputWires s p
+  pub last-outputs : map (outputIn s (builtOutputs s) (checkedGroups s p) (checkedStage s p (length (writingOrder s p)) .wires)) (upto (variables s)) ≡ outputWires s p
   last-outputs =
-      ap (map (wireIn (checkedGroups s p) (checkedStage s p last .wires))) outputs-are
-      ∙ map-same (wireIn (checkedGroups s p) (checkedStage s p last .wires)) (wireOf s p) (outputsOf s)
-      (λ a m. wire-last a (built-outputs-inside s (rule-taken s p h) a m))
+      let accepted = rule-taken s p h in
+      map-same (outputIn s (builtOutputs s) (checkedGroups s p) (checkedStage s p last .wires)) (outputWire s p) (upto (variables s))
+      (λ x m.
+      let l = from-below 0 (variables s) x m .1 in
+      ap (cond (workingAt s x) noWire)
+      (wire-last (getD (builtOutputs s) x 0) (built-output-inside s accepted x (omega (arith, l))) ∙ ap (wireOf s p) (built-output s accepted x)))

@@ -1,0 +1,27 @@
+-- Laws of the outputs of a fused circuit, one for each variable: no wire for a working one, the wire of its last gate for a result variable. Assumes nothing.
+use Prim.Native.Nat.{ℕ, _<_}
+use mathlib.Core.Path.{_≡_, _∙_}
+use mathlib.Core.List.{List}
+use mathlib.Core.Bool.{true, false}
+use native.Mathlib.Nat.{zero-add}
+use lib.ListN.{length, getD, length-map}
+use Rattle.words.specs.Lists.{upto}
+use Rattle.words.specs.ListLaws.{length-from, getD-run}
+use Rattle.records.specs.CircuitFile.{noWire}
+use Rattle.reading.specs.Header.{variables, workingAt}
+use Rattle.gates.specs.PlainCircuit.{outputsOf}
+use Rattle.fused.specs.FusedCircuit.{wireOf, outputWire, outputWires}
+
+module _ (s p : List ℕ) where
+  pub outputs-length : length (outputWires s p) ≡ variables s
+  outputs-length = length-map (upto (variables s)) (outputWire s p) ∙ length-from 0 (variables s)
+
+  module _ (x : ℕ) where
+    pub output-at : x < variables s → getD (outputWires s p) x 0 ≡ outputWire s p x
+    output-at l = rw zero-add at (getD-run (outputWire s p) 0 0 (variables s) x l)
+
+    pub working-wire : workingAt s x ≡ true → outputWire s p x ≡ noWire
+    working-wire h = rw h
+
+    pub result-wire : workingAt s x ≡ false → outputWire s p x ≡ wireOf s p (getD (outputsOf s) x 0)
+    result-wire h = rw h
