@@ -2,10 +2,10 @@
 -- s is a rule's bytes, p a plan's, f a circuit file's. That every operation ends, with the answers and bytes named here, is what it promises: crates/linnet/src/lib.rt.
 use Prim.Native.Nat.{ℕ, _≤_, _<_}
 use mathlib.Core.Path.{_≡_}
-use mathlib.Core.Bool.{true}
+use mathlib.Core.Bool.{true, false}
 use mathlib.Core.List.{List, [], _∷_, _++_, map}
 use mathlib.Core.Logic.{_↔_}
-use lib.ListN.{length, take, drop}
+use lib.ListN.{length, getD, set, take, drop}
 use Rattle.codes.specs.Inputs.{FiguresFit}
 use Rattle.words.specs.Lists.{_∈_, elem}
 use Rattle.words.specs.Numbers.{Bytes, Words}
@@ -14,17 +14,20 @@ use Rattle.codes.specs.declared.Operation.{Operation}
 use Rattle.answers.specs.Parsing.{parsed, IsRead}
 use Rattle.answers.specs.Answers.{success}
 use Rattle.answers.specs.declared.Answer.{Answer}
-use Rattle.reading.specs.Header.{variables, kindAt}
+use Rattle.reading.specs.Header.{variables, kindAt, workingAt}
 use Rattle.reading.specs.Tree.{variable, two, Block}
 use Rattle.reading.specs.Rule.{readRule}
 use Rattle.reading.specs.Format.{headerBytes, ruleBytes, WellFormed}
 use Rattle.reading.specs.RuleFormat as format
 use Rattle.reading.specs.OnlyOrder.{OnlyOrder}
+use Rattle.reading.specs.OnlyWorking.{OnlyWorking, MoreWorking}
 use Rattle.reading.specs.Standing.{InBlock}
 use Rattle.reading.specs.OrderBytes as bytes
-use Rattle.gates.specs.Running.{runRule}
+use Rattle.gates.specs.Running.{runRule, runWrites}
 use Rattle.gates.specs.Gates.{operation, gateAt, figureAt}
 use Rattle.gates.specs.PlainCircuit.{gatesOf, outputsOf}
+use Rattle.settings.specs.Settings.{Setting}
+use Rattle.needed.specs.Needed.{Needed, wantedOf}
 use Rattle.circuit.specs.Whole.{ruleAnswer}
 use Rattle.direct.specs.Direct.{runAnswer, runResults}
 use Rattle.direct.specs.DirectLaws as direct
@@ -34,8 +37,8 @@ use Rattle.plan.specs.AcceptedLaws as laws
 use Rattle.records.specs.Records.{Pair, Record, pick, guard, recordIn, ReadsEarlier, pickFigure, guardFigure}
 use Rattle.records.specs.WireKinds.{valuesOf, wireKind}
 use Rattle.records.specs.WireFigures.{pickSum, wireFigure}
-use Rattle.records.specs.CircuitFile.{recordBytes, fileBytes}
-use Rattle.records.specs.FileFigures.{wireCount, fileRecords, fileFigures}
+use Rattle.records.specs.CircuitFile.{recordBytes, fileBytes, noWire}
+use Rattle.records.specs.FileFigures.{wireCount, fileRecords, fileOutputs, fileFigures}
 use Rattle.records.specs.WellFormed as circuits
 use Rattle.fused.specs.FusedCircuit.{recordsOf, fusedFile}
 use Rattle.fused.specs.Answers.{fusedAnswer, writeAnswer, writtenOver}
@@ -50,6 +53,7 @@ use Rattle.demands.specs.AnsweredLaws as answers
 use Rattle.demands.specs.FusedRunLaws as runs
 use Rattle.demands.specs.OrderLaws as order
 use Rattle.demands.specs.ForeignLaws as foreign
+use Rattle.demands.specs.WorkingLaws as working
 
 -- Demand 1. "Whatever arrives as rule, plan or inputs: the tool ends; it takes it, or refuses with the number and place of document 01's table":
 pub rule-answered : (s : List ℕ) → Answered (length s) (ruleAnswer s)
@@ -115,12 +119,13 @@ plan-accepted = laws.plan-accepted
 pub reads-earlier : (s p : List ℕ) → Bytes s → planAnswer s p .number ≡ 0 → ReadsEarlier (fileRecords (fusedFile s p))
 reads-earlier s p bytes h = runs.file-earlier s p h bytes
 
--- "and the file's own records" (on inputs of their variables' kinds: row 41 refuses others)
+-- "and the file's own records" (on inputs of their variables' kinds: row 41 refuses others; document 02, C-13: "The accuracy demand speaks of result variables")
 pub file-run : (s p : List ℕ) → Bytes s → planAnswer s p .number ≡ 0 → (inputs : List ℕ) → FiguresFit (variables s) (kindAt s) inputs
-    → length inputs ≡ variables s → fileFigures (fusedFile s p) inputs ≡ runRule s inputs
-file-run = figures.file-run
+    → length inputs ≡ variables s → (x : ℕ) → x < variables s → workingAt s x ≡ false
+    → getD (fileFigures (fusedFile s p) inputs) x 0 ≡ getD (runRule s inputs) x 0
+file-run = figures.file-result
 
--- "and every run of it give every variable the figure of a direct run": it writes what the direct run writes, on inputs that are words, as all that arrive are,
+-- "and every run of it give every variable the figure of a direct run": it writes the V numbers that the direct run writes, on inputs that are words, as all that arrive are,
 pub same-results : (s p : List ℕ) → Bytes s → planAnswer s p .number ≡ 0 → (inputs : List ℕ) → Words inputs → (results : List ℕ)
     → fusedResults s p inputs results ≡ runResults (ruleAnswer s) s inputs results
 same-results s p bytes h = runs.same-results s p h bytes
@@ -216,3 +221,50 @@ pub bytes-order : (kinds : List ℕ) (b : Block) → WellFormed kinds b → (op 
     → OnlyOrder (headerBytes kinds ++ (pre ++ (byteOf op ∷ 0x10 ∷ x ∷ 0x10 ∷ y ∷ post)))
     (headerBytes kinds ++ (pre ++ (byteOf op ∷ 0x10 ∷ y ∷ 0x10 ∷ x ∷ post)))
 bytes-order = bytes.order-bytes
+
+-- Document 02, C-13. "Only the other variables' last gates are needed from the start": what is wanted are the outputs of the variables that do not work,
+pub wanted-are : (s : List ℕ) (g : ℕ) → (g ∈ wantedOf s) ↔ ((x : ℕ) × (x < variables s) × (workingAt s x ≡ false) × (g ≡ getD (outputsOf s) x 0))
+wanted-are = working.wanted-are
+
+-- so that where more variables work no gate is needed that was not, under any setting,
+pub fewer-needed : (kinds other : List ℕ) → MoreWorking kinds other → (b : Block) → WellFormed kinds b → (σ : Setting) (g : ℕ)
+    → Needed (gatesOf (ruleBytes other b)) (wantedOf (ruleBytes other b)) σ g → Needed (gatesOf (ruleBytes kinds b)) (wantedOf (ruleBytes kinds b)) σ g
+fewer-needed kinds other m b w = working.fewer-needed kinds other (m .only) b w (m .more)
+
+-- and where all work nothing is needed.
+pub nothing-needed : (s : List ℕ) → ((x : ℕ) → x < variables s → workingAt s x ≡ true) → (σ : Setting) (g : ℕ) → Needed (gatesOf s) (wantedOf s) σ g → ⊥
+nothing-needed = working.nothing-needed
+
+-- (A rule is answered the same whichever of its variables work: so it is taken where all of them do.)
+pub working-answer : (kinds other : List ℕ) → OnlyWorking kinds other → (b : Block) → WellFormed kinds b → ruleAnswer (ruleBytes kinds b) ≡ ruleAnswer (ruleBytes other b)
+working-answer = working.same-answer
+
+-- "In the circuit file a working variable's output is FF FF, which names no wire" (and a result variable's is a wire),
+pub working-output : (s p : List ℕ) → Bytes s → planAnswer s p .number ≡ 0 → (x : ℕ) → x < variables s → workingAt s x ≡ true
+    → getD (fileOutputs (fusedFile s p)) x 0 ≡ noWire
+working-output = working.output-working
+
+pub result-output : (s p : List ℕ) → Bytes s → planAnswer s p .number ≡ 0 → (x : ℕ) → x < variables s → workingAt s x ≡ false
+    → getD (fileOutputs (fusedFile s p)) x 0 < wireCount (fusedFile s p)
+result-output = working.output-result
+
+-- "and running writes 0 for it." So the file's figures are all that a run writes:
+pub working-file : (s p : List ℕ) → Bytes s → planAnswer s p .number ≡ 0 → (inputs : List ℕ) → FiguresFit (variables s) (kindAt s) inputs
+    → length inputs ≡ variables s → fileFigures (fusedFile s p) inputs ≡ runWrites s inputs
+working-file = figures.file-run
+
+-- "a direct run keeps working figures to its end but writes 0 for them too", and for a result variable its figure at the end:
+pub working-written : (s inputs : List ℕ) (x : ℕ) → x < variables s → workingAt s x ≡ true → getD (runWrites s inputs) x 0 ≡ 0
+working-written = working.writes-working
+
+pub result-written : (s inputs : List ℕ) (x : ℕ) → x < variables s → workingAt s x ≡ false → getD (runWrites s inputs) x 0 ≡ getD (runRule s inputs) x 0
+result-written = working.writes-result
+
+-- "and the circuit reader admits FF FF as an output": any output of any file that is read may be made FF FF; running it then writes 0 there, and else what it wrote.
+pub no-wire-read : (v : ℕ) (R : List Record) (outputs : List ℕ) → circuits.WellFormed v R outputs → (x : ℕ)
+    → circuitAnswer (fileBytes v R (set outputs x noWire)) .number ≡ 0
+no-wire-read = working.no-wire-read
+
+pub no-wire-run : (v : ℕ) (R : List Record) (outputs : List ℕ) → circuits.WellFormed v R outputs → (x : ℕ) (inputs : List ℕ)
+    → fileFigures (fileBytes v R (set outputs x noWire)) inputs ≡ set (fileFigures (fileBytes v R outputs) inputs) x 0
+no-wire-run = working.no-wire-run

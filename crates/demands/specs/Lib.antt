@@ -3,4 +3,5 @@ pub mod AnsweredLaws
 pub mod FusedRunLaws
 pub mod OrderLaws
 pub mod ForeignLaws
+pub mod WorkingLaws
 pub mod Demands

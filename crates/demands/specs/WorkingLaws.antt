@@ -1,28 +1,27 @@
 -- Laws for document 02, C-13: what works changes no rule's answer and makes no gate needed; what the file and every run give for working and for result variables. Assumes nothing.
-use Prim.Native.Nat.{ℕ, _+_, _<_}
+use Prim.Native.Nat.{ℕ, _<_}
+use native.Mathlib.Nat.{zero-add}
 use native.Mathlib.Omega.{arith}
 use mathlib.Core.Path.{_≡_, sym, ap, subst, subst⁻¹, _∙_}
-use mathlib.Core.Bool.{true, false, cond}
-use mathlib.Core.List.{List, [], map}
+use mathlib.Core.Bool.{true, false, true≢false}
+use mathlib.Core.List.{List}
 use mathlib.Core.Logic.{_↔_}
 use lib.ListN.{length, getD, set}
-use Rattle.words.specs.Lists.{_∈_, upto}
+use Rattle.words.specs.Lists.{_∈_}
 use Rattle.words.specs.ListLaws.{getD-run}
 use Rattle.words.specs.Numbers.{Bytes}
 use Rattle.words.specs.TestLaws.{split}
 use Rattle.settings.specs.Settings.{Setting}
-use Rattle.answers.specs.Parsing.{IsRead, parsed}
+use Rattle.answers.specs.Parsing.{IsRead}
 use Rattle.answers.specs.declared.Answer.{Answer}
 use Rattle.reading.specs.Header.{variables, workingOf, workingAt}
 use Rattle.reading.specs.Tree.{Block}
-use Rattle.reading.specs.Rule.{readRule}
 use Rattle.reading.specs.Format.{ruleBytes}
 use Rattle.reading.specs.Format as rules
 use Rattle.reading.specs.RuleFormat.{rule-back}
-use Rattle.reading.specs.OnlyWorking.{OnlyWorking, MoreWorking}
+use Rattle.reading.specs.OnlyWorking.{OnlyWorking}
 use Rattle.reading.specs.WorkingLaws.{rule-working, same-size, well-working}
 use Rattle.gates.specs.Running.{runRule, writtenFor, runWrites}
-use Rattle.gates.specs.Gates.{Gates}
 use Rattle.gates.specs.Limits.{mostGates, mostConditions}
 use Rattle.gates.specs.PlainCircuit.{Making, plainOf, plainCircuit, gatesOf, outputsOf}
 use Rattle.gates.specs.StartLaws.{read-plain}
@@ -40,7 +39,10 @@ use Rattle.records.specs.FormatLaws.{well-row}
 use Rattle.records.specs.NoWireLaws.{well-less, figures-less}
 use Rattle.foreign.specs.Foreign.{circuitAnswer}
 use Rattle.foreign.specs.ReadLaws.{answer-number}
-use Rattle.fused.specs.FusedCircuit.{recordsOf, wireOf, outputWire, outputWires, fusedFile}
+use Rattle.fused.specs.FusedCircuit.{outputWire, fusedFile}
+use Rattle.fused.specs.OutputLaws as own
+use Rattle.fused.specs.FitPlan.{fused-found}
+use Rattle.fused.specs.FusedFigures.{reads-earlier, result-earlier, output-earlier}
 
 -- what is wanted from the start
 pub wanted-are : (s : List ℕ) (g : ℕ) → (g ∈ wantedOf s) ↔ ((x : ℕ) × (x < variables s) × (workingAt s x ≡ false) × (g ≡ getD (outputsOf s) x 0))
@@ -87,15 +89,15 @@ module _ (kinds other : List ℕ) (o : OnlyWorking kinds other) (b : Block) (w :
 
 -- what a run of a rule writes for a variable
 module _ (s inputs : List ℕ) (x : ℕ) (l : x < variables s) where
-  at : getD (runWrites s inputs) x 0 ≡ writtenFor s x (getD (runRule s inputs) x 0)
+  written-at : getD (runWrites s inputs) x 0 ≡ writtenFor s x (getD (runRule s inputs) x 0)
   unfolding runWrites
-  at = getD-run (λ y. writtenFor s y (getD (runRule s inputs) y 0)) 0 0 (variables s) x l ∙ rw zero-add
+  written-at = rw zero-add at (getD-run (λ y. writtenFor s y (getD (runRule s inputs) y 0)) 0 0 (variables s) x l)
 
   pub writes-result : workingAt s x ≡ false → getD (runWrites s inputs) x 0 ≡ getD (runRule s inputs) x 0
-  writes-result f = at ∙ rw f
+  writes-result f = written-at ∙ rw f
 
   pub writes-working : workingAt s x ≡ true → getD (runWrites s inputs) x 0 ≡ 0
-  writes-working t = at ∙ rw t
+  writes-working t = written-at ∙ rw t
 
 -- any output of a circuit that is read may be made no wire
 pub no-wire-read : (v : ℕ) (R : List Record) (outputs : List ℕ) → circuits.WellFormed v R outputs → (x : ℕ) → circuitAnswer (fileBytes v R (set outputs x noWire)) .number ≡ 0
@@ -104,3 +106,14 @@ no-wire-read v R outputs w x = answer-number (fileBytes v R (set outputs x noWir
 pub no-wire-run : (v : ℕ) (R : List Record) (outputs : List ℕ) → circuits.WellFormed v R outputs → (x : ℕ) (inputs : List ℕ)
     → fileFigures (fileBytes v R (set outputs x noWire)) inputs ≡ set (fileFigures (fileBytes v R outputs) inputs) x 0
 no-wire-run v R outputs w x = figures-less v R outputs x (w .fits)
+
+-- the outputs that stand in our own file
+module _ (s p : List ℕ) (bytes : Bytes s) (h : planAnswer s p .number ≡ 0) (x : ℕ) (l : x < variables s) where
+  output-at : getD (fileOutputs (fusedFile s p)) x 0 ≡ outputWire s p x
+  output-at = ap (λ (w : List ℕ). getD w x 0) (fused-found s p h bytes (reads-earlier s p h) (output-earlier s p h) .1) ∙ own.output-at s p x l
+
+  pub output-working : workingAt s x ≡ true → getD (fileOutputs (fusedFile s p)) x 0 ≡ noWire
+  output-working t = output-at ∙ rw t
+
+  pub output-result : workingAt s x ≡ false → getD (fileOutputs (fusedFile s p)) x 0 < wireCount (fusedFile s p)
+  output-result f = rw (output-at, fused-found s p h bytes (reads-earlier s p h) (output-earlier s p h) .3) (result-earlier s p h x l f)
