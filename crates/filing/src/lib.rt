@@ -1,5 +1,5 @@
 // Document 01, "The fused circuit file": the whole file put together from lent arrays, its head, the records of the groups in the order of writing, each group's
-// behind the last record written, and the output wires; and what the records come to, before they are written.
+// behind the last record written, and the outputs; and what the records come to, before they are written.
 use gates::GateId;
 use measuring::Size;
 use records::WireId;

@@ -73,7 +73,7 @@ fn run_prepared(
     }
 }
 
-// Runs the fused circuit of a rule and a plan on inputs: the answer with all five counts, and every variable's figure in the first V results.
+// Runs the fused circuit of a rule and a plan on inputs: the answer with all five counts, and in the first V results every variable's figure, 0 for a working one.
 // A refusal of rule, plan or inputs writes nothing.
 pub fn run(rule: &[u8], plan: &[u8], inputs: &[u32], results: &mut [u32]) -> Answer
     ensures answer { λ r. ⌜ r ≡ runAnswer (fusedAnswer (now (rule .entry)) (now (plan .entry))) (now (rule .entry)) (now (inputs .entry)) (length (now (results .entry))) ⌝ }
