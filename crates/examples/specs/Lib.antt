@@ -2,3 +2,4 @@ pub mod Starred
 pub mod MeaningLaws
 pub mod StarredProved
 pub mod ArgumentOrder
+pub mod Working

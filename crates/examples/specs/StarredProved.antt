@@ -14,7 +14,7 @@ use Rattle.reading.specs.Expressions.{readVariable, readWord, readBit, operatio
 use Rattle.reading.specs.Blocks.{readAssign, branchWith, statementWith, blockWith, blockFuel, readBlock}
 use Rattle.reading.specs.Rule.{readRule}
 use Rattle.reading.specs.Examples.{r1}
-use Rattle.gates.specs.Running.{figureOf, runStatement, runBlock, runRule}
+use Rattle.gates.specs.Running.{figureOf, runStatement, runBlock, runRule, runWrites}
 use Rattle.gates.specs.Gates.{costs, conditions}
 use Rattle.gates.specs.PlainCircuit.{applyGate, makeExpr, assignsIn, assigns, choices, makeStatement, makeBlock, plainCircuit}
 use Rattle.gates.specs.Examples.{r2, r7, example-2}
@@ -34,7 +34,7 @@ use Rattle.examples.specs.MeaningLaws.{precondition, unneeded, rests-on,
 
 pub starred : Starred
 unfolding number bytesOf kindOf workingOf operationOf codeOf resultOf readMark readCount readKinds readHeader readVariable readWord readBit operationWith exprWith readExpr
-    readAssign branchWith statementWith blockWith blockFuel readBlock readRule figureOf runStatement runBlock runRule applyGate makeExpr assignsIn assigns choices
+    readAssign branchWith statementWith blockWith blockFuel readBlock readRule figureOf runStatement runBlock runRule runWrites applyGate makeExpr assignsIn assigns choices
     makeStatement makeBlock plainCircuit costs conditions collect numbers preconditions preconditionSets wholeWithin ruleAnswer restsOn rests groupsIn groups restsOf
     waitsFor order planRow planAnswer over someAbove inputsRow inputRow runAnswer runResults
 starred =

@@ -1,0 +1,87 @@
+-- Examples of document 02, C-13, "Working figures are not results": examples, proved from the definitions. Assumes nothing.
+use Prim.Native.Nat.{ℕ}
+use mathlib.Core.Path.{_≡_, refl}
+use mathlib.Core.List.{List, [], _∷_, map}
+use lib.ListN.{getD, drop}
+use Rattle.words.specs.Numbers.{number, bytesOf}
+use Rattle.words.specs.Buffers.{over}
+use Rattle.settings.specs.Sets.{collect, restsOn, rests}
+use Rattle.settings.specs.Numbers.{numbers}
+use Rattle.settings.specs.Guards.{spread, tableOver, table}
+use Rattle.codes.specs.Codes.{operationOf, codeOf}
+use Rattle.codes.specs.Results.{resultOf}
+use Rattle.codes.specs.Inputs.{someAbove, inputsRow}
+use Rattle.answers.specs.Answers.{success, refusal}
+use Rattle.answers.specs.Parsing.{readMark}
+use Rattle.reading.specs.Header.{kindOf, workingOf, readCount, readKinds, readHeader}
+use Rattle.reading.specs.Expressions.{readVariable, readWord, readBit, operationWith, exprWith, readExpr}
+use Rattle.reading.specs.Blocks.{readAssign, branchWith, statementWith, blockWith, blockFuel, readBlock}
+use Rattle.reading.specs.Rule.{readRule}
+use Rattle.gates.specs.Running.{figureOf, runStatement, runBlock, runRule, runWrites}
+use Rattle.gates.specs.Gates.{conditions, costs}
+use Rattle.gates.specs.PlainCircuit.{applyGate, makeExpr, assignsIn, assigns, choices, makeStatement, makeBlock, plainCircuit}
+use Rattle.needed.specs.Pass.{preconditions, preconditionSets, rulePreconditions}
+use Rattle.circuit.specs.Whole.{wholeWithin, ruleAnswer}
+use Rattle.plan.specs.PlanFile.{groupsIn}
+use Rattle.plan.specs.Groups.{groups, restsOf, waitsFor}
+use Rattle.plan.specs.Order.{order}
+use Rattle.plan.specs.Rows.{planRow, planAnswer}
+use Rattle.records.specs.Records.{recordsCost}
+use Rattle.fused.specs.FusedCircuit.{written, fused, fusedFile}
+use Rattle.fused.specs.Answers.{fusedCounts, writeAnswer}
+use Rattle.direct.specs.Inputs.{inputRow}
+use Rattle.direct.specs.Direct.{runAnswer, runResults}
+
+-- a bit and six words, v4 and v5 of kind k: v4 := v1 × v2; v5 := v1 × v3; if v0 then v6 := v4 else v6 := v5.
+-- Its products are gates 7 and 8, its choice gate 9.
+abbrev pub scraps : ℕ → List ℕ
+scraps k =
+    0x52 ∷ 0x55 ∷ 0x4C ∷ 0x00 ∷ 0x01 ∷ 0x07 ∷ 0x01 ∷ 0x00 ∷ 0x00 ∷ 0x00 ∷ k ∷ k ∷ 0x00
+    ∷ 0x01 ∷ 0x04 ∷ 0x22 ∷ 0x10 ∷ 0x01 ∷ 0x10 ∷ 0x02
+    ∷ 0x01 ∷ 0x05 ∷ 0x22 ∷ 0x10 ∷ 0x01 ∷ 0x10 ∷ 0x03
+    ∷ 0x03 ∷ 0x10 ∷ 0x00 ∷ 0x01 ∷ 0x06 ∷ 0x10 ∷ 0x04 ∷ 0x00 ∷ 0x01 ∷ 0x06 ∷ 0x10 ∷ 0x05 ∷ 0x00
+    ∷ 0x00 ∷ []
+
+-- the plan that joins the products
+abbrev pub products : List ℕ
+products = 0x50 ∷ 0x4C ∷ 0x4E ∷ 0x00 ∷ 0x01 ∷ 0x00 ∷ 0x0A ∷ 0x00 ∷ 0x01 ∷ 0x02 ∷ 0x00 ∷ 0x07 ∷ 0x00 ∷ 0x08 ∷ []
+
+-- as results both products are needed always; as working words each on its side
+pub needed-then : map (λ k. map (λ g. getD (rulePreconditions (scraps k)) g 0) (7 ∷ 8 ∷ [])) (0x00 ∷ 0x02 ∷ [])
+    ≡ (0xFFFFFFFFFFFFFFFF ∷ 0xFFFFFFFFFFFFFFFF ∷ []) ∷ (0xAAAAAAAAAAAAAAAA ∷ 0x5555555555555555 ∷ []) ∷ []
+unfolding number kindOf workingOf operationOf codeOf readMark readCount readKinds readHeader readVariable readWord readBit operationWith exprWith readExpr readAssign branchWith
+    statementWith blockWith blockFuel readBlock readRule applyGate makeExpr assignsIn assigns choices makeStatement makeBlock plainCircuit conditions collect numbers
+    preconditions preconditionSets
+needed-then = refl
+
+-- so the plan is refused 29, and accepted: it saves 5 of 33
+pub plan-then : map (λ k. writeAnswer (scraps k) products 104) (0x00 ∷ 0x02 ∷ []) ≡ refusal 29 0 ∷ success 10 13 92 33 28 ∷ []
+unfolding number kindOf workingOf operationOf codeOf readMark readCount readKinds readHeader readVariable readWord readBit operationWith exprWith readExpr readAssign branchWith
+    statementWith blockWith blockFuel readBlock readRule applyGate makeExpr assignsIn assigns choices makeStatement makeBlock plainCircuit conditions collect numbers
+    preconditions preconditionSets costs wholeWithin ruleAnswer restsOn rests groupsIn groups restsOf waitsFor order planRow planAnswer bytesOf spread tableOver table
+    written fused fusedFile recordsCost fusedCounts writeAnswer
+plan-then = refl
+
+-- a direct run writes 0 for them
+pub run-then : map (λ k. runResults (ruleAnswer (scraps k)) (scraps k) (1 ∷ 3 ∷ 5 ∷ 7 ∷ 9 ∷ 9 ∷ 9 ∷ []) (8 ∷ 8 ∷ 8 ∷ 8 ∷ 8 ∷ 8 ∷ 8 ∷ 8 ∷ [])) (0x00 ∷ 0x02 ∷ [])
+    ≡ (1 ∷ 3 ∷ 5 ∷ 7 ∷ 15 ∷ 21 ∷ 15 ∷ 8 ∷ []) ∷ (1 ∷ 3 ∷ 5 ∷ 7 ∷ 0 ∷ 0 ∷ 15 ∷ 8 ∷ []) ∷ []
+unfolding over number kindOf workingOf operationOf codeOf resultOf readMark readCount readKinds readHeader readVariable readWord readBit operationWith exprWith readExpr
+    readAssign branchWith statementWith blockWith blockFuel readBlock readRule figureOf runStatement runBlock runRule runWrites applyGate makeExpr assignsIn assigns
+    choices makeStatement makeBlock plainCircuit costs conditions collect wholeWithin ruleAnswer someAbove inputsRow inputRow runAnswer runResults
+run-then = refl
+
+-- one variable, a working bit: taken with 0 and with 1, 41 with 2; 04 is no kind
+abbrev pub alone : ℕ → List ℕ
+alone k = 0x52 ∷ 0x55 ∷ 0x4C ∷ 0x00 ∷ 0x01 ∷ 0x01 ∷ k ∷ 0x00 ∷ []
+
+pub alone-read : map (λ k. ruleAnswer (alone k)) (0x00 ∷ 0x01 ∷ 0x02 ∷ 0x03 ∷ 0x04 ∷ [])
+    ≡ success 1 0 0 0 0 ∷ success 1 0 0 0 0 ∷ success 1 0 0 0 0 ∷ success 1 0 0 0 0 ∷ refusal 3 6 ∷ []
+unfolding number kindOf workingOf operationOf codeOf readMark readCount readKinds readHeader readVariable readWord readBit operationWith exprWith readExpr readAssign branchWith
+    statementWith blockWith blockFuel readBlock readRule applyGate makeExpr assignsIn assigns choices makeStatement makeBlock plainCircuit conditions collect costs wholeWithin ruleAnswer
+alone-read = refl
+
+pub alone-run : map (λ n. runAnswer (ruleAnswer (alone 0x03)) (alone 0x03) (n ∷ []) 1) (0 ∷ 1 ∷ 2 ∷ [])
+    ≡ success 1 0 0 0 0 ∷ success 1 0 0 0 0 ∷ refusal 41 0 ∷ []
+unfolding number kindOf workingOf operationOf codeOf readMark readCount readKinds readHeader readVariable readWord readBit operationWith exprWith readExpr readAssign branchWith
+    statementWith blockWith blockFuel readBlock readRule applyGate makeExpr assignsIn assigns choices makeStatement makeBlock plainCircuit conditions collect costs wholeWithin ruleAnswer someAbove inputsRow inputRow runAnswer
+alone-run = refl
