@@ -73,7 +73,7 @@ fn empty_plans(list: &mut List) {
                     &rule,
                     &plan,
                     &inputs(&rule, 1),
-                    accepted.rule.kinds.len(),
+                    accepted.rule.variables.len(),
                     0,
                 );
             }
@@ -90,7 +90,7 @@ fn plan(gates: usize, groups: &[&[usize]]) -> Vec<u8> {
 
 /// Inputs that an accepted rule takes. A refused rule gets none.
 fn inputs(rule: &[u8], turn: usize) -> Vec<u32> {
-    let kinds = accept(rule).map_or(Vec::new(), |accepted| accepted.rule.kinds);
+    let kinds = accept(rule).map_or(Vec::new(), |accepted| accepted.rule.kinds());
     inputs_of(&kinds, turn)
 }
 

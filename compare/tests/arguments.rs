@@ -234,7 +234,7 @@ fn as_written(rule: &Rule) -> Circuit {
         other => other,
     });
     make(&Rule {
-        kinds: rule.kinds.clone(),
+        variables: rule.variables.clone(),
         block,
     })
 }
@@ -289,14 +289,14 @@ fn the_order_written_does_not_matter() {
             other => other,
         });
         let other = bytes_of(&Rule {
-            kinds: accepted.rule.kinds.clone(),
+            variables: accepted.rule.variables.clone(),
             block,
         });
         assert_eq!(circuit_of(&other), accepted.circuit);
         let needs = preconditions(&accepted.circuit);
         let plan = plans::valid(&mut random, &plans::Ground::new(&accepted.circuit, &needs));
         assert_eq!(file_of(&bytes, &plan), file_of(&other, &plan));
-        let inputs = inputs(&mut random, &accepted.rule.kinds);
+        let inputs = inputs(&mut random, &accepted.rule.kinds());
         let (mut one, mut two) = (vec![0; inputs.len()], vec![0; inputs.len()]);
         direct::run(&bytes, &inputs, &mut one);
         run::run(&other, &plan, &inputs, &mut two);
@@ -319,7 +319,7 @@ fn around(rule: &Rule) -> Rule {
         other => other,
     });
     Rule {
-        kinds: rule.kinds.clone(),
+        variables: rule.variables.clone(),
         block,
     }
 }

@@ -292,12 +292,20 @@ fn assert_parts(file: &[u8], variables: usize) {
     }
 }
 
+/// What a direct run of an accepted rule writes.
+fn results_of(rule: &[u8], inputs: &[u32]) -> Vec<u32> {
+    let mut results = vec![UNTOUCHED; inputs.len()];
+    assert_eq!(direct::run(rule, inputs, &mut results).number, 0);
+    results
+}
+
 /// Every file that our writer makes is read and gives the figures of its rule.
 #[test]
 fn our_own_files() {
     let mut random = Random::new(11);
     for _ in 0..600 {
-        let accepted = accept(&rules::accepted(&mut random)).unwrap();
+        let rule = rules::accepted(&mut random);
+        let accepted = accept(&rule).unwrap();
         let needs = preconditions(&accepted.circuit);
         let ground = plans::Ground::new(&accepted.circuit, &needs);
         let plan = plans::valid(&mut random, &ground);
@@ -306,11 +314,11 @@ fn our_own_files() {
         let file = fused.file();
         let read = circuit_file::accept(&file).expect("our own file");
         assert_eq!(read.circuit, fused);
-        assert_eq!(read.variables(), accepted.rule.kinds);
-        assert_parts(&file, accepted.rule.kinds.len());
+        assert_eq!(read.variables(), accepted.rule.kinds());
+        assert_parts(&file, accepted.rule.variables.len());
         for _ in 0..4 {
-            let inputs = inputs(&mut random, &accepted.rule.kinds);
-            let wanted = direct::figures(&accepted.rule, &inputs);
+            let inputs = inputs(&mut random, &accepted.rule.kinds());
+            let wanted = results_of(&rule, &inputs);
             assert_gives(&file, fused.records.len(), &inputs, &wanted);
         }
     }
@@ -326,14 +334,15 @@ fn stored_files() {
         let Ok(file) = std::fs::read(folder.join("expected.cir")) else {
             continue;
         };
-        let accepted = accept(&std::fs::read(folder.join("rule.rul")).unwrap()).unwrap();
+        let rule = std::fs::read(folder.join("rule.rul")).unwrap();
+        let accepted = accept(&rule).unwrap();
         let wires = read_circuit(&file).wires;
         for _ in 0..20 {
-            let inputs = inputs(&mut random, &accepted.rule.kinds);
-            let wanted = direct::figures(&accepted.rule, &inputs);
+            let inputs = inputs(&mut random, &accepted.rule.kinds());
+            let wanted = results_of(&rule, &inputs);
             assert_gives(&file, wires, &inputs, &wanted);
         }
-        assert_parts(&file, accepted.rule.kinds.len());
+        assert_parts(&file, accepted.rule.variables.len());
         read += 1;
     }
     assert!(read >= 5, "only {read} examples");

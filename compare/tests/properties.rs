@@ -46,14 +46,15 @@ fn the_fused_circuit_gives_what_the_rule_gives() {
         assert_eq!(buffer[file.len()..], [0xEE; 3]);
 
         for _ in 0..6 {
-            let inputs = inputs(&mut random, &accepted.rule.kinds);
-            let direct = direct::figures(&accepted.rule, &inputs);
-            assert_eq!(figures(&fused, &inputs), direct);
+            let inputs = inputs(&mut random, &accepted.rule.kinds());
+            let wanted = direct::figures(&accepted.rule, &inputs);
+            assert_eq!(figures(&fused, &inputs), wanted);
             assert!(one_guard_at_most(&fused, &inputs));
-            let mut results = vec![0; direct.len()];
-            let ran = run::run(&bytes, &plan_bytes, &inputs, &mut results);
+            let (mut one, mut other) = (vec![9; inputs.len()], vec![9; inputs.len()]);
+            assert_eq!(direct::run(&bytes, &inputs, &mut one).number, 0);
+            let ran = run::run(&bytes, &plan_bytes, &inputs, &mut other);
             assert_eq!(ran, answer);
-            assert_eq!(results, direct);
+            assert_eq!(one, other);
         }
     }
     // The generator reaches what it should.

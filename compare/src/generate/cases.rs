@@ -137,7 +137,7 @@ fn takes_room(operation: u8) -> bool {
 }
 
 fn give_inputs(random: &mut Random, case: &mut Case, aim: Aim, accepted: &Accepted) {
-    let kinds = &accepted.rule.kinds;
+    let kinds = &accepted.rule.kinds();
     if !matches!(case.operation, DIRECT | FUSED) && random.chance(80) {
         return;
     }
@@ -180,7 +180,7 @@ fn give_room(random: &mut Random, case: &mut Case, aim: Aim, accepted: &Accepted
             Err(_) => random.among(0, 200),
         }
     } else {
-        accepted.rule.kinds.len()
+        accepted.rule.variables.len()
     };
     let short = aim == Aim::Last && (case.operation == WRITE || random.chance(40));
     case.room = room(random, case.operation, wanted, short) as u16;

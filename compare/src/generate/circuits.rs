@@ -206,7 +206,7 @@ impl Maker<'_> {
         for place in 0..self.circuit.records.len() {
             if let Record::Input(_, kind) = self.circuit.records[place] {
                 let output = self.wire(kind);
-                self.circuit.outputs.push(output);
+                self.circuit.outputs.push(Some(output));
             }
         }
         self.circuit
@@ -310,7 +310,7 @@ fn bad_wires(random: &mut Random, circuit: &mut Fused) {
         0..=4 => move_wire(random, circuit, place),
         5 => {
             let output = random.below(circuit.outputs.len());
-            circuit.outputs[output] = another(random, wires, wires);
+            circuit.outputs[output] = Some(another(random, wires, wires));
         }
         6 => set_table_bit(random, circuit),
         7 => bad_input(random, circuit),

@@ -74,7 +74,7 @@ fn try_refused(random: &mut Random, wanted: u8) -> Vec<u8> {
         _ => tree(random),
     };
     let mut bytes = bytes_of(&rule);
-    let head = RULE_MARK.len() + 1 + rule.kinds.len();
+    let head = RULE_MARK.len() + 1 + rule.variables.len();
     match wanted {
         2 => bytes[random.below(RULE_MARK.len())] ^= 1 << random.below(8),
         3 if random.chance(50) => {
@@ -154,10 +154,7 @@ pub fn tree(random: &mut Random) -> Rule {
     let mut maker = maker(random);
     let statements = maker.random.among(1, 6);
     let block = maker.block(statements, 0);
-    Rule {
-        kinds: maker.kinds,
-        block,
-    }
+    Rule::of_results(&maker.kinds, block)
 }
 
 impl Maker<'_> {

@@ -137,6 +137,6 @@ fn circuit(kinds: &[Kind], records: Vec<Record>, outputs: &[usize]) -> Fused {
     all.extend(records);
     Fused {
         records: all,
-        outputs: outputs.iter().copied().map(Wire).collect(),
+        outputs: outputs.iter().map(|&wire| Some(Wire(wire))).collect(),
     }
 }

@@ -26,7 +26,7 @@ fn inputs_and_places(list: &mut List) {
         let count = good.len();
         let bits: Vec<usize> = crate::rule::read(&rule)
             .expect("a good rule")
-            .kinds
+            .kinds()
             .iter()
             .enumerate()
             .filter_map(|(place, &kind)| (kind == Kind::Bit).then_some(place))

@@ -28,10 +28,7 @@ pub fn when(condition: Expression, first: Block, second: Block) -> Statement {
 }
 
 pub fn rule(kinds: &[Kind], block: Block) -> Vec<u8> {
-    bytes_of(&Rule {
-        kinds: kinds.to_vec(),
-        block,
-    })
+    bytes_of(&Rule::of_results(kinds, block))
 }
 
 /// The costly operations of the table.

@@ -58,7 +58,7 @@ fn start(circuit: &Fused, wire: usize) -> usize {
 fn with_last(record: Record) -> Vec<u8> {
     let mut circuit = sample();
     *circuit.records.last_mut().expect("records") = record;
-    circuit.outputs[0] = Wire(20);
+    circuit.outputs[0] = Some(Wire(20));
     circuit.file()
 }
 
@@ -217,17 +217,17 @@ fn outputs(list: &mut List) {
         let others = (0..kinds.len()).filter(|&wire| kinds[wire] != *kind);
         for output in others.chain([22, 23, 256, 640, 65_535]) {
             let mut circuit = sample.clone();
-            circuit.outputs[variable] = Wire(output);
+            circuit.outputs[variable] = Some(Wire(output));
             list.read_circuit(&circuit.file(), 62);
         }
         for output in (0..kinds.len()).filter(|&wire| kinds[wire] == *kind) {
             let mut circuit = sample.clone();
-            circuit.outputs[variable] = Wire(output);
+            circuit.outputs[variable] = Some(Wire(output));
             list.run_circuit(&circuit.file(), &[1, 6, 7, 0], 4, 0);
         }
     }
     let mut circuit = sample.clone();
-    circuit.outputs[0] = Wire(1);
+    circuit.outputs[0] = Some(Wire(1));
     list.refused_circuit(&circuit.file(), 62);
 }
 
@@ -262,7 +262,7 @@ fn several(list: &mut List) {
     }
     // 62 in the inputs and in the outputs, with the bytes' end wrong.
     let mut circuit = sample();
-    circuit.outputs[3] = Wire(65_535);
+    circuit.outputs[3] = Some(Wire(65_535));
     let file = circuit.file();
     list.refused_circuit(&file[..file.len() - 1], 61);
     list.refused_circuit(&[&file[..], &[0x00]].concat(), 61);
