@@ -1,4 +1,5 @@
 //! A circuit file from any house (C-11): rows 60 to 62, its records, and the part of it that holds one.
+//! FF FF is admitted as the output of any variable (C-13).
 
 use crate::answer::{Answer, Refusal};
 use crate::circuit::Settings;
@@ -80,7 +81,8 @@ fn lay_out(file: &[u8], variables: usize, wires: usize) -> Option<CircuitFile<'_
         parts.push(&from[..from.len() - rest.len()]);
     }
     let outputs = take_wires(&mut rest, variables)?;
-    let outputs = outputs.into_iter().map(Some).collect();
+    let named = |wire: Wire| (wire.0 != NO_WIRE).then_some(wire);
+    let outputs = outputs.into_iter().map(named).collect();
     rest.is_empty().then_some(CircuitFile {
         circuit: Fused { records, outputs },
         parts,

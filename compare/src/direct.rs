@@ -21,7 +21,8 @@ pub fn check_inputs(kinds: &[Kind], inputs: &[u32], places: usize) -> Result<(),
     Ok(())
 }
 
-/// What every run writes: in each of the first V places the variable's figure, or 0 where there is none.
+/// What every run writes: in each of the first V places the variable's figure, or 0 for a working one, which has
+/// none to write (C-13).
 pub fn write_results(figures: &[Option<u32>], results: &mut [u32]) {
     for (result, figure) in results.iter_mut().zip(figures) {
         *result = figure.unwrap_or(0);
@@ -41,14 +42,14 @@ pub fn run(bytes: &[u8], inputs: &[u32], results: &mut [u32]) -> Answer {
     accepted.answer()
 }
 
-/// Every result variable's figure at the end of the rule.
+/// The figure of every result variable at the end of the rule.
 pub fn figures(rule: &Rule, inputs: &[u32]) -> Vec<Option<u32>> {
     let last = rule.variables.iter().zip(all_figures(rule, inputs));
     last.map(|(variable, figure)| variable.if_result(figure))
         .collect()
 }
 
-/// Every variable's figure at the end of the rule, working ones too.
+/// Every variable's figure at the end of the rule: working ones are kept until then.
 pub fn all_figures(rule: &Rule, inputs: &[u32]) -> Vec<u32> {
     let mut figures = inputs.to_vec();
     run_block(&rule.block, &mut figures);

@@ -1,4 +1,4 @@
-//! The numbers, codes and costs of document 01 and of C-11 and C-12, in one place: later requests move them here.
+//! The numbers, codes and costs of document 01 and of C-11 to C-13, in one place: later requests move them here.
 
 pub const RULE_MARK: [u8; 5] = [0x52, 0x55, 0x4C, 0x00, 0x01];
 pub const PLAN_MARK: [u8; 5] = [0x50, 0x4C, 0x4E, 0x00, 0x01];
@@ -23,7 +23,7 @@ pub const PLAN_BYTES_MAX: usize = 1024;
 pub const GROUP_SIZE_MIN: usize = 2;
 
 pub const WIRES_MAX: usize = 640;
-/// What a file names as the output of a variable that has none.
+/// What a file names as the output of a variable that has none (C-13).
 pub const NO_WIRE: usize = 0xFFFF;
 /// Mark, version, V and wire count.
 pub const CIRCUIT_BYTES_MIN: usize = 8;
@@ -75,12 +75,22 @@ pub struct Variable {
     pub working: bool,
 }
 
-/// The kind bytes, from 00 on; row 3 refuses every other.
-const KIND_BYTES: [Variable; 2] = [Variable::result(Kind::Word), Variable::result(Kind::Bit)];
+/// The kind bytes, from 00 on; row 3 refuses every other. The last two are C-13's.
+const KIND_BYTES: [Variable; 4] = [
+    Variable::result(Kind::Word),
+    Variable::result(Kind::Bit),
+    Variable::working(Kind::Word),
+    Variable::working(Kind::Bit),
+];
 
 impl Variable {
     pub const fn result(kind: Kind) -> Variable {
         let working = false;
+        Variable { kind, working }
+    }
+
+    pub const fn working(kind: Kind) -> Variable {
+        let working = true;
         Variable { kind, working }
     }
 

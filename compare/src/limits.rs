@@ -56,7 +56,8 @@ fn each_once(mut cases: Vec<Case>) -> Vec<Case> {
     cases
 }
 
-/// The empty plan for every rule of the list; a refused rule's has gate count 0 and must not matter.
+/// The empty plan for every rule of the list; a refused rule's has gate count 0 and must not matter. That of a rule
+/// with a working variable has it too, since such a rule was refused when the cases were first stored.
 fn empty_plans(list: &mut List) {
     let mut seen = HashSet::new();
     let rules: Vec<Vec<u8>> = list.cases.iter().map(|case| case.first.clone()).collect();
@@ -65,6 +66,11 @@ fn empty_plans(list: &mut List) {
             continue;
         }
         match accept(&rule) {
+            Ok(accepted) if accepted.rule.variables.iter().any(|one| one.working) => {
+                list.check(&rule, &plan(0, &[]), 22);
+                list.write(&rule, &plan(0, &[]), CIRCUIT_BYTES_MAX, 22);
+                list.fused(&rule, &plan(0, &[]), &[], 1, 22);
+            }
             Ok(accepted) => {
                 let plan = plan(accepted.circuit.gates.len(), &[]);
                 list.check(&rule, &plan, 0);

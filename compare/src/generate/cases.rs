@@ -1,8 +1,8 @@
 //! Whole cases of the conformance stream.
 
+use super::kinds::Kinds;
 use super::{circuits, inputs, plans, rules, Random};
 use crate::circuit::{accept, preconditions, Accepted};
-use crate::circuit_file;
 use crate::examples::P1;
 use crate::law::*;
 use crate::stream::{
@@ -234,7 +234,8 @@ pub fn circuit_case(random: &mut Random) -> Case {
 
 /// A wire of the file, mostly; the first that is none, and others.
 fn wire(random: &mut Random, file: &[u8]) -> u16 {
-    let wires = circuit_file::read_circuit(file).wires;
+    let accepted = Kinds::Results.accept_file(file);
+    let wires = accepted.map_or(0, |accepted| accepted.parts.len());
     match random.below(10) {
         0 => wires as u16,
         1 => random.pick(&[wires + 1, 640, 65_535]) as u16,
@@ -244,7 +245,7 @@ fn wire(random: &mut Random, file: &[u8]) -> u16 {
 
 /// Inputs and room of a run; a refused file may get any.
 fn give_run(random: &mut Random, case: &mut Case) {
-    let kinds = match circuit_file::accept(&case.first) {
+    let kinds = match Kinds::Results.accept_file(&case.first) {
         Ok(accepted) => accepted.variables(),
         Err(_) => rules::kinds(random),
     };

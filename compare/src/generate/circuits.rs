@@ -1,9 +1,9 @@
 //! Circuit files (C-11): our own, well-formed ones as another house may write them, and ones refused by a
 //! wanted number.
 
+use super::kinds::Kinds;
 use super::{damage_by, plans, rules, Random};
 use crate::circuit::{accept, preconditions, Settings};
-use crate::circuit_file::read_circuit;
 use crate::law::*;
 use crate::plan::check;
 use crate::write::{fuse, Fused, Record, Wire};
@@ -229,7 +229,8 @@ pub fn refused(random: &mut Random, wanted: u8) -> Vec<u8> {
         if random.chance(25) {
             damage_by(random, &mut file, 0, &TELLING);
         }
-        if read_circuit(&file).number == wanted {
+        let refusal = Kinds::Results.accept_file(&file).err();
+        if refusal.is_some_and(|refusal| refusal.number == wanted) {
             return file;
         }
     }

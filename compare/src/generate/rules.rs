@@ -2,8 +2,9 @@
 
 mod limits;
 
+use super::kinds::Kinds;
 use super::{damage, Random};
-use crate::circuit::{accept, read_rule};
+use crate::circuit::accept;
 use crate::law::*;
 use crate::rule::{bytes_of, Block, Expression, Rule, Statement};
 use limits::{at_conditions, at_depth, at_gates, at_nesting, at_size, dead, wide};
@@ -35,7 +36,7 @@ pub fn accepted(random: &mut Random) -> Vec<u8> {
 pub fn refused(random: &mut Random, wanted: u8) -> Vec<u8> {
     loop {
         let bytes = try_refused(random, wanted);
-        if read_rule(&bytes).number == wanted {
+        if Kinds::Results.rule_number(&bytes) == wanted {
             return bytes;
         }
     }

@@ -209,16 +209,17 @@ fn tables(list: &mut List) {
     list.refused_circuit(&with_last(guard(&[], 2)), 62);
 }
 
-/// Row 62: an output is no wire, or not of its variable's kind.
+/// Row 62: an output is no wire, or not of its variable's kind. FF FF is admitted (C-13).
 fn outputs(list: &mut List) {
     let sample = sample();
     let kinds = kinds(&sample).expect("a good circuit");
     for (variable, kind) in KINDS.iter().enumerate() {
         let others = (0..kinds.len()).filter(|&wire| kinds[wire] != *kind);
-        for output in others.chain([22, 23, 256, 640, 65_535]) {
+        for output in others.chain([22, 23, 256, 640, NO_WIRE]) {
             let mut circuit = sample.clone();
             circuit.outputs[variable] = Some(Wire(output));
-            list.read_circuit(&circuit.file(), 62);
+            let wanted = if output == NO_WIRE { 0 } else { 62 };
+            list.read_circuit(&circuit.file(), wanted);
         }
         for output in (0..kinds.len()).filter(|&wire| kinds[wire] == *kind) {
             let mut circuit = sample.clone();
@@ -260,7 +261,7 @@ fn several(list: &mut List) {
             list.read_circuit(&long[..CIRCUIT_BYTES_MAX], 61);
         }
     }
-    // 62 in the inputs and in the outputs, with the bytes' end wrong.
+    // An output that names no wire, and 62 in the inputs, with the bytes' end wrong.
     let mut circuit = sample();
     circuit.outputs[3] = Some(Wire(65_535));
     let file = circuit.file();
