@@ -4,6 +4,7 @@ use compare::answer::Answer;
 use compare::circuit::{accept, preconditions};
 use compare::circuit_file::{self, read_circuit, record};
 use compare::direct;
+use compare::generate::kinds::Kinds;
 use compare::generate::{circuits, inputs, plans, rules, Random};
 use compare::law::*;
 use compare::plan::check;
@@ -304,7 +305,7 @@ fn results_of(rule: &[u8], inputs: &[u32]) -> Vec<u32> {
 fn our_own_files() {
     let mut random = Random::new(11);
     for _ in 0..600 {
-        let rule = rules::accepted(&mut random);
+        let rule = rules::accepted(&mut random, Kinds::Working);
         let accepted = accept(&rule).unwrap();
         let needs = preconditions(&accepted.circuit);
         let ground = plans::Ground::new(&accepted.circuit, &needs);
@@ -354,7 +355,7 @@ fn files_of_other_houses() {
     let mut random = Random::new(12);
     let (mut most_wires, mut most_bytes) = (0, 0);
     for _ in 0..600 {
-        let circuit = circuits::foreign(&mut random);
+        let circuit = circuits::foreign(&mut random, Kinds::Working);
         let file = circuit.file();
         let read = circuit_file::accept(&file).expect("a good file");
         assert_eq!(read.circuit, circuit);
@@ -371,7 +372,7 @@ fn any_bytes() {
     let mut random = Random::new(13);
     for turn in 0..3000 {
         let file = match turn % 3 {
-            0 => circuits::damaged(&mut random),
+            0 => circuits::damaged(&mut random, Kinds::Working),
             1 => (0..random.below(60)).map(|_| random.any() as u8).collect(),
             _ => {
                 let mut file = cir("02 00 09");

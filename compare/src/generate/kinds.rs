@@ -4,7 +4,9 @@
 use crate::answer::Refusal;
 use crate::circuit::read_rule;
 use crate::circuit_file::{self, CircuitFile};
+use crate::generate::Random;
 use crate::law::*;
+use crate::rule::Rule;
 
 #[derive(Clone, Copy, Debug, PartialEq, Eq)]
 pub enum Kinds {
@@ -15,6 +17,38 @@ pub enum Kinds {
 }
 
 impl Kinds {
+    /// Which of so many variables work: in many cases some, all in some. Results alone take nothing from `random`.
+    pub fn working(self, random: &mut Random, count: usize) -> Vec<bool> {
+        if self == Kinds::Results || random.chance(60) {
+            return vec![false; count];
+        }
+        match random.below(5) {
+            0 => vec![true; count],
+            1 => {
+                let only = random.below(count);
+                (0..count).map(|place| place == only).collect()
+            }
+            _ => (0..count).map(|_| random.chance(50)).collect(),
+        }
+    }
+
+    /// The rule with working variables.
+    pub fn give(self, random: &mut Random, mut rule: Rule) -> Rule {
+        let working = self.working(random, rule.variables.len());
+        for (variable, working) in rule.variables.iter_mut().zip(working) {
+            variable.working = working;
+        }
+        rule
+    }
+
+    /// Kind bytes that reading refuses, as the generator looks for it.
+    pub fn refused_bytes(self) -> &'static [u8] {
+        match self {
+            Kinds::Results => &[2, 3, 16, 255],
+            Kinds::Working => &[4, 4, 5, 6, 7, 16, 128, 255],
+        }
+    }
+
     /// What reading a rule answers, as the generator looks for it.
     pub fn rule_number(self, rule: &[u8]) -> u8 {
         match read_rule(rule).number {

@@ -10,7 +10,7 @@ use crate::rule::{bytes_of, Block, Expression, Rule, Statement};
 use limits::{at_conditions, at_depth, at_gates, at_nesting, at_size, dead, wide};
 
 /// A rule that reading accepts.
-pub fn accepted(random: &mut Random) -> Vec<u8> {
+pub fn accepted(random: &mut Random, kinds: Kinds) -> Vec<u8> {
     loop {
         let rule = match random.below(20) {
             0 => at_gates(random, GATES_MAX),
@@ -21,6 +21,7 @@ pub fn accepted(random: &mut Random) -> Vec<u8> {
             5 => dead(random),
             _ => tree(random),
         };
+        let rule = kinds.give(random, rule);
         let bytes = if random.chance(2) {
             at_size(random, rule, RULE_BYTES_MAX)
         } else {
@@ -33,16 +34,16 @@ pub fn accepted(random: &mut Random) -> Vec<u8> {
 }
 
 /// A rule that reading refuses by the wanted number, 1 to 11, found by trying.
-pub fn refused(random: &mut Random, wanted: u8) -> Vec<u8> {
+pub fn refused(random: &mut Random, kinds: Kinds, wanted: u8) -> Vec<u8> {
     loop {
-        let bytes = try_refused(random, wanted);
-        if Kinds::Results.rule_number(&bytes) == wanted {
+        let bytes = try_refused(random, kinds, wanted);
+        if kinds.rule_number(&bytes) == wanted {
             return bytes;
         }
     }
 }
 
-fn try_refused(random: &mut Random, wanted: u8) -> Vec<u8> {
+fn try_refused(random: &mut Random, kinds: Kinds, wanted: u8) -> Vec<u8> {
     // The limits just broken, where the wanted number is that of a limit.
     let rule = match wanted {
         1 => {
@@ -74,6 +75,7 @@ fn try_refused(random: &mut Random, wanted: u8) -> Vec<u8> {
         }
         _ => tree(random),
     };
+    let rule = kinds.give(random, rule);
     let mut bytes = bytes_of(&rule);
     let head = RULE_MARK.len() + 1 + rule.variables.len();
     match wanted {
@@ -83,7 +85,7 @@ fn try_refused(random: &mut Random, wanted: u8) -> Vec<u8> {
         }
         3 => {
             let place = random.among(RULE_MARK.len() + 1, head - 1);
-            bytes[place] = random.pick(&[2, 3, 16, 255]);
+            bytes[place] = random.pick(kinds.refused_bytes());
         }
         // From the shortest size on, cut anywhere, the kind bytes included.
         4 if random.chance(30) => bytes.truncate(random.among(RULE_BYTES_MIN, bytes.len() - 1)),
@@ -98,11 +100,12 @@ fn try_refused(random: &mut Random, wanted: u8) -> Vec<u8> {
 }
 
 /// Any bytes that look a little like a rule.
-pub fn damaged(random: &mut Random) -> Vec<u8> {
+pub fn damaged(random: &mut Random, kinds: Kinds) -> Vec<u8> {
     let mut bytes = if random.chance(80) {
-        bytes_of(&tree(random))
+        let rule = tree(random);
+        bytes_of(&kinds.give(random, rule))
     } else {
-        accepted(random)
+        accepted(random, kinds)
     };
     for _ in 0..random.among(1, 3) {
         damage(random, &mut bytes, 0);
