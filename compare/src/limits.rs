@@ -1,4 +1,4 @@
-//! Fixed cases at the limits of document 01 and of C-11: its examples, every refusal, every limit, for every
+//! Fixed cases at the limits of document 01, of C-11 and of C-13: its examples, every refusal, every limit, for every
 //! operation. Rules, plans and circuits are put together from their parts. The number that a case must come to is
 //! written beside it, from the document, and looked at when the case is added; only the cases of
 //! `reading` and the empty plans of refused rules have none.
@@ -14,6 +14,7 @@ mod order;
 pub mod parts;
 mod reading;
 mod rows;
+mod working;
 
 use crate::answer::Answer;
 use crate::circuit::accept;
@@ -43,6 +44,13 @@ pub fn cases() -> Vec<Case> {
 pub fn circuit_cases() -> Vec<Case> {
     let mut list = List { cases: Vec::new() };
     circuits::add(&mut list);
+    each_once(list.cases)
+}
+
+/// The fixed cases of C-13, over all operations, each once. They come after all that was stored before them.
+pub fn working_cases() -> Vec<Case> {
+    let mut list = List { cases: Vec::new() };
+    working::add(&mut list);
     each_once(list.cases)
 }
 

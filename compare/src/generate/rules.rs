@@ -43,20 +43,9 @@ pub fn refused(random: &mut Random, kinds: Kinds, wanted: u8) -> Vec<u8> {
     }
 }
 
-fn try_refused(random: &mut Random, kinds: Kinds, wanted: u8) -> Vec<u8> {
-    // The limits just broken, where the wanted number is that of a limit.
-    let rule = match wanted {
-        1 => {
-            let rule = tree(random);
-            return if random.chance(50) {
-                let mut bytes = bytes_of(&rule);
-                bytes.truncate(random.below(RULE_BYTES_MIN));
-                bytes
-            } else {
-                let more = random.pick(&[1, 1, 2, 100]);
-                at_size(random, rule, RULE_BYTES_MAX + more)
-            };
-        }
+/// The limits just broken, where the wanted number is that of a limit.
+fn over_limits(random: &mut Random, wanted: u8) -> Rule {
+    match wanted {
         8 if random.chance(70) => {
             let over = random.among(1, 3);
             if random.chance(50) {
@@ -74,8 +63,27 @@ fn try_refused(random: &mut Random, kinds: Kinds, wanted: u8) -> Vec<u8> {
             at_conditions(random, CONDITIONS_MAX + over)
         }
         _ => tree(random),
-    };
+    }
+}
+
+/// Too few bytes or too many.
+fn of_wrong_size(random: &mut Random, rule: Rule) -> Vec<u8> {
+    if random.chance(50) {
+        let mut bytes = bytes_of(&rule);
+        bytes.truncate(random.below(RULE_BYTES_MIN));
+        bytes
+    } else {
+        let more = random.pick(&[1, 1, 2, 100]);
+        at_size(random, rule, RULE_BYTES_MAX + more)
+    }
+}
+
+fn try_refused(random: &mut Random, kinds: Kinds, wanted: u8) -> Vec<u8> {
+    let rule = over_limits(random, wanted);
     let rule = kinds.give(random, rule);
+    if wanted == 1 {
+        return of_wrong_size(random, rule);
+    }
     let mut bytes = bytes_of(&rule);
     let head = RULE_MARK.len() + 1 + rule.variables.len();
     match wanted {

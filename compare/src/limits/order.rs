@@ -146,17 +146,22 @@ fn rule_first(list: &mut List) {
         (gates(257), 10),
         (conditions(7), 11),
     ] {
-        let numbers = match wanted {
-            0 => [[20; 5], [23; 5], [0, 50, 0, 40, 41], [21; 5]],
-            _ => [[wanted; 5]; 4],
-        };
-        let plans = [&[][..], &P1[..9], &P1, &R1];
-        for (plan, [checked, no_room, room, no_inputs, over]) in plans.into_iter().zip(numbers) {
-            list.check(&rule, plan, checked);
-            list.write(&rule, plan, 0, no_room);
-            list.write(&rule, plan, 80, room);
-            list.fused(&rule, plan, &[], 0, no_inputs);
-            list.fused(&rule, plan, &[2, 6, 7], 3, over);
-        }
+        any_plans(list, &rule, wanted);
+    }
+}
+
+/// A rule that is refused by this number whatever comes after it, or an accepted one like R1, with several plans.
+fn any_plans(list: &mut List, rule: &[u8], wanted: u8) {
+    let numbers = match wanted {
+        0 => [[20; 5], [23; 5], [0, 50, 0, 40, 41], [21; 5]],
+        _ => [[wanted; 5]; 4],
+    };
+    let plans = [&[][..], &P1[..9], &P1, &R1];
+    for (plan, [checked, no_room, room, no_inputs, over]) in plans.into_iter().zip(numbers) {
+        list.check(rule, plan, checked);
+        list.write(rule, plan, 0, no_room);
+        list.write(rule, plan, 80, room);
+        list.fused(rule, plan, &[], 0, no_inputs);
+        list.fused(rule, plan, &[2, 6, 7], 3, over);
     }
 }

@@ -31,6 +31,13 @@ pub fn rule(kinds: &[Kind], block: Block) -> Vec<u8> {
     bytes_of(&Rule::of_results(kinds, block))
 }
 
+/// A rule of these kind bytes, whatever they are.
+pub fn bytes_with_kinds(kind_bytes: &[u8], block: Block) -> Vec<u8> {
+    let mut bytes = rule(&vec![Kind::Word; kind_bytes.len()], block);
+    bytes[RULE_BYTES_MIN..][..kind_bytes.len()].copy_from_slice(kind_bytes);
+    bytes
+}
+
 /// The costly operations of the table.
 pub fn costly() -> impl Iterator<Item = Operation> {
     OPERATIONS.into_iter().filter(|row| row.cost > 0)
