@@ -88,7 +88,7 @@ fn every_output(list: &mut List) {
 
 /// Every output made another number that is no wire, the others wires or FF FF.
 fn no_wires(list: &mut List) {
-    for place in 0..4 {
+    for (place, &kind) in KINDS.iter().enumerate() {
         for mask in [0, 0b1111, 0b0110, 0b1001] {
             for odd in ODD {
                 let mut circuit = sample(mask);
@@ -97,7 +97,7 @@ fn no_wires(list: &mut List) {
             }
             // A wire of the other kind.
             let mut circuit = sample(mask);
-            circuit.outputs[place] = Some(Wire(usize::from(KINDS[place] == Kind::Bit)));
+            circuit.outputs[place] = Some(Wire(usize::from(kind == Kind::Bit)));
             list.refused_circuit(&circuit.file(), 62);
         }
     }
