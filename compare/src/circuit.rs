@@ -91,7 +91,7 @@ impl Settings {
 #[derive(Clone, Debug, PartialEq, Eq)]
 pub struct Circuit {
     pub gates: Vec<Gate>,
-    /// Every result variable's last gate, none for a working one.
+    /// What is needed from the start: every result variable's last gate, none for a working one (C-13).
     pub outputs: Vec<Option<GateNumber>>,
     /// The gates standing first in a choice, each once, rising.
     pub conditions: Vec<GateNumber>,
