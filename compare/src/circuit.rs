@@ -91,8 +91,8 @@ impl Settings {
 #[derive(Clone, Debug, PartialEq, Eq)]
 pub struct Circuit {
     pub gates: Vec<Gate>,
-    /// Every variable's last gate.
-    pub outputs: Vec<GateNumber>,
+    /// What is needed from the start: every result variable's last gate, none for a working one (C-13).
+    pub outputs: Vec<Option<GateNumber>>,
     /// The gates standing first in a choice, each once, rising.
     pub conditions: Vec<GateNumber>,
 }
@@ -112,10 +112,12 @@ impl Circuit {
 pub fn make(rule: &Rule) -> Circuit {
     let mut maker = Maker { gates: Vec::new() };
     let mut present = Vec::new();
-    for (variable, &kind) in rule.kinds.iter().enumerate() {
-        present.push(maker.add(Gate::Start(variable, kind)));
+    for (number, variable) in rule.variables.iter().enumerate() {
+        present.push(maker.add(Gate::Start(number, variable.kind)));
     }
     maker.block(&rule.block, &mut present);
+    let last = rule.variables.iter().zip(present);
+    let outputs = last.map(|(variable, gate)| variable.if_result(gate));
 
     let mut conditions: Vec<GateNumber> = maker
         .gates
@@ -128,8 +130,8 @@ pub fn make(rule: &Rule) -> Circuit {
     conditions.sort();
     conditions.dedup();
     Circuit {
+        outputs: outputs.collect(),
         gates: maker.gates,
-        outputs: present,
         conditions,
     }
 }
@@ -252,7 +254,7 @@ pub fn preconditions(circuit: &Circuit) -> Vec<Settings> {
 
 fn needed_under(circuit: &Circuit, j: usize) -> Vec<bool> {
     let mut needed = vec![false; circuit.gates.len()];
-    let mut waiting = circuit.outputs.clone();
+    let mut waiting: Vec<GateNumber> = circuit.outputs.iter().copied().flatten().collect();
     while let Some(number) = waiting.pop() {
         if needed[number.0] {
             continue;

@@ -1,4 +1,5 @@
 //! A circuit file from any house (C-11): rows 60 to 62, its records, and the part of it that holds one.
+//! FF FF is admitted as the output of any variable (C-13).
 
 use crate::answer::{Answer, Refusal};
 use crate::circuit::Settings;
@@ -80,6 +81,8 @@ fn lay_out(file: &[u8], variables: usize, wires: usize) -> Option<CircuitFile<'_
         parts.push(&from[..from.len() - rest.len()]);
     }
     let outputs = take_wires(&mut rest, variables)?;
+    let named = |wire: Wire| (wire.0 != NO_WIRE).then_some(wire);
+    let outputs = outputs.into_iter().map(named).collect();
     rest.is_empty().then_some(CircuitFile {
         circuit: Fused { records, outputs },
         parts,
@@ -90,7 +93,8 @@ fn lay_out(file: &[u8], variables: usize, wires: usize) -> Option<CircuitFile<'_
 fn take_record(rest: &mut &[u8]) -> Option<Record> {
     let code = byte(rest)?;
     let record = match code {
-        WORD_INPUT | BIT_INPUT => Record::Input(usize::from(byte(rest)?), Kind::of_byte(code)?),
+        WORD_INPUT => Record::Input(usize::from(byte(rest)?), Kind::Word),
+        BIT_INPUT => Record::Input(usize::from(byte(rest)?), Kind::Bit),
         WORD => Record::Word(u32::from_be_bytes(take(rest, 4)?.try_into().ok()?)),
         BIT => match byte(rest)? {
             bit @ (0 | 1) => Record::Bit(bit == 1),
@@ -141,7 +145,7 @@ fn holds_together(circuit: &Fused) -> bool {
         && kinds(circuit).is_some_and(|kinds| {
             let variables = &kinds[..circuit.outputs.len()];
             let mut outputs = circuit.outputs.iter().zip(variables);
-            outputs.all(|(output, kind)| kinds.get(output.0) == Some(kind))
+            outputs.all(|(output, kind)| output.is_none_or(|wire| kinds.get(wire.0) == Some(kind)))
         })
 }
 

@@ -21,22 +21,36 @@ pub fn check_inputs(kinds: &[Kind], inputs: &[u32], places: usize) -> Result<(),
     Ok(())
 }
 
+/// What every run writes: in each of the first V places the variable's figure, or 0 for a working one, which has
+/// none to write (C-13).
+pub fn write_results(figures: &[Option<u32>], results: &mut [u32]) {
+    for (result, figure) in results.iter_mut().zip(figures) {
+        *result = figure.unwrap_or(0);
+    }
+}
+
 /// The operation "direct run". Only the first V results are written, and only on success.
 pub fn run(bytes: &[u8], inputs: &[u32], results: &mut [u32]) -> Answer {
     let accepted = match accept(bytes) {
         Ok(accepted) => accepted,
         Err(refusal) => return refusal.into(),
     };
-    if let Err(refusal) = check_inputs(&accepted.rule.kinds, inputs, results.len()) {
+    if let Err(refusal) = check_inputs(&accepted.rule.kinds(), inputs, results.len()) {
         return refusal.into();
     }
-    let figures = figures(&accepted.rule, inputs);
-    results[..figures.len()].copy_from_slice(&figures);
+    write_results(&figures(&accepted.rule, inputs), results);
     accepted.answer()
 }
 
-/// Every variable's figure at the end of the rule.
-pub fn figures(rule: &Rule, inputs: &[u32]) -> Vec<u32> {
+/// The figure of every result variable at the end of the rule.
+pub fn figures(rule: &Rule, inputs: &[u32]) -> Vec<Option<u32>> {
+    let last = rule.variables.iter().zip(all_figures(rule, inputs));
+    last.map(|(variable, figure)| variable.if_result(figure))
+        .collect()
+}
+
+/// Every variable's figure at the end of the rule: working ones are kept until then.
+pub fn all_figures(rule: &Rule, inputs: &[u32]) -> Vec<u32> {
     let mut figures = inputs.to_vec();
     run_block(&rule.block, &mut figures);
     figures

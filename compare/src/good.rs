@@ -63,9 +63,9 @@ pub fn good() -> Rule {
         };
     }
 
-    Rule {
-        kinds: vec![Kind::Bit, Kind::Word, Kind::Word, Kind::Bit, Kind::Word],
-        block: vec![
+    Rule::of_results(
+        &[Kind::Bit, Kind::Word, Kind::Word, Kind::Bit, Kind::Word],
+        vec![
             assign(2, eight),
             assign(
                 3,
@@ -89,7 +89,7 @@ pub fn good() -> Rule {
                 )],
             ),
         ],
-    }
+    )
 }
 
 pub fn good_bytes() -> Vec<u8> {

@@ -1,4 +1,4 @@
-//! The numbers, codes and costs of document 01 and of C-11 and C-12, in one place: later requests move them here.
+//! The numbers, codes and costs of document 01 and of C-11 to C-13, in one place: later requests move them here.
 
 pub const RULE_MARK: [u8; 5] = [0x52, 0x55, 0x4C, 0x00, 0x01];
 pub const PLAN_MARK: [u8; 5] = [0x50, 0x4C, 0x4E, 0x00, 0x01];
@@ -23,6 +23,8 @@ pub const PLAN_BYTES_MAX: usize = 1024;
 pub const GROUP_SIZE_MIN: usize = 2;
 
 pub const WIRES_MAX: usize = 640;
+/// What a file names as the output of a variable that has none (C-13).
+pub const NO_WIRE: usize = 0xFFFF;
 /// Mark, version, V and wire count.
 pub const CIRCUIT_BYTES_MIN: usize = 8;
 pub const CIRCUIT_BYTES_MAX: usize = 16_384;
@@ -59,20 +61,51 @@ pub const CHOICE_COST: usize = 3;
 pub const PICK_COST_A_PAIR: usize = 2;
 pub const GUARD_COST: usize = 1;
 
-/// What a figure is: a word of 32 bits or a bit. The numbers are the kind bytes of a rule.
+/// What a figure is: a word of 32 bits or a bit.
 #[derive(Clone, Copy, Debug, PartialEq, Eq)]
 pub enum Kind {
     Word = 0,
     Bit = 1,
 }
 
-impl Kind {
-    pub fn of_byte(byte: u8) -> Option<Kind> {
-        match byte {
-            0x00 => Some(Kind::Word),
-            0x01 => Some(Kind::Bit),
-            _ => None,
-        }
+/// What a kind byte says of a variable: the kind of its figures, and whether it is a result or a working one.
+#[derive(Clone, Copy, Debug, PartialEq, Eq)]
+pub struct Variable {
+    pub kind: Kind,
+    pub working: bool,
+}
+
+/// The kind bytes, from 00 on; row 3 refuses every other. The last two are C-13's.
+const KIND_BYTES: [Variable; 4] = [
+    Variable::result(Kind::Word),
+    Variable::result(Kind::Bit),
+    Variable::working(Kind::Word),
+    Variable::working(Kind::Bit),
+];
+
+impl Variable {
+    pub const fn result(kind: Kind) -> Variable {
+        let working = false;
+        Variable { kind, working }
+    }
+
+    pub const fn working(kind: Kind) -> Variable {
+        let working = true;
+        Variable { kind, working }
+    }
+
+    pub fn of_byte(byte: u8) -> Option<Variable> {
+        KIND_BYTES.get(usize::from(byte)).copied()
+    }
+
+    pub fn byte(self) -> u8 {
+        let place = KIND_BYTES.iter().position(|&one| one == self);
+        place.expect("every variable has a kind byte") as u8
+    }
+
+    /// Only a result variable has an output, and a figure that runs write.
+    pub fn if_result<T>(self, had: T) -> Option<T> {
+        (!self.working).then_some(had)
     }
 }
 

@@ -1,4 +1,4 @@
-//! Fixed cases at the limits of document 01 and of C-11: its examples, every refusal, every limit, for every
+//! Fixed cases at the limits of document 01, of C-11 and of C-13: its examples, every refusal, every limit, for every
 //! operation. Rules, plans and circuits are put together from their parts. The number that a case must come to is
 //! written beside it, from the document, and looked at when the case is added; only the cases of
 //! `reading` and the empty plans of refused rules have none.
@@ -14,6 +14,7 @@ mod order;
 pub mod parts;
 mod reading;
 mod rows;
+mod working;
 
 use crate::answer::Answer;
 use crate::circuit::accept;
@@ -46,6 +47,13 @@ pub fn circuit_cases() -> Vec<Case> {
     each_once(list.cases)
 }
 
+/// The fixed cases of C-13, over all operations, each once. They come after all that was stored before them.
+pub fn working_cases() -> Vec<Case> {
+    let mut list = List { cases: Vec::new() };
+    working::add(&mut list);
+    each_once(list.cases)
+}
+
 fn each_once(mut cases: Vec<Case>) -> Vec<Case> {
     let mut seen = HashSet::new();
     cases.retain(|case| {
@@ -56,7 +64,8 @@ fn each_once(mut cases: Vec<Case>) -> Vec<Case> {
     cases
 }
 
-/// The empty plan for every rule of the list; a refused rule's has gate count 0 and must not matter.
+/// The empty plan for every rule of the list; a refused rule's has gate count 0 and must not matter. That of a rule
+/// with a working variable has it too, since such a rule was refused when the cases were first stored.
 fn empty_plans(list: &mut List) {
     let mut seen = HashSet::new();
     let rules: Vec<Vec<u8>> = list.cases.iter().map(|case| case.first.clone()).collect();
@@ -65,6 +74,11 @@ fn empty_plans(list: &mut List) {
             continue;
         }
         match accept(&rule) {
+            Ok(accepted) if accepted.rule.variables.iter().any(|one| one.working) => {
+                list.check(&rule, &plan(0, &[]), 22);
+                list.write(&rule, &plan(0, &[]), CIRCUIT_BYTES_MAX, 22);
+                list.fused(&rule, &plan(0, &[]), &[], 1, 22);
+            }
             Ok(accepted) => {
                 let plan = plan(accepted.circuit.gates.len(), &[]);
                 list.check(&rule, &plan, 0);
@@ -73,7 +87,7 @@ fn empty_plans(list: &mut List) {
                     &rule,
                     &plan,
                     &inputs(&rule, 1),
-                    accepted.rule.kinds.len(),
+                    accepted.rule.variables.len(),
                     0,
                 );
             }
@@ -90,7 +104,7 @@ fn plan(gates: usize, groups: &[&[usize]]) -> Vec<u8> {
 
 /// Inputs that an accepted rule takes. A refused rule gets none.
 fn inputs(rule: &[u8], turn: usize) -> Vec<u32> {
-    let kinds = accept(rule).map_or(Vec::new(), |accepted| accepted.rule.kinds);
+    let kinds = accept(rule).map_or(Vec::new(), |accepted| accepted.rule.kinds());
     inputs_of(&kinds, turn)
 }
 

@@ -25,9 +25,25 @@ pub enum Statement {
 
 #[derive(Clone, Debug, PartialEq, Eq)]
 pub struct Rule {
-    /// One kind for each variable, so their count is V.
-    pub kinds: Vec<Kind>,
+    /// What the kind bytes say; their count is V.
+    pub variables: Vec<Variable>,
     pub block: Block,
+}
+
+impl Rule {
+    /// A rule whose variables are all results.
+    pub fn of_results(kinds: &[Kind], block: Block) -> Rule {
+        let variables = kinds.iter().copied().map(Variable::result).collect();
+        Rule { variables, block }
+    }
+
+    /// The kinds of the variables' figures, whether they are results or not.
+    pub fn kinds(&self) -> Vec<Kind> {
+        self.variables
+            .iter()
+            .map(|variable| variable.kind)
+            .collect()
+    }
 }
 
 /// Reads a rule by rows 1 to 9 only. Rows 10 and 11 speak of the circuit: see `circuit::accept`.
@@ -38,16 +54,16 @@ pub fn read(bytes: &[u8]) -> Result<Rule, Refusal> {
     let mut reader = Reader {
         bytes,
         at: 0,
-        kinds: Vec::new(),
+        variables: Vec::new(),
     };
     reader.mark()?;
-    reader.variables()?;
+    reader.kind_bytes()?;
     let block = reader.block(0)?;
     if reader.at < bytes.len() {
         return Err(Refusal::at(9, reader.at));
     }
     Ok(Rule {
-        kinds: reader.kinds,
+        variables: reader.variables,
         block,
     })
 }
@@ -56,7 +72,7 @@ struct Reader<'a> {
     bytes: &'a [u8],
     /// The place of the byte wanted next.
     at: usize,
-    kinds: Vec<Kind>,
+    variables: Vec<Variable>,
 }
 
 impl Reader<'_> {
@@ -81,7 +97,7 @@ impl Reader<'_> {
         Ok(())
     }
 
-    fn variables(&mut self) -> Result<(), Refusal> {
+    fn kind_bytes(&mut self) -> Result<(), Refusal> {
         let (count, place) = self.take()?;
         let count = usize::from(count);
         if !(VARIABLES_MIN..=VARIABLES_MAX).contains(&count) {
@@ -89,8 +105,8 @@ impl Reader<'_> {
         }
         for _ in 0..count {
             let (byte, place) = self.take()?;
-            let kind = Kind::of_byte(byte).ok_or(Refusal::at(3, place))?;
-            self.kinds.push(kind);
+            let variable = Variable::of_byte(byte).ok_or(Refusal::at(3, place))?;
+            self.variables.push(variable);
         }
         Ok(())
     }
@@ -105,7 +121,7 @@ impl Reader<'_> {
                 CLOSE => return Ok(statements),
                 ASSIGN => {
                     let variable = self.variable()?;
-                    let value = self.expression(self.kinds[variable], 1)?;
+                    let value = self.expression(self.variables[variable].kind, 1)?;
                     statements.push(Statement::Assign(variable, value));
                 }
                 SKIP => statements.push(Statement::Skip),
@@ -127,7 +143,7 @@ impl Reader<'_> {
     fn variable(&mut self) -> Result<usize, Refusal> {
         let (byte, place) = self.take()?;
         let variable = usize::from(byte);
-        if variable >= self.kinds.len() {
+        if variable >= self.variables.len() {
             return Err(Refusal::at(6, place));
         }
         Ok(variable)
@@ -155,7 +171,7 @@ impl Reader<'_> {
         match code {
             VARIABLE => {
                 let variable = self.variable()?;
-                if self.kinds[variable] != wanted {
+                if self.variables[variable].kind != wanted {
                     return Err(Refusal::at(7, place + 1));
                 }
                 Ok(Expression::Variable(variable))
@@ -191,9 +207,9 @@ impl Reader<'_> {
 /// also make rules that break them.
 pub fn bytes_of(rule: &Rule) -> Vec<u8> {
     let mut bytes = RULE_MARK.to_vec();
-    bytes.push(rule.kinds.len() as u8);
-    for &kind in &rule.kinds {
-        bytes.push(kind as u8);
+    bytes.push(rule.variables.len() as u8);
+    for variable in &rule.variables {
+        bytes.push(variable.byte());
     }
     put_block(&rule.block, &mut bytes);
     bytes

@@ -2,7 +2,7 @@
 
 use crate::answer::Answer;
 use crate::circuit_file::{self, kinds};
-use crate::direct::check_inputs;
+use crate::direct::{check_inputs, write_results};
 use crate::law::*;
 use crate::plan::accept_both;
 use crate::write::{answer, fuse, Fused, Record, Wire};
@@ -13,12 +13,11 @@ pub fn run(rule: &[u8], plan: &[u8], inputs: &[u32], results: &mut [u32]) -> Ans
         Ok(both) => both,
         Err(refusal) => return refusal.into(),
     };
-    if let Err(refusal) = check_inputs(&accepted.rule.kinds, inputs, results.len()) {
+    if let Err(refusal) = check_inputs(&accepted.rule.kinds(), inputs, results.len()) {
         return refusal.into();
     }
     let fused = fuse(&accepted.circuit, &plan);
-    let figures = figures(&fused, inputs);
-    results[..figures.len()].copy_from_slice(&figures);
+    write_results(&figures(&fused, inputs), results);
     answer(&accepted, &fused, &fused.file())
 }
 
@@ -31,15 +30,14 @@ pub fn run_circuit(file: &[u8], inputs: &[u32], results: &mut [u32]) -> Answer {
     if let Err(refusal) = check_inputs(&accepted.variables(), inputs, results.len()) {
         return refusal.into();
     }
-    let figures = figures(&accepted.circuit, inputs);
-    results[..figures.len()].copy_from_slice(&figures);
+    write_results(&figures(&accepted.circuit, inputs), results);
     accepted.answer()
 }
 
-/// Every variable's figure.
-pub fn figures(circuit: &Fused, inputs: &[u32]) -> Vec<u32> {
+/// The figure of every variable that has an output wire.
+pub fn figures(circuit: &Fused, inputs: &[u32]) -> Vec<Option<u32>> {
     let figures = figures_of_wires(circuit, inputs);
-    let figure = |output: &Wire| figures[output.0];
+    let figure = |output: &Option<Wire>| output.map(|wire| figures[wire.0]);
     circuit.outputs.iter().map(figure).collect()
 }
 

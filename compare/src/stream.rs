@@ -8,7 +8,7 @@ use crate::{circuit_file, direct, plan, run, write};
 pub const STREAM_MARK: [u8; 5] = [0x43, 0x41, 0x53, 0x00, 0x01];
 
 // What result places and buffer bytes hold before a call, so that untouched ones show.
-const UNTOUCHED_RESULT: u32 = 3_735_928_559;
+pub(crate) const UNTOUCHED_RESULT: u32 = 3_735_928_559;
 const UNTOUCHED_BYTE: u8 = 0xEE;
 
 pub const READ: u8 = 0x01;
@@ -123,7 +123,7 @@ fn two(rest: &mut &[u8]) -> Option<u16> {
     Some(u16::from_be_bytes([bytes[0], bytes[1]]))
 }
 
-fn results_text(results: &[u32]) -> String {
+pub(crate) fn results_text(results: &[u32]) -> String {
     let mut text = String::from(" |");
     for result in results {
         text.push_str(&format!(" {result}"));

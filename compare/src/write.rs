@@ -85,11 +85,11 @@ fn put_wires(wires: &[Wire], file: &mut Vec<u8>) {
     }
 }
 
-/// A fused circuit, or one read from a file: one record a wire, and every variable's output wire.
+/// A fused circuit, or one read from a file: one record a wire, and the output wire of every variable that has one.
 #[derive(Clone, Debug, PartialEq, Eq)]
 pub struct Fused {
     pub records: Vec<Record>,
-    pub outputs: Vec<Wire>,
+    pub outputs: Vec<Option<Wire>>,
 }
 
 impl Fused {
@@ -106,7 +106,9 @@ impl Fused {
         for record in &self.records {
             record.put(&mut file);
         }
-        put_wires(&self.outputs, &mut file);
+        for output in &self.outputs {
+            put_wires(&[output.unwrap_or(Wire(NO_WIRE))], &mut file);
+        }
         file
     }
 }
@@ -130,7 +132,7 @@ pub fn fuse(circuit: &Circuit, plan: &Plan) -> Fused {
     let outputs = circuit
         .outputs
         .iter()
-        .map(|&gate| writer.wire(gate))
+        .map(|output| output.map(|gate| writer.wire(gate)))
         .collect();
     Fused {
         records: writer.records,

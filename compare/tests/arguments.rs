@@ -2,6 +2,7 @@
 //! than keep the order written.
 
 use compare::circuit::{accept, make, preconditions, Accepted, Circuit, Gate, GateNumber};
+use compare::generate::kinds::Kinds;
 use compare::generate::{cases, inputs, plans, rules, Random};
 use compare::law::*;
 use compare::limits::parts::{not, rule, set, two, var, when, word};
@@ -234,7 +235,7 @@ fn as_written(rule: &Rule) -> Circuit {
         other => other,
     });
     make(&Rule {
-        kinds: rule.kinds.clone(),
+        variables: rule.variables.clone(),
         block,
     })
 }
@@ -253,7 +254,9 @@ fn turned(rule: &Rule) -> Vec<usize> {
 fn only_arguments_of_the_five_move() {
     let mut random = Random::new(12);
     for _ in 0..500 {
-        let rule = accept(&rules::accepted(&mut random)).unwrap().rule;
+        let rule = accept(&rules::accepted(&mut random, Kinds::Working))
+            .unwrap()
+            .rule;
         let (made, written) = (make(&rule), as_written(&rule));
         assert_eq!(made.outputs, written.outputs);
         assert_eq!(made.conditions, written.conditions);
@@ -277,7 +280,7 @@ fn the_order_written_does_not_matter() {
     let mut random = Random::new(1201);
     let (mut differing, mut joined) = (0, 0);
     for _ in 0..1000 {
-        let bytes = rules::accepted(&mut random);
+        let bytes = rules::accepted(&mut random, Kinds::Working);
         let accepted = accept(&bytes).unwrap();
         let block = change(&accepted.rule.block, &mut |expression| match expression {
             Expression::Operation(code, mut arguments)
@@ -289,14 +292,14 @@ fn the_order_written_does_not_matter() {
             other => other,
         });
         let other = bytes_of(&Rule {
-            kinds: accepted.rule.kinds.clone(),
+            variables: accepted.rule.variables.clone(),
             block,
         });
         assert_eq!(circuit_of(&other), accepted.circuit);
         let needs = preconditions(&accepted.circuit);
         let plan = plans::valid(&mut random, &plans::Ground::new(&accepted.circuit, &needs));
         assert_eq!(file_of(&bytes, &plan), file_of(&other, &plan));
-        let inputs = inputs(&mut random, &accepted.rule.kinds);
+        let inputs = inputs(&mut random, &accepted.rule.kinds());
         let (mut one, mut two) = (vec![0; inputs.len()], vec![0; inputs.len()]);
         direct::run(&bytes, &inputs, &mut one);
         run::run(&other, &plan, &inputs, &mut two);
@@ -319,7 +322,7 @@ fn around(rule: &Rule) -> Rule {
         other => other,
     });
     Rule {
-        kinds: rule.kinds.clone(),
+        variables: rule.variables.clone(),
         block,
     }
 }
@@ -336,7 +339,7 @@ fn turned_gates_are_often_made() {
     let [mut accepted, mut pairs, mut some, mut joined, mut falling] = [0; 5];
     let (mut gates, mut gates_turned) = (0, 0);
     for _ in 0..2000 {
-        let case = cases::rule_case(&mut random);
+        let case = cases::rule_case(&mut random, Kinds::Results);
         let Ok(Accepted { rule, circuit }) = accept(&case.first) else {
             continue;
         };

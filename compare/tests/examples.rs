@@ -58,7 +58,7 @@ fn example_1_circuit_of_r1() {
             Gate::Choice(n(0), n(3), n(4)),
         ]
     );
-    assert_eq!(circuit.outputs, vec![n(0), n(5), n(2)]);
+    assert_eq!(circuit.outputs, [0, 5, 2].map(|gate| Some(n(gate))));
     assert_eq!(circuit.conditions, vec![n(0)]);
     let needs: Vec<String> = preconditions(&circuit).iter().map(|s| s.hex()).collect();
     assert_eq!(needs[3], "AAAAAAAAAAAAAAAA");
@@ -263,10 +263,8 @@ fn example_9_arithmetic() {
     ] {
         let value =
             Expression::Operation(code, vec![Expression::Variable(0), Expression::Variable(1)]);
-        let bytes = bytes_of(&Rule {
-            kinds: vec![Kind::Word, Kind::Word],
-            block: vec![Statement::Assign(0, value)],
-        });
+        let block = vec![Statement::Assign(0, value)];
+        let bytes = bytes_of(&Rule::of_results(&[Kind::Word; 2], block));
         let mut results = [UNTOUCHED; 2];
         assert_eq!(
             direct::run(&bytes, &[first, second], &mut results).number,

@@ -2,7 +2,9 @@
 
 use compare::counts::Counts;
 use compare::limits;
-use compare::stream::{Case, CHECK, FUSED, READ_CIRCUIT, RECORD, RUN_CIRCUIT, WRITE};
+use compare::stream::{
+    Case, CHECK, DIRECT, FUSED, LAST, PLAIN, READ, READ_CIRCUIT, RECORD, RUN_CIRCUIT, WRITE,
+};
 
 #[test]
 fn every_number_comes() {
@@ -71,4 +73,30 @@ fn the_largest_circuit_files_come() {
     assert_eq!(answers().map(|answer| answer.bytes).max(), Some(16_384));
     let sizes = || cases.iter().map(|case| case.first.len());
     assert!(sizes().any(|size| size == 16_385) && sizes().any(|size| size == 8));
+}
+
+/// Those of C-13 are over all operations, and reach every number that a kind byte or an output FF FF moves.
+#[test]
+fn every_number_of_working_variables_comes() {
+    let mut counts = Counts::default();
+    for case in limits::working_cases() {
+        counts.count(&case);
+    }
+    let of = |number: u8, operation: u8| counts.by_number[&number][usize::from(operation)];
+    for operation in READ..=LAST {
+        assert!(of(0, operation) >= 100, "operation {operation:02X}");
+    }
+    for operation in READ..=PLAIN {
+        assert!(of(3, operation) >= 10 && of(7, operation) >= 10);
+    }
+    for operation in [CHECK, WRITE, FUSED] {
+        assert!(of(29, operation) >= 20 && of(30, operation) >= 20);
+    }
+    for operation in [DIRECT, FUSED, RUN_CIRCUIT] {
+        assert!(of(41, operation) >= 20);
+    }
+    for operation in [READ_CIRCUIT, RECORD, RUN_CIRCUIT] {
+        assert!(of(62, operation) >= 100);
+    }
+    assert!(of(50, WRITE) >= 100);
 }

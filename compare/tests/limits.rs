@@ -27,10 +27,7 @@ fn example_10_limits() {
             vec![Statement::Assign(0, Expression::Variable(0))],
             vec![],
         );
-        bytes_of(&Rule {
-            kinds: vec![Kind::Word],
-            block: vec![one; count],
-        })
+        bytes_of(&Rule::of_results(&[Kind::Word], vec![one; count]))
     };
     assert_eq!(read_rule(&ifs(6)), Answer::of_plain(13, 6 * 43));
     assert_eq!(read_rule(&ifs(7)), refused(11, ifs(7).len()));
@@ -40,10 +37,8 @@ fn example_10_limits() {
         for _ in 1..depth {
             value = Expression::Operation(SUM, vec![Expression::Variable(0), value]);
         }
-        bytes_of(&Rule {
-            kinds: vec![Kind::Word],
-            block: vec![Statement::Assign(0, value)],
-        })
+        let block = vec![Statement::Assign(0, value)];
+        bytes_of(&Rule::of_results(&[Kind::Word], block))
     };
     assert_eq!(read_rule(&deep(8)), Answer::of_plain(8, 0));
     // Header 7, assign 2, seven times code 20 and its first argument (3 bytes), the eighth 20;
@@ -52,10 +47,8 @@ fn example_10_limits() {
 
     // 256 and 257 gates.
     let constants = |count: usize| {
-        bytes_of(&Rule {
-            kinds: vec![Kind::Bit],
-            block: vec![Statement::Assign(0, Expression::Bit(true)); count],
-        })
+        let block = vec![Statement::Assign(0, Expression::Bit(true)); count];
+        bytes_of(&Rule::of_results(&[Kind::Bit], block))
     };
     assert_eq!(read_rule(&constants(255)), Answer::of_plain(256, 0));
     assert_eq!(
@@ -67,10 +60,7 @@ fn example_10_limits() {
 #[test]
 fn an_if_that_assigns_nothing_makes_no_choice() {
     let empty = Statement::If(Expression::Variable(0), vec![Statement::Skip], vec![]);
-    let bytes = bytes_of(&Rule {
-        kinds: vec![Kind::Bit],
-        block: vec![empty],
-    });
+    let bytes = bytes_of(&Rule::of_results(&[Kind::Bit], vec![empty]));
     let circuit = accept(&bytes).ok().unwrap().circuit;
     assert_eq!(circuit.gates.len(), 1);
     assert!(circuit.conditions.is_empty());
@@ -83,7 +73,7 @@ fn the_good_rule_is_what_it_should_be() {
     assert_eq!(bytes, std::fs::read("data/good.rul").unwrap());
     let accepted = accept(&bytes).ok().unwrap();
     assert_eq!(accepted.circuit.conditions.len(), 6);
-    assert!(accepted.rule.kinds.len() >= 4);
+    assert!(accepted.rule.variables.len() >= 4);
 
     fn depth(expression: &Expression, codes: &mut Vec<u8>) -> usize {
         match expression {

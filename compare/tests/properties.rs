@@ -1,6 +1,7 @@
 //! What holds for every accepted rule, plan and inputs, tried on many random ones.
 
 use compare::circuit::{accept, preconditions};
+use compare::generate::kinds::Kinds;
 use compare::generate::{cases, damage, inputs, plans, rules, Random};
 use compare::law::*;
 use compare::plan::{accept_both, check};
@@ -15,7 +16,7 @@ fn the_fused_circuit_gives_what_the_rule_gives() {
     let mut random = Random::new(2026);
     let (mut joined, mut most_wires, mut most_bytes, mut widest) = (0, 0, 0, 0);
     for _ in 0..1500 {
-        let bytes = rules::accepted(&mut random);
+        let bytes = rules::accepted(&mut random, Kinds::Working);
         let accepted = accept(&bytes).ok().unwrap();
         let needs = preconditions(&accepted.circuit);
         let ground = plans::Ground::new(&accepted.circuit, &needs);
@@ -46,14 +47,15 @@ fn the_fused_circuit_gives_what_the_rule_gives() {
         assert_eq!(buffer[file.len()..], [0xEE; 3]);
 
         for _ in 0..6 {
-            let inputs = inputs(&mut random, &accepted.rule.kinds);
-            let direct = direct::figures(&accepted.rule, &inputs);
-            assert_eq!(figures(&fused, &inputs), direct);
+            let inputs = inputs(&mut random, &accepted.rule.kinds());
+            let wanted = direct::figures(&accepted.rule, &inputs);
+            assert_eq!(figures(&fused, &inputs), wanted);
             assert!(one_guard_at_most(&fused, &inputs));
-            let mut results = vec![0; direct.len()];
-            let ran = run::run(&bytes, &plan_bytes, &inputs, &mut results);
+            let (mut one, mut other) = (vec![9; inputs.len()], vec![9; inputs.len()]);
+            assert_eq!(direct::run(&bytes, &inputs, &mut one).number, 0);
+            let ran = run::run(&bytes, &plan_bytes, &inputs, &mut other);
             assert_eq!(ran, answer);
-            assert_eq!(results, direct);
+            assert_eq!(one, other);
         }
     }
     // The generator reaches what it should.
@@ -83,7 +85,10 @@ fn one_guard_at_most(circuit: &Fused, inputs: &[u32]) -> bool {
 fn plain_circuits_are_in_order() {
     let mut random = Random::new(7);
     for _ in 0..500 {
-        let circuit = accept(&rules::accepted(&mut random)).ok().unwrap().circuit;
+        let circuit = accept(&rules::accepted(&mut random, Kinds::Working))
+            .ok()
+            .unwrap()
+            .circuit;
         for (number, gate) in circuit.gates.iter().enumerate() {
             assert!(gate.arguments().iter().all(|a| a.0 < number));
         }
@@ -100,7 +105,8 @@ fn plain_circuits_are_in_order() {
 fn reading_takes_any_bytes() {
     let mut random = Random::new(11);
     for _ in 0..20_000 {
-        let mut bytes = bytes_of(&rules::tree(&mut random));
+        let rule = rules::tree(&mut random);
+        let mut bytes = bytes_of(&Kinds::Working.give(&mut random, rule));
         for _ in 0..random.below(4) {
             damage(&mut random, &mut bytes, 0);
         }
@@ -125,12 +131,18 @@ fn reading_takes_any_bytes() {
 /// A stream of random cases prints one line a case and reaches every number.
 #[test]
 fn every_number_is_reached() {
+    for kinds in [Kinds::Results, Kinds::Working] {
+        reaches_every_number(kinds);
+    }
+}
+
+fn reaches_every_number(kinds: Kinds) {
     let mut random = Random::new(3);
     let mut bytes = stream::STREAM_MARK.to_vec();
     let operations: Vec<u8> = (1..=stream::LAST).collect();
     let count = 3000;
     for _ in 0..count {
-        cases::case(&mut random, &operations).put(&mut bytes);
+        cases::case(&mut random, &operations, kinds).put(&mut bytes);
     }
     let mut numbers = vec![0; 63];
     let mut printed = 0;

@@ -144,7 +144,7 @@ impl Maker {
                 Kind::Word => self.word(back),
                 Kind::Bit => self.bit(back),
             };
-            self.circuit.outputs.push(output);
+            self.circuit.outputs.push(Some(output));
         }
         let subject = Subject {
             rule: Vec::new(),

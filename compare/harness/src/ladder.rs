@@ -72,10 +72,7 @@ fn rule_of(gates: usize, ifs: usize) -> Rule {
         let mut kinds = vec![Kind::Word; WORDS + 2];
         kinds[0] = Kind::Bit;
         kinds[5] = Kind::Bit;
-        Rule {
-            kinds,
-            block: vec![ladder(ifs, 0, products)],
-        }
+        Rule::of_results(&kinds, vec![ladder(ifs, 0, products)])
     };
     let fits = |products: &usize| make(&of(*products)).gates.len() <= gates;
     let products = (1..).take_while(fits).last().expect("one product fits");
@@ -120,10 +117,8 @@ fn pairs(gates: usize, rule: &Rule) -> Groups {
 fn if_v0(first: Block, second: Block, words: usize) -> Rule {
     let mut kinds = vec![Kind::Word; 1 + words];
     kinds[0] = Kind::Bit;
-    Rule {
-        kinds,
-        block: vec![Statement::If(Expression::Variable(0), first, second)],
-    }
+    let choice = Statement::If(Expression::Variable(0), first, second);
+    Rule::of_results(&kinds, vec![choice])
 }
 
 fn assign(variable: usize, code: u8, first: usize, second: usize) -> Statement {
@@ -173,10 +168,7 @@ pub fn passed_again(gates: usize) -> Row {
         block.extend([assign(1, PRODUCT, 1, 1), assign(2, PRODUCT, 1, 0)]);
     }
     block.extend([1, 2].map(back));
-    let rule = Rule {
-        kinds: vec![Kind::Word; 3],
-        block,
-    };
+    let rule = Rule::of_results(&[Kind::Word; 3], block);
     let first = 4 + sums;
     let chain = |turn| first + pairs + 2 * turn;
     let mut waiting = vec![3];

@@ -1,6 +1,7 @@
 //! Many rules in a row, each another one, so that a processor foresees less than on one rule again and again.
 
 use crate::subject::{Goal, Row, Subject};
+use compare::generate::kinds::Kinds;
 use compare::generate::{cases, Random};
 use compare::law::VARIABLES_MAX;
 use compare::run;
@@ -21,7 +22,7 @@ pub fn mixed() -> Row {
 /// it knows, each with a plan and inputs that all operations take.
 pub fn subjects(count: usize) -> Vec<Subject> {
     let mut random = Random::new(SEED);
-    std::iter::repeat_with(|| cases::rule_case(&mut random))
+    std::iter::repeat_with(|| cases::rule_case(&mut random, Kinds::Results))
         .filter(|case| case.operation == FUSED)
         .map(|case| Subject::of_rule(case.first, case.second, case.inputs))
         .filter(accepted)

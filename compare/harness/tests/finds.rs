@@ -1,6 +1,7 @@
 //! The harness finds what differs, the three tools agree, and what is measured is what it is said to be.
 
 use compare::answer::Answer;
+use compare::circuit_file;
 use compare::law::{CIRCUIT_BYTES_MAX, VARIABLES_MAX, WIRES_MAX};
 use compare::plan::accept_both;
 use harness::cases::compare as compare_tools;
@@ -19,11 +20,27 @@ enum Fault {
     Precondition,
     PartStart,
     PartLength,
+    /// Working variables are taken for results.
+    Working,
+    /// FF FF is refused as an output.
+    NoWire,
 }
 
 struct Wrong(Fault);
 
 impl Wrong {
+    /// The rule as it is read.
+    fn read_as(&self, rule: &[u8]) -> Vec<u8> {
+        let mut rule = rule.to_vec();
+        let variables = rule.get(5).map_or(0, |&variables| usize::from(variables));
+        for kind_byte in rule.iter_mut().skip(6).take(variables) {
+            if self.0 == Fault::Working && matches!(kind_byte, 2 | 3) {
+                *kind_byte -= 2;
+            }
+        }
+        rule
+    }
+
     /// Writes past what success writes, or where nothing is to be written.
     fn spoil<T: Default>(&self, answer: Answer, written: usize, lent: &mut [T]) -> Answer {
         let place = match (self.0, answer.number) {
@@ -52,26 +69,26 @@ impl Tool for Wrong {
     }
 
     fn run_rule(&self, rule: &[u8], inputs: &[u32], results: &mut [u32]) -> Answer {
-        let answer = Plain.run_rule(rule, inputs, results);
+        let answer = Plain.run_rule(&self.read_as(rule), inputs, results);
         self.spoil(answer, inputs.len(), results)
     }
 
     fn check_plan(&self, rule: &[u8], plan: &[u8]) -> Answer {
-        Plain.check_plan(rule, plan)
+        Plain.check_plan(&self.read_as(rule), plan)
     }
 
     fn write_fused(&self, rule: &[u8], plan: &[u8], out: &mut [u8]) -> Answer {
-        let answer = Plain.write_fused(rule, plan, out);
+        let answer = Plain.write_fused(&self.read_as(rule), plan, out);
         self.spoil(answer, answer.bytes, out)
     }
 
     fn run_fused(&self, rule: &[u8], plan: &[u8], inputs: &[u32], results: &mut [u32]) -> Answer {
-        let answer = Plain.run_fused(rule, plan, inputs, results);
+        let answer = Plain.run_fused(&self.read_as(rule), plan, inputs, results);
         self.spoil(answer, inputs.len(), results)
     }
 
     fn show_plain(&self, rule: &[u8]) -> Shown {
-        let mut shown = Plain.show_plain(rule);
+        let mut shown = Plain.show_plain(&self.read_as(rule));
         match self.0 {
             Fault::Row => shown.rows[1023] ^= 1,
             Fault::Precondition if shown.needs[20] != 0 => shown.needs[20] ^= 1 << 63,
@@ -81,7 +98,14 @@ impl Tool for Wrong {
     }
 
     fn read_circuit(&self, file: &[u8]) -> Answer {
-        Plain.read_circuit(file)
+        let refused = Answer {
+            number: 62,
+            ..Answer::default()
+        };
+        match circuit_file::accept(file) {
+            Ok(read) if self.0 == Fault::NoWire && read.circuit.outputs.contains(&None) => refused,
+            _ => Plain.read_circuit(file),
+        }
     }
 
     fn record<'a>(&self, file: &'a [u8], wire: usize) -> &'a [u8] {
@@ -115,6 +139,8 @@ fn every_fault_is_found() {
         Fault::Precondition,
         Fault::PartStart,
         Fault::PartLength,
+        Fault::Working,
+        Fault::NoWire,
     ] {
         let wrong = Wrong(fault);
         let three: [[&dyn Tool; 3]; 3] = [

@@ -1,6 +1,6 @@
-//! `make_limits [circuits]`: writes a conformance stream of fixed cases to stdout, those of operations 01 to 06 at
-//! the limits of document 01 or, if named, those of circuit files (07 to 09, C-11), and how many came to each
-//! number, by operation, to stderr.
+//! `make_limits [circuits | working]`: writes a conformance stream of fixed cases to stdout, those of operations 01
+//! to 06 at the limits of document 01 or, if named, those of circuit files (07 to 09, C-11) or those of working
+//! variables (01 to 09, C-13), and how many came to each number, by operation, to stderr.
 
 use compare::counts::Counts;
 use compare::limits;
@@ -12,8 +12,9 @@ fn main() -> io::Result<()> {
     let cases = match named.iter().map(String::as_str).collect::<Vec<_>>()[..] {
         [] => limits::cases(),
         ["circuits"] => limits::circuit_cases(),
+        ["working"] => limits::working_cases(),
         _ => {
-            eprintln!("make_limits [circuits]");
+            eprintln!("make_limits [circuits | working]");
             std::process::exit(2);
         }
     };

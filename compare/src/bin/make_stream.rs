@@ -1,35 +1,31 @@
-//! `make_stream SEED COUNT [OPERATIONS]`: writes a conformance stream of COUNT random cases to
+//! `make_stream SEED COUNT [OPERATIONS] [working]`: writes a conformance stream of COUNT random cases to
 //! stdout, over all operations or those named (as `1,2,6`), and how many came to each number, by
-//! operation, to stderr.
+//! operation, to stderr. With the word `working` many have working variables (C-13); without it a seed makes
+//! the cases that it made before there were any.
 
 use compare::counts::Counts;
 use compare::generate::cases::case;
+use compare::generate::kinds::Kinds;
 use compare::generate::Random;
 use compare::stream::{LAST, STREAM_MARK};
 use std::io::{self, BufWriter, Write};
 
 fn main() -> io::Result<()> {
-    let mut arguments = std::env::args().skip(1);
-    let mut number = || arguments.next().and_then(|text| text.parse::<u64>().ok());
-    let (Some(seed), Some(count)) = (number(), number()) else {
-        eprintln!("make_stream SEED COUNT [OPERATIONS]");
+    let mut arguments: Vec<String> = std::env::args().skip(1).collect();
+    let kinds = match arguments.pop_if(|last| last == "working") {
+        Some(_) => Kinds::Working,
+        None => Kinds::Results,
+    };
+    let Some((seed, count, operations)) = parsed(&arguments) else {
+        eprintln!("make_stream SEED COUNT [OPERATIONS] [working]");
         std::process::exit(2);
     };
-    let named = arguments.next().unwrap_or_default();
-    let mut operations: Vec<u8> = named
-        .split(',')
-        .filter_map(|text| text.parse().ok())
-        .filter(|operation| (1..=LAST).contains(operation))
-        .collect();
-    if operations.is_empty() {
-        operations = (1..=LAST).collect();
-    }
     let mut random = Random::new(seed);
     let mut out = BufWriter::new(io::stdout().lock());
     out.write_all(&STREAM_MARK)?;
     let mut counts = Counts::default();
     for _ in 0..count {
-        let case = case(&mut random, &operations);
+        let case = case(&mut random, &operations, kinds);
         let mut bytes = Vec::new();
         case.put(&mut bytes);
         out.write_all(&bytes)?;
@@ -38,4 +34,21 @@ fn main() -> io::Result<()> {
     out.flush()?;
     counts.print();
     Ok(())
+}
+
+/// Seed, count and the operations, of those named the ones that are built; none if a word is something else.
+fn parsed(arguments: &[String]) -> Option<(u64, u64, Vec<u8>)> {
+    let (seed, count, named) = match arguments {
+        [seed, count] => (seed, count, None),
+        [seed, count, named] => (seed, count, Some(named)),
+        _ => return None,
+    };
+    let mut operations: Vec<u8> = (1..=LAST).collect();
+    if let Some(named) = named {
+        let numbers = named.split(',').filter_map(|text| text.parse::<u8>().ok());
+        let named: Vec<u8> = numbers.collect();
+        operations.retain(|operation| named.contains(operation));
+    }
+    let some = !operations.is_empty();
+    some.then_some((seed.parse().ok()?, count.parse().ok()?, operations))
 }

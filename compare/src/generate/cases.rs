@@ -1,8 +1,8 @@
 //! Whole cases of the conformance stream.
 
+use super::kinds::Kinds;
 use super::{circuits, inputs, plans, rules, Random};
 use crate::circuit::{accept, preconditions, Accepted};
-use crate::circuit_file;
 use crate::examples::P1;
 use crate::law::*;
 use crate::stream::{
@@ -21,8 +21,8 @@ enum Aim {
 }
 
 /// A case of one of these operations, some of which are built. Those of rules alone, 01 to 06, make the same
-/// cases of a seed as before there were others.
-pub fn case(random: &mut Random, operations: &[u8]) -> Case {
+/// cases of a seed as before there were others, and results alone those of before there were working variables.
+pub fn case(random: &mut Random, operations: &[u8], kinds: Kinds) -> Case {
     let rules = operations.iter().any(|one| (READ..=PLAIN).contains(one));
     let circuits = operations
         .iter()
@@ -30,9 +30,9 @@ pub fn case(random: &mut Random, operations: &[u8]) -> Case {
     assert!(rules || circuits, "no operation that is built");
     loop {
         let case = if circuits && (!rules || random.chance(30)) {
-            circuit_case(random)
+            circuit_case(random, kinds)
         } else {
-            rule_case(random)
+            rule_case(random, kinds)
         };
         if operations.contains(&case.operation) {
             return case;
@@ -41,7 +41,7 @@ pub fn case(random: &mut Random, operations: &[u8]) -> Case {
 }
 
 /// A case of operations 01 to 06.
-pub fn rule_case(random: &mut Random) -> Case {
+pub fn rule_case(random: &mut Random, kinds: Kinds) -> Case {
     let operation = match random.below(100) {
         0..=17 => READ,
         18..=35 => DIRECT,
@@ -56,13 +56,13 @@ pub fn rule_case(random: &mut Random) -> Case {
         ..Case::default()
     };
     if aim == Aim::Rule {
-        refused_rule(random, &mut case);
+        refused_rule(random, kinds, &mut case);
         return case;
     }
     // A rule whose plan can be what is aimed at: not every rule has joins or circles.
     let wanted = random.among(20, 30) as u8;
     loop {
-        let bytes = rules::accepted(random);
+        let bytes = rules::accepted(random, kinds);
         let accepted = accept(&bytes).expect("made so");
         let needs = preconditions(&accepted.circuit);
         let ground = plans::Ground::new(&accepted.circuit, &needs);
@@ -112,12 +112,12 @@ fn aim(random: &mut Random, operation: u8) -> Aim {
 }
 
 /// A refused rule; what comes after it may be right or wrong and must not matter.
-fn refused_rule(random: &mut Random, case: &mut Case) {
+fn refused_rule(random: &mut Random, kinds: Kinds, case: &mut Case) {
     case.first = if random.chance(85) {
         let wanted = random.among(1, 11) as u8;
-        rules::refused(random, wanted)
+        rules::refused(random, kinds, wanted)
     } else {
-        rules::damaged(random)
+        rules::damaged(random, kinds)
     };
     if case.operation != READ {
         case.second = match random.below(3) {
@@ -137,7 +137,7 @@ fn takes_room(operation: u8) -> bool {
 }
 
 fn give_inputs(random: &mut Random, case: &mut Case, aim: Aim, accepted: &Accepted) {
-    let kinds = &accepted.rule.kinds;
+    let kinds = &accepted.rule.kinds();
     if !matches!(case.operation, DIRECT | FUSED) && random.chance(80) {
         return;
     }
@@ -180,7 +180,7 @@ fn give_room(random: &mut Random, case: &mut Case, aim: Aim, accepted: &Accepted
             Err(_) => random.among(0, 200),
         }
     } else {
-        accepted.rule.kinds.len()
+        accepted.rule.variables.len()
     };
     let short = aim == Aim::Last && (case.operation == WRITE || random.chance(40));
     case.room = room(random, case.operation, wanted, short) as u16;
@@ -205,7 +205,7 @@ fn room(random: &mut Random, operation: u8, wanted: usize, short: bool) -> usize
 }
 
 /// A case of operations 07 to 09.
-pub fn circuit_case(random: &mut Random) -> Case {
+pub fn circuit_case(random: &mut Random, kinds: Kinds) -> Case {
     let (operation, refused) = match random.below(100) {
         0..=29 => (READ_CIRCUIT, 60),
         30..=49 => (RECORD, 30),
@@ -214,10 +214,10 @@ pub fn circuit_case(random: &mut Random) -> Case {
     let first = match random.below(100) {
         turn if turn < refused => {
             let wanted = random.pick(&[60, 61, 62, 62]);
-            circuits::refused(random, wanted)
+            circuits::refused(random, kinds, wanted)
         }
-        turn if turn < refused + 8 => circuits::damaged(random),
-        _ => circuits::accepted(random).file(),
+        turn if turn < refused + 8 => circuits::damaged(random, kinds),
+        _ => circuits::accepted(random, kinds).file(),
     };
     let mut case = Case {
         operation,
@@ -225,16 +225,17 @@ pub fn circuit_case(random: &mut Random) -> Case {
         ..Case::default()
     };
     match operation {
-        RECORD => case.number = wire(random, &case.first),
-        RUN_CIRCUIT => give_run(random, &mut case),
+        RECORD => case.number = wire(random, kinds, &case.first),
+        RUN_CIRCUIT => give_run(random, kinds, &mut case),
         _ => {}
     }
     case
 }
 
 /// A wire of the file, mostly; the first that is none, and others.
-fn wire(random: &mut Random, file: &[u8]) -> u16 {
-    let wires = circuit_file::read_circuit(file).wires;
+fn wire(random: &mut Random, kinds: Kinds, file: &[u8]) -> u16 {
+    let accepted = kinds.accept_file(file);
+    let wires = accepted.map_or(0, |accepted| accepted.parts.len());
     match random.below(10) {
         0 => wires as u16,
         1 => random.pick(&[wires + 1, 640, 65_535]) as u16,
@@ -243,8 +244,8 @@ fn wire(random: &mut Random, file: &[u8]) -> u16 {
 }
 
 /// Inputs and room of a run; a refused file may get any.
-fn give_run(random: &mut Random, case: &mut Case) {
-    let kinds = match circuit_file::accept(&case.first) {
+fn give_run(random: &mut Random, kinds: Kinds, case: &mut Case) {
+    let kinds = match kinds.accept_file(&case.first) {
         Ok(accepted) => accepted.variables(),
         Err(_) => rules::kinds(random),
     };

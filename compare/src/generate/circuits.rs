@@ -1,9 +1,9 @@
 //! Circuit files (C-11): our own, well-formed ones as another house may write them, and ones refused by a
 //! wanted number.
 
+use super::kinds::Kinds;
 use super::{damage_by, plans, rules, Random};
 use crate::circuit::{accept, preconditions, Settings};
-use crate::circuit_file::read_circuit;
 use crate::law::*;
 use crate::plan::check;
 use crate::write::{fuse, Fused, Record, Wire};
@@ -15,16 +15,16 @@ const TELLING: [u8; 22] = [
 ];
 
 /// A circuit whose file reading accepts.
-pub fn accepted(random: &mut Random) -> Fused {
+pub fn accepted(random: &mut Random, kinds: Kinds) -> Fused {
     match random.below(100) {
-        0..=34 => own(random),
-        _ => foreign(random),
+        0..=34 => own(random, kinds),
+        _ => foreign(random, kinds),
     }
 }
 
 /// What our writer makes of a random rule and plan.
-pub fn own(random: &mut Random) -> Fused {
-    let accepted = accept(&rules::accepted(random)).expect("made so");
+pub fn own(random: &mut Random, kinds: Kinds) -> Fused {
+    let accepted = accept(&rules::accepted(random, kinds)).expect("made so");
     let needs = preconditions(&accepted.circuit);
     let plan = plans::valid(random, &plans::Ground::new(&accepted.circuit, &needs));
     let plan = check(&accepted.circuit, needs, &plan).expect("a valid plan");
@@ -32,7 +32,7 @@ pub fn own(random: &mut Random) -> Fused {
 }
 
 /// A circuit of records that no rule need have: several guards at 1, wires that nothing reads, any tables.
-pub fn foreign(random: &mut Random) -> Fused {
+pub fn foreign(random: &mut Random, kinds: Kinds) -> Fused {
     let mut maker = maker(random);
     let shape = maker.random.below(50);
     let wires = match shape {
@@ -47,7 +47,7 @@ pub fn foreign(random: &mut Random) -> Fused {
     if shape == 3 {
         maker.fill(CIRCUIT_BYTES_MAX);
     }
-    maker.finish()
+    maker.finish(kinds)
 }
 
 /// The file filled up with picks to just so many bytes; there is room for them.
@@ -57,7 +57,7 @@ pub fn at_bytes(random: &mut Random, bytes: usize) -> Vec<u8> {
         maker.any_record();
     }
     maker.fill(bytes);
-    maker.finish().file()
+    maker.finish(Kinds::Results).file()
 }
 
 /// What a random circuit is made by.
@@ -201,27 +201,33 @@ impl Maker<'_> {
         bytes.checked_sub(self.circuit.file().len() + 2 * variables)
     }
 
-    /// With an output for every variable, of its kind.
-    fn finish(mut self) -> Fused {
+    /// With an output for every variable, of its kind; working ones have none.
+    fn finish(mut self, kinds: Kinds) -> Fused {
         for place in 0..self.circuit.records.len() {
             if let Record::Input(_, kind) = self.circuit.records[place] {
                 let output = self.wire(kind);
-                self.circuit.outputs.push(output);
+                self.circuit.outputs.push(Some(output));
             }
+        }
+        let working = kinds.working(self.random, self.circuit.outputs.len());
+        for (output, working) in self.circuit.outputs.iter_mut().zip(working) {
+            output.take_if(|_| working);
         }
         self.circuit
     }
 }
 
 /// A file that reading refuses by the wanted number, 60 to 62, found by trying.
-pub fn refused(random: &mut Random, wanted: u8) -> Vec<u8> {
+pub fn refused(random: &mut Random, kinds: Kinds, wanted: u8) -> Vec<u8> {
     loop {
-        let mut circuit = accepted(random);
+        let mut circuit = accepted(random, kinds);
         let mut file = match wanted {
             60 => bad_header(random, circuit.file()),
             61 => bad_layout(random, circuit),
             _ => {
-                bad_wires(random, &mut circuit);
+                if !odd_output(random, kinds, &mut circuit) {
+                    bad_wires(random, &mut circuit);
+                }
                 circuit.file()
             }
         };
@@ -229,19 +235,35 @@ pub fn refused(random: &mut Random, wanted: u8) -> Vec<u8> {
         if random.chance(25) {
             damage_by(random, &mut file, 0, &TELLING);
         }
-        if read_circuit(&file).number == wanted {
+        let refusal = kinds.accept_file(&file).err();
+        if refusal.is_some_and(|refusal| refusal.number == wanted) {
             return file;
         }
     }
 }
 
 /// A good file with some bytes changed, cut or added, whatever it comes to.
-pub fn damaged(random: &mut Random) -> Vec<u8> {
-    let mut file = accepted(random).file();
+pub fn damaged(random: &mut Random, kinds: Kinds) -> Vec<u8> {
+    let mut circuit = accepted(random, kinds);
+    odd_output(random, kinds, &mut circuit);
+    let mut file = circuit.file();
     for _ in 0..random.among(1, 2) {
         damage_by(random, &mut file, 0, &TELLING);
     }
     file
+}
+
+/// With working variables sometimes an output near FF FF, near the number of wires, or FF FF itself, which alone of
+/// those that are no wire is admitted. Says whether there is one.
+fn odd_output(random: &mut Random, kinds: Kinds, circuit: &mut Fused) -> bool {
+    if kinds == Kinds::Results || random.chance(70) {
+        return false;
+    }
+    let place = random.below(circuit.outputs.len());
+    let wires = circuit.records.len();
+    let odd = random.pick(&[0xFFFE, 0xFF00, 0x00FF, WIRES_MAX, wires, NO_WIRE]);
+    circuit.outputs[place] = Some(Wire(odd));
+    true
 }
 
 fn bad_header(random: &mut Random, mut file: Vec<u8>) -> Vec<u8> {
@@ -310,7 +332,7 @@ fn bad_wires(random: &mut Random, circuit: &mut Fused) {
         0..=4 => move_wire(random, circuit, place),
         5 => {
             let output = random.below(circuit.outputs.len());
-            circuit.outputs[output] = another(random, wires, wires);
+            circuit.outputs[output] = Some(another(random, wires, wires));
         }
         6 => set_table_bit(random, circuit),
         7 => bad_input(random, circuit),

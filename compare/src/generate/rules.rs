@@ -2,14 +2,15 @@
 
 mod limits;
 
+use super::kinds::Kinds;
 use super::{damage, Random};
-use crate::circuit::{accept, read_rule};
+use crate::circuit::accept;
 use crate::law::*;
 use crate::rule::{bytes_of, Block, Expression, Rule, Statement};
 use limits::{at_conditions, at_depth, at_gates, at_nesting, at_size, dead, wide};
 
 /// A rule that reading accepts.
-pub fn accepted(random: &mut Random) -> Vec<u8> {
+pub fn accepted(random: &mut Random, kinds: Kinds) -> Vec<u8> {
     loop {
         let rule = match random.below(20) {
             0 => at_gates(random, GATES_MAX),
@@ -20,6 +21,7 @@ pub fn accepted(random: &mut Random) -> Vec<u8> {
             5 => dead(random),
             _ => tree(random),
         };
+        let rule = kinds.give(random, rule);
         let bytes = if random.chance(2) {
             at_size(random, rule, RULE_BYTES_MAX)
         } else {
@@ -32,29 +34,18 @@ pub fn accepted(random: &mut Random) -> Vec<u8> {
 }
 
 /// A rule that reading refuses by the wanted number, 1 to 11, found by trying.
-pub fn refused(random: &mut Random, wanted: u8) -> Vec<u8> {
+pub fn refused(random: &mut Random, kinds: Kinds, wanted: u8) -> Vec<u8> {
     loop {
-        let bytes = try_refused(random, wanted);
-        if read_rule(&bytes).number == wanted {
+        let bytes = try_refused(random, kinds, wanted);
+        if kinds.rule_number(&bytes) == wanted {
             return bytes;
         }
     }
 }
 
-fn try_refused(random: &mut Random, wanted: u8) -> Vec<u8> {
-    // The limits just broken, where the wanted number is that of a limit.
-    let rule = match wanted {
-        1 => {
-            let rule = tree(random);
-            return if random.chance(50) {
-                let mut bytes = bytes_of(&rule);
-                bytes.truncate(random.below(RULE_BYTES_MIN));
-                bytes
-            } else {
-                let more = random.pick(&[1, 1, 2, 100]);
-                at_size(random, rule, RULE_BYTES_MAX + more)
-            };
-        }
+/// The limits just broken, where the wanted number is that of a limit.
+fn over_limits(random: &mut Random, wanted: u8) -> Rule {
+    match wanted {
         8 if random.chance(70) => {
             let over = random.among(1, 3);
             if random.chance(50) {
@@ -72,9 +63,29 @@ fn try_refused(random: &mut Random, wanted: u8) -> Vec<u8> {
             at_conditions(random, CONDITIONS_MAX + over)
         }
         _ => tree(random),
-    };
+    }
+}
+
+/// Too few bytes or too many.
+fn of_wrong_size(random: &mut Random, rule: Rule) -> Vec<u8> {
+    if random.chance(50) {
+        let mut bytes = bytes_of(&rule);
+        bytes.truncate(random.below(RULE_BYTES_MIN));
+        bytes
+    } else {
+        let more = random.pick(&[1, 1, 2, 100]);
+        at_size(random, rule, RULE_BYTES_MAX + more)
+    }
+}
+
+fn try_refused(random: &mut Random, kinds: Kinds, wanted: u8) -> Vec<u8> {
+    let rule = over_limits(random, wanted);
+    let rule = kinds.give(random, rule);
+    if wanted == 1 {
+        return of_wrong_size(random, rule);
+    }
     let mut bytes = bytes_of(&rule);
-    let head = RULE_MARK.len() + 1 + rule.kinds.len();
+    let head = RULE_MARK.len() + 1 + rule.variables.len();
     match wanted {
         2 => bytes[random.below(RULE_MARK.len())] ^= 1 << random.below(8),
         3 if random.chance(50) => {
@@ -82,7 +93,7 @@ fn try_refused(random: &mut Random, wanted: u8) -> Vec<u8> {
         }
         3 => {
             let place = random.among(RULE_MARK.len() + 1, head - 1);
-            bytes[place] = random.pick(&[2, 3, 16, 255]);
+            bytes[place] = random.pick(kinds.refused_bytes());
         }
         // From the shortest size on, cut anywhere, the kind bytes included.
         4 if random.chance(30) => bytes.truncate(random.among(RULE_BYTES_MIN, bytes.len() - 1)),
@@ -97,11 +108,12 @@ fn try_refused(random: &mut Random, wanted: u8) -> Vec<u8> {
 }
 
 /// Any bytes that look a little like a rule.
-pub fn damaged(random: &mut Random) -> Vec<u8> {
+pub fn damaged(random: &mut Random, kinds: Kinds) -> Vec<u8> {
     let mut bytes = if random.chance(80) {
-        bytes_of(&tree(random))
+        let rule = tree(random);
+        bytes_of(&kinds.give(random, rule))
     } else {
-        accepted(random)
+        accepted(random, kinds)
     };
     for _ in 0..random.among(1, 3) {
         damage(random, &mut bytes, 0);
@@ -154,10 +166,7 @@ pub fn tree(random: &mut Random) -> Rule {
     let mut maker = maker(random);
     let statements = maker.random.among(1, 6);
     let block = maker.block(statements, 0);
-    Rule {
-        kinds: maker.kinds,
-        block,
-    }
+    Rule::of_results(&maker.kinds, block)
 }
 
 impl Maker<'_> {

@@ -20,7 +20,7 @@ pub fn add(list: &mut List) {
 
 impl List {
     #[track_caller]
-    fn read_circuit(&mut self, file: &[u8], wanted: u8) {
+    pub(super) fn read_circuit(&mut self, file: &[u8], wanted: u8) {
         self.add(
             Case {
                 operation: READ_CIRCUIT,
@@ -32,7 +32,7 @@ impl List {
     }
 
     #[track_caller]
-    fn record(&mut self, file: &[u8], wire: usize, wanted: u8) {
+    pub(super) fn record(&mut self, file: &[u8], wire: usize, wanted: u8) {
         self.add(
             Case {
                 operation: RECORD,
@@ -45,7 +45,7 @@ impl List {
     }
 
     #[track_caller]
-    fn run_circuit(&mut self, file: &[u8], inputs: &[u32], room: usize, wanted: u8) {
+    pub(super) fn run_circuit(&mut self, file: &[u8], inputs: &[u32], room: usize, wanted: u8) {
         self.add(run_case(file, inputs, room), wanted);
     }
 
@@ -60,7 +60,7 @@ impl List {
 
     /// A refused file by every operation; inputs that would be refused too come after it.
     #[track_caller]
-    fn refused_circuit(&mut self, file: &[u8], wanted: u8) {
+    pub(super) fn refused_circuit(&mut self, file: &[u8], wanted: u8) {
         self.read_circuit(file, wanted);
         self.record(file, 0, wanted);
         self.run_circuit(file, &[1, 6, 7], 3, wanted);
@@ -69,7 +69,7 @@ impl List {
 
     /// An accepted file read, its first record and a number that is no wire shown, and run.
     #[track_caller]
-    fn accepted_circuit(&mut self, file: &[u8], turns: &[usize]) {
+    pub(super) fn accepted_circuit(&mut self, file: &[u8], turns: &[usize]) {
         self.read_circuit(file, 0);
         let accepted = accept(file).expect("an accepted file");
         let wires = accepted.parts.len();
@@ -83,7 +83,7 @@ impl List {
     }
 
     /// What writing makes of an accepted rule and plan.
-    fn file(&self, rule: &[u8], plan: &[u8]) -> Vec<u8> {
+    pub(super) fn file(&self, rule: &[u8], plan: &[u8]) -> Vec<u8> {
         let mut buffer = vec![0; CIRCUIT_BYTES_MAX];
         let answer = crate::write::write(rule, plan, &mut buffer);
         assert_eq!(answer.number, 0, "an accepted plan");
@@ -92,7 +92,7 @@ impl List {
     }
 }
 
-fn run_case(file: &[u8], inputs: &[u32], room: usize) -> Case {
+pub(super) fn run_case(file: &[u8], inputs: &[u32], room: usize) -> Case {
     Case {
         operation: RUN_CIRCUIT,
         room: room as u16,
@@ -108,21 +108,21 @@ fn input(variable: usize, kind: Kind) -> Record {
     Record::Input(variable, kind)
 }
 
-fn operation_on(code: u8, wires: &[usize]) -> Record {
+pub(super) fn operation_on(code: u8, wires: &[usize]) -> Record {
     Record::Operation(code, wires.iter().copied().map(Wire).collect())
 }
 
-fn choice(condition: usize, first: usize, second: usize) -> Record {
+pub(super) fn choice(condition: usize, first: usize, second: usize) -> Record {
     Record::Choice(Wire(condition), Wire(first), Wire(second))
 }
 
-fn pick(pairs: &[(usize, usize)]) -> Record {
+pub(super) fn pick(pairs: &[(usize, usize)]) -> Record {
     let pair = |&(guard, value): &(usize, usize)| (Wire(guard), Wire(value));
     Record::Pick(pairs.iter().map(pair).collect())
 }
 
 /// A guard whose table is the number's bits.
-fn guard(wires: &[usize], table: u64) -> Record {
+pub(super) fn guard(wires: &[usize], table: u64) -> Record {
     let mut settings = Settings::none();
     for (j, bit) in settings.0.iter_mut().enumerate() {
         *bit = table >> j & 1 == 1;
@@ -131,12 +131,12 @@ fn guard(wires: &[usize], table: u64) -> Record {
 }
 
 /// Inputs of these kinds, then the records.
-fn circuit(kinds: &[Kind], records: Vec<Record>, outputs: &[usize]) -> Fused {
+pub(super) fn circuit(kinds: &[Kind], records: Vec<Record>, outputs: &[usize]) -> Fused {
     let inputs = kinds.iter().enumerate();
     let mut all: Vec<Record> = inputs.map(|(place, &kind)| input(place, kind)).collect();
     all.extend(records);
     Fused {
         records: all,
-        outputs: outputs.iter().copied().map(Wire).collect(),
+        outputs: outputs.iter().map(|&wire| Some(Wire(wire))).collect(),
     }
 }

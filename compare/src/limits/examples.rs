@@ -53,7 +53,8 @@ fn four(list: &mut List) {
         (4, 0x02, 2),
         (5, 0x00, 3),
         (5, 0x21, 3),
-        (6, 0x02, 3),
+        // A working word (C-13) where the if wants a bit.
+        (6, 0x02, 7),
     ] {
         let mut damaged = R1.to_vec();
         damaged[place] = byte;

@@ -26,7 +26,7 @@ fn inputs_and_places(list: &mut List) {
         let count = good.len();
         let bits: Vec<usize> = crate::rule::read(&rule)
             .expect("a good rule")
-            .kinds
+            .kinds()
             .iter()
             .enumerate()
             .filter_map(|(place, &kind)| (kind == Kind::Bit).then_some(place))
@@ -131,7 +131,8 @@ fn rule_first(list: &mut List) {
         (changed(2, 0x4D), 2),
         (P1.to_vec(), 2),
         (changed(5, 0x00), 3),
-        (changed(8, 0x02), 3),
+        // v2 a working word (C-13): the one rule here that is accepted.
+        (changed(8, 0x02), 0),
         (R1[..28].to_vec(), 4),
         (changed(14, 0x28), 5),
         (changed(9, 0x04), 5),
@@ -145,12 +146,22 @@ fn rule_first(list: &mut List) {
         (gates(257), 10),
         (conditions(7), 11),
     ] {
-        for plan in [&[][..], &P1[..9], &P1, &R1] {
-            list.check(&rule, plan, wanted);
-            list.write(&rule, plan, 0, wanted);
-            list.write(&rule, plan, 80, wanted);
-            list.fused(&rule, plan, &[], 0, wanted);
-            list.fused(&rule, plan, &[2, 6, 7], 3, wanted);
-        }
+        any_plans(list, &rule, wanted);
+    }
+}
+
+/// A rule that is refused by this number whatever comes after it, or an accepted one like R1, with several plans.
+fn any_plans(list: &mut List, rule: &[u8], wanted: u8) {
+    let numbers = match wanted {
+        0 => [[20; 5], [23; 5], [0, 50, 0, 40, 41], [21; 5]],
+        _ => [[wanted; 5]; 4],
+    };
+    let plans = [&[][..], &P1[..9], &P1, &R1];
+    for (plan, [checked, no_room, room, no_inputs, over]) in plans.into_iter().zip(numbers) {
+        list.check(rule, plan, checked);
+        list.write(rule, plan, 0, no_room);
+        list.write(rule, plan, 80, room);
+        list.fused(rule, plan, &[], 0, no_inputs);
+        list.fused(rule, plan, &[2, 6, 7], 3, over);
     }
 }

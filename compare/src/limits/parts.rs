@@ -28,10 +28,14 @@ pub fn when(condition: Expression, first: Block, second: Block) -> Statement {
 }
 
 pub fn rule(kinds: &[Kind], block: Block) -> Vec<u8> {
-    bytes_of(&Rule {
-        kinds: kinds.to_vec(),
-        block,
-    })
+    bytes_of(&Rule::of_results(kinds, block))
+}
+
+/// A rule of these kind bytes, whatever they are.
+pub fn bytes_with_kinds(kind_bytes: &[u8], block: Block) -> Vec<u8> {
+    let mut bytes = rule(&vec![Kind::Word; kind_bytes.len()], block);
+    bytes[RULE_BYTES_MIN..][..kind_bytes.len()].copy_from_slice(kind_bytes);
+    bytes
 }
 
 /// The costly operations of the table.

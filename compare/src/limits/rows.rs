@@ -104,7 +104,7 @@ fn kinds_of_gates(list: &mut List) {
 }
 
 /// A bit, an argument, two results; an if with the same two operations in both blocks.
-fn twice(row: Operation) -> Vec<u8> {
+pub fn twice(row: Operation) -> Vec<u8> {
     let block = || -> Block {
         let value = || two(row.code, var(1), var(1));
         vec![set(2, value()), set(3, value())]

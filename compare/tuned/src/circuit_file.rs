@@ -1,5 +1,6 @@
 //! Circuit files from any house (C-11): one pass lays a file out, holds it against row 62 and, if wanted, works its
-//! figures out. It stops at the first fault; only then a second pass tells 61 from 62.
+//! figures out. It stops at the first fault; only then a second pass tells 61 from 62. FF FF is admitted as any
+//! variable's output (C-13).
 
 use crate::law::*;
 use crate::places::{byte, eight, four, two, Places};
@@ -42,10 +43,10 @@ pub fn header(file: &[u8]) -> Option<Header> {
     good.then_some(Header { variables, wires })
 }
 
-/// A file and what is known of its wires so far.
+/// A file and what is known of its wires so far; there is a place more than wires can be, for no wire.
 pub struct Pass<'a> {
     file: &'a [u8],
-    known: Places<u64, WIRES_MAX>,
+    known: Places<u64, { WIRES_MAX + 1 }>,
 }
 
 impl<'a> Pass<'a> {
@@ -76,9 +77,12 @@ impl<'a> Pass<'a> {
             return None;
         }
         for variable in 0..variables {
-            let output = self.wire(end + 2 * variable, wires)?;
-            if !same_kind(output, self.known.get(variable)) {
-                return None;
+            let place = end + 2 * variable;
+            // FF FF is asked for only where there is no wire, so it costs an output that is one nothing.
+            match self.wire(place, wires) {
+                Some(output) if same_kind(output, self.known.get(variable)) => {}
+                None if two(self.file, place) == NO_WIRE => {}
+                _ => return None,
             }
         }
         Some(over)
@@ -192,13 +196,14 @@ impl<'a> Pass<'a> {
         (differ >> 32 == 0 && above == 0).then_some((BIT_KIND | bit, size))
     }
 
-    /// The figures of the outputs, after a pass that ran.
+    /// The figures of the outputs, after a pass that ran; 0 for FF FF.
     #[inline(always)]
-    pub fn results(&self, variables: usize, results: &mut [u32]) {
+    pub fn results(&mut self, variables: usize, results: &mut [u32]) {
+        self.known.set(WIRES_MAX, 0);
         let end = self.file.len() - 2 * variables;
         for (variable, result) in results[..variables].iter_mut().enumerate() {
-            let output = two(self.file, end + 2 * variable);
-            *result = self.known.get(output) as u32;
+            let output = usize::from(two(self.file, end + 2 * variable));
+            *result = self.known.get(output.min(WIRES_MAX)) as u32;
         }
     }
 }

@@ -1,4 +1,4 @@
-//! The numbers, codes and costs of document 01, in one place: later requests move them here.
+//! The numbers, codes and costs of document 01 and of C-11 to C-13, in one place: later requests move them here.
 
 pub const RULE_MARK: [u8; 5] = *b"RUL\x00\x01";
 pub const PLAN_MARK: [u8; 5] = *b"PLN\x00\x01";
@@ -16,6 +16,11 @@ pub const PLAN_BYTES_MAX: usize = 1024;
 pub const WIRES_MAX: usize = 640;
 pub const CIRCUIT_BYTES_MIN: usize = 8;
 pub const CIRCUIT_BYTES_MAX: usize = 16_384;
+/// What a file names as the output of a working variable (C-13).
+pub const NO_WIRE: u16 = 0xFFFF;
+
+/// The last kind byte. The lowest bit says whether the variable is a bit, the one above it whether it works (C-13).
+pub const KIND_MAX: u8 = 0x03;
 
 pub const CLOSE: u8 = 0x00;
 pub const ASSIGN: u8 = 0x01;

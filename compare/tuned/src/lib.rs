@@ -1,5 +1,5 @@
-//! Document 01's operations 01 to 06 with request C-12, and C-11's 07 to 09, in Rust tuned for speed: a tool to
-//! measure the proved one beside. No allocation, nothing cleared that is not read, one pass over the rule, one
+//! Document 01's operations 01 to 06 with requests C-12 and C-13, and C-11's 07 to 09, in Rust tuned for speed: a tool
+//! to measure the proved one beside. No allocation, nothing cleared that is not read, one pass over the rule, one
 //! over the plan, one backward over the gates, one to order and one to write; one over a circuit file.
 //!
 //! Indices are mostly not tested and places are read uncleared (`places`): the functions here are safe to call
@@ -68,7 +68,7 @@ pub fn run_rule(rule: &[u8], inputs: &[u32], results: &mut [u32]) -> Answer {
         return reader.refused();
     }
     for (variable, result) in results[..reader.variables].iter_mut().enumerate() {
-        *result = reader.figures.get(variable);
+        *result = reader.written(variable, reader.figures.get(variable));
     }
     reader.accepted()
 }
@@ -170,7 +170,7 @@ pub fn write_fused(rule: &[u8], plan: &[u8], out: &mut [u8]) -> Answer {
         return Answer::refused(50, 0);
     }
     unsafe {
-        writing::write_file(&circuit, plan, &groups, &reader.present, out.as_mut_ptr());
+        writing::write_file(&circuit, plan, &groups, reader, out.as_mut_ptr());
     }
     answer
 }
@@ -195,7 +195,7 @@ pub fn run_fused(rule: &[u8], plan: &[u8], inputs: &[u32], results: &mut [u32]) 
     let file = file.as_mut_ptr();
     // A file that is always long enough; V inputs and at least V results, by rows 40 and 42.
     unsafe {
-        writing::write_file(&circuit, plan, &groups, &reader.present, file);
+        writing::write_file(&circuit, plan, &groups, reader, file);
         running::run_file(file, inputs, results.as_mut_ptr());
     }
     counted(&circuit, reader)
@@ -223,8 +223,9 @@ pub fn run_fused_unwritten(
     if !order(&mut circuit, plan, &mut figures) {
         return Answer::refused(30, 0);
     }
-    for (&output, result) in reader.present.iter().zip(&mut results[..circuit.variables]) {
-        *result = figures.of(output);
+    for (variable, result) in results[..circuit.variables].iter_mut().enumerate() {
+        let last = reader.present[variable & 31];
+        *result = reader.written(variable, figures.of(last));
     }
     counted(&circuit, reader)
 }

@@ -46,8 +46,10 @@ pub unsafe fn find_needed<const DO: u8>(
 ) {
     let set = |gate: u8| &mut *needs.add(usize::from(gate));
     std::ptr::write_bytes(needs, 0, reader.gates());
-    for &output in &reader.present[..reader.variables] {
-        *set(output) = u64::MAX;
+    for (variable, &last) in reader.present[..reader.variables].iter().enumerate() {
+        if reader.is_result(variable) {
+            *set(last) = u64::MAX;
+        }
     }
     // By gate, so that a choice finds its condition's at once; only conditions' places are set and read.
     let mut lacking = Places::<u64, GATES_MAX>::new();

@@ -77,6 +77,8 @@ pub struct Reader {
     pub figures: Places<u32, VARIABLES_MAX>,
     /// The kind of each variable, none from V on.
     kinds: [u8; 256],
+    /// The working variables, bit x for variable x.
+    working: u32,
 }
 
 impl Reader {
@@ -95,6 +97,7 @@ impl Reader {
             refusal: (0, 0),
             figures: Places::new(),
             kinds: [NO_KIND; 256],
+            working: 0,
         }
     }
 
@@ -143,6 +146,21 @@ impl Reader {
         }
     }
 
+    /// Whether a variable is a result, and not a working one.
+    #[inline(always)]
+    pub fn is_result(&self, variable: usize) -> bool {
+        self.working >> (variable & 31) & 1 == 0
+    }
+
+    /// What a run writes for a variable that ends with this figure.
+    #[inline(always)]
+    pub fn written(&self, variable: usize, figure: u32) -> u32 {
+        match self.is_result(variable) {
+            true => figure,
+            false => 0,
+        }
+    }
+
     /// A variable's kind. It is handed on as it lies in a wide load, with other bytes above it.
     #[inline(always)]
     fn kind(&self, variable: u64) -> u8 {
@@ -163,19 +181,23 @@ impl Reader {
         if variables.wrapping_sub(1) >= VARIABLES_MAX {
             return self.refuse(3, 5);
         }
+        let mut working = 0;
         for variable in 0..variables {
             let place = 6 + variable;
             if place >= rule.len() {
                 return self.refuse(4, rule.len());
             }
-            let kind = byte(rule, place);
-            if kind > 1 {
+            let kind_byte = byte(rule, place);
+            if kind_byte > KIND_MAX {
                 return self.refuse(3, place);
             }
+            let kind = kind_byte & 1;
             self.kinds[variable] = WORDS + kind;
+            working |= u32::from(kind_byte >> 1) << variable;
             self.push::<DO>(START_ADDS, kind, [variable as u8, 0, 0]);
         }
         self.variables = variables;
+        self.working = working;
         Some(())
     }
 

@@ -108,7 +108,10 @@ pub unsafe fn run_file(file: *const u8, inputs: &[u32], results: *mut u32) {
         figures: &figures,
     };
     for variable in 0..inputs.len() {
-        *results.add(variable) = outputs.figure(2 * variable);
+        *results.add(variable) = match outputs.two(2 * variable) {
+            NO_WIRE => 0,
+            wire => figures.get(wire),
+        };
     }
 }
 

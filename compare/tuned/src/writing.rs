@@ -4,6 +4,7 @@ use crate::law::*;
 use crate::needed::{counted, table};
 use crate::order::Order;
 use crate::plan::{member, Planned, JOINED};
+use crate::reading::Reader;
 
 /// A place of the lent buffer. Every store is of just the bytes that are due, and moves on behind them.
 #[derive(Clone, Copy)]
@@ -56,7 +57,7 @@ pub unsafe fn write_file(
     circuit: &Planned,
     plan: &[u8],
     order: &Order,
-    outputs: &[u8; VARIABLES_MAX],
+    reader: &Reader,
     out: *mut u8,
 ) {
     let mut out = Out(out);
@@ -76,8 +77,11 @@ pub unsafe fn write_file(
             put_joined(&mut out, circuit, plan, first);
         }
     }
-    for &output in &outputs[..circuit.variables] {
-        out.two(circuit.wires.get(output));
+    for (variable, &last) in reader.present[..circuit.variables].iter().enumerate() {
+        out.two(match reader.is_result(variable) {
+            true => circuit.wires.get(last),
+            false => NO_WIRE,
+        });
     }
 }
 

@@ -14,8 +14,8 @@ pub(super) fn at_gates(random: &mut Random, gates: usize) -> Rule {
             _ => tree(random),
         };
         while make(&rule).gates.len() < gates {
-            let variable = random.below(rule.kinds.len());
-            let value = match rule.kinds[variable] {
+            let variable = random.below(rule.variables.len());
+            let value = match rule.variables[variable].kind {
                 Kind::Word => Expression::Word(random.word()),
                 Kind::Bit => Expression::Bit(random.chance(50)),
             };
@@ -46,10 +46,7 @@ pub(super) fn at_conditions(random: &mut Random, conditions: usize) -> Rule {
             }
             block.push(Statement::If(condition, first, second));
         }
-        let rule = Rule {
-            kinds: maker.kinds,
-            block,
-        };
+        let rule = Rule::of_results(&maker.kinds, block);
         if make(&rule).conditions.len() == conditions {
             return rule;
         }
@@ -77,10 +74,7 @@ pub(super) fn at_depth(random: &mut Random, depth: usize) -> Rule {
     block.push(Statement::Assign(variable, value));
     let after = maker.random.below(2);
     block.extend(maker.block(after, 0));
-    Rule {
-        kinds: maker.kinds,
-        block,
-    }
+    Rule::of_results(&maker.kinds, block)
 }
 
 impl Maker<'_> {
@@ -128,10 +122,7 @@ pub(super) fn at_nesting(random: &mut Random, nesting: usize) -> Rule {
             block.extend(more);
         }
     }
-    Rule {
-        kinds: maker.kinds,
-        block,
-    }
+    Rule::of_results(&maker.kinds, block)
 }
 
 /// One if with many operations in both blocks: many pairs to join, up to the greatest wire count.
@@ -141,7 +132,7 @@ pub(super) fn wide(random: &mut Random) -> Rule {
     let code = random.pick(&[PRODUCT, LESS, AND]);
     let row = operation(code).expect("an operation");
     // The last is assigned, where kinds allow it from what it holds, in either order.
-    let kinds = vec![Kind::Bit, row.takes, row.gives];
+    let kinds = [Kind::Bit, row.takes, row.gives];
     let orders: &[[usize; 2]] = if row.gives == row.takes {
         &[[1, 2], [2, 1], [2, 2]]
     } else {
@@ -153,10 +144,8 @@ pub(super) fn wide(random: &mut Random) -> Rule {
     };
     let mut block = || (0..pairs).map(&mut one).collect();
     let (first, second) = (block(), block());
-    Rule {
-        kinds,
-        block: vec![Statement::If(Expression::Variable(0), first, second)],
-    }
+    let choice = Statement::If(Expression::Variable(0), first, second);
+    Rule::of_results(&kinds, vec![choice])
 }
 
 /// Operations that nothing needs, since they are stored over: they exclude every gate.
@@ -178,10 +167,7 @@ pub(super) fn dead(random: &mut Random) -> Rule {
         block.pop();
         block.push(Statement::Assign(1, Expression::Word(random.word())));
     }
-    Rule {
-        kinds: vec![Kind::Word, Kind::Word],
-        block,
-    }
+    Rule::of_results(&[Kind::Word; 2], block)
 }
 
 /// A rule filled up with skips to just this size, at the front, at the end or in a block.

@@ -58,7 +58,7 @@ fn start(circuit: &Fused, wire: usize) -> usize {
 fn with_last(record: Record) -> Vec<u8> {
     let mut circuit = sample();
     *circuit.records.last_mut().expect("records") = record;
-    circuit.outputs[0] = Wire(20);
+    circuit.outputs[0] = Some(Wire(20));
     circuit.file()
 }
 
@@ -209,25 +209,26 @@ fn tables(list: &mut List) {
     list.refused_circuit(&with_last(guard(&[], 2)), 62);
 }
 
-/// Row 62: an output is no wire, or not of its variable's kind.
+/// Row 62: an output is no wire, or not of its variable's kind. FF FF is admitted (C-13).
 fn outputs(list: &mut List) {
     let sample = sample();
     let kinds = kinds(&sample).expect("a good circuit");
     for (variable, kind) in KINDS.iter().enumerate() {
         let others = (0..kinds.len()).filter(|&wire| kinds[wire] != *kind);
-        for output in others.chain([22, 23, 256, 640, 65_535]) {
+        for output in others.chain([22, 23, 256, 640, NO_WIRE]) {
             let mut circuit = sample.clone();
-            circuit.outputs[variable] = Wire(output);
-            list.read_circuit(&circuit.file(), 62);
+            circuit.outputs[variable] = Some(Wire(output));
+            let wanted = if output == NO_WIRE { 0 } else { 62 };
+            list.read_circuit(&circuit.file(), wanted);
         }
         for output in (0..kinds.len()).filter(|&wire| kinds[wire] == *kind) {
             let mut circuit = sample.clone();
-            circuit.outputs[variable] = Wire(output);
+            circuit.outputs[variable] = Some(Wire(output));
             list.run_circuit(&circuit.file(), &[1, 6, 7, 0], 4, 0);
         }
     }
     let mut circuit = sample.clone();
-    circuit.outputs[0] = Wire(1);
+    circuit.outputs[0] = Some(Wire(1));
     list.refused_circuit(&circuit.file(), 62);
 }
 
@@ -260,9 +261,9 @@ fn several(list: &mut List) {
             list.read_circuit(&long[..CIRCUIT_BYTES_MAX], 61);
         }
     }
-    // 62 in the inputs and in the outputs, with the bytes' end wrong.
+    // An output that names no wire, and 62 in the inputs, with the bytes' end wrong.
     let mut circuit = sample();
-    circuit.outputs[3] = Wire(65_535);
+    circuit.outputs[3] = Some(Wire(65_535));
     let file = circuit.file();
     list.refused_circuit(&file[..file.len() - 1], 61);
     list.refused_circuit(&[&file[..], &[0x00]].concat(), 61);
