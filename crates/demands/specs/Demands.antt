@@ -24,6 +24,7 @@ use Rattle.reading.specs.OnlyWorking.{OnlyWorking, MoreWorking}
 use Rattle.reading.specs.Standing.{InBlock}
 use Rattle.reading.specs.OrderBytes as bytes
 use Rattle.gates.specs.Running.{runRule, runWrites}
+use Rattle.gates.specs.WrittenLaws as written
 use Rattle.gates.specs.Gates.{operation, gateAt, figureAt}
 use Rattle.gates.specs.PlainCircuit.{gatesOf, outputsOf}
 use Rattle.settings.specs.Settings.{Setting}
@@ -255,10 +256,10 @@ working-file = figures.file-run
 
 -- "a direct run keeps working figures to its end but writes 0 for them too", and for a result variable its figure at the end:
 pub working-written : (s inputs : List ℕ) (x : ℕ) → x < variables s → workingAt s x ≡ true → getD (runWrites s inputs) x 0 ≡ 0
-working-written = working.writes-working
+working-written = written.writes-working
 
 pub result-written : (s inputs : List ℕ) (x : ℕ) → x < variables s → workingAt s x ≡ false → getD (runWrites s inputs) x 0 ≡ getD (runRule s inputs) x 0
-result-written = working.writes-result
+result-written = written.writes-result
 
 -- "and the circuit reader admits FF FF as an output": any output of any file that is read may be made FF FF; running it then writes 0 there, and else what it wrote.
 pub no-wire-read : (v : ℕ) (R : List Record) (outputs : List ℕ) → circuits.WellFormed v R outputs → (x : ℕ)

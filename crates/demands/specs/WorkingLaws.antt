@@ -1,6 +1,5 @@
 -- Laws for document 02, C-13: what works changes no rule's answer and makes no gate needed; what the file and every run give for working and for result variables. Assumes nothing.
 use Prim.Native.Nat.{ℕ, _<_}
-use native.Mathlib.Nat.{zero-add}
 use native.Mathlib.Omega.{arith}
 use mathlib.Core.Path.{_≡_, sym, ap, subst, subst⁻¹, _∙_}
 use mathlib.Core.Bool.{true, false, true≢false}
@@ -8,7 +7,6 @@ use mathlib.Core.List.{List}
 use mathlib.Core.Logic.{_↔_}
 use lib.ListN.{length, getD, set}
 use Rattle.words.specs.Lists.{_∈_}
-use Rattle.words.specs.ListLaws.{getD-run}
 use Rattle.words.specs.Numbers.{Bytes}
 use Rattle.words.specs.TestLaws.{split}
 use Rattle.settings.specs.Settings.{Setting}
@@ -21,7 +19,6 @@ use Rattle.reading.specs.Format as rules
 use Rattle.reading.specs.RuleFormat.{rule-back}
 use Rattle.reading.specs.OnlyWorking.{OnlyWorking}
 use Rattle.reading.specs.WorkingLaws.{rule-working, same-size, well-working}
-use Rattle.gates.specs.Running.{runRule, writtenFor, runWrites}
 use Rattle.gates.specs.Limits.{mostGates, mostConditions}
 use Rattle.gates.specs.PlainCircuit.{Making, plainOf, plainCircuit, gatesOf, outputsOf}
 use Rattle.gates.specs.StartLaws.{read-plain}
@@ -86,18 +83,6 @@ module _ (kinds other : List ℕ) (o : OnlyWorking kinds other) (b : Block) (w :
         where
           contrary : (x : ℕ) → x < length kinds → workingOf (getD kinds x 0) ≡ true → workingAt t x ≡ false → ⊥
           contrary x k y f = true≢false (sym (more x k y) ∙ sym (rule-working other b x (omega (arith, k, o .many))) ∙ f)
-
--- what a run of a rule writes for a variable
-module _ (s inputs : List ℕ) (x : ℕ) (l : x < variables s) where
-  written-at : getD (runWrites s inputs) x 0 ≡ writtenFor s x (getD (runRule s inputs) x 0)
-  unfolding runWrites
-  written-at = rw zero-add at (getD-run (λ y. writtenFor s y (getD (runRule s inputs) y 0)) 0 0 (variables s) x l)
-
-  pub writes-result : workingAt s x ≡ false → getD (runWrites s inputs) x 0 ≡ getD (runRule s inputs) x 0
-  writes-result f = written-at ∙ rw f
-
-  pub writes-working : workingAt s x ≡ true → getD (runWrites s inputs) x 0 ≡ 0
-  writes-working t = written-at ∙ rw t
 
 -- any output of a circuit that is read may be made no wire
 pub no-wire-read : (v : ℕ) (R : List Record) (outputs : List ℕ) → circuits.WellFormed v R outputs → (x : ℕ) → circuitAnswer (fileBytes v R (set outputs x noWire)) .number ≡ 0

@@ -5,8 +5,7 @@ use mathlib.Core.List.{List}
 use lib.ListN.{length, take, drop}
 use lib.Seq.{take-at}
 use Rattle.words.specs.Buffers.{over}
-use Rattle.words.specs.BufferLaws.{length-over}
-use Rattle.answers.specs.Parsing.{Parsed, parsed, IsRead}
+use Rattle.answers.specs.Parsing.{parsed, IsRead}
 use Rattle.reading.specs.Limits.{nested}
 use Rattle.reading.specs.Header.{variables, kindAt}
 use Rattle.reading.specs.Tree.{Block}
@@ -34,7 +33,3 @@ pub rule-ran : (s inputs d f g : List ℕ) (n : ℕ) → IsRead (readRule s) →
 rule-ran s inputs d f g n h l e r =
     ap (take (variables s)) (r .figures ∙ ap (runBlock (r .what)) e)
     ∙ results-are s inputs d (r .what) n (rule-read s h .block ∙ r .read) l
-
--- and as many figures as there were
-pub rule-long : (inputs d f g : List ℕ) (m : Parsed Block) (n : ℕ) → length inputs ≤ length d → f ≡ over inputs d → Ran runBlock m f n g → length g ≡ length d
-rule-long inputs d f g m n h e r = ap length (r .figures) ∙ block-count (r .what) f ∙ ap length e ∙ length-over inputs d h

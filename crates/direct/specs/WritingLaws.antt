@@ -9,13 +9,13 @@ use mathlib.Core.Bool.{Bool, true, false}
 use lib.ListN.{length, getD, set, take, length-map}
 use lib.Seq.{getD-take}
 use Rattle.words.specs.Lists.{upto}
-use Rattle.words.specs.ListLaws.{length-from, from-more, map-same}
-use Rattle.words.specs.MemberLaws.{from-below}
+use Rattle.words.specs.ListLaws.{length-from, from-more}
 use Rattle.words.specs.Buffers.{over}
 use Rattle.words.specs.BufferLaws.{over-nil, over-snoc, length-over}
 use Rattle.reading.specs.Limits.{mostVariables}
 use Rattle.reading.specs.Header.{variables, workingAt, HasKinds}
 use Rattle.gates.specs.Running.{runRule, writtenFor, runWrites}
+use Rattle.gates.specs.WrittenLaws.{writes-map}
 
 -- what is written for variable x, whose figure stands at its place
 abbrev pub written : List ℕ → List ℕ → ℕ → ℕ
@@ -71,9 +71,6 @@ module _ (s figures before results : List ℕ) (x : ℕ) (p : Writing s figures 
 
 -- of figures that begin with those at the run's end
 pub run-written : (s inputs figures : List ℕ) → take (variables s) figures ≡ runRule s inputs → map (written s figures) (upto (variables s)) ≡ runWrites s inputs
-unfolding runWrites
 run-written s inputs figures e =
-    map-same (written s figures) (λ x. writtenFor s x (getD (runRule s inputs) x 0)) (upto (variables s))
-    (λ x m.
-    let b : x < 0 + variables s = from-below 0 (variables s) x m .1 in
-    ap (writtenFor s x) (sym (getD-take (variables s) figures x 0 (omega arith)) ∙ ap (λ (l : List ℕ). getD l x 0) e))
+    writes-map s inputs (written s figures)
+    (λ x l. ap (writtenFor s x) (sym (getD-take (variables s) figures x 0 l) ∙ ap (λ (f : List ℕ). getD f x 0) e))

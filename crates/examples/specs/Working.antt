@@ -2,7 +2,7 @@
 use Prim.Native.Nat.{ℕ}
 use mathlib.Core.Path.{_≡_, refl}
 use mathlib.Core.List.{List, [], _∷_, map}
-use lib.ListN.{getD, drop}
+use lib.ListN.{getD}
 use Rattle.words.specs.Numbers.{number, bytesOf}
 use Rattle.words.specs.Buffers.{over}
 use Rattle.settings.specs.Sets.{collect, restsOn, rests}
@@ -69,6 +69,28 @@ unfolding over number kindOf workingOf operationOf codeOf resultOf readMark read
     readAssign branchWith statementWith blockWith blockFuel readBlock readRule figureOf runStatement runBlock runRule runWrites applyGate makeExpr assignsIn assigns
     choices makeStatement makeBlock plainCircuit costs conditions collect wholeWithin ruleAnswer someAbove inputsRow inputRow runAnswer runResults
 run-then = refl
+
+-- A plan that was accepted need not be where more works. Three words, v1 of kind k, and a bit: v1 := v1 × v1 (gate 4); v3 := v1 < v0 (5); v2 := v0 × v0 (6); v2 := v0;
+-- if v0 < 5 (8) then v2 := v1; v3 := 1. Where v1 works, gate 4 rests on the condition 8, which its group {4, 6} then waits for; and {5, 8} waits for gate 4.
+abbrev pub square : ℕ → List ℕ
+square k =
+    0x52 ∷ 0x55 ∷ 0x4C ∷ 0x00 ∷ 0x01 ∷ 0x04 ∷ 0x00 ∷ k ∷ 0x00 ∷ 0x01
+    ∷ 0x01 ∷ 0x01 ∷ 0x22 ∷ 0x10 ∷ 0x01 ∷ 0x10 ∷ 0x01
+    ∷ 0x01 ∷ 0x03 ∷ 0x23 ∷ 0x10 ∷ 0x01 ∷ 0x10 ∷ 0x00
+    ∷ 0x01 ∷ 0x02 ∷ 0x22 ∷ 0x10 ∷ 0x00 ∷ 0x10 ∷ 0x00
+    ∷ 0x01 ∷ 0x02 ∷ 0x10 ∷ 0x00
+    ∷ 0x03 ∷ 0x23 ∷ 0x10 ∷ 0x00 ∷ 0x11 ∷ 0x00 ∷ 0x00 ∷ 0x00 ∷ 0x05 ∷ 0x01 ∷ 0x02 ∷ 0x10 ∷ 0x01 ∷ 0x00 ∷ 0x00
+    ∷ 0x01 ∷ 0x03 ∷ 0x12 ∷ 0x01
+    ∷ 0x00 ∷ []
+
+abbrev pub two-pairs : List ℕ
+two-pairs = 0x50 ∷ 0x4C ∷ 0x4E ∷ 0x00 ∷ 0x01 ∷ 0x00 ∷ 0x0B ∷ 0x00 ∷ 0x02 ∷ 0x02 ∷ 0x00 ∷ 0x04 ∷ 0x00 ∷ 0x06 ∷ 0x02 ∷ 0x00 ∷ 0x05 ∷ 0x00 ∷ 0x08 ∷ []
+
+pub more-waits : map (λ k. planAnswer (square k) two-pairs) (0x00 ∷ 0x02 ∷ []) ≡ success 11 0 0 113 0 ∷ refusal 30 0 ∷ []
+unfolding number kindOf workingOf operationOf codeOf readMark readCount readKinds readHeader readVariable readWord readBit operationWith exprWith readExpr readAssign branchWith
+    statementWith blockWith blockFuel readBlock readRule applyGate makeExpr assignsIn assigns choices makeStatement makeBlock plainCircuit conditions collect numbers
+    preconditions preconditionSets costs wholeWithin ruleAnswer restsOn rests groupsIn groups restsOf waitsFor order planRow planAnswer
+more-waits = refl
 
 -- one variable, a working bit: taken with 0 and with 1, 41 with 2; 04 is no kind
 abbrev pub alone : ℕ → List ℕ

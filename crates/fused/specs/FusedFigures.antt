@@ -6,7 +6,6 @@ use mathlib.Core.Path.{_≡_, sym, ap, _∙_}
 use mathlib.Core.List.{List, map-map}
 use mathlib.Core.Bool.{true, false}
 use mathlib.Core.Logic.{_⊎_, inl, inr}
-use native.Mathlib.Nat.{zero-add}
 use native.Mathlib.Omega.{arith}
 use lib.ListN.{length, getD}
 use borrow.Author.Tests.{ne-eqb}
@@ -14,7 +13,6 @@ use Rattle.codes.specs.Inputs.{FiguresFit}
 use Rattle.words.specs.Lists.{_∈_, upto}
 use Rattle.words.specs.MemberLaws.{map-in, from-below}
 use Rattle.words.specs.Numbers.{Bytes}
-use Rattle.words.specs.ListLaws.{map-same, getD-run}
 use Rattle.words.specs.TestLaws.{split}
 use Rattle.answers.specs.declared.Answer.{Answer}
 use Rattle.records.specs.Records.{ReadsEarlier}
@@ -28,6 +26,7 @@ use Rattle.gates.specs.Gates.{figureAt}
 use Rattle.gates.specs.PlainCircuit.{gatesOf, outputsOf}
 use Rattle.gates.specs.StartLaws.{read-run}
 use Rattle.gates.specs.OutputLaws.{output-figure}
+use Rattle.gates.specs.WrittenLaws.{writes-result, writes-map}
 use Rattle.needed.specs.Needed.{Needed, wantedOf, from-start}
 use Rattle.needed.specs.NeededLaws.{needed-inside}
 use Rattle.needed.specs.WantedLaws.{result-wanted}
@@ -98,21 +97,11 @@ module _ (s p : List ℕ) (bytes : Bytes s) (h : planAnswer s p .number ≡ 0) (
 
     -- so the file's own bytes, worked out record by record, give what a direct run writes
     pub file-run : fileFigures (fusedFile s p) inputs ≡ runWrites s inputs
-    unfolding runWrites
     file-run =
         fused-file-figures s p h bytes (reads-earlier s p h) (output-earlier s p h) inputs
         ∙ map-map (outputFigure inputs (recordsOf s p)) (outputWire s p) (upto (variables s))
-        ∙ map-same (λ x. outputFigure inputs (recordsOf s p) (outputWire s p x)) (λ x. writtenFor s x (getD (runRule s inputs) x 0)) (upto (variables s))
-        (λ x m. output-written x (let b = from-below 0 (variables s) x m .1 in omega (arith, b)))
+        ∙ writes-map s inputs (λ x. outputFigure inputs (recordsOf s p) (outputWire s p x)) output-written
 
-    file-at : (x : ℕ) → x < variables s → getD (fileFigures (fusedFile s p) inputs) x 0 ≡ writtenFor s x (getD (runRule s inputs) x 0)
-    unfolding runWrites
-    file-at x v = ap (λ (f : List ℕ). getD f x 0) file-run
-        ∙ rw zero-add at (getD-run (λ y. writtenFor s y (getD (runRule s inputs) y 0)) 0 0 (variables s) x v)
-
-    -- the direct run's figure at its end for a result variable, 0 for a working one
+    -- for a result variable its figure at the end of the direct run
     pub file-result : (x : ℕ) → x < variables s → workingAt s x ≡ false → getD (fileFigures (fusedFile s p) inputs) x 0 ≡ getD (runRule s inputs) x 0
-    file-result x v t = file-at x v ∙ rw t
-
-    pub file-working : (x : ℕ) → x < variables s → workingAt s x ≡ true → getD (fileFigures (fusedFile s p) inputs) x 0 ≡ 0
-    file-working x v t = file-at x v ∙ rw t
+    file-result x v t = ap (λ (f : List ℕ). getD f x 0) file-run ∙ writes-result s inputs x v t

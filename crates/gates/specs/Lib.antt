@@ -14,6 +14,7 @@ pub mod PlainLaws
 pub mod EarlierLaws
 pub mod SoundLaws
 pub mod RunLaws
+pub mod WrittenLaws
 pub mod HoldLaws
 pub mod DemandLaws
 pub mod KindLaws

@@ -16,7 +16,7 @@ use Rattle.records.specs.FileFigures.{outputFigure, fileFigures}
 use Rattle.records.specs.FitRecords.{FileFits}
 use Rattle.records.specs.FileLaws.{file-figures}
 use Rattle.records.specs.SizeLaws.{file-size}
-use Rattle.records.specs.WellFormed.{Standing, WellFormed}
+use Rattle.records.specs.WellFormed.{WellFormed}
 
 module _ (v : ℕ) (R : List Record) (outputs : List ℕ) (x : ℕ) where
   abbrev less : List ℕ

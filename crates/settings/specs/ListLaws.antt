@@ -1,14 +1,14 @@
 -- Laws for document 01, "Needed gates (000 Def. 4)": searches below a number, of rising lists of conditions, and of lists that hold nothing twice.
-use mathlib.Core.Path.{_≡_, refl, sym, ap, _∙_}
-use mathlib.Core.Bool.{Bool, true, false, cond, true≢false, false≢true}
-use mathlib.Core.List.{List, [], _∷_, _++_, append-nil}
+use mathlib.Core.Path.{_≡_, refl, sym, _∙_}
+use mathlib.Core.Bool.{Bool, true, false, true≢false, false≢true}
+use mathlib.Core.List.{List, [], _∷_, _++_}
 use mathlib.Core.Logic.{_⊎_, inl, inr}
 use Prim.Native.Nat.{ℕ, zero, suc, _+_, _≤_, _<_}
 use native.Mathlib.Nat.{zero-add}
 use native.Mathlib.Omega.{arith}
 use lib.ListN.{getD}
 use Rattle.words.specs.Lists.{_∈_, keep, from, upto}
-use Rattle.words.specs.ListLaws.{getD-from, from-more, keep-more}
+use Rattle.words.specs.ListLaws.{getD-from}
 use Rattle.words.specs.MemberLaws.{keep-from, from-below}
 use Rattle.words.specs.TestLaws.{split, same?}
 use Rattle.settings.specs.Settings.{Once, anyBelow}

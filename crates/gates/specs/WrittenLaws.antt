@@ -1,0 +1,30 @@
+-- Laws of what a run writes: 0 for a working variable, for a result variable its figure at the run's end. Assumes nothing.
+use Prim.Native.Nat.{ℕ, _<_}
+use native.Mathlib.Nat.{zero-add}
+use native.Mathlib.Omega.{arith}
+use mathlib.Core.Path.{_≡_, _∙_}
+use mathlib.Core.Bool.{true, false}
+use mathlib.Core.List.{List, map}
+use lib.ListN.{getD}
+use Rattle.words.specs.Lists.{upto}
+use Rattle.words.specs.ListLaws.{getD-run, map-same}
+use Rattle.words.specs.MemberLaws.{from-below}
+use Rattle.reading.specs.Header.{variables, workingAt}
+use Rattle.gates.specs.Running.{runRule, writtenFor, runWrites}
+
+module _ (s inputs : List ℕ) (x : ℕ) (l : x < variables s) where
+  written-at : getD (runWrites s inputs) x 0 ≡ writtenFor s x (getD (runRule s inputs) x 0)
+  unfolding runWrites
+  written-at = rw zero-add at (getD-run (λ y. writtenFor s y (getD (runRule s inputs) y 0)) 0 0 (variables s) x l)
+
+  pub writes-result : workingAt s x ≡ false → getD (runWrites s inputs) x 0 ≡ getD (runRule s inputs) x 0
+  writes-result f = written-at ∙ rw f
+
+  pub writes-working : workingAt s x ≡ true → getD (runWrites s inputs) x 0 ≡ 0
+  writes-working t = written-at ∙ rw t
+
+-- a list with what the run writes for each variable is what it writes
+pub writes-map : (s inputs : List ℕ) (f : ℕ → ℕ) → ((x : ℕ) → x < variables s → f x ≡ writtenFor s x (getD (runRule s inputs) x 0)) → map f (upto (variables s)) ≡ runWrites s inputs
+unfolding runWrites
+writes-map s inputs f h =
+    map-same f (λ x. writtenFor s x (getD (runRule s inputs) x 0)) (upto (variables s)) (λ x m. h x (let b = from-below 0 (variables s) x m .1 in omega (arith, b)))
