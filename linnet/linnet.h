@@ -63,8 +63,9 @@ struct linnet_answer {
 /* A plain circuit. Gate g has rows[4 * g] to rows[4 * g + 3] and needs[g]; zeros after the last
  * gate, and everywhere for a refused rule. A row is the code that the gate's record of a circuit
  * file begins with (00, 01 starting values of words and bits, working ones too, 11, 12 constants, 20
- * to 27, 30 a choice), then the variable of a starting value, the figure of a constant, or the argument gates in the order in
- * which the gate takes them; 0 where there is none. needs[g] is the gate's precondition: bit j is 1 when setting j needs the gate. */
+ * to 27, 30 a choice), then the variable of a starting value, the figure of a constant, or the argument
+ * gates in the order in which the gate takes them; 0 where there is none. needs[g] is the gate's
+ * precondition: bit j is 1 when setting j needs the gate. */
 struct linnet_shown {
     struct linnet_answer answer;
     uint32_t rows[1024];
