@@ -1,7 +1,7 @@
 /* Linnetshelf: reads a matching rule, runs it, checks a plan for it and writes the fused circuit,
  * byte for byte as document 01 fixes it, with C-11 (circuit files from the other house are read and
- * run) and C-12 (argument order) of document 02. Every function here is proved to answer and to write
- * what the definitions of crates/<crate>/specs give, for any bytes at all.
+ * run), C-12 (argument order) and C-13 (working figures) of document 02. Every function here is proved
+ * to answer and to write what the definitions of crates/<crate>/specs give, for any bytes at all.
  *
  * Link with target/staticlib/liblinnet.a, which `rt staticlib linnet` writes (x86-64).
  *
@@ -9,6 +9,10 @@
  * not more. No pointer is NULL, also where the count is 0. An array that an operation writes to
  * overlaps no other array of the call. Nothing is kept after the call, no memory is allocated, and any
  * number of threads may call at once.
+ *
+ * Results. The kind of a variable is 00 word, 01 bit, 02 working word or 03 working bit. A run takes V
+ * inputs and writes V results, one for each variable: its figure at the end, and 0 for a working
+ * variable. In a circuit file the output of a working variable is FF FF, which names no wire.
  *
  * Refusals. An operation either succeeds, with number 0 and place 0, or refuses, with a number, a
  * place and every count 0. A refusal writes to no array. Rule comes before plan, plan before inputs
@@ -32,7 +36,7 @@
  *              file, a bit constant above 1, a guard of over 6 wires, a pick of no pair
  *           62 records do not fit together: inputs that are not just the first V records in order, a
  *              wire that is not earlier or of the wrong kind, a table bit from 2^d up in a guard of d
- *              wires, an output that is no wire or of the wrong kind
+ *              wires, an output that is neither FF FF nor a wire of its variable's kind
  *
  * The place is the offending byte for 2, 3 and 5 to 9, the rule's length for 4, 10 and 11, else 0. */
 #ifndef LINNET_H
@@ -58,9 +62,10 @@ struct linnet_answer {
 
 /* A plain circuit. Gate g has rows[4 * g] to rows[4 * g + 3] and needs[g]; zeros after the last
  * gate, and everywhere for a refused rule. A row is the code that the gate's record of a circuit
- * file begins with (00, 01 starting values, 11, 12 constants, 20 to 27, 30 a choice), then the
- * variable of a starting value, the figure of a constant, or the argument gates in the order in
- * which the gate takes them; 0 where there is none. needs[g] is the gate's precondition: bit j is 1 when setting j needs the gate. */
+ * file begins with (00, 01 starting values of words and bits, working ones too, 11, 12 constants, 20
+ * to 27, 30 a choice), then the variable of a starting value, the figure of a constant, or the argument
+ * gates in the order in which the gate takes them; 0 where there is none. needs[g] is the gate's
+ * precondition: bit j is 1 when setting j needs the gate. */
 struct linnet_shown {
     struct linnet_answer answer;
     uint32_t rows[1024];
@@ -77,8 +82,8 @@ struct linnet_part {
 struct linnet_answer linnet_read_rule(
     const uint8_t *rule, size_t rule_count);
 
-/* 02 Runs a rule directly on V inputs. Answers as 01. Writes every variable's figure at the end of
- * the run to the first V results, and nothing after. */
+/* 02 Runs a rule directly on V inputs. Answers as 01. Writes each variable's figure at the end of
+ * the run, 0 for a working variable, to the first V results, and nothing after. */
 struct linnet_answer linnet_run_rule(
     const uint8_t *rule, size_t rule_count,
     const uint32_t *inputs, size_t inputs_count,
@@ -119,8 +124,8 @@ struct linnet_part linnet_record(
     size_t wire);
 
 /* 09 Runs a circuit file on V inputs, V and kinds being those of its input records. A pick with several
- * guards at 1 gives the sum of their values, modulo 2 for bits. Answers as 07. Writes every variable's
- * figure to the first V results, and nothing after. */
+ * guards at 1 gives the sum of their values, modulo 2 for bits. Answers as 07. Writes each variable's
+ * figure, 0 where its output is FF FF, to the first V results, and nothing after. */
 struct linnet_answer linnet_run_circuit(
     const uint8_t *file, size_t file_count,
     const uint32_t *inputs, size_t inputs_count,

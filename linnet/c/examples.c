@@ -1,6 +1,6 @@
-/* Calls every operation of linnet.h on examples of document 01 and on a file as another house may
- * write it; the exit status is 0 when each answer, byte and untouched place is as documents 01 and 02
- * (C-11) say. */
+/* Calls every operation of linnet.h on examples of document 01, on one with a working variable and on a
+ * file as another house may write it; the exit status is 0 when each answer, byte and untouched place is
+ * as documents 01 and 02 (C-11, C-13) say. */
 #include <stdio.h>
 #include <string.h>
 
@@ -81,6 +81,25 @@ static void run_fused(void) {
     hold(results[3] == 9, "nothing after the results");
 }
 
+/* R1 with v2 made a working word. */
+static void working(void) {
+    const uint32_t inputs[3] = {1, 6, 7};
+    uint32_t results[4] = {9, 9, 9, 9};
+    uint8_t rule[29], file[76];
+    memcpy(rule, R1, sizeof rule);
+    rule[8] = 2;
+    hold(is(linnet_run_rule(rule, 29, inputs, 3, results, 4), 0, 0, 6, 0, 0, 33, 0), "v2 working runs");
+    hold(results[0] == 1 && results[1] == 42 && results[2] == 0, "v2 working gives 1, 42, 0");
+    hold(results[3] == 9, "nothing after the results");
+    hold(is(linnet_write_fused(rule, 29, P1, 14, file, 76), 0, 0, 6, 9, 76, 33, 28), "v2 working, P1");
+    hold(file[73] == 8 && file[74] == 0xFF && file[75] == 0xFF, "v2 working has no output");
+    results[2] = 9;
+    hold(is(linnet_run_circuit(file, 76, inputs, 3, results, 4), 0, 0, 0, 9, 76, 0, 0), "the file runs");
+    hold(results[1] == 42 && results[2] == 0, "the file gives 0 for v2");
+    rule[8] = 4;
+    hold(is(linnet_read_rule(rule, 29), 3, 8, 0, 0, 0, 0, 0), "kind 04: 3 at 8");
+}
+
 static void circuit_files(void) {
     const uint32_t inputs[3] = {0, 6, 7};
     const uint32_t wrong[3] = {2, 6, 7};
@@ -130,6 +149,7 @@ int main(void) {
     check_plan();
     write_fused();
     run_fused();
+    working();
     circuit_files();
     other_house();
     return failures != 0;

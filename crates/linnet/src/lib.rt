@@ -19,7 +19,7 @@ pub extern "C" fn linnet_read_rule(rule: &[u8]) -> Answer
     circuit::read_rule(rule)
 }
 
-// A direct run of a rule on its inputs: every variable's figure at its end in the first V results. A refusal writes nothing.
+// A direct run of a rule on its inputs: each variable's figure at its end, 0 for a working one, in the first V results. A refusal writes nothing.
 #[no_mangle]
 pub extern "C" fn linnet_run_rule(rule: &[u8], inputs: &[u32], results: &mut [u32]) -> Answer
     ensures answer { λ r. ⌜ r ≡ runAnswer (ruleAnswer (now (rule .entry))) (now (rule .entry)) (now (inputs .entry)) (length (now (results .entry))) ⌝ }

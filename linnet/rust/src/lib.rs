@@ -57,7 +57,7 @@ pub fn read_rule(rule: &[u8]) -> Answer {
     unsafe { linnet_read_rule(rule.as_ptr(), rule.len()) }
 }
 
-/// Runs a rule directly: every variable's figure at its end in the first V results.
+/// Runs a rule directly: each variable's figure at its end, 0 for a working variable, in the first V results.
 #[rustfmt::skip]
 pub fn run_rule(rule: &[u8], inputs: &[u32], results: &mut [u32]) -> Answer {
     unsafe { linnet_run_rule(rule.as_ptr(), rule.len(), inputs.as_ptr(), inputs.len(), results.as_mut_ptr(), results.len()) }
@@ -81,7 +81,7 @@ pub fn write_fused(rule: &[u8], plan: &[u8], out: &mut [u8]) -> Answer {
     unsafe { linnet_write_fused(rule.as_ptr(), rule.len(), plan.as_ptr(), plan.len(), out.as_mut_ptr(), out.len()) }
 }
 
-/// Runs the fused circuit: every variable's figure in the first V results; all five counts.
+/// Runs the fused circuit: each variable's figure, 0 for a working variable, in the first V results; all five counts.
 #[rustfmt::skip]
 pub fn run_fused(rule: &[u8], plan: &[u8], inputs: &[u32], results: &mut [u32]) -> Answer {
     unsafe { linnet_run_fused(rule.as_ptr(), rule.len(), plan.as_ptr(), plan.len(), inputs.as_ptr(), inputs.len(), results.as_mut_ptr(), results.len()) }
@@ -100,7 +100,7 @@ pub fn record(file: &[u8], wire: usize) -> &[u8] {
     &file[part.start..part.start + part.length]
 }
 
-/// Runs a circuit file: every variable's figure in the first V results; its wires and bytes.
+/// Runs a circuit file: each variable's figure, 0 where its output is FF FF, in the first V results; its wires and bytes.
 #[rustfmt::skip]
 pub fn run_circuit(file: &[u8], inputs: &[u32], results: &mut [u32]) -> Answer {
     unsafe { linnet_run_circuit(file.as_ptr(), file.len(), inputs.as_ptr(), inputs.len(), results.as_mut_ptr(), results.len()) }

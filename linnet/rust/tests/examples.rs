@@ -1,4 +1,4 @@
-//! Examples of document 01 and a file as another house may write it, through the wrapper and, from C, through the header.
+//! Examples of document 01, working variables, and a file as another house may write it, through the wrapper and, from C, through the header.
 
 use linnet::Answer;
 use std::path::Path;
@@ -88,6 +88,38 @@ fn plans_are_checked_written_and_run() {
     let mut results = [9; 4];
     assert_eq!(linnet::run_fused(&R1, &p1, &[0, 6, 7], &mut results), fused);
     assert_eq!(results, [0, 49, 7, 9]);
+}
+
+/// R1 with v2 made a working word: every run writes 0 for it, and its output in the file is FF FF.
+#[test]
+fn working_variables_give_0() {
+    let p1 = [0x50, 0x4C, 0x4E, 0, 1, 0, 6, 0, 1, 2, 0, 3, 0, 4];
+    let mut rule = R1;
+    rule[8] = 2;
+    let mut results = [9; 4];
+    let answer = linnet::run_rule(&rule, &[1, 6, 7], &mut results);
+    assert_eq!((answer, results), (plain(6, 33), [1, 42, 0, 9]));
+    results = [9; 4];
+    linnet::run_fused(&rule, &p1, &[0, 6, 7], &mut results);
+    assert_eq!(results, [0, 49, 0, 9]);
+    let mut file = [0; 76];
+    assert_eq!(linnet::write_fused(&rule, &p1, &mut file).bytes, 76);
+    assert_eq!(file[..74], circuit()[..74]);
+    assert_eq!(file[74..], [0xFF, 0xFF]);
+    results = [9; 4];
+    linnet::run_circuit(&file, &[1, 6, 7], &mut results);
+    assert_eq!(results, [1, 42, 0, 9]);
+    file[75] = 0xFE;
+    assert_eq!(linnet::read_circuit(&file), refused(62, 0));
+    rule[8] = 4;
+    assert_eq!(linnet::read_rule(&rule), refused(3, 8));
+    // v0 made a working bit.
+    rule[8] = 0;
+    rule[6] = 3;
+    let answer = linnet::run_rule(&rule, &[2, 6, 7], &mut results);
+    assert_eq!(answer, refused(41, 0));
+    linnet::run_rule(&rule, &[1, 6, 7], &mut results);
+    assert_eq!(results, [0, 42, 7, 9]);
 }
 
 /// Example 3's file, 76 bytes.
