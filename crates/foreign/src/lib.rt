@@ -126,7 +126,7 @@ fn inputs_refusal(file: &[u8], inputs: &[u32], room: usize) -> u8
     0
 }
 
-// Runs a circuit file on inputs: every variable's figure in the first V results. A refusal writes nothing.
+// Runs a circuit file on inputs: in the first V results every variable's figure, 0 where its output is no wire. A refusal writes nothing.
 pub fn run(file: &[u8], inputs: &[u32], results: &mut [u32]) -> Answer
     ensures answer { λ r. ⌜ r ≡ circuitRunAnswer (now (file .entry)) (now (inputs .entry)) (length (now (results .entry))) ⌝ }
     ensures results { λ _. ⌜ now (results .exit) ≡ circuitRunResults (now (file .entry)) (now (inputs .entry)) (now (results .entry)) ⌝ }

@@ -72,7 +72,7 @@ pub record WellFormed (kinds : List ℕ) (b : Block) : Type 0 where
   -- V is 1 to 32
   pub some : 1 ≤ length kinds
   pub few : length kinds ≤ mostVariables
-  -- every kind byte is 00 word or 01 bit
+  -- every kind byte is 00 word or 01 bit, or 02 or 03 of a working one (C-13)
   pub known : (x : ℕ) → x < length kinds → getD kinds x 0 ≤ lastKind
   -- every variable is one of V, every bit constant is 0 or 1, and the kinds of arguments and results fit
   pub typed : TypedBlock (length kinds) (kindIn kinds) b

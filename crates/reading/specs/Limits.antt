@@ -12,7 +12,7 @@ mostBytes = 4096
 abbrev pub mostVariables : ℕ
 mostVariables = 32
 
--- kind bytes are 00 word and 01 bit
+-- kind bytes are 00 word and 01 bit; document 02, C-13: 02 working word and 03 working bit
 abbrev pub lastKind : ℕ
 lastKind = 3
 
