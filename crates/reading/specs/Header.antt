@@ -1,8 +1,8 @@
 -- Document 01, "The rule file": 52 55 4C ("RUL"), version 00 01, one byte V (1 to 32), V kind bytes (00 word, 01 bit). Document 02, C-13: 02 working word, 03 working bit.
-use Prim.Native.Nat.{ℕ, zero, suc, _+_, _≤_}
+use Prim.Native.Nat.{ℕ, zero, suc, _+_, _/_, _%_, _≤_}
 use mathlib.Core.List.{List, [], _∷_}
 use lib.ListN.{length, getD}
-use mathlib.Core.Bool.{Bool, not, _||_, cond}
+use mathlib.Core.Bool.{Bool, not, cond}
 use lib.Dec.{eqb, ltb, leb}
 use Rattle.words.specs.Lists.{keep, upto}
 use Rattle.codes.specs.declared.Kind.{Kind}
@@ -14,13 +14,13 @@ use Rattle.reading.specs.Limits.{mostVariables, lastKind}
 abbrev pub mark : List ℕ
 mark = 0x52 ∷ 0x55 ∷ 0x4C ∷ 0x00 ∷ 0x01 ∷ []
 
--- what a kind byte says: told here, and asked by every layer above
+-- What a kind byte says is told here, and asked by every layer above. It is 01 for a bit, and 02 more for a working variable, which holds "only a scrap of working":
+-- its figure is no result. Every other variable is a result variable.
 unfoldable pub kindOf : ℕ → Kind
-kindOf b = cond (eqb b 0x01 || eqb b 0x03) kind.Bit kind.Word
+kindOf b = cond (eqb (b % 2) 1) kind.Bit kind.Word
 
--- Document 02, C-13: a working variable holds "only a scrap of working": its figure is no result. Every other variable is a result variable.
 unfoldable pub workingOf : ℕ → Bool
-workingOf b = eqb b 0x02 || eqb b 0x03
+workingOf b = eqb (b / 2 % 2) 1
 
 -- V, the kind of variable x and whether it is a working one, as the file gives them
 abbrev pub variables : List ℕ → ℕ

@@ -33,10 +33,10 @@ pub fn kind_at(s: &[u8], x: u8) -> Kind
     requires { ⌜ 6 + x < length (now s) ⌝ }
     ensures { λ r. ⌜ r ≡ kindAt (now (s .entry)) x ⌝ }
 {
-    match s[6 + x as usize] {
-        1 => Kind::Bit,
-        3 => Kind::Bit,
-        _ => Kind::Word,
+    if s[6 + x as usize] % 2 == 1 {
+        Kind::Bit
+    } else {
+        Kind::Word
     }
 }
 
@@ -45,11 +45,7 @@ pub fn working_at(s: &[u8], x: u8) -> bool
     requires { ⌜ 6 + x < length (now s) ⌝ }
     ensures { λ r. ⌜ r ≡ workingAt (now (s .entry)) x ⌝ }
 {
-    match s[6 + x as usize] {
-        2 => true,
-        3 => true,
-        _ => false,
-    }
+    s[6 + x as usize] / 2 % 2 == 1
 }
 
 // 10 variable, its code at `at`.
