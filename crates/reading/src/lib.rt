@@ -114,13 +114,11 @@ fn is_variable(s: &[u8], at: usize, want: Kind, deep: u8) -> bool
     if deep == 0 {
         return false;
     }
-    if s.len() <= at {
+    // One test for both of its bytes: there are six at least.
+    if s.len() - 2 < at {
         return false;
     }
     if s[at] != codes::VARIABLE {
-        return false;
-    }
-    if s.len() <= at + 1 {
         return false;
     }
     let x = s[at + 1];

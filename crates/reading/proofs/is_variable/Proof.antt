@@ -1,3 +1,4 @@
+use Prim.Native.Nat.{ℕ, _+_, _-_, _≤_, _<_}
 use native.Mathlib.Omega.{arith}
 use mathlib.Core.Path.{sym, ap, _∙_}
 use mathlib.Core.Bool.{false≢true}
@@ -11,14 +12,33 @@ use Rattle.reading.specs.ExpressionLaws.{expr-variable}
 use Rattle.reading.proofs.is_variable.Statement.{statement}
 use Rattle.reading.proofs.is_variable.Tie as tie
 
-returns-6 : tie.Need-returns-6
+-- two bytes stand from at on
+module _ (n at v : ℕ) (h : 6 + v ≤ n) (l : at ≤ n - 2) where
+  first-there : at < n
+  first-there = omega arith
+
+  second-there : at + 1 < n
+  second-there = omega arith
+
+sub-if2 : tie.Need-sub-if2
+sub-if2 c = omega (arith, c .before .before .pre)
+
+shared-slice-read-if3 : tie.Need-shared-slice-read-if3
+shared-slice-read-if3 c = first-there _ _ _ (c .before .before .before .before .pre) (c .before .if2 .left)
+
+shared-slice-read-x : tie.Need-shared-slice-read-x
+shared-slice-read-x c = second-there _ _ _ (c .before .before .before .before .before .before .pre) (c .before .before .before .if2 .left)
+
+returns-5 : tie.Need-returns-5
 unfolding readVariable
-returns-6 c e =
-    let a = c .before .before .before .before .before .before .before .before .before .before .before .args in
-    let b = c .before .before .before .before .before .if4 .left in (
-      omega (arith, b),
-      sym (ap stepOf (expr-variable (a .deep) (now (a .s)) (a .want) (a .at) (c .before .before .before .before .before .before .before .before .if2 .left) (c .before .before .before .before .before .before .if3 .left))
-          ∙ rw (some-left _ (c .before .before .before .before .before .before .before .before .before .if1 .left), lt-ltb _ _ b, lt-ltb _ _ (c .before .before .if5 .left), ← c .before .kind-at .ensures, sym (c .same-kind .ensures) ∙ e)),
+returns-5 c e =
+    let d = c .before .before .before .before .before .before .before .before .before .before in
+    let a = d .args in
+    let l = c .before .before .before .before .before .before .before .if2 .left in
+    let b = second-there _ _ _ (d .pre) l in (
+      b,
+      sym (ap stepOf (expr-variable (a .deep) (now (a .s)) (a .want) (a .at) (first-there _ _ _ (d .pre) l) (c .before .before .before .before .before .if3 .left))
+          ∙ rw (some-left _ (c .before .before .before .before .before .before .before .before .if1 .left), lt-ltb _ _ b, lt-ltb _ _ (c .before .before .if4 .left), ← c .before .kind-at .ensures, sym (c .same-kind .ensures) ∙ e)),
     )
 
 pub is-variable-spec : {M : Type 1} → statement M
@@ -26,15 +46,14 @@ is-variable-spec =
     tie.close
     (tie.spec
     (λ c e. absurd (false≢true e))
+    sub-if2
+    (λ c e. absurd (false≢true e))
+    shared-slice-read-if3
     (λ c e. absurd (false≢true e))
     (λ c. search needs)
-    (λ c e. absurd (false≢true e))
-    (λ c. search needs)
-    (λ c e. absurd (false≢true e))
-    (λ c. search needs)
-    (λ c. search needs)
+    shared-slice-read-x
     (λ c. search needs)
     (λ c e. absurd (false≢true e))
     (λ c κs. search needs)
     (λ c κs. search needs)
-    returns-6)
+    returns-5)
