@@ -2,6 +2,7 @@
 use Prim.Native.Nat.{ℕ}
 use mathlib.Core.Path.{_≡_, refl}
 use mathlib.Core.List.{List, [], _∷_, map}
+use mathlib.Core.Bool.{true, false}
 use lib.ListN.{getD}
 use Rattle.words.specs.Numbers.{number, bytesOf}
 use Rattle.words.specs.Buffers.{over}
@@ -9,6 +10,7 @@ use Rattle.settings.specs.Sets.{collect, restsOn, rests}
 use Rattle.settings.specs.Numbers.{numbers}
 use Rattle.settings.specs.Guards.{spread, tableOver, table}
 use Rattle.codes.specs.Codes.{operationOf, codeOf}
+use Rattle.codes.specs.declared.Kind.the-variants.{Word, Bit}
 use Rattle.codes.specs.Results.{resultOf}
 use Rattle.codes.specs.Inputs.{someAbove, inputsRow}
 use Rattle.answers.specs.Answers.{success, refusal}
@@ -31,6 +33,12 @@ use Rattle.fused.specs.FusedCircuit.{written, fused, fusedFile}
 use Rattle.fused.specs.Answers.{fusedCounts, writeAnswer}
 use Rattle.direct.specs.Inputs.{inputRow}
 use Rattle.direct.specs.Direct.{runAnswer, runResults}
+
+-- what the four kind bytes say: 00 word, 01 bit, 02 working word, 03 working bit
+pub kinds-are : (map kindOf (0x00 ∷ 0x01 ∷ 0x02 ∷ 0x03 ∷ []) ≡ Word ∷ Bit ∷ Word ∷ Bit ∷ [])
+    × (map workingOf (0x00 ∷ 0x01 ∷ 0x02 ∷ 0x03 ∷ []) ≡ false ∷ false ∷ true ∷ true ∷ [])
+unfolding kindOf workingOf
+kinds-are = (refl, refl)
 
 -- a bit and six words, v4 and v5 of kind k: v4 := v1 × v2; v5 := v1 × v3; if v0 then v6 := v4 else v6 := v5.
 -- Its products are gates 7 and 8, its choice gate 9.
