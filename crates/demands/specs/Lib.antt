@@ -5,3 +5,4 @@ pub mod OrderLaws
 pub mod ForeignLaws
 pub mod WorkingLaws
 pub mod Demands
+pub mod Requests
