@@ -2,13 +2,12 @@
 use Prim.Native.Nat.{ℕ, _<_}
 use mathlib.Core.Path.{_≡_, ap, _∙_}
 use mathlib.Core.List.{List, [], map}
-use native.Mathlib.Nat.{zero-add}
 use lib.ListN.{getD}
 use borrow.Author.Tests.{eq-eqb, ne-eqb}
 use Rattle.words.specs.Lists.{upto}
 use Rattle.gates.specs.Limits.{mostGates}
 use Rattle.gates.specs.PlainCircuit.{gateCount}
-use Rattle.words.specs.ListLaws.{getD-run}
+use Rattle.words.specs.ListLaws.{getD-upto}
 use Rattle.words.specs.Buffers.{padded}
 use Rattle.words.specs.BufferLaws.{padded-at}
 use Rattle.plan.specs.PlanFile.{groupsIn}
@@ -30,7 +29,7 @@ module _ (s p : List ℕ) (h : planAnswer s p .number ≡ 0) where
   part-at l i = padded-at mostGates (ifChecked s p l) i ∙ ap (λ (k : List ℕ). getD k i 0) (accepted-lists s p h l)
 
   gate-at : (f : ℕ → ℕ) (g : ℕ) → g < gateCount s → getD (padded mostGates (ifChecked s p (map f (upto (gateCount s))))) g 0 ≡ f g
-  gate-at f g l = part-at (map f (upto (gateCount s))) g ∙ getD-run f 0 0 (gateCount s) g l ∙ ap f (zero-add g)
+  gate-at f g l = part-at (map f (upto (gateCount s))) g ∙ getD-upto f 0 (gateCount s) g l
 
   -- each gate's group, and its place in the plan
   pub group-is : (g : ℕ) → g < gateCount s → getD (checkedGroups s p) g 0 ≡ groupOf (groupsIn p) g

@@ -1,6 +1,5 @@
 -- Laws of what a direct run writes: the loop over the variables, and that the first V results are then what the run writes. Assumes nothing.
-use Prim.Native.Nat.{ℕ, zero, _+_, _≤_, _<_}
-use native.Mathlib.Nat.{zero-add}
+use Prim.Native.Nat.{ℕ, _+_, _≤_, _<_}
 use native.Mathlib.Numerals.{add-one}
 use native.Mathlib.Omega.{arith}
 use mathlib.Core.Path.{_≡_, sym, ap, _∙_}
@@ -9,7 +8,7 @@ use mathlib.Core.Bool.{Bool, true, false}
 use lib.ListN.{length, getD, set, take, length-map}
 use lib.Seq.{getD-take}
 use Rattle.words.specs.Lists.{upto}
-use Rattle.words.specs.ListLaws.{length-from, from-more}
+use Rattle.words.specs.ListLaws.{length-from, upto-more}
 use Rattle.words.specs.Buffers.{over}
 use Rattle.words.specs.BufferLaws.{over-nil, over-snoc, length-over}
 use Rattle.reading.specs.Limits.{mostVariables}
@@ -36,7 +35,7 @@ writing-start s figures before k f r = record { low = omega arith; few = f; kind
 written-more : (s figures : List ℕ) (x : ℕ) → map (written s figures) (upto (x + 1)) ≡ map (written s figures) (upto x) ++ (written s figures x ∷ [])
 written-more s figures x =
     ap (λ (n : ℕ). map (written s figures) (upto n)) (add-one x)
-    ∙ ap (map (written s figures)) (from-more 0 x ∙ ap (λ (k : ℕ). upto x ++ (k ∷ [])) (zero-add x))
+    ∙ ap (map (written s figures)) (upto-more x)
     ∙ map-append (written s figures) (upto x) (x ∷ [])
 
 module _ (s figures before results : List ℕ) (x : ℕ) (p : Writing s figures before results x) where

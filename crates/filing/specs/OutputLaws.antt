@@ -3,13 +3,12 @@ use Prim.Native.Nat.{ℕ, zero, suc, _+_, _-_, _*_, _≤_, _<_}
 use mathlib.Core.Path.{_≡_, refl, sym, ap, _∙_}
 use mathlib.Core.List.{List, [], _∷_, _++_, map, map-append, append-assoc, append-nil}
 use mathlib.Core.Bool.{Bool, true, false}
-use native.Mathlib.Nat.{zero-add}
 use native.Mathlib.Omega.{arith}
 use lib.ListN.{length, getD, take, drop, length-append, length-map}
 use lib.Seq.{sets}
 use borrow.Rule.Slice.PartMut.{putMid}
 use Rattle.words.specs.Lists.{upto}
-use Rattle.words.specs.ListLaws.{length-from, from-more}
+use Rattle.words.specs.ListLaws.{length-from, upto-more}
 use Rattle.words.specs.Numbers.{bytesOf}
 use Rattle.words.specs.NumberLaws.{length-bytes}
 use Rattle.words.specs.Buffers.{over}
@@ -44,7 +43,7 @@ module _ (wire : ℕ → ℕ) where
       pieces-next outputPiece v
       ∙ ap (λ (b : List ℕ). b ++ outputPiece v) (output-pieces v)
       ∙ sym
-      (ap (λ (l : List ℕ). wiresBytes (map wire l)) (rw zero-add at (from-more 0 v)) ∙ ap wiresBytes (map-append wire (upto v) (v ∷ []))
+      (ap (λ (l : List ℕ). wiresBytes (map wire l)) (upto-more v) ∙ ap wiresBytes (map-append wire (upto v) (v ∷ []))
       ∙ wires-append (map wire (upto v)) (wire v ∷ []) ∙ ap (λ (b : List ℕ). wiresBytes (map wire (upto v)) ++ b) (append-nil (outputPiece v)))
 
   -- one for each variable

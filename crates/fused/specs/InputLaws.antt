@@ -3,14 +3,13 @@ use Prim.Native.Nat.{ℕ, zero, suc, _+_, _-_, _≤_, _<_}
 use mathlib.Core.Path.{_≡_, refl, sym, ap, subst, _∙_}
 use mathlib.Core.List.{List, [], _∷_, _++_, map, append-assoc, append-nil, map-append}
 use mathlib.Core.Logic.{inl, inr}
-use native.Mathlib.Nat.{zero-add}
 use native.Mathlib.Omega.{arith}
 use lib.Dec.{ltb}
 use lib.ListN.{length, length-append, length-map, List·getD-append}
 use lib.Seq.{getD-append-add}
 use borrow.Author.Tests.{ltb-true, ltb-false}
 use Rattle.words.specs.Lists.{_∈_, upto}
-use Rattle.words.specs.ListLaws.{length-from, from-more, getD-run}
+use Rattle.words.specs.ListLaws.{length-from, upto-more, getD-upto}
 use Rattle.words.specs.MemberLaws.{in-append}
 use Rattle.words.specs.TestLaws.{split}
 use Rattle.settings.specs.Settings.{Once}
@@ -68,7 +67,7 @@ module _ (s : List ℕ) (C : Gates) (sets : List ℕ) (group : ℕ → ℕ) wher
       let r : groupRecords s C sets group w v ≡ F v ∷ [] = rw (own v (omega arith) .0, own v (omega arith) .1) in
       written-more s C sets group v (down v) ∙ ap (λ (l : List Record). w .records ++ l) r
       ∙ ap (λ (l : List Record). l ++ (F v ∷ [])) (written-inputs v (λ x l. own x (omega arith)))
-      ∙ sym (ap (map F) (from-more 0 v) ∙ map-append F (upto v) ((0 + v) ∷ []) ∙ ap (λ (i : ℕ). map F (upto v) ++ (F i ∷ [])) (zero-add v))
+      ∙ sym (ap (map F) (upto-more v) ∙ map-append F (upto v) (v ∷ []))
 
   -- groups written later leave the records as they are; what holds of the records of each of these groups holds of all that come after
   written-later : (P : Record → Type 0) (more done : List ℕ) → ((q : ℕ) → q ∈ more → (wire : ℕ → ℕ) (n : ℕ) → Along (λ i. P) n (emit s C sets wire n (of q)))
@@ -150,7 +149,7 @@ module _ (s p : List ℕ) (h : planAnswer s p .number ≡ 0) where
       let I = inputRecords s (variables s) in (
         omega (arith, ap length e, length-append I R, count),
         ap (λ (l : List Record). recordIn l x) e ∙ List·getD-append I R (word 0) x (omega (arith, count))
-            ∙ getD-run (λ y. input (kindAt s y) y) (word 0) 0 (variables s) x l ∙ ap (λ (y : ℕ). input (kindAt s y) y) (zero-add x),
+            ∙ getD-upto (λ y. input (kindAt s y) y) (word 0) (variables s) x l,
       )
 
   -- no later record is an input

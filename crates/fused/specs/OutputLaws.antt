@@ -3,10 +3,9 @@ use Prim.Native.Nat.{ℕ, _<_}
 use mathlib.Core.Path.{_≡_, _∙_}
 use mathlib.Core.List.{List}
 use mathlib.Core.Bool.{true, false}
-use native.Mathlib.Nat.{zero-add}
 use lib.ListN.{length, getD, length-map}
 use Rattle.words.specs.Lists.{upto}
-use Rattle.words.specs.ListLaws.{length-from, getD-run}
+use Rattle.words.specs.ListLaws.{length-from, getD-upto}
 use Rattle.records.specs.CircuitFile.{noWire}
 use Rattle.reading.specs.Header.{variables, workingAt}
 use Rattle.gates.specs.PlainCircuit.{outputsOf}
@@ -18,7 +17,7 @@ module _ (s p : List ℕ) where
 
   module _ (x : ℕ) where
     pub output-at : x < variables s → getD (outputWires s p) x 0 ≡ outputWire s p x
-    output-at l = rw zero-add at (getD-run (outputWire s p) 0 0 (variables s) x l)
+    output-at l = getD-upto (outputWire s p) 0 (variables s) x l
 
     pub working-wire : workingAt s x ≡ true → outputWire s p x ≡ noWire
     working-wire h = rw h

@@ -34,7 +34,7 @@ use Rattle.fused.specs.GuardLaws.{guard-figure, guard-needed}
 use Rattle.fused.specs.WrittenLaws.{written-more, written-length, wire-last, wire-old}
 
 -- a gate's figure reads only what it asks for under the setting that the figures v give
-pub figure-asks : (inputs : List ℕ) (v w : ℕ → ℕ) (k : Gate) → ((a : ℕ) → a ∈ asks (λ c. isOne (v c)) k → w a ≡ v a) → figure inputs w k ≡ figure inputs v k
+figure-asks : (inputs : List ℕ) (v w : ℕ → ℕ) (k : Gate) → ((a : ℕ) → a ∈ asks (λ c. isOne (v c)) k → w a ≡ v a) → figure inputs w k ≡ figure inputs v k
 figure-asks inputs v w (start x) h = refl
 figure-asks inputs v w (word n) h = refl
 figure-asks inputs v w (bit b) h = refl

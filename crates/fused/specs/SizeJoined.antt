@@ -47,7 +47,7 @@ module _ (n : ℕ) (op : Operation) (guards : List Record) (places : List (List 
   abbrev last : Record
   last = operation op (from (n + length guards) (length places))
 
-  pub joined-count : length (joined n op guards places) ≡ length guards + length places + 1
+  joined-count : length (joined n op guards places) ≡ length guards + length places + 1
   joined-count = rw (length-append guards (picks n places ++ (last ∷ [])), length-append (picks n places) (last ∷ []), length-map) (omega arith)
 
   module _ (k : ℕ) (each : EachGroup (λ values. length values ≡ k) places) where

@@ -116,7 +116,7 @@ module _ (P : Gate → Type 0) where
       (block-each 0 (variables s) (variables s) (kindAt s) o b (read-typed s b n read) (starts (variables s)) (λ j _. starts-each (variables s) o j) i (omega arith))
 
   -- and what holds of whatever gate is made, starting values apart, of every gate past these
-  pub rule-past : (s : List ℕ) (b : Block) (n : ℕ) → readRule s ≡ parsed b n → OfMade 0 → (i : ℕ) → variables s ≤ i → P (gateAt (gatesOf s) i)
+  rule-past : (s : List ℕ) (b : Block) (n : ℕ) → readRule s ≡ parsed b n → OfMade 0 → (i : ℕ) → variables s ≤ i → P (gateAt (gatesOf s) i)
   rule-past s b n read o =
       rw (gatesOf, read-plain s b n read)
       (block-each (variables s) 0 (variables s) (kindAt s) o b (read-typed s b n read) (starts (variables s)) (starts-past (variables s) (o .of-word 0)))

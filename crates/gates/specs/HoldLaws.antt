@@ -33,7 +33,7 @@ module _ {A : Type 0} (d : A) (value : (ℕ → A) → Gate → A) where
 
   module _ (o : OnArguments value) (c : ℕ) (p q : List ℕ) (h : ℕ → A) where
     -- if the choice of each listed variable gives h of it, and every other variable's gate gives h of it already, then after the choices all do
-    pub choices-hold : (l : List ℕ) (m : Making) → CanChoose (length (m .gates)) c p q l → Inside (length (m .gates)) (m .present)
+    choices-hold : (l : List ℕ) (m : Making) → CanChoose (length (m .gates)) c p q l → Inside (length (m .gates)) (m .present)
         → ((x : ℕ) → x ∈ l → value (runAt d value (m .gates)) (choice c (getD p x 0) (getD q x 0)) ≡ h x)
         → ((x : ℕ) → x < length (m .present) → (x ∈ l) ⊎ (runAt d value (m .gates) (getD (m .present) x 0) ≡ h x))
         → PresentGives (choices c p q l m) h

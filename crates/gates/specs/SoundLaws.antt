@@ -133,7 +133,7 @@ module _ (v : ℕ) (m : Making) (n : Made) (first second : Making) (w : Parts v 
         second = λ x z. inside-at _ (second .present) x (w .second-sound .inside) (rw (w .second-sound .count, ← e) (assigned-below b d _ x z));
       }
 
-  pub parts-sound : (b d : Block) → Sound v (choices (n .place) (first .present) (second .present) (assignedIn b d (length (m .present))) (asBefore m (second .gates)))
+  parts-sound : (b d : Block) → Sound v (choices (n .place) (first .present) (second .present) (assignedIn b d (length (m .present))) (asBefore m (second .gates)))
   parts-sound b d =
       choices-sound v (n .place) (first .present) (second .present) (assignedIn b d (length (m .present))) (asBefore m (second .gates)) (parts-ready b d)
       (sound-again v m (second .gates) (w .before) parts-whole (w .second-sound .earlier))

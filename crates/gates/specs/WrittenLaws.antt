@@ -1,13 +1,12 @@
 -- Laws of what a run writes: 0 for a working variable, for a result variable its figure at the run's end. Assumes nothing.
 use Prim.Native.Nat.{ℕ, _<_}
-use native.Mathlib.Nat.{zero-add}
 use native.Mathlib.Omega.{arith}
 use mathlib.Core.Path.{_≡_, _∙_}
 use mathlib.Core.Bool.{true, false}
 use mathlib.Core.List.{List, map}
 use lib.ListN.{getD}
 use Rattle.words.specs.Lists.{upto}
-use Rattle.words.specs.ListLaws.{getD-run, map-same}
+use Rattle.words.specs.ListLaws.{map-same, getD-upto}
 use Rattle.words.specs.MemberLaws.{from-below}
 use Rattle.reading.specs.Header.{variables, workingAt}
 use Rattle.gates.specs.Running.{runRule, writtenFor, runWrites}
@@ -15,7 +14,7 @@ use Rattle.gates.specs.Running.{runRule, writtenFor, runWrites}
 module _ (s inputs : List ℕ) (x : ℕ) (l : x < variables s) where
   written-at : getD (runWrites s inputs) x 0 ≡ writtenFor s x (getD (runRule s inputs) x 0)
   unfolding runWrites
-  written-at = rw zero-add at (getD-run (λ y. writtenFor s y (getD (runRule s inputs) y 0)) 0 0 (variables s) x l)
+  written-at = getD-upto (λ y. writtenFor s y (getD (runRule s inputs) y 0)) 0 (variables s) x l
 
   pub writes-result : workingAt s x ≡ false → getD (runWrites s inputs) x 0 ≡ getD (runRule s inputs) x 0
   writes-result f = written-at ∙ rw f

@@ -4,14 +4,13 @@ use mathlib.Core.Path.{_≡_, refl, sym, ap, _∙_}
 use mathlib.Core.List.{List, [], _∷_, map}
 use mathlib.Core.Bool.{Bool, true, false, cond}
 use mathlib.Core.Logic.{_⊎_, inl, inr}
-use native.Mathlib.Nat.{zero-add}
 use native.Mathlib.Omega.{arith}
 use lib.ListN.{length, getD, set, replicate, length-map, length-replicate, length-set, List·getD-eq-default}
 use lib.Seq.{getD-set-same, getD-set-other, ext-getD}
 use lib.Dec.{ltb}
 use borrow.Author.Tests.{eq-eqb, ne-eqb, ltb-true, ltb-false}
 use Rattle.words.specs.Lists.{_∈_, elem, upto}
-use Rattle.words.specs.ListLaws.{length-from, getD-run, getD-zeros}
+use Rattle.words.specs.ListLaws.{length-from, getD-zeros, getD-upto}
 use Rattle.words.specs.TestLaws.{split, same?}
 use Rattle.gates.specs.Limits.{mostGates}
 use Rattle.words.specs.Buffers.{padded}
@@ -31,7 +30,7 @@ module _ (f : ℕ → ℕ) (n : ℕ) where
   table-length h = padded-length mostGates (map f (upto n)) (rw run-length h)
 
   table-at : (g : ℕ) → g < n → getD (padded mostGates (map f (upto n))) g 0 ≡ f g
-  table-at g h = padded-at mostGates (map f (upto n)) g ∙ getD-run f 0 0 n g h ∙ ap f (zero-add g)
+  table-at g h = padded-at mostGates (map f (upto n)) g ∙ getD-upto f 0 n g h
 
   table-after : (g : ℕ) → n ≤ g → getD (padded mostGates (map f (upto n))) g 0 ≡ 0
   table-after g h = padded-at mostGates (map f (upto n)) g ∙ List·getD-eq-default (map f (upto n)) 0 {n = g} (rw run-length h)

@@ -9,7 +9,7 @@ use lib.ListN.{length, getD, set, replicate, length-set, length-append}
 use lib.Dec.{eqb}
 use borrow.Author.Tests.{eqb-true, eqb-false, eq-eqb, ne-eqb}
 use lib.Seq.{getD-set-same, getD-set-other}
-use Rattle.words.specs.ListLaws.{getD-zeros, getD-from, from-more}
+use Rattle.words.specs.ListLaws.{getD-zeros, getD-from, upto-more}
 use Rattle.words.specs.Lists.{keep, from, upto}
 use Rattle.words.specs.TestLaws.{split, same?}
 use Rattle.settings.specs.Settings.{bit}
@@ -136,8 +136,7 @@ module _ (condition : ℕ) (first second : List ℕ) (mask v : ℕ) (quads prese
 starts-more : (x : ℕ) → map start (upto (x + 1)) ≡ map start (upto x) ++ (start x ∷ [])
 starts-more x =
     let e : x + 1 ≡ suc x = omega arith in
-    ap (λ (k : ℕ). map start (upto k)) e ∙ ap (map start) (from-more 0 x) ∙ map-append start (upto x) ((0 + x) ∷ []) ∙ ap
-    (λ (k : ℕ). map start (upto x) ++ (start k ∷ [])) (omega arith)
+    ap (λ (k : ℕ). map start (upto k)) e ∙ ap (map start) (upto-more x) ∙ map-append start (upto x) (x ∷ [])
 
 -- the next variable's place is the only one that changes
 from-next : (i n k : ℕ) → (k ≡ n → ⊥) → getD (from i n) k 0 ≡ getD (from i (suc n)) k 0

@@ -4,14 +4,13 @@ use mathlib.Core.Path.{_≡_, refl, sym, ap, _∙_}
 use mathlib.Core.List.{List, [], _∷_, _++_}
 use mathlib.Core.Bool.{Bool, true, false, cond, _&&_}
 use mathlib.Core.Logic.{_⊎_, inl, inr}
-use native.Mathlib.Nat.{zero-add}
 use native.Mathlib.Omega.{arith}
 use lib.ListN.{length, getD, length-append, List·getD-append}
 use lib.Seq.{getD-at}
 use lib.Dec.{eqb, leb}
 use borrow.Author.Tests.{eq-eqb, ne-eqb}
 use Rattle.words.specs.Lists.{_∈_}
-use Rattle.words.specs.ListLaws.{getD-run}
+use Rattle.words.specs.ListLaws.{getD-upto}
 use Rattle.words.specs.TestLaws.{same?}
 use Rattle.codes.specs.Codes.{plain, entryOf, operationOf, codeOf, choiceCost}
 use Rattle.codes.specs.CodeLaws.{code-unknown}
@@ -161,7 +160,7 @@ costs-step quads i n k p q = rw (p, q) (sym (ap (λ (j : ℕ). costs (gatesIn qu
 
 pub cost-listed : (costs : List ℕ) (code : ℕ) → costs ≡ costTable → code < 64 → getD costs code 0 ≡ codeCost code
 unfolding costTable
-cost-listed costs code e h = rw e (getD-run codeCost 0 0 64 code h ∙ ap codeCost (zero-add code))
+cost-listed costs code e h = rw e (getD-upto codeCost 0 64 code h)
 
 pub cost-past : (code : ℕ) → 64 ≤ code → 0 ≡ codeCost code
 unfolding codeCost

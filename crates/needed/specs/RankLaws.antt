@@ -4,14 +4,13 @@ use mathlib.Core.Path.{_≡_, refl, sym, ap, _∙_}
 use mathlib.Core.List.{List, [], _∷_, _++_, append-nil}
 use mathlib.Core.Bool.{false, not, cond}
 use mathlib.Core.Logic.{_⊎_, inl, inr}
-use native.Mathlib.Nat.{zero-add}
 use native.Mathlib.Omega.{arith}
 use lib.ListN.{length, getD, set, length-append, length-map, length-set}
 use lib.Seq.{getD-set-same, getD-set-other}
 use lib.Dec.{eqb}
 use borrow.Author.Tests.{eq-eqb, ne-eqb, eqb-true, eqb-false}
 use Rattle.words.specs.Lists.{_∈_, keep, upto}
-use Rattle.words.specs.ListLaws.{length-from, from-more, keep-more, length-keep, getD-run}
+use Rattle.words.specs.ListLaws.{length-from, keep-more, length-keep, upto-more, getD-upto}
 use Rattle.words.specs.MemberLaws.{keep-from, from-below}
 use Rattle.words.specs.TestLaws.{split, same?}
 use Rattle.gates.specs.Gates.{Gates, conditions}
@@ -58,7 +57,7 @@ rank-found (c ∷ l) g m = split (eqb g c) (λ e. record { at = 0; rank = rw e; 
 
 pub rank-at : (C : Gates) (n g : ℕ) → g < n → getD (ranksOf C n) g 0 ≡ rankIn (conditions C) g
 unfolding ranksOf
-rank-at C n g h = getD-run (rankIn (conditions C)) 0 0 n g h ∙ ap (rankIn (conditions C)) (zero-add g)
+rank-at C n g h = getD-upto (rankIn (conditions C)) 0 n g h
 
 pub ranks-length : (C : Gates) (n : ℕ) → length (ranksOf C n) ≡ n
 unfolding ranksOf
@@ -69,7 +68,7 @@ ranks-length C n = length-map (upto n) (rankIn (conditions C)) ∙ length-from 0
 marked-next : (marks : List ℕ) (n : ℕ) → markedIn marks (suc n) ≡ markedIn marks n ++ cond (not (eqb (getD marks n 0) 0)) (n ∷ []) []
 unfolding markedIn
 marked-next marks n =
-    ap (keep (λ g. not (eqb (getD marks g 0) 0))) (from-more 0 n ∙ ap (λ (k : ℕ). upto n ++ (k ∷ [])) (zero-add n))
+    ap (keep (λ g. not (eqb (getD marks g 0) 0))) (upto-more n)
     ∙ keep-more (λ g. not (eqb (getD marks g 0) 0)) (upto n) n
 
 pub marked-one : (marks : List ℕ) (n : ℕ) → (getD marks n 0 ≡ 0 → ⊥) → markedIn marks (suc n) ≡ markedIn marks n ++ (n ∷ [])

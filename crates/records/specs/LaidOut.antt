@@ -45,5 +45,5 @@ pub record LaidOut (f : List ℕ) : Type 0 where
   pub marked : take (length mark) f ≡ mark
   -- every record is whole
   pub whole : (i : ℕ) → i < wireCount f → WholeAt f (recordPlace f i)
-  -- an output wire for each variable, and nothing after them
+  -- an output for each variable, and nothing after them
   pub ended : recordPlace f (wireCount f) + 2 * fileVariables f ≡ length f

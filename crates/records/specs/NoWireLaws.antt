@@ -16,21 +16,18 @@ use Rattle.records.specs.FileFigures.{outputFigure, fileFigures}
 use Rattle.records.specs.FitRecords.{FileFits}
 use Rattle.records.specs.FileLaws.{file-figures}
 use Rattle.records.specs.SizeLaws.{file-size}
+use Rattle.records.specs.StandLaws.{Out}
 use Rattle.records.specs.WellFormed.{WellFormed}
 
 module _ (v : ℕ) (R : List Record) (outputs : List ℕ) (x : ℕ) where
   abbrev less : List ℕ
   less = set outputs x noWire
 
-  -- what row 62 asks of an output
-  Stands : ℕ → ℕ → Type 0
-  Stands y w = (w ≡ noWire) ⊎ ((w < length R) × (wireKind R w ≡ wireKind R y))
-
-  outs-less : ((y : ℕ) → y < length outputs → Stands y (getD outputs y 0)) → (y : ℕ) → y < length outputs → Stands y (getD less y 0)
-  unfolding Stands
+  outs-less : ((y : ℕ) → y < length outputs → Out (length R) (wireKind R) y (getD outputs y 0)) → (y : ℕ) → y < length outputs
+      → Out (length R) (wireKind R) y (getD less y 0)
   outs-less h y l = go (same? y x)
     where
-      go : (y ≡ x) ⊎ (y ≡ x → ⊥) → Stands y (getD less y 0)
+      go : (y ≡ x) ⊎ (y ≡ x → ⊥) → Out (length R) (wireKind R) y (getD less y 0)
       go (inl e) = inl (rw e (getD-set-same outputs x noWire 0 (rw e at l)))
       go (inr n) = rw (getD-set-other outputs x y noWire 0 n) (h y l)
 
@@ -43,7 +40,6 @@ module _ (v : ℕ) (R : List Record) (outputs : List ℕ) (x : ℕ) where
   }
 
   pub well-less : WellFormed v R outputs → WellFormed v R (set outputs x noWire)
-  unfolding Stands
   well-less w = record {
     some = w .some;
     few = w .few;

@@ -1,4 +1,4 @@
--- Document 02, C-11: the circuits whose files are read, said without a reader: a list of records and output wires for v variables that rows 60 to 62 find no fault with.
+-- Document 02, C-11: the circuits whose files are read, said without a reader: a list of records and outputs for v variables that rows 60 to 62 find no fault with.
 -- That a file passes the rows exactly when it is the bytes of one: `circuit-format` (FormatLaws).
 use Prim.Native.Nat.{ℕ, _^_, _≤_, _<_}
 use mathlib.Core.Path.{_≡_}

@@ -21,7 +21,7 @@ use Rattle.settings.specs.FlipLaws.{flip-suc, flip-below, settingOf-flip
 use Rattle.settings.specs.SetLaws.{restsOn-right}
 
 -- whether P rests on c is the same over more settings than cs has: bits of j beyond the conditions say nothing
-pub rests-more : (P : Setting → Bool) (cs : List ℕ) → Over cs P → (c N : ℕ) → 2 ^ length cs ≤ N → preRestsOn P cs c ≡ anyBelow (moves P cs c) N
+rests-more : (P : Setting → Bool) (cs : List ℕ) → Over cs P → (c N : ℕ) → 2 ^ length cs ≤ N → preRestsOn P cs c ≡ anyBelow (moves P cs c) N
 unfolding preRestsOn
 rests-more P cs over c N h = same-test (anyBelow (moves P cs c) (2 ^ length cs)) (anyBelow (moves P cs c) N) to back
   where

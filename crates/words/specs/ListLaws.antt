@@ -36,11 +36,15 @@ pub from-more : (i n : ℕ) → from i (suc n) ≡ from i n ++ ((i + n) ∷ [])
 from-more i zero = ap (λ (k : ℕ). k ∷ []) (sym (add-zero i))
 from-more i (suc n) = ap (λ (l : List ℕ). i ∷ l) (from-more (suc i) n ∙ ap (λ (k : ℕ). from (suc i) n ++ (k ∷ [])) (omega arith))
 
+-- of the run from 0
+pub upto-more : (n : ℕ) → upto (suc n) ≡ upto n ++ (n ∷ [])
+upto-more n = from-more 0 n ∙ ap (λ (k : ℕ). upto n ++ (k ∷ [])) (zero-add n)
+
 -- one number more of a run, kept or not
 kept-next : (p : ℕ → Bool) (n : ℕ) → keep p (upto (n + 1)) ≡ keep p (upto n) ++ cond (p n) (n ∷ []) []
 kept-next p n =
     let e : n + 1 ≡ suc n = omega arith in
-    rw e (ap (keep p) (from-more 0 n ∙ ap (λ (k : ℕ). upto n ++ (k ∷ [])) (zero-add n)) ∙ keep-more p (upto n) n)
+    rw e (ap (keep p) (upto-more n) ∙ keep-more p (upto n) n)
 
 pub keep-yes : (p : ℕ → Bool) (n : ℕ) → p n ≡ true → keep p (upto (n + 1)) ≡ keep p (upto n) ++ (n ∷ [])
 keep-yes p n h = kept-next p n ∙ rw h
@@ -58,6 +62,9 @@ pub getD-run : {A : Type 0} (f : ℕ → A) (d : A) (i n g : ℕ) → g < n → 
 getD-run f d i zero g h = absurd (omega arith)
 getD-run f d i (suc n) zero h = ap f (sym (add-zero i))
 getD-run f d i (suc n) (suc g) h = getD-run f d (suc i) n g (omega arith) ∙ ap f (omega arith)
+
+pub getD-upto : {A : Type 0} (f : ℕ → A) (d : A) (n g : ℕ) → g < n → getD (map f (upto n)) g d ≡ f g
+getD-upto f d n g h = getD-run f d 0 n g h ∙ ap f (zero-add g)
 
 pub getD-zeros : (n g : ℕ) → _≡_ {A = ℕ} (getD (replicate n 0) g 0) 0
 getD-zeros zero g = refl
