@@ -1,0 +1,25 @@
+// The backward pass alone, exported so that it can be measured; nothing of the product calls it.
+ghost use mathlib.Core.Path.{_≡_};
+ghost use mathlib.Core.List.{_++_};
+ghost use Prim.Native.Nat.{_-_};
+ghost use lib.ListN.{replicate};
+ghost use Rattle.words.specs.Lists.{Inside};
+ghost use Rattle.gates.specs.Limits.{mostGates, mostConditions};
+ghost use Rattle.needed.specs.Held.{gatesIn};
+ghost use Rattle.needed.specs.Pass.{preconditionSets};
+ghost use Rattle.needed.specs.Passing.{Passable};
+
+// Every gate's precondition, in sets that are lent clear. Whoever calls it lends what `passing::find_needed` asks for.
+#[no_mangle]
+pub extern "C" fn linnet_pass(
+    quads: &[u32; 1024],
+    count: usize,
+    ranks: &[u16; 256],
+    wanted: &[u16],
+    sets: &mut [u64; 256],
+)
+    requires { ⌜ (Passable (now quads) (now ranks) count × Inside count (now wanted)) × (now sets ≡ replicate 256 0) ⌝ }
+    ensures { λ r. ⌜ now (sets .exit) ≡ preconditionSets mostConditions (gatesIn (now (quads .entry)) count) (now (wanted .entry)) ++ replicate (mostGates - count) 0 ⌝ }
+{
+    passing::find_needed(quads, count, ranks, wanted, sets)
+}
