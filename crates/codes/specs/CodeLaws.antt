@@ -2,7 +2,7 @@
 use Prim.Native.Nat.{ℕ, suc, _<_, _≤_}
 use native.Mathlib.Omega.{arith}
 use mathlib.Core.Path.{_≡_, refl, sym, ap, subst⁻¹, _∙_}
-use mathlib.Core.Logic.{_⊎_, inl, inr}
+use mathlib.Core.Logic.{_⊎_, inl, inr, ⊎-elim}
 use mathlib.Core.Bool.{Bool, true, false, _&&_, false≢true, cond}
 use lib.Dec.{eqb, leb}
 use borrow.Author.Tests.{ne-eqb, le-leb, lt-leb, eqb-true, leb-true}
@@ -102,6 +102,20 @@ one-or-two Equal = inr refl
 one-or-two And = inr refl
 one-or-two Or = inr refl
 one-or-two Not = inl refl
+
+pub some-arguments : (op : Operation) → 0 < entryOf op .arity
+some-arguments op = ⊎-elim (λ e. rw e (omega arith)) (λ e. rw e (omega arith)) (one-or-two op)
+
+-- not has one argument, an operation of a lower code two
+pub two-arguments : (b : ℕ) → 0x20 ≤ b → b < 0x27 → entryOf (operationOf b) .arity ≡ 2
+unfolding operationOf
+two-arguments b l h =
+    from-on b 0x20 l (λ e. rw e) (λ p. from-on b 0x21 p (λ e. rw e) (λ q. from-on b 0x22 q (λ e. rw e) (λ r. from-on b 0x23 r (λ e. rw e)
+    (λ t. from-on b 0x24 t (λ e. rw e) (λ u. from-on b 0x25 u (λ e. rw e) (λ v. let e : b ≡ 0x26 = omega arith in rw e))))))
+
+pub one-argument : (b : ℕ) → b ≡ 0x27 → entryOf (operationOf b) .arity ≡ 1
+unfolding operationOf
+one-argument b e = rw e
 
 pub entry-form : (op : Operation) → entryOf op .form ≡ Apply op
 entry-form Sum = refl

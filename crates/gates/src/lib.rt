@@ -3,9 +3,14 @@
 // A gate's number in the plain circuit; never taken for a wire number of a circuit file.
 pub struct GateId(pub u16);
 
-// The codes of constants and choices in the quads of gates (specs/Quads.antt); an operation has its byte, a starting value its kind.
+// The codes of constants, of the first and the last operation and of choices in the quads of gates (specs/Quads.antt); an operation has its byte,
+// a starting value its kind. The last operation, not, is the one that has one argument.
 pub const WORD: u32 = 0x11;
 
 pub const BIT: u32 = 0x12;
+
+pub const SUM: u32 = 0x20;
+
+pub const NOT: u32 = 0x27;
 
 pub const CHOICE: u32 = 0x30;

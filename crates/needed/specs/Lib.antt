@@ -15,6 +15,8 @@ pub mod NeededLaws
 pub mod HandLaws
 pub mod MarkLaws
 pub mod PassLaws
+pub mod Reaching
+pub mod ReachingLaws
 pub mod PreconditionLaws
 pub mod StepLaws
 pub mod Passing

@@ -38,9 +38,12 @@ module _ {J : Type 0} {setting : J → Setting} {S : Type 0} {has : S → J → 
   passSets C zero M = M
   passSets C (suc i) M = passSets C i (hand (gateAt C i) (getD M i empty) M)
 
-  -- what is wanted from the start has every setting, then the pass
+  -- the list that the pass begins with: what is wanted from the start has every setting
+  abbrev pub wantedSets : Gates → List ℕ → List S
+  wantedSets C wanted = addAll wanted whole (replicate (length C) empty)
+
   unfoldable pub preconditions : Gates → List ℕ → List S
-  preconditions C wanted = passSets C (length C) (addAll wanted whole (replicate (length C) empty))
+  preconditions C wanted = passSets C (length C) (wantedSets C wanted)
 
 -- the sets of one setting: it is in or out
 abbrev pub alone : (σ : Setting) → SetsOf (Unit {0}) (λ j. σ) Bool (λ s j. s)

@@ -9,6 +9,7 @@ use Rattle.settings.specs.Numbers.{numbers}
 use Rattle.needed.specs.Held.{gatesIn}
 use Rattle.needed.specs.Ranks.{ranksOf}
 use Rattle.needed.specs.Pass.{hand, passSets}
+use Rattle.needed.specs.Reaching.{Reaching, handFrom}
 use Rattle.needed.specs.StepLaws.{addNumber}
 
 -- put the set s to those of the listed gates
@@ -23,6 +24,14 @@ handGate C i M = hand (numbers 64 (conditions C)) (gateAt C i) (getD M i 0) M
 -- the pass over the gates below k, downwards
 unfoldable pub passGates : Gates → ℕ → List ℕ → List ℕ
 passGates C k M = passSets (numbers 64 (conditions C)) C k M
+
+-- the list at the gate that the pass reaches
+abbrev pub ReachingGates : Gates → ℕ → List ℕ → ℕ → List ℕ → Type 0
+ReachingGates C n M₀ k M = Reaching (numbers 64 (conditions C)) C n M₀ k M
+
+-- the gates below k, downwards, each handing on the set that the list F has for it
+unfoldable pub handGatesFrom : Gates → List ℕ → ℕ → List ℕ → List ℕ
+handGatesFrom C F k M = handFrom (numbers 64 (conditions C)) C F k M
 
 -- what the pass is given: gates in quads, at most 256, arguments before their gates, at most six conditions, and their numbers
 pub record Passable (quads ranks : List ℕ) (count : ℕ) : Type 0 where

@@ -2,7 +2,6 @@
 use Prim.Native.Nat.{ℕ, zero, suc, _+_, _-_, _^_, _≤_, _<_}
 use mathlib.Core.Path.{_≡_, refl, sym, ap, _∙_}
 use mathlib.Core.List.{List, [], _∷_, _++_}
-use mathlib.Core.Logic.{inl, inr}
 use native.Mathlib.Omega.{arith}
 use lib.ListN.{length, getD, take, replicate, length-replicate}
 use lib.Seq.{take-suc, take-length}
@@ -10,14 +9,16 @@ use Rattle.words.specs.MemberLaws.{getD-in}
 use Rattle.words.specs.Lists.{Inside}
 use Rattle.settings.specs.Sets.{whole, given, without}
 use Rattle.settings.specs.Numbers.{numbers}
-use Rattle.gates.specs.Gates.{Gates, conditions}
-use Rattle.needed.specs.Pass.{addAll, passSets, preconditions, preconditionSets}
+use Rattle.gates.specs.Gates.{Gates, gateAt, conditions}
+use Rattle.needed.specs.Pass.{addAll, hand, passSets, preconditions, preconditionSets}
 use Rattle.needed.specs.HandLaws.{addAll-length}
 use Rattle.needed.specs.PassLaws.{pass-length}
+use Rattle.needed.specs.Reaching.{begun, handed, handFrom}
+use Rattle.needed.specs.ReachingLaws.{reached-end, reached-final}
 use Rattle.needed.specs.StepLaws.{addNumber, preconditions-room}
 use Rattle.needed.specs.Held.{gatesIn}
 use Rattle.needed.specs.HeldLaws.{gates-length}
-use Rattle.needed.specs.Passing.{addNumbers, handGate, passGates, Passable}
+use Rattle.needed.specs.Passing.{addNumbers, handGate, passGates, ReachingGates, handGatesFrom, Passable}
 
 -- Unions, one after the other.
 
@@ -31,45 +32,7 @@ unfolding addNumbers
 add-more [] a s M = refl
 add-more (b ∷ l) a s M = add-more l a s (addNumber b s M)
 
--- to no argument, one or two
-pub args-none : (n a b s : ℕ) (M : List ℕ) → n ≤ 0 → addNumbers (take n (a ∷ b ∷ [])) s M ≡ M
-unfolding addNumbers
-args-none zero a b s M h = refl
-args-none (suc n) a b s M h = absurd (omega arith)
-
-pub args-one : (n a b s : ℕ) (M : List ℕ) → 0 < n → n ≤ 1 → addNumbers (take n (a ∷ b ∷ [])) s M ≡ addNumber a s M
-unfolding addNumbers
-args-one n a b s M h l = let e : n ≡ 1 = omega arith in rw e
-
-take-two : (n a b : ℕ) → 1 < n → take n (a ∷ b ∷ []) ≡ a ∷ b ∷ []
-take-two zero a b h = absurd (omega arith)
-take-two (suc zero) a b h = absurd (omega arith)
-take-two (suc (suc zero)) a b h = refl
-take-two (suc (suc (suc n))) a b h = refl
-
-pub args-two : (n a b s : ℕ) (M : List ℕ) → 1 < n → addNumbers (take n (a ∷ b ∷ [])) s M ≡ addNumber b s (addNumber a s M)
-unfolding addNumbers
-args-two n a b s M h = rw (take-two n a b h)
-
-pub first-inside : (n a b : ℕ) → 0 < n → Inside 256 (take n (a ∷ b ∷ [])) → a < 256
-first-inside zero a b h i = absurd (omega arith)
-first-inside (suc n) a b h i = i a (inl refl)
-
-pub second-inside : (n a b : ℕ) → 1 < n → Inside 256 (take n (a ∷ b ∷ [])) → b < 256
-second-inside n a b h i = i b (rw (take-two n a b h) (inr (inl refl)))
-
--- the same of sets changed one after the other
-pub args-both : (n a b s : ℕ) (M M₁ M₂ : List ℕ) → 1 < n → M₁ ≡ addNumber a s M → M₂ ≡ addNumber b s M₁ → M₂ ≡ addNumbers (take n (a ∷ b ∷ [])) s M
-args-both n a b s M M₁ M₂ h e f = f ∙ ap (addNumber b s) e ∙ sym (args-two n a b s M h)
-
--- the same of arguments x, y that were read where a, b stand
-pub read-one : (n a b x s : ℕ) (M N : List ℕ) → 0 < n → n ≤ 1 → x ≡ a → N ≡ addNumber x s M → N ≡ addNumbers (take n (a ∷ b ∷ [])) s M
-read-one n a b x s M N h l e q = q ∙ rw e (sym (args-one n a b s M h l))
-
-pub read-both : (n a b x y s : ℕ) (M M₁ M₂ : List ℕ) → 1 < n → x ≡ a → y ≡ b → M₁ ≡ addNumber x s M → M₂ ≡ addNumber y s M₁
-    → M₂ ≡ addNumbers (take n (a ∷ b ∷ [])) s M
-read-both n a b x y s M M₁ M₂ h e f q r = args-both n a b s M M₁ M₂ h (rw e at q) (rw f at r)
-
+-- the same of a choice's three, the last two of which get the parts of its set
 pub choice-sets : (t c a b s g w : ℕ) (M M₁ M₂ M₃ : List ℕ) → M₁ ≡ addNumber c s M → g ≡ given 64 t s → M₂ ≡ addNumber a g M₁ → w ≡ without 64 t s
     → M₃ ≡ addNumber b w M₂ → M₃ ≡ addNumber b (without 64 t s) (addNumber a (given 64 t s) (addNumber c s M))
 choice-sets t c a b s g w M M₁ M₂ M₃ e₁ eg e₂ ew e₃ =
@@ -105,34 +68,46 @@ wanting-end wanted M₀ M x w l =
     let e : x ≡ length wanted = omega (arith, w .low) in
     w .done ∙ ap (λ (k : List ℕ). addNumbers k (whole 64) M₀) (rw e (take-length wanted))
 
--- The loop downwards over the gates.
+-- The loop downwards over the gates, the lent list being M: where the pass is, and the gates gone over handed on the sets that they end with.
 
 pub record WalkingBack (quads ranks M₀ M : List ℕ) (count i : ℕ) : Type 0 where
   pub low : i ≤ count
   pub passable : Passable quads ranks count
-  pub rest : passGates (gatesIn quads count) i M ≡ passGates (gatesIn quads count) count M₀
+  pub reached : ReachingGates (gatesIn quads count) count M₀ i M
+  pub gone : handGatesFrom (gatesIn quads count) (passGates (gatesIn quads count) count M₀) i M
+      ≡ handGatesFrom (gatesIn quads count) (passGates (gatesIn quads count) count M₀) count M₀
 
 pub walking-start : (quads ranks M : List ℕ) (count : ℕ) → Passable quads ranks count → WalkingBack quads ranks M M count count
-walking-start quads ranks M count p = record { low = omega arith; passable = p; rest = refl }
+walking-start quads ranks M count p = record { low = omega arith; passable = p; reached = begun; gone = refl }
 
-pass-step : (C : Gates) (i : ℕ) (M : List ℕ) → passGates C (suc i) M ≡ passGates C i (handGate C i M)
-unfolding passGates handGate numbers
-pass-step C i M = refl
+-- each gate's set in the lent list is final when the loop reaches the gate
+pub walking-final : (quads ranks M₀ M : List ℕ) (count i : ℕ) → WalkingBack quads ranks M₀ M count i → (g : ℕ) → i ≤ suc g
+    → getD M g 0 ≡ getD (passGates (gatesIn quads count) count M₀) g 0
+unfolding passGates numbers
+walking-final quads ranks M₀ M count i w = reached-final (numbers 64 (conditions (gatesIn quads count))) _ _ _ (w .passable .earlier) (w .reached)
 
-pub walking-step : (quads ranks M₀ M N : List ℕ) (count i : ℕ) → WalkingBack quads ranks M₀ M count i → 0 < i → N ≡ handGate (gatesIn quads count) (i - 1) M
+pub walking-step : (quads ranks M₀ M N : List ℕ) (count i : ℕ) → WalkingBack quads ranks M₀ M count i → 0 < i
+    → getD M (i - 1) 0 ≡ getD (passGates (gatesIn quads count) count M₀) (i - 1) 0 → N ≡ handGate (gatesIn quads count) (i - 1) M
     → WalkingBack quads ranks M₀ N count (i - 1)
-walking-step quads ranks M₀ M N count zero w l q = absurd (omega arith)
-walking-step quads ranks M₀ M N count (suc i) w l q =
+unfolding handGate handGatesFrom numbers
+walking-step quads ranks M₀ M N count zero w l f q = absurd (omega arith)
+walking-step quads ranks M₀ M N count (suc i) w l f q =
+    let C = gatesIn quads count in
+    let S = numbers 64 (conditions C) in
     let e : suc i - 1 ≡ i = omega arith in
     record {
       low = omega (arith, w .low);
       passable = w .passable;
-      rest = rw e (ap (passGates (gatesIn quads count) i) (rw e at q) ∙ sym (pass-step (gatesIn quads count) i M) ∙ w .rest);
+      reached = rw (q, e) (handed (w .reached));
+      gone = rw (q, e) (ap (λ (s : ℕ). handFrom S C (passGates C count M₀) i (hand S (gateAt C i) s M)) (rw e at f) ∙ w .gone);
     }
 
-pub walking-end : (quads ranks M₀ M : List ℕ) (count i : ℕ) → WalkingBack quads ranks M₀ M count i → i ≤ 0 → M ≡ passGates (gatesIn quads count) count M₀
-unfolding passGates
-walking-end quads ranks M₀ M count zero w l = w .rest
+pub walking-end : (quads ranks M₀ M : List ℕ) (count i : ℕ) → WalkingBack quads ranks M₀ M count i → i ≤ 0
+    → (M ≡ passGates (gatesIn quads count) count M₀) × (M ≡ handGatesFrom (gatesIn quads count) M count M₀)
+unfolding passGates handGatesFrom
+walking-end quads ranks M₀ M count zero w l =
+    let f = reached-end (numbers 64 (conditions (gatesIn quads count))) _ _ _ (w .reached) in
+    (f, w .gone ∙ ap (λ (F : List ℕ). handGatesFrom (gatesIn quads count) F count M₀) (sym f))
 walking-end quads ranks M₀ M count (suc i) w l = absurd (omega arith)
 
 -- Both: the sets that are wanted, then the pass, give the preconditions, and empty sets past the gates.

@@ -23,7 +23,7 @@ pub fn argument(quads: &[u32; 1024], at: usize) -> GateId
 }
 
 // What a code means, by the table of codes; a number that is no byte is no code, as FF is none.
-pub fn code_entry(code: u32) -> codes::Code
+fn code_entry(code: u32) -> codes::Code
     ensures { λ r. ⌜ r ≡ codeOf code ⌝ }
 {
     if code < 256 {

@@ -2,16 +2,18 @@
 // The lent arrays hold plain numbers; a gate's number in hand is a `GateId`.
 use gates::GateId;
 ghost use mathlib.Core.Path.{_≡_};
-ghost use mathlib.Core.List.{_∷_, [], _++_};
+ghost use mathlib.Core.List.{_++_};
 ghost use Prim.Native.Nat.{_-_, _<_, _≤_};
-ghost use lib.ListN.{getD, take, replicate};
+ghost use lib.ListN.{getD, replicate};
+ghost use Rattle.codes.specs.Codes.{entryOf, operationOf};
 ghost use Rattle.settings.specs.Sets.{whole, given, without};
 ghost use Rattle.gates.specs.Limits.{mostGates, mostConditions};
 ghost use Rattle.words.specs.Lists.{Inside};
-ghost use Rattle.needed.specs.Held.{firstAt, secondAt, gatesIn};
+ghost use Rattle.needed.specs.Held.{argumentsOf, gatesIn};
+ghost use Rattle.needed.specs.QuadLaws.{Applies};
 ghost use Rattle.needed.specs.Pass.{preconditionSets};
 ghost use Rattle.needed.specs.StepLaws.{addNumber};
-ghost use Rattle.needed.specs.Passing.{addNumbers, handGate, passGates, Passable};
+ghost use Rattle.needed.specs.Passing.{addNumbers, handGate, passGates, handGatesFrom, Passable};
 
 // The set s is put to that of gate g.
 fn add(sets: &mut [u64; 256], g: GateId, s: u64)
@@ -35,30 +37,17 @@ fn want_all(wanted: &[u16], sets: &mut [u64; 256])
     }
 }
 
-// An operation's set goes to its arguments, one or two of them; a start or a constant has none, and its figure is not read.
-fn hand_arguments(quads: &[u32; 1024], g: GateId, arity: u8, s: u64, sets: &mut [u64; 256])
-    requires { ⌜ (g .0 < 256) × Inside 256 (take arity (firstAt (now quads) (g .0) ∷ secondAt (now quads) (g .0) ∷ [])) ⌝ }
-    ensures { λ r. ⌜ now (sets .exit) ≡ addNumbers (take arity (firstAt (now (quads .entry)) (g .0) ∷ secondAt (now (quads .entry)) (g .0) ∷ [])) s (now (sets .entry)) ⌝ }
+// An operation's set goes to its arguments: not has one, x, and every other two.
+fn hand_operation(sets: &mut [u64; 256], code: u32, x: u32, y: u32, s: u64)
+    requires { ⌜ Applies code × Inside 256 (argumentsOf (entryOf (operationOf code)) x y) ⌝ }
+    ensures { λ r. ⌜ now (sets .exit) ≡ addNumbers (argumentsOf (entryOf (operationOf code)) x y) s (now (sets .entry)) ⌝ }
 {
-    let i = g.0 as usize;
-    if 0 < arity {
-        let a = needed::argument(quads, 4 * i + 1);
-        add(sets, a, s);
-    }
-    if 1 < arity {
-        let b = needed::argument(quads, 4 * i + 2);
+    let a = GateId(x as u16);
+    add(sets, a, s);
+    if code < gates::NOT {
+        let b = GateId(y as u16);
         add(sets, b, s);
     }
-}
-
-// A choice on condition t: its set goes to the condition's gate, the settings that give t the bit 1 to the first value, the others to the second.
-fn hand_choice(sets: &mut [u64; 256], t: u8, c: GateId, a: GateId, b: GateId, s: u64)
-    requires { ⌜ (t < 6) × ((c .0 < 256) × ((a .0 < 256) × (b .0 < 256))) ⌝ }
-    ensures { λ r. ⌜ now (sets .exit) ≡ addNumber (b .0) (without 64 t s) (addNumber (a .0) (given 64 t s) (addNumber (c .0) s (now (sets .entry)))) ⌝ }
-{
-    add(sets, c, s);
-    add(sets, a, settings::given(t, s));
-    add(sets, b, settings::without(t, s));
 }
 
 // The number of the condition that gate c is.
@@ -70,35 +59,53 @@ fn rank_of(ranks: &[u16; 256], c: GateId) -> u8
     (ranks[i] - 1) as u8
 }
 
-// Gate g hands its set on to what it asks for.
-fn hand(quads: &[u32; 1024], count: usize, ranks: &[u16; 256], g: GateId, sets: &mut [u64; 256])
-    requires { ⌜ Passable (now quads) (now ranks) count × (g .0 < count) ⌝ }
-    ensures { λ r. ⌜ now (sets .exit) ≡ handGate (gatesIn (now (quads .entry)) count) (g .0) (now (sets .entry)) ⌝ }
+// A choice on x, whose number is t: its set goes to x, the settings that give t the bit 1 to the first value, y, the others to the second, z.
+fn hand_choice(sets: &mut [u64; 256], ranks: &[u16; 256], x: u32, y: u32, z: u32, s: u64)
+    requires { ⌜ ((x < 256) × ((0 < getD (now ranks) x 0) × (getD (now ranks) x 0 ≤ 6))) × ((y < 256) × (z < 256)) ⌝ }
+    ensures { λ r. ⌜ now (sets .exit) ≡ addNumber z (without 64 (getD (now (ranks .entry)) x 0 - 1) s)
+        (addNumber y (given 64 (getD (now (ranks .entry)) x 0 - 1) s) (addNumber x s (now (sets .entry)))) ⌝ }
 {
-    let i = g.0 as usize;
+    let c = GateId(x as u16);
+    let a = GateId(y as u16);
+    let b = GateId(z as u16);
+    let t = rank_of(ranks, c);
+    let parts = settings::part(t, s);
+    add(sets, c, s);
+    add(sets, a, parts.given);
+    add(sets, b, parts.without);
+}
+
+// Gate i hands its set on to what it asks for; its row is read once. A starting value or a constant asks for nothing, and its set is not read.
+fn hand(quads: &[u32; 1024], count: usize, ranks: &[u16; 256], i: usize, sets: &mut [u64; 256])
+    requires { ⌜ Passable (now quads) (now ranks) count × (i < count) ⌝ }
+    ensures { λ r. ⌜ now (sets .exit) ≡ handGate (gatesIn (now (quads .entry)) count) i (now (sets .entry)) ⌝ }
+{
     let code = quads[4 * i];
+    if code < gates::SUM {
+        return;
+    }
     let s = sets[i];
-    if code == gates::CHOICE {
-        let c = needed::argument(quads, 4 * i + 1);
-        let a = needed::argument(quads, 4 * i + 2);
-        let b = needed::argument(quads, 4 * i + 3);
-        let t = rank_of(ranks, c);
-        hand_choice(sets, t, c, a, b, s);
-    } else {
-        hand_arguments(quads, g, needed::code_entry(code).arity, s, sets);
+    let x = quads[4 * i + 1];
+    let y = quads[4 * i + 2];
+    if code <= gates::NOT {
+        hand_operation(sets, code, x, y, s);
+    } else if code == gates::CHOICE {
+        let z = quads[4 * i + 3];
+        hand_choice(sets, ranks, x, y, z, s);
     }
 }
 
-// The backward pass: each gate once, from the last to the first.
+// Document 02, C-14: one backward pass over one list of sets that is changed in place. Each gate has its turn once, from the last to the first;
+// its set is final by then, so the set that it hands on is the one that it has at the end.
 fn pass(quads: &[u32; 1024], count: usize, ranks: &[u16; 256], sets: &mut [u64; 256])
     requires { ⌜ Passable (now quads) (now ranks) count ⌝ }
-    ensures { λ r. ⌜ now (sets .exit) ≡ passGates (gatesIn (now (quads .entry)) count) count (now (sets .entry)) ⌝ }
+    ensures passed { λ r. ⌜ now (sets .exit) ≡ passGates (gatesIn (now (quads .entry)) count) count (now (sets .entry)) ⌝ }
+    ensures settled { λ r. ⌜ now (sets .exit) ≡ handGatesFrom (gatesIn (now (quads .entry)) count) (now (sets .exit)) count (now (sets .entry)) ⌝ }
 {
     let mut i = count;
     while 0 < i {
         i = i - 1;
-        let g = GateId(i as u16);
-        hand(quads, count, ranks, g, sets);
+        hand(quads, count, ranks, i, sets);
     }
 }
 

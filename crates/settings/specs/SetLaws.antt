@@ -6,12 +6,12 @@ use Prim.Native.Nat.{ℕ, _+_, _/_, _^_, _<_}
 use native.Mathlib.Omega.{arith}
 use native.Mathlib.Nat.{add-comm, lt-of-le-of-lt}
 use lib.Dec.{eqb}
-use lib.Bits.{bitAnd, bitXor, and-le-l, and-le-r, or-lt}
+use lib.Bits.{bitAnd, bitXor, and-le-l, and-le-r, or-lt, xor-lt}
 use borrow.Author.Tests.{eqb-true, eqb-false, ne-eqb, not-true}
 use Rattle.words.specs.TestLaws.{split, same-test, both}
 use Rattle.settings.specs.Settings.{bit, unlike}
 use Rattle.settings.specs.Sets.{has, empty, collect, whole, union, given, without, Disjoint, excludes, flipBit, MovedBy, restsOn, movers}
-use Rattle.settings.specs.BitLaws.{bit-and, bit-or, bit-xor, bit-none, bit-shift, some-bit, collect-below, collect-has}
+use Rattle.settings.specs.BitLaws.{bit-and, bit-or, bit-xor, bit-none, bit-shift, some-bit, same-bits, collect-below, collect-has}
 use Rattle.settings.specs.FlipLaws.{flip-below, flip-flip, flip-add, bit-flip}
 use Rattle.settings.specs.ListLaws.{anyBelow-some, anyBelow-has}
 
@@ -47,6 +47,17 @@ those-below N p s = lt-of-le-of-lt (and-le-r s (collect N p)) (collect-below N p
 
 pub without-below : (N t s : ℕ) → without N t s < 2 ^ N
 without-below N t s = those-below N (λ j. not (bit j t)) s
+
+-- a set of N settings but for those that give a condition 1: those that give it 0
+unlike-those : (a b : Bool) → unlike a (a && b) ≡ (a && not b)
+unlike-those true true = refl
+unlike-those true false = refl
+unlike-those false b = refl
+
+pub given-rest : (N t s : ℕ) → s < 2 ^ N → bitXor s (given N t s) ≡ without N t s
+given-rest N t s h =
+    same-bits N _ _ (xor-lt N s (given N t s) h (those-below N (λ j. bit j t) s)) (without-below N t s)
+    (λ j l. bit-xor s (given N t s) j ∙ ap (unlike (bit s j)) (has-given N t s j l) ∙ unlike-those (bit s j) (bit j t) ∙ sym (has-without N t s j l))
 
 pub unlike-means : (a b : Bool) → unlike a b ≡ true → a ≡ b → ⊥
 unlike-means true true h e = false≢true h

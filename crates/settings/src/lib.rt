@@ -69,20 +69,23 @@ fn lacking(t: u8) -> u64
     !giving(t)
 }
 
-// Those of the set s that give condition t the bit 1.
-pub fn given(t: u8, s: u64) -> u64
-    requires { ⌜ t < 6 ⌝ }
-    ensures { λ r. ⌜ r ≡ sets.given 64 t s ⌝ }
-{
-    s & giving(t)
+// A set of settings parted by a condition.
+pub struct Parted {
+    pub given: u64,
+    pub without: u64,
 }
 
-// Those of the set s that give condition t the bit 0.
-pub fn without(t: u8, s: u64) -> u64
+// The set s parted by condition t: those that give t the bit 1, and the others, which give it 0.
+pub fn part(t: u8, s: u64) -> Parted
     requires { ⌜ t < 6 ⌝ }
-    ensures { λ r. ⌜ r ≡ sets.without 64 t s ⌝ }
+    ensures given { λ r. ⌜ r .given ≡ sets.given 64 t s ⌝ }
+    ensures without { λ r. ⌜ r .without ≡ sets.without 64 t s ⌝ }
 {
-    s & lacking(t)
+    let g = s & giving(t);
+    Parted {
+        given: g,
+        without: s ^ g,
+    }
 }
 
 // 2 to the t.

@@ -9,7 +9,7 @@ want-all-requires c κs = let d = c .before .before in wanted-room _ _ (d .args 
 returns : tie.Need-returns
 returns c =
     let d = c .before .before .before .before .before in
-    found-needed _ _ _ _ _ _ _ (d .pre .0 .0) (d .pre .0 .1) (d .pre .1) (c .before .before .want-all .ensures) (c .pass .ensures)
+    found-needed _ _ _ _ _ _ _ (d .pre .0 .0) (d .pre .0 .1) (d .pre .1) (c .before .before .want-all .ensures) (c .pass .ensures .0)
 
 pub find-needed-spec : {M : Type 1} → statement M
 find-needed-spec =

@@ -1,15 +1,35 @@
+use native.Mathlib.Omega.{arith}
+use mathlib.Core.Path.{ap, _∙_}
+use Prim.Native.Nat.{ℕ, _-_}
+use lib.ListN.{getD}
+use Rattle.settings.specs.Sets.{given, without}
 use Rattle.needed.specs.PassingLaws.{choice-sets}
 use borrow.Author.Needs.{needs}
 use Rattle.passing.proofs.hand_choice.Statement.{statement}
 use Rattle.passing.proofs.hand_choice.Tie as tie
 
+part-requires : tie.Need-part-requires
+part-requires c κs = let d = c .before in omega (arith, c .rank-of .ensures, d .pre .0 .1 .0, d .pre .0 .1 .1)
+
 returns : tie.Need-returns
 returns c =
-    let x = c .before .before .before .before .before .before .before .before .args in
-    choice-sets (x .t) (x .c .0) (x .a .0) (x .b .0) (x .s) _ _ (x .sets .now) _ _ _ (c .before .before .before .before .before .before .add .ensures)
-    (c .before .before .before .before .given .ensures) (c .before .before .before .add2 .ensures) (c .before .without .ensures) (c .add3 .ensures)
+    let d = c .before .before .before .before .before .before .before .before in
+    let x = d .args in
+    let p = c .before .before .before .before .before .before .part .ensures in
+    let t = c .before .before .before .before .before .before .before .rank-of .ensures in
+    choice-sets (getD (x .ranks .now) (x .x) 0 - 1) (x .x) (x .y) (x .z) (x .s) _ _ (x .sets .now) _ _ _ (c .before .before .before .before .add .ensures)
+    (p .0 ∙ ap (λ (k : ℕ). given 64 k (x .s)) t) (c .before .before .add2 .ensures) (p .1 ∙ ap (λ (k : ℕ). without 64 k (x .s)) t) (c .add3 .ensures)
 
 pub hand-choice-spec : {M : Type 1} → statement M
 hand-choice-spec =
     tie.close
-    (tie.spec (λ c κs. search needs) (λ c κs. search needs) (λ c κs. search needs) (λ c κs. search needs) (λ c κs. search needs) returns)
+    (tie.spec
+    (λ c. search needs)
+    (λ c. search needs)
+    (λ c. search needs)
+    (λ c κs. search needs)
+    part-requires
+    (λ c κs. search needs)
+    (λ c κs. search needs)
+    (λ c κs. search needs)
+    returns)

@@ -1,6 +1,6 @@
 use borrow.Author.Needs.{needs}
 use native.Mathlib.Omega.{arith}
-use Rattle.needed.specs.PassingLaws.{WalkingBack, walking-start, walking-step, walking-end}
+use Rattle.needed.specs.PassingLaws.{WalkingBack, walking-start, walking-final, walking-step, walking-end}
 use Rattle.passing.proofs.pass.Statement.{statement}
 use Rattle.passing.proofs.pass.Tie as tie
 
@@ -13,14 +13,14 @@ abbrev μ-loop : tie.MeasureT-loop
 loop-holds : tie.Need-loop-holds Inv-loop μ-loop
 loop-holds c = walking-start _ _ _ _ (c .pre)
 
-cast-t8 : tie.Need-cast-t8 Inv-loop μ-loop
-cast-t8 c = record { fits = omega (arith, c .before .loop .inv .low, c .before .loop .inv .passable .room) }
-
 hand-requires : tie.Need-hand-requires Inv-loop μ-loop
 hand-requires c κs = (c .before .before .loop .inv .passable, omega (arith, c .before .before .loop .inv .low, c .before .loop-test .taken))
 
+-- the gate in turn hands on the set that it ends with, since that set is final
 loop-again : tie.Need-loop-again Inv-loop μ-loop
-loop-again c = walking-step _ _ _ _ _ _ _ (c .before .before .before .loop .inv) (c .before .before .loop-test .taken) (c .hand .ensures)
+loop-again c =
+    let w = c .before .before .before .loop .inv in
+    walking-step _ _ _ _ _ _ _ w (c .before .before .loop-test .taken) (walking-final _ _ _ _ _ _ w _ (omega arith)) (c .hand .ensures)
 
 returns : tie.Need-returns Inv-loop μ-loop
 returns c = walking-end _ _ _ _ _ _ (c .before .loop .inv) (c .loop-test .left)
@@ -28,4 +28,4 @@ returns c = walking-end _ _ _ _ _ _ (c .before .loop .inv) (c .loop-test .left)
 pub pass-spec : {M : Type 1} → statement M
 pass-spec =
     tie.close
-    (tie.spec Inv-loop μ-loop loop-holds (λ c. search needs) cast-t8 hand-requires (λ c. search needs) loop-again returns)
+    (tie.spec Inv-loop μ-loop loop-holds (λ c. search needs) hand-requires (λ c. search needs) loop-again returns)
