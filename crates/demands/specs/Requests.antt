@@ -1,6 +1,6 @@
 -- The change requests of document 02 that have landed, sentence by sentence; each sentence is quoted above its theorems. The demands themselves: Demands.antt.
 -- s and t are rules' bytes, p a plan's, f a circuit file's.
-use Prim.Native.Nat.{ℕ, _≤_, _<_}
+use Prim.Native.Nat.{ℕ, suc, _≤_, _<_}
 use mathlib.Core.Path.{_≡_}
 use mathlib.Core.Bool.{true, false}
 use mathlib.Core.List.{List, [], _∷_, _++_}
@@ -27,6 +27,9 @@ use Rattle.gates.specs.Gates.{operation, gateAt}
 use Rattle.gates.specs.PlainCircuit.{gatesOf, outputsOf}
 use Rattle.settings.specs.Settings.{Setting}
 use Rattle.needed.specs.Needed.{Needed, wantedOf}
+use Rattle.needed.specs.Pass.{rulePreconditions}
+use Rattle.needed.specs.Reaching.{RuleReaching}
+use Rattle.needed.specs.RulePreconditions as preconditions
 use Rattle.circuit.specs.Whole.{ruleAnswer}
 use Rattle.direct.specs.Direct.{runAnswer, runResults}
 use Rattle.plan.specs.Rows.{planAnswer}
@@ -174,3 +177,13 @@ no-wire-read = working.no-wire-read
 pub no-wire-run : (v : ℕ) (R : List Record) (outputs : List ℕ) → circuits.WellFormed v R outputs → (x : ℕ) (inputs : List ℕ)
     → fileFigures (fileBytes v R (set outputs x noWire)) inputs ≡ set (fileFigures (fileBytes v R outputs) inputs) x 0
 no-wire-run = working.no-wire-run
+
+-- Document 02, C-14. "A single backward pass over one list of sets that is changed in place": the list when the pass reaches gate k - 1 is M (`RuleReaching s k M`),
+-- and the pass ends with the preconditions.
+pub one-pass : (s : List ℕ) → RuleReaching s 0 (rulePreconditions s)
+one-pass = preconditions.rule-reached
+
+-- "each gate's set is final when the pass reaches it", and so is that of every gate after it.
+pub set-final : (s : List ℕ) → IsRead (readRule s) → (k : ℕ) (M : List ℕ) → RuleReaching s k M → (g : ℕ) → k ≤ suc g
+    → getD M g 0 ≡ getD (rulePreconditions s) g 0
+set-final = preconditions.read-final
