@@ -15,7 +15,7 @@ const PLACES: usize = 16;
 const STEP: usize = 1040;
 
 /// Calls one operation of one tool so many times on each subject: how long that took.
-pub type Caller = Box<dyn FnMut(&[Subject], u32) -> Duration>;
+pub type Caller<S = Subject> = Box<dyn FnMut(&[S], u32) -> Duration>;
 
 /// The loop is made together with the call, so that nothing but the call lies between two of them.
 pub fn caller<T>(mut call: impl FnMut(&Subject) -> T + 'static) -> Caller {
@@ -51,8 +51,30 @@ pub struct Times {
     pub least: f64,
 }
 
+impl Times {
+    pub fn over(&self, other: &Times) -> Times {
+        Times {
+            median: self.median / other.median,
+            least: self.least / other.least,
+        }
+    }
+
+    /// For each of so many gates or wires.
+    pub fn each(&self, count: f64) -> Times {
+        Times {
+            median: self.median / count,
+            least: self.least / count,
+        }
+    }
+
+    /// As the pages have it: the median, in brackets the least.
+    pub fn text(&self, digits: usize) -> String {
+        format!("{:.digits$} ({:.digits$})", self.median, self.least)
+    }
+}
+
 /// Turn by turn each caller on all subjects in a row; who is first changes with every turn.
-pub fn measure(turns: usize, callers: &mut [Caller], subjects: &[Subject]) -> Vec<Times> {
+pub fn measure<S>(turns: usize, callers: &mut [Caller<S>], subjects: &[S]) -> Vec<Times> {
     let calls: Vec<u32> = callers
         .iter_mut()
         .map(|caller| calls_a_turn(caller, subjects))
@@ -72,7 +94,7 @@ pub fn measure(turns: usize, callers: &mut [Caller], subjects: &[Subject]) -> Ve
     taken.into_iter().map(of_all).collect()
 }
 
-fn calls_a_turn(caller: &mut Caller, subjects: &[Subject]) -> u32 {
+fn calls_a_turn<S>(caller: &mut Caller<S>, subjects: &[S]) -> u32 {
     if subjects.len() > 1 {
         return 1;
     }

@@ -3,6 +3,7 @@
 use crate::law::*;
 use crate::places::Places;
 use crate::reading::{Reader, SHOW};
+use std::ops::Range;
 
 /// The settings that give condition t the bit 0.
 const LACKING: [u64; CONDITIONS_MAX] = [
@@ -44,19 +45,39 @@ pub unsafe fn find_needed<const DO: u8>(
     rows: *const u32,
     needs: *mut u64,
 ) {
-    let set = |gate: u8| &mut *needs.add(usize::from(gate));
     std::ptr::write_bytes(needs, 0, reader.gates());
-    for (variable, &last) in reader.present[..reader.variables].iter().enumerate() {
-        if reader.is_result(variable) {
-            *set(last) = u64::MAX;
-        }
+    let last = reader.present[..reader.variables].iter().enumerate();
+    let wanted = last
+        .filter(|&(variable, _)| reader.is_result(variable))
+        .map(|(_, &gate)| usize::from(gate));
+    let gates = reader.variables..reader.gates();
+    pass::<DO>(rows, gates, *conditions, wanted, needs);
+}
+
+/// The backward pass proper, in sets that are clear. It tests no number: whoever calls it answers for all of them.
+///
+/// # Safety
+/// `rows` holds the gates of an accepted rule as reading for `DO` stores them, `gates` are those after its starting
+/// values, `conditions` its conditions, `wanted` gates of it; `needs` has room for a set a gate.
+#[inline(always)]
+unsafe fn pass<const DO: u8>(
+    rows: *const u32,
+    gates: Range<usize>,
+    conditions: Conditions,
+    wanted: impl Iterator<Item = usize>,
+    needs: *mut u64,
+) {
+    let set = |gate: u8| &mut *needs.add(usize::from(gate));
+    for gate in wanted {
+        *needs.add(gate) = u64::MAX;
     }
-    // By gate, so that a choice finds its condition's at once; only conditions' places are set and read.
+    // By gate, so that a choice finds its condition's at once; only conditions' places are read. The lowest condition
+    // comes last, since it alone may be gate 0, which also stands for those that there are not.
     let mut lacking = Places::<u64, GATES_MAX>::new();
-    for (&gate, &settings) in conditions.iter().zip(&LACKING[..reader.conditions]) {
+    for (&gate, &settings) in conditions.iter().zip(&LACKING).rev() {
         lacking.set(gate, settings);
     }
-    for gate in (reader.variables..reader.gates()).rev() {
+    for gate in gates.rev() {
         let [code, x, y, z] = if DO == SHOW {
             (*rows.add(4 * gate).cast::<[u32; 4]>()).map(|number| number as u8)
         } else {
@@ -75,6 +96,24 @@ pub unsafe fn find_needed<const DO: u8>(
             *set(if DO == SHOW && code == NOT { x } else { y }) |= needed;
         }
     }
+}
+
+/// The backward pass alone, on gates as operation 06 shows them, to be measured beside the proved one. Only
+/// `compare/pass_alone` calls it; the operations have the same pass within them.
+///
+/// # Safety
+/// `rows` holds the gates of an accepted rule as operation 06 shows them, `gates` are those after its starting values,
+/// `conditions` its conditions, rising and zeros after them, and `wanted` gates of it: no number is tested.
+#[inline(never)]
+pub unsafe fn pass_alone(
+    rows: &[u32; 4 * GATES_MAX],
+    gates: Range<usize>,
+    conditions: Conditions,
+    wanted: &[u16],
+    needs: &mut [u64; GATES_MAX],
+) {
+    let wanted = wanted.iter().map(|&gate| usize::from(gate));
+    pass::<SHOW>(rows.as_ptr(), gates, conditions, wanted, needs.as_mut_ptr());
 }
 
 /// The conditions that a set rests on, bit t for condition t.
