@@ -34,6 +34,7 @@ fn main() -> ExitCode {
         .map(|(lent, measured)| (&lent.given, measured))
         .collect();
     page::print_times(&all);
+    page::print_verdict(&all);
     page::print_rules(&all);
     ExitCode::SUCCESS
 }

@@ -1,12 +1,35 @@
-//! The page, in Markdown.
+//! The page, in Markdown: times, whether the pass became slower, what the rules are.
 
 use crate::given::Given;
 use harness::machine;
 use harness::measure::Times;
 
 const HEAD: &str = "\
-Nanoseconds a call: the median of TURNS turns of about 100 µs, in brackets the least.
-";
+The backward pass finds every gate's precondition, the settings under which it is needed, as a u64 a gate. Here it is
+measured alone, without reading a rule and making its gates.
+
+- before: the proved pass as it was at the commit that `compare/pass` names, linked as an archive.
+- after: the proved pass of this tree, linked in the same way.
+- tuned: that of `compare/tuned/`, Rust written for speed and proved by nobody: no number is tested, nothing is
+  allocated, one loop backward over the gates.
+
+Nanoseconds a call: the median of TURNS turns of about 100 µs, in brackets the least. The three are measured in one
+process, in turns, so that other work of the machine falls on all of them; it moves the least times least.
+
+Lent to a call, and worked out before: four numbers a gate as operation 06 shows them, the conditions (each gate's number
+among them; to the tuned pass their gates in a row, and which gates are starting values), the last gates of the result
+variables, and a clear set a gate. Clearing these is not timed: 64 arrays of sets for 32 gates, 8 for 256, so many that
+what a call writes stays in the first cache, are cleared, then as many calls are timed in a row, and so on. All three
+are lent the same arrays, are called through a pointer to a function, and gave operation 06's preconditions on each rule
+before anything was measured. The clock's own time, some hundredth of what is timed, is in all of them alike.
+
+Rules, with the table at the end, all with six bits and two words as variables and every gate needed under some setting:
+
+- no condition: operations on words and bits, one after another.
+- six conditions: six ifs within each other, each on a bit of its own, as many operations on words in both blocks as fit;
+  in the rest sums.
+- choices: if v0 then v6 := v7 else v7 := v6, then the same on v1 and so on, so that every gate but the eight starting
+  values is a choice.";
 
 /// One rule, measured.
 pub struct Measured {
@@ -24,6 +47,7 @@ pub fn print_head(turns: usize) {
 }
 
 pub fn print_times(all: &[(&Given, &Measured)]) {
+    println!("\n## Times\n");
     println!("| rule | before, ns | after, ns | tuned, ns | after / before | after / tuned | after, ns a gate | tuned, ns a gate |");
     println!("|---|---:|---:|---:|---:|---:|---:|---:|");
     for (given, one) in all {
@@ -42,16 +66,48 @@ pub fn print_times(all: &[(&Given, &Measured)]) {
     }
 }
 
+/// Times of the same pass differ by so much from each other, as a share.
+const NOISE: f64 = 0.02;
+
+/// Whether the pass is no slower than it was, on each rule and on all.
+pub fn print_verdict(all: &[(&Given, &Measured)]) {
+    println!("\n## After no slower than before, by the least times\n");
+    println!(
+        "The same pass twice differs by up to {:.0} % here; so much is taken for no difference.\n",
+        100.0 * NOISE
+    );
+    println!("| rule | after / before | no slower |");
+    println!("|---|---:|---|");
+    let mut slower = 0;
+    for (_, one) in all {
+        let ratio = one.after.over(&one.before).least;
+        let answer = if ratio <= 1.0 + NOISE {
+            "yes"
+        } else {
+            "**no**"
+        };
+        slower += usize::from(ratio > 1.0 + NOISE);
+        println!("| {} | {ratio:.3} | {answer} |", one.name);
+    }
+    match slower {
+        0 => println!("\nAfter is no slower than before on every rule."),
+        count => println!(
+            "\nAfter is slower than before on {count} of {} rules.",
+            all.len()
+        ),
+    }
+}
+
 pub fn print_rules(all: &[(&Given, &Measured)]) {
     println!("\n## The rules\n");
     println!("| rule | gates | conditions | choices |");
     println!("|---|---:|---:|---:|");
     for (given, one) in all {
-        let conditions = given.ranks().iter().filter(|&&rank| rank > 0).count();
         println!(
-            "| {} | {} | {conditions} | {} |",
+            "| {} | {} | {} | {} |",
             one.name,
             given.count(),
+            given.ranks().iter().filter(|&&rank| rank > 0).count(),
             given.choices()
         );
     }
