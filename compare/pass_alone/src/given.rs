@@ -13,7 +13,7 @@ pub struct Given {
     rows: [u32; 4 * GATES_MAX],
     ranks: [u16; GATES_MAX],
     wanted: Vec<u16>,
-    conditions: tuned::Conditions,
+    conditions: Option<tuned::Conditions>,
     starts: usize,
     count: usize,
     choices: usize,
@@ -56,9 +56,9 @@ impl Given {
         &self.ranks
     }
 
-    /// The gates of the conditions, rising; zeros after them.
-    pub fn conditions(&self) -> tuned::Conditions {
-        self.conditions
+    /// The gates of the conditions, rising, and zeros after them; none if there is none.
+    pub fn conditions(&self) -> Option<&tuned::Conditions> {
+        self.conditions.as_ref()
     }
 
     /// The last gates of the result variables.
@@ -90,12 +90,13 @@ fn is_choice(gate: &Gate) -> bool {
 }
 
 /// The conditions in the form of each tool: by gate, and the gates in a row.
-fn conditions(circuit: &Circuit) -> ([u16; GATES_MAX], tuned::Conditions) {
+fn conditions(circuit: &Circuit) -> ([u16; GATES_MAX], Option<tuned::Conditions>) {
     let mut ranks = [0; GATES_MAX];
     let mut gates = tuned::Conditions::default();
     for (place, gate) in circuit.conditions.iter().enumerate() {
         ranks[gate.0] = place as u16 + 1;
         gates[place] = gate.0 as u8;
     }
-    (ranks, gates)
+    let some = !circuit.conditions.is_empty();
+    (ranks, some.then_some(gates))
 }

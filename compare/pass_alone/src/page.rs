@@ -14,7 +14,8 @@ measured alone, without reading a rule and making its gates.
   allocated, one loop backward over the gates.
 
 Nanoseconds a call: the median of TURNS turns of about 100 µs, in brackets the least. The three are measured in one
-process, in turns, so that other work of the machine falls on all of them; it moves the least times least.
+process, in turns, so that other work of the machine falls on all of them; it moves the least times least. The turns
+are taken in ROUNDS rounds over all rules; the median is that of the rounds' medians.
 
 Lent to a call, and worked out before: four numbers a gate as operation 06 shows them, the conditions (each gate's number
 among them; to the tuned pass their gates in a row, and which gates are starting values), the last gates of the result
@@ -32,26 +33,32 @@ Rules, with the table at the end, all with six bits and two words as variables a
   values is a choice.";
 
 /// One rule, measured.
-pub struct Measured {
-    pub name: String,
+pub struct Measured<'a> {
+    pub name: &'a str,
+    pub given: &'a Given,
     pub before: Times,
     pub after: Times,
     pub tuned: Times,
+    /// Before over before: how far the times of one pass lie apart.
+    pub itself: Times,
 }
 
-pub fn print_head(turns: usize) {
+pub fn print_head(turns: usize, rounds: usize) {
     println!("# The backward pass alone\n");
     println!("Command: `compare/pass {turns}`, whose output this page is.");
     println!("{}\n", machine::line());
-    println!("{}", HEAD.replace("TURNS", &turns.to_string()));
+    let head = HEAD
+        .replace("TURNS", &turns.to_string())
+        .replace("ROUNDS", &rounds.to_string());
+    println!("{head}");
 }
 
-pub fn print_times(all: &[(&Given, &Measured)]) {
+pub fn print_times(all: &[Measured]) {
     println!("\n## Times\n");
     println!("| rule | before, ns | after, ns | tuned, ns | after / before | after / tuned | after, ns a gate | tuned, ns a gate |");
     println!("|---|---:|---:|---:|---:|---:|---:|---:|");
-    for (given, one) in all {
-        let gates = given.count() as f64;
+    for one in all {
+        let gates = one.given.count() as f64;
         println!(
             "| {} | {} | {} | {} | {} | {} | {} | {} |",
             one.name,
@@ -66,28 +73,35 @@ pub fn print_times(all: &[(&Given, &Measured)]) {
     }
 }
 
-/// Times of the same pass differ by so much from each other, as a share.
-const NOISE: f64 = 0.02;
+/// A ratio up to this counts as no slower, since the times of one pass lie about as far apart.
+const NO_SLOWER: f64 = 1.01;
+
+const VERDICT: &str = "\
+By the least times, and by the time that a twentieth of the turns stay below: the very least of thousands of turns is that
+of one lucky turn, and moves by some percent from run to run. How much, the columns \"before / before\" show: the same pass
+measured as if it were two. By the twentieth a ratio up to NO_SLOWER counts as no slower.
+";
 
 /// Whether the pass is no slower than it was, on each rule and on all.
-pub fn print_verdict(all: &[(&Given, &Measured)]) {
-    println!("\n## After no slower than before, by the least times\n");
-    println!(
-        "The same pass twice differs by up to {:.0} % here; so much is taken for no difference.\n",
-        100.0 * NOISE
-    );
-    println!("| rule | after / before | no slower |");
-    println!("|---|---:|---|");
+pub fn print_verdict(all: &[Measured]) {
+    println!("\n## Is after no slower than before?\n");
+    println!("{}", VERDICT.replace("NO_SLOWER", &NO_SLOWER.to_string()));
+    println!("| rule | after / before, least | before / before, least | after / before, twentieth | before / before, twentieth | no slower |");
+    println!("|---|---:|---:|---:|---:|---|");
     let mut slower = 0;
-    for (_, one) in all {
-        let ratio = one.after.over(&one.before).least;
-        let answer = if ratio <= 1.0 + NOISE {
-            "yes"
-        } else {
-            "**no**"
-        };
-        slower += usize::from(ratio > 1.0 + NOISE);
-        println!("| {} | {ratio:.3} | {answer} |", one.name);
+    for one in all {
+        let (ratio, itself) = (one.after.over(&one.before), &one.itself);
+        let is_slower = ratio.low > NO_SLOWER;
+        slower += usize::from(is_slower);
+        println!(
+            "| {} | {:.3} | {:.3} | {:.3} | {:.3} | {} |",
+            one.name,
+            ratio.least,
+            itself.least,
+            ratio.low,
+            itself.low,
+            if is_slower { "**no**" } else { "yes" }
+        );
     }
     match slower {
         0 => println!("\nAfter is no slower than before on every rule."),
@@ -98,17 +112,17 @@ pub fn print_verdict(all: &[(&Given, &Measured)]) {
     }
 }
 
-pub fn print_rules(all: &[(&Given, &Measured)]) {
+pub fn print_rules(all: &[Measured]) {
     println!("\n## The rules\n");
     println!("| rule | gates | conditions | choices |");
     println!("|---|---:|---:|---:|");
-    for (given, one) in all {
+    for one in all {
         println!(
             "| {} | {} | {} | {} |",
             one.name,
-            given.count(),
-            given.ranks().iter().filter(|&&rank| rank > 0).count(),
-            given.choices()
+            one.given.count(),
+            one.given.ranks().iter().filter(|&&rank| rank > 0).count(),
+            one.given.choices()
         );
     }
 }

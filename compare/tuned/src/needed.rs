@@ -51,38 +51,83 @@ pub unsafe fn find_needed<const DO: u8>(
         .filter(|&(variable, _)| reader.is_result(variable))
         .map(|(_, &gate)| usize::from(gate));
     let gates = reader.variables..reader.gates();
-    pass::<DO>(rows, gates, *conditions, wanted, needs);
+    let conditions = (reader.conditions > 0).then_some(conditions);
+    pass::<DO>(rows, gates, conditions, wanted, needs);
 }
 
-/// The backward pass proper, in sets that are clear. It tests no number: whoever calls it answers for all of them.
+/// The backward pass alone, on gates as operation 06 shows them, to be measured beside the proved one: only
+/// `compare/pass_alone` calls it. The operations have the same pass within them.
 ///
 /// # Safety
-/// `rows` holds the gates of an accepted rule as reading for `DO` stores them, `gates` are those after its starting
-/// values, `conditions` its conditions, `wanted` gates of it; `needs` has room for a set a gate.
+/// `rows` holds the gates of an accepted rule as operation 06 shows them, `gates` are those after its starting values,
+/// `conditions` its conditions if it has any, and `wanted` gates of it: no number is tested. `needs` is clear.
+#[inline(never)]
+pub unsafe fn pass_alone(
+    rows: &[u32; 4 * GATES_MAX],
+    gates: Range<usize>,
+    conditions: Option<&Conditions>,
+    wanted: &[u16],
+    needs: &mut [u64; GATES_MAX],
+) {
+    let wanted = wanted.iter().map(|&gate| usize::from(gate));
+    pass::<SHOW>(rows.as_ptr(), gates, conditions, wanted, needs.as_mut_ptr());
+}
+
+/// The backward pass proper, in sets that are clear: each gate once, from the last on, hands its set to its arguments.
+///
+/// # Safety
+/// As `find_needed`; `gates` are those after the starting values, `conditions` those of the rule, if it has any, and
+/// `wanted` gates of it. What it is given is not tested: whoever calls it answers for every number.
 #[inline(always)]
 unsafe fn pass<const DO: u8>(
     rows: *const u32,
     gates: Range<usize>,
-    conditions: Conditions,
+    conditions: Option<&Conditions>,
     wanted: impl Iterator<Item = usize>,
     needs: *mut u64,
 ) {
-    let set = |gate: u8| &mut *needs.add(usize::from(gate));
     for gate in wanted {
         *needs.add(gate) = u64::MAX;
     }
-    // By gate, so that a choice finds its condition's at once; only conditions' places are read. The lowest condition
-    // comes last, since it alone may be gate 0, which also stands for those that there are not.
+    match conditions {
+        Some(conditions) => pass_settings::<DO>(rows, gates, conditions, needs),
+        None => pass_whole::<DO>(rows, gates, needs),
+    }
+}
+
+/// A gate's code and arguments.
+#[inline(always)]
+unsafe fn row<const DO: u8>(rows: *const u32, gate: usize) -> [u8; 4] {
+    if DO == SHOW {
+        (*rows.add(4 * gate).cast::<[u32; 4]>()).map(|number| number as u8)
+    } else {
+        (*rows.add(gate)).to_le_bytes()
+    }
+}
+
+/// Whether the row names one argument; packed rows name that of a not twice.
+#[inline(always)]
+fn has_one<const DO: u8>(code: u8) -> bool {
+    DO == SHOW && code == NOT
+}
+
+/// The pass where there is a condition.
+#[inline(always)]
+unsafe fn pass_settings<const DO: u8>(
+    rows: *const u32,
+    gates: Range<usize>,
+    conditions: &Conditions,
+    needs: *mut u64,
+) {
+    let set = |gate: u8| &mut *needs.add(usize::from(gate));
+    // By gate, so that a choice finds its condition's at once; only conditions' places are read. The lowest comes last,
+    // since it alone may be gate 0, which also stands for those that there are not.
     let mut lacking = Places::<u64, GATES_MAX>::new();
     for (&gate, &settings) in conditions.iter().zip(&LACKING).rev() {
         lacking.set(gate, settings);
     }
     for gate in gates.rev() {
-        let [code, x, y, z] = if DO == SHOW {
-            (*rows.add(4 * gate).cast::<[u32; 4]>()).map(|number| number as u8)
-        } else {
-            (*rows.add(gate)).to_le_bytes()
-        };
+        let [code, x, y, z] = row::<DO>(rows, gate);
         if code < SUM {
             continue;
         }
@@ -92,28 +137,24 @@ unsafe fn pass<const DO: u8>(
             let second = lacking.get(x);
             *set(y) |= needed & !second;
             *set(z) |= needed & second;
-        } else {
-            *set(if DO == SHOW && code == NOT { x } else { y }) |= needed;
+        } else if !has_one::<DO>(code) {
+            *set(y) |= needed;
         }
     }
 }
 
-/// The backward pass alone, on gates as operation 06 shows them, to be measured beside the proved one. Only
-/// `compare/pass_alone` calls it; the operations have the same pass within them.
-///
-/// # Safety
-/// `rows` holds the gates of an accepted rule as operation 06 shows them, `gates` are those after its starting values,
-/// `conditions` its conditions, rising and zeros after them, and `wanted` gates of it: no number is tested.
-#[inline(never)]
-pub unsafe fn pass_alone(
-    rows: &[u32; 4 * GATES_MAX],
-    gates: Range<usize>,
-    conditions: Conditions,
-    wanted: &[u16],
-    needs: &mut [u64; GATES_MAX],
-) {
-    let wanted = wanted.iter().map(|&gate| usize::from(gate));
-    pass::<SHOW>(rows.as_ptr(), gates, conditions, wanted, needs.as_mut_ptr());
+/// The pass where there is no condition, and so no choice: a gate is needed always or never. Sets are stored without
+/// being read, so that no gate waits for the store of another.
+#[inline(always)]
+unsafe fn pass_whole<const DO: u8>(rows: *const u32, gates: Range<usize>, needs: *mut u64) {
+    let set = |gate: u8| &mut *needs.add(usize::from(gate));
+    for gate in gates.rev() {
+        let [code, x, y, _] = row::<DO>(rows, gate);
+        if code >= SUM && *needs.add(gate) != 0 {
+            *set(x) = u64::MAX;
+            *set(if has_one::<DO>(code) { x } else { y }) = u64::MAX;
+        }
+    }
 }
 
 /// The conditions that a set rests on, bit t for condition t.
