@@ -1,7 +1,7 @@
 //! What a pass is given of a rule, worked out before anything is timed.
 
 use crate::rules::Sort;
-use compare::circuit::{accept, Circuit, Gate};
+use compare::circuit::{accept, Gate, GateNumber};
 use compare::law::GATES_MAX;
 use compare::rule::bytes_of;
 use harness::tool::{Plain, Tool, Tuned};
@@ -13,7 +13,7 @@ pub struct Given {
     rows: [u32; 4 * GATES_MAX],
     ranks: [u16; GATES_MAX],
     wanted: Vec<u16>,
-    conditions: Option<tuned::Conditions>,
+    conditions: Vec<u8>,
     starts: usize,
     count: usize,
     choices: usize,
@@ -32,13 +32,12 @@ impl Given {
             (gates, sort.conditions)
         );
         assert!(shown.needs[..gates].iter().all(|&needed| needed != 0));
-        let (ranks, conditions) = conditions(&circuit);
         let last = circuit.outputs.iter().flatten();
         Given {
             rows: shown.rows,
-            ranks,
+            ranks: ranks(&circuit.conditions),
             wanted: last.map(|gate| gate.0 as u16).collect(),
-            conditions,
+            conditions: circuit.conditions.iter().map(|gate| gate.0 as u8).collect(),
             starts: circuit.outputs.len(),
             count: gates,
             choices: circuit.gates.iter().filter(|gate| is_choice(gate)).count(),
@@ -56,9 +55,9 @@ impl Given {
         &self.ranks
     }
 
-    /// The gates of the conditions, rising, and zeros after them; none if there is none.
-    pub fn conditions(&self) -> Option<&tuned::Conditions> {
-        self.conditions.as_ref()
+    /// The gates of the conditions, rising.
+    pub fn conditions(&self) -> &[u8] {
+        &self.conditions
     }
 
     /// The last gates of the result variables.
@@ -89,14 +88,11 @@ fn is_choice(gate: &Gate) -> bool {
     matches!(gate, Gate::Choice(..))
 }
 
-/// The conditions in the form of each tool: by gate, and the gates in a row.
-fn conditions(circuit: &Circuit) -> ([u16; GATES_MAX], Option<tuned::Conditions>) {
+/// Of each gate its number among the conditions, from 1 on; 0 if it is none.
+fn ranks(conditions: &[GateNumber]) -> [u16; GATES_MAX] {
     let mut ranks = [0; GATES_MAX];
-    let mut gates = tuned::Conditions::default();
-    for (place, gate) in circuit.conditions.iter().enumerate() {
+    for (place, gate) in conditions.iter().enumerate() {
         ranks[gate.0] = place as u16 + 1;
-        gates[place] = gate.0 as u8;
     }
-    let some = !circuit.conditions.is_empty();
-    (ranks, some.then_some(gates))
+    ranks
 }

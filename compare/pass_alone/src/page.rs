@@ -11,18 +11,18 @@ measured alone, without reading a rule and making its gates.
 - before: the proved pass as it was at the commit that `compare/pass` names, linked as an archive.
 - after: the proved pass of this tree, linked in the same way.
 - tuned: that of `compare/tuned/`, Rust written for speed and proved by nobody: no number is tested, nothing is
-  allocated, one loop backward over the gates.
+  allocated, one loop backward over the gates, which for a rule without conditions stores whole sets and joins none.
 
 Nanoseconds a call: the median of TURNS turns of about 100 µs, in brackets the least. The three are measured in one
-process, in turns, so that other work of the machine falls on all of them; it moves the least times least. The turns
-are taken in ROUNDS rounds over all rules; the median is that of the rounds' medians.
+process, in turns, so that other work of the machine falls on all of them; it moves the least times least. Turns are
+taken in ROUNDS rounds over all rules; the median is that of the rounds' medians.
 
 Lent to a call, and worked out before: four numbers a gate as operation 06 shows them, the conditions (each gate's number
-among them; to the tuned pass their gates in a row, and which gates are starting values), the last gates of the result
-variables, and a clear set a gate. Clearing these is not timed: 64 arrays of sets for 32 gates, 8 for 256, so many that
-what a call writes stays in the first cache, are cleared, then as many calls are timed in a row, and so on. All three
-are lent the same arrays, are called through a pointer to a function, and gave operation 06's preconditions on each rule
-before anything was measured. The clock's own time, some hundredth of what is timed, is in all of them alike.
+among them; to the tuned pass their gates in a row, and how many gates are starting values), the last gates of the result
+variables, and a clear set a gate. Clearing these is not timed: as many arrays of sets as fill 16 KiB, half of the first
+cache (64 for 32 gates, 8 for 256), are cleared, then as many calls are timed in a row, and so on. All three are lent the
+same arrays, are called through a pointer to a function, and gave operation 06's preconditions on each rule before
+anything was measured. The clock's own time, some hundredth of what is timed, is in all of them alike.
 
 Rules, with the table at the end, all with six bits and two words as variables and every gate needed under some setting:
 
@@ -78,7 +78,7 @@ const NO_SLOWER: f64 = 1.01;
 
 const VERDICT: &str = "\
 By the least times, and by the time that a twentieth of the turns stay below: the very least of thousands of turns is that
-of one lucky turn, and moves by some percent from run to run. How much, the columns \"before / before\" show: the same pass
+of a single turn, and moves by some percent from run to run. How much, the columns \"before / before\" show: the same pass
 measured as if it were two. By the twentieth a ratio up to NO_SLOWER counts as no slower.
 ";
 
@@ -121,7 +121,7 @@ pub fn print_rules(all: &[Measured]) {
             "| {} | {} | {} | {} |",
             one.name,
             one.given.count(),
-            one.given.ranks().iter().filter(|&&rank| rank > 0).count(),
+            one.given.conditions().len(),
             one.given.choices()
         );
     }

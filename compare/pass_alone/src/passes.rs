@@ -52,8 +52,7 @@ pub fn proved(archive: Archive) -> impl Fn(&Given, &mut Sets) {
     }
 }
 
-type Tuned =
-    unsafe fn(&[u32; 4 * GATES_MAX], Range<usize>, Option<&tuned::Conditions>, &[u16], &mut Sets);
+type Tuned = unsafe fn(&[u32; 4 * GATES_MAX], Range<usize>, &[u8], &[u16], &mut Sets);
 
 pub fn tuned() -> impl Fn(&Given, &mut Sets) {
     let function: Tuned = black_box(tuned::pass_alone);

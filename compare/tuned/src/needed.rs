@@ -51,7 +51,7 @@ pub unsafe fn find_needed<const DO: u8>(
         .filter(|&(variable, _)| reader.is_result(variable))
         .map(|(_, &gate)| usize::from(gate));
     let gates = reader.variables..reader.gates();
-    let conditions = (reader.conditions > 0).then_some(conditions);
+    let conditions = conditions.get_unchecked(..reader.conditions);
     pass::<DO>(rows, gates, conditions, wanted, needs);
 }
 
@@ -65,7 +65,7 @@ pub unsafe fn find_needed<const DO: u8>(
 pub unsafe fn pass_alone(
     rows: &[u32; 4 * GATES_MAX],
     gates: Range<usize>,
-    conditions: Option<&Conditions>,
+    conditions: &[u8],
     wanted: &[u16],
     needs: &mut [u64; GATES_MAX],
 ) {
@@ -82,7 +82,7 @@ pub unsafe fn pass_alone(
 unsafe fn pass<const DO: u8>(
     rows: *const u32,
     gates: Range<usize>,
-    conditions: Option<&Conditions>,
+    conditions: &[u8],
     wanted: impl Iterator<Item = usize>,
     needs: *mut u64,
 ) {
@@ -90,8 +90,8 @@ unsafe fn pass<const DO: u8>(
         *needs.add(gate) = u64::MAX;
     }
     match conditions {
-        Some(conditions) => pass_settings::<DO>(rows, gates, conditions, needs),
-        None => pass_whole::<DO>(rows, gates, needs),
+        [] => pass_whole::<DO>(rows, gates, needs),
+        _ => pass_settings::<DO>(rows, gates, conditions, needs),
     }
 }
 
@@ -105,10 +105,10 @@ unsafe fn row<const DO: u8>(rows: *const u32, gate: usize) -> [u8; 4] {
     }
 }
 
-/// Whether the row names one argument; packed rows name that of a not twice.
+/// Whether the row of an operation names two arguments; packed rows name that of a not twice.
 #[inline(always)]
-fn has_one<const DO: u8>(code: u8) -> bool {
-    DO == SHOW && code == NOT
+fn has_two<const DO: u8>(code: u8) -> bool {
+    code < NOT || DO != SHOW && code == NOT
 }
 
 /// The pass where there is a condition.
@@ -116,14 +116,13 @@ fn has_one<const DO: u8>(code: u8) -> bool {
 unsafe fn pass_settings<const DO: u8>(
     rows: *const u32,
     gates: Range<usize>,
-    conditions: &Conditions,
+    conditions: &[u8],
     needs: *mut u64,
 ) {
     let set = |gate: u8| &mut *needs.add(usize::from(gate));
-    // By gate, so that a choice finds its condition's at once; only conditions' places are read. The lowest comes last,
-    // since it alone may be gate 0, which also stands for those that there are not.
+    // By gate, so that a choice finds its condition's at once; only conditions' places are set and read.
     let mut lacking = Places::<u64, GATES_MAX>::new();
-    for (&gate, &settings) in conditions.iter().zip(&LACKING).rev() {
+    for (&gate, &settings) in conditions.iter().zip(&LACKING) {
         lacking.set(gate, settings);
     }
     for gate in gates.rev() {
@@ -133,12 +132,12 @@ unsafe fn pass_settings<const DO: u8>(
         }
         let needed = *needs.add(gate);
         *set(x) |= needed;
-        if code == CHOICE {
+        if has_two::<DO>(code) {
+            *set(y) |= needed;
+        } else if code == CHOICE {
             let second = lacking.get(x);
             *set(y) |= needed & !second;
             *set(z) |= needed & second;
-        } else if !has_one::<DO>(code) {
-            *set(y) |= needed;
         }
     }
 }
@@ -152,7 +151,7 @@ unsafe fn pass_whole<const DO: u8>(rows: *const u32, gates: Range<usize>, needs:
         let [code, x, y, _] = row::<DO>(rows, gate);
         if code >= SUM && *needs.add(gate) != 0 {
             *set(x) = u64::MAX;
-            *set(if has_one::<DO>(code) { x } else { y }) = u64::MAX;
+            *set(if has_two::<DO>(code) { y } else { x }) = u64::MAX;
         }
     }
 }
