@@ -15,7 +15,7 @@ const PLACES: usize = 16;
 const STEP: usize = 1040;
 
 /// Calls one operation of one tool so many times on each subject: how long that took.
-pub type Caller = Box<dyn FnMut(&[Subject], u32) -> Duration>;
+pub type Caller<S = Subject> = Box<dyn FnMut(&[S], u32) -> Duration>;
 
 /// The loop is made together with the call, so that nothing but the call lies between two of them.
 pub fn caller<T>(mut call: impl FnMut(&Subject) -> T + 'static) -> Caller {
@@ -48,11 +48,51 @@ fn below(steps: usize, call: &mut dyn FnMut() -> Duration) -> Duration {
 #[derive(Clone, Copy, Debug, Default)]
 pub struct Times {
     pub median: f64,
+    /// A twentieth of the turns took less. It is nearly as free of other work as the least, and steadier.
+    pub low: f64,
     pub least: f64,
 }
 
+impl Times {
+    /// Of several rounds the least time of all, and of the others the median of the rounds.
+    pub fn of_rounds(rounds: &[Times]) -> Times {
+        let sorted = |of: fn(&Times) -> f64| {
+            let mut all: Vec<f64> = rounds.iter().map(of).collect();
+            all.sort_by(f64::total_cmp);
+            all
+        };
+        Times {
+            median: sorted(|times| times.median)[rounds.len() / 2],
+            low: sorted(|times| times.low)[rounds.len() / 2],
+            least: sorted(|times| times.least)[0],
+        }
+    }
+
+    pub fn over(&self, other: &Times) -> Times {
+        Times {
+            median: self.median / other.median,
+            low: self.low / other.low,
+            least: self.least / other.least,
+        }
+    }
+
+    /// For each of so many gates or wires.
+    pub fn each(&self, count: f64) -> Times {
+        Times {
+            median: self.median / count,
+            low: self.low / count,
+            least: self.least / count,
+        }
+    }
+
+    /// As the pages have it: the median, in brackets the least.
+    pub fn text(&self, digits: usize) -> String {
+        format!("{:.digits$} ({:.digits$})", self.median, self.least)
+    }
+}
+
 /// Turn by turn each caller on all subjects in a row; who is first changes with every turn.
-pub fn measure(turns: usize, callers: &mut [Caller], subjects: &[Subject]) -> Vec<Times> {
+pub fn measure<S>(turns: usize, callers: &mut [Caller<S>], subjects: &[S]) -> Vec<Times> {
     let calls: Vec<u32> = callers
         .iter_mut()
         .map(|caller| calls_a_turn(caller, subjects))
@@ -72,7 +112,7 @@ pub fn measure(turns: usize, callers: &mut [Caller], subjects: &[Subject]) -> Ve
     taken.into_iter().map(of_all).collect()
 }
 
-fn calls_a_turn(caller: &mut Caller, subjects: &[Subject]) -> u32 {
+fn calls_a_turn<S>(caller: &mut Caller<S>, subjects: &[S]) -> u32 {
     if subjects.len() > 1 {
         return 1;
     }
@@ -81,12 +121,13 @@ fn calls_a_turn(caller: &mut Caller, subjects: &[Subject]) -> u32 {
     (TURN.as_nanos() / once.as_nanos().max(1)).clamp(1, 100_000) as u32
 }
 
-/// The pieces' medians and least times, added up.
+/// The pieces' medians, low and least times, added up.
 fn sum(pieces: Vec<Vec<f64>>, subjects: f64) -> Times {
     let mut sum = Times::default();
     for mut taken in pieces {
         taken.sort_by(f64::total_cmp);
         sum.median += taken[taken.len() / 2] / subjects;
+        sum.low += taken[taken.len() / 20] / subjects;
         sum.least += taken[0] / subjects;
     }
     sum

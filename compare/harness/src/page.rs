@@ -1,6 +1,7 @@
 //! The page of measurements, in Markdown: a table an operation, then goals, then what the rules are.
 
 use crate::calls;
+use crate::machine;
 use crate::measure::{measure, Times};
 use crate::mixed;
 use crate::subject::{Goal, Row, Subject};
@@ -54,37 +55,15 @@ pub fn mixed_turns(turns: usize) -> usize {
 }
 
 pub fn print_head(command: &str, turns: usize) {
-    let cores = std::thread::available_parallelism().map_or(1, |count| count.get());
     println!("# The proved library beside plain and tuned Rust\n");
     println!("Command: `{command}`, whose output this page is.");
-    println!(
-        "Machine: {}, {cores} cores, {} at work when this began.\n",
-        processor(),
-        load()
-    );
+    println!("{}\n", machine::line());
     let head = HEAD
         .replace("TURNS", &turns.to_string())
         .replace("MIXED", &mixed_turns(turns).to_string())
         .replace("COUNT", "2,000")
         .replace("SEED", &mixed::SEED.to_string());
     println!("{head}");
-}
-
-/// The processor's name, as Linux gives it.
-fn processor() -> String {
-    let text = std::fs::read_to_string("/proc/cpuinfo").unwrap_or_default();
-    let line = text.lines().find(|line| line.starts_with("model name"));
-    match line.and_then(|line| line.split_once(':')) {
-        Some((_, name)) => name.trim().to_string(),
-        None => "unknown".to_string(),
-    }
-}
-
-/// How many processes ran or waited to run in the last minute, on average, as Linux gives it.
-fn load() -> String {
-    let text = std::fs::read_to_string("/proc/loadavg").unwrap_or_default();
-    let load = text.split(' ').next().unwrap_or_default();
-    format!("{load} processes")
 }
 
 /// One operation on one row.
@@ -149,29 +128,19 @@ pub fn print_operation(name: &str, all: &[Measured]) {
     for one in all {
         let size = one.size();
         println!(
-            "| {} | {} | {} | {} | {} | {} | {:.1} ({:.1}) |",
+            "| {} | {} | {} | {} | {} | {} | {} |",
             one.row.name,
-            time(&one.proved),
-            time(&one.plain),
-            time(&one.tuned),
-            ratio(&one.proved, &one.plain),
-            ratio(&one.proved, &one.tuned),
-            one.proved.median / size,
-            one.proved.least / size
+            one.proved.text(0),
+            one.plain.text(0),
+            one.tuned.text(0),
+            one.proved.over(&one.plain).text(2),
+            one.proved.over(&one.tuned).text(2),
+            one.proved.each(size).text(1)
         );
     }
     if all.iter().all(|one| one.unwritten.is_some()) {
         print_unwritten(all);
     }
-}
-
-fn time(times: &Times) -> String {
-    format!("{:.0} ({:.0})", times.median, times.least)
-}
-
-fn ratio(one: &Times, other: &Times) -> String {
-    let (median, least) = (one.median / other.median, one.least / other.least);
-    format!("{median:.2} ({least:.2})")
 }
 
 fn print_unwritten(all: &[Measured]) {

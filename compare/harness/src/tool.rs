@@ -29,6 +29,7 @@ pub trait Tool: Sync {
 }
 
 /// All that are compared; the others are held against the first.
+#[cfg(feature = "proved")]
 pub const TOOLS: [&dyn Tool; 4] = [&Proved, &Plain, &Tuned::Written, &Tuned::Unwritten];
 
 /// Each implementation has an answer of its own, of the same seven numbers.
@@ -48,8 +49,10 @@ macro_rules! of {
 }
 
 /// The proved tool, through the library that C and Rust programs link.
+#[cfg(feature = "proved")]
 pub struct Proved;
 
+#[cfg(feature = "proved")]
 impl Tool for Proved {
     fn name(&self) -> &'static str {
         "proved"

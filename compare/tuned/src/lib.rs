@@ -17,6 +17,7 @@ mod running;
 mod writing;
 
 pub use answer::{Answer, Shown};
+pub use needed::pass_alone;
 
 use circuit_file::{header, Pass};
 use law::*;

@@ -3,6 +3,7 @@
 use crate::law::*;
 use crate::places::Places;
 use crate::reading::{Reader, SHOW};
+use std::ops::Range;
 
 /// The settings that give condition t the bit 0.
 const LACKING: [u64; CONDITIONS_MAX] = [
@@ -44,35 +45,113 @@ pub unsafe fn find_needed<const DO: u8>(
     rows: *const u32,
     needs: *mut u64,
 ) {
-    let set = |gate: u8| &mut *needs.add(usize::from(gate));
     std::ptr::write_bytes(needs, 0, reader.gates());
-    for (variable, &last) in reader.present[..reader.variables].iter().enumerate() {
-        if reader.is_result(variable) {
-            *set(last) = u64::MAX;
-        }
+    let last = reader.present[..reader.variables].iter().enumerate();
+    let wanted = last
+        .filter(|&(variable, _)| reader.is_result(variable))
+        .map(|(_, &gate)| usize::from(gate));
+    let gates = reader.variables..reader.gates();
+    let conditions = conditions.get_unchecked(..reader.conditions);
+    pass::<DO>(rows, gates, conditions, wanted, needs);
+}
+
+/// The backward pass alone, on gates as operation 06 shows them, to be measured beside the proved one: only
+/// `compare/pass_alone` calls it. The operations have the same pass within them.
+///
+/// # Safety
+/// `rows` holds the gates of an accepted rule as operation 06 shows them, `gates` are those after its starting values,
+/// `conditions` its conditions if it has any, and `wanted` gates of it: no number is tested. `needs` is clear.
+#[inline(never)]
+pub unsafe fn pass_alone(
+    rows: &[u32; 4 * GATES_MAX],
+    gates: Range<usize>,
+    conditions: &[u8],
+    wanted: &[u16],
+    needs: &mut [u64; GATES_MAX],
+) {
+    let wanted = wanted.iter().map(|&gate| usize::from(gate));
+    pass::<SHOW>(rows.as_ptr(), gates, conditions, wanted, needs.as_mut_ptr());
+}
+
+/// The backward pass proper, in sets that are clear: each gate once, from the last on, hands its set to its arguments.
+///
+/// # Safety
+/// As `find_needed`; `gates` are those after the starting values, `conditions` those of the rule, if it has any, and
+/// `wanted` gates of it. What it is given is not tested: whoever calls it answers for every number.
+#[inline(always)]
+unsafe fn pass<const DO: u8>(
+    rows: *const u32,
+    gates: Range<usize>,
+    conditions: &[u8],
+    wanted: impl Iterator<Item = usize>,
+    needs: *mut u64,
+) {
+    for gate in wanted {
+        *needs.add(gate) = u64::MAX;
     }
+    match conditions {
+        [] => pass_whole::<DO>(rows, gates, needs),
+        _ => pass_settings::<DO>(rows, gates, conditions, needs),
+    }
+}
+
+/// A gate's code and arguments.
+#[inline(always)]
+unsafe fn row<const DO: u8>(rows: *const u32, gate: usize) -> [u8; 4] {
+    if DO == SHOW {
+        (*rows.add(4 * gate).cast::<[u32; 4]>()).map(|number| number as u8)
+    } else {
+        (*rows.add(gate)).to_le_bytes()
+    }
+}
+
+/// Whether the row of an operation names two arguments; packed rows name that of a not twice.
+#[inline(always)]
+fn has_two<const DO: u8>(code: u8) -> bool {
+    code < NOT || DO != SHOW && code == NOT
+}
+
+/// The pass where there is a condition.
+#[inline(always)]
+unsafe fn pass_settings<const DO: u8>(
+    rows: *const u32,
+    gates: Range<usize>,
+    conditions: &[u8],
+    needs: *mut u64,
+) {
+    let set = |gate: u8| &mut *needs.add(usize::from(gate));
     // By gate, so that a choice finds its condition's at once; only conditions' places are set and read.
     let mut lacking = Places::<u64, GATES_MAX>::new();
-    for (&gate, &settings) in conditions.iter().zip(&LACKING[..reader.conditions]) {
+    for (&gate, &settings) in conditions.iter().zip(&LACKING) {
         lacking.set(gate, settings);
     }
-    for gate in (reader.variables..reader.gates()).rev() {
-        let [code, x, y, z] = if DO == SHOW {
-            (*rows.add(4 * gate).cast::<[u32; 4]>()).map(|number| number as u8)
-        } else {
-            (*rows.add(gate)).to_le_bytes()
-        };
+    for gate in gates.rev() {
+        let [code, x, y, z] = row::<DO>(rows, gate);
         if code < SUM {
             continue;
         }
         let needed = *needs.add(gate);
         *set(x) |= needed;
-        if code == CHOICE {
+        if has_two::<DO>(code) {
+            *set(y) |= needed;
+        } else if code == CHOICE {
             let second = lacking.get(x);
             *set(y) |= needed & !second;
             *set(z) |= needed & second;
-        } else {
-            *set(if DO == SHOW && code == NOT { x } else { y }) |= needed;
+        }
+    }
+}
+
+/// The pass where there is no condition, and so no choice: a gate is needed always or never. Sets are stored without
+/// being read, so that no gate waits for the store of another.
+#[inline(always)]
+unsafe fn pass_whole<const DO: u8>(rows: *const u32, gates: Range<usize>, needs: *mut u64) {
+    let set = |gate: u8| &mut *needs.add(usize::from(gate));
+    for gate in gates.rev() {
+        let [code, x, y, _] = row::<DO>(rows, gate);
+        if code >= SUM && *needs.add(gate) != 0 {
+            *set(x) = u64::MAX;
+            *set(if has_two::<DO>(code) { y } else { x }) = u64::MAX;
         }
     }
 }

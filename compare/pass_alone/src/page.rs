@@ -1,0 +1,128 @@
+//! The page, in Markdown: times, whether the pass became slower, what the rules are.
+
+use crate::given::Given;
+use harness::machine;
+use harness::measure::Times;
+
+const HEAD: &str = "\
+The backward pass finds every gate's precondition, the settings under which it is needed, as a u64 a gate. Here it is
+measured alone, without reading a rule and making its gates.
+
+- before: the proved pass as it was at the commit that `compare/pass` names, linked as an archive.
+- after: the proved pass of this tree, linked in the same way.
+- tuned: that of `compare/tuned/`, Rust written for speed and proved by nobody: no number is tested, nothing is
+  allocated, one loop backward over the gates, which for a rule without conditions stores whole sets and joins none.
+
+Nanoseconds a call: the median of TURNS turns of about 100 µs, in brackets the least. The three are measured in one
+process, in turns, so that other work of the machine falls on all of them; it moves the least times least. Turns are
+taken in ROUNDS rounds over all rules; the median is that of the rounds' medians.
+
+Lent to a call, and worked out before: four numbers a gate as operation 06 shows them, the conditions (each gate's number
+among them; to the tuned pass their gates in a row, and how many gates are starting values), the last gates of the result
+variables, and a clear set a gate. Clearing these is not timed: as many arrays of sets as fill 16 KiB, half of the first
+cache (64 for 32 gates, 8 for 256), are cleared, then as many calls are timed in a row, and so on. All three are lent the
+same arrays, are called through a pointer to a function, and gave operation 06's preconditions on each rule before
+anything was measured. The clock's own time, some hundredth of what is timed, is in all of them alike.
+
+Rules, with the table at the end, all with six bits and two words as variables and every gate needed under some setting:
+
+- no condition: operations on words and bits, one after another.
+- six conditions: six ifs within each other, each on a bit of its own, as many operations on words in both blocks as fit;
+  in the rest sums.
+- choices: if v0 then v6 := v7 else v7 := v6, then the same on v1 and so on, so that every gate but the eight starting
+  values is a choice.";
+
+/// One rule, measured.
+pub struct Measured<'a> {
+    pub name: &'a str,
+    pub given: &'a Given,
+    pub before: Times,
+    pub after: Times,
+    pub tuned: Times,
+    /// Before over before: how far the times of one pass lie apart.
+    pub itself: Times,
+}
+
+pub fn print_head(turns: usize, rounds: usize) {
+    println!("# The backward pass alone\n");
+    println!("Command: `compare/pass {turns}`, whose output this page is.");
+    println!("{}\n", machine::line());
+    let head = HEAD
+        .replace("TURNS", &turns.to_string())
+        .replace("ROUNDS", &rounds.to_string());
+    println!("{head}");
+}
+
+pub fn print_times(all: &[Measured]) {
+    println!("\n## Times\n");
+    println!("| rule | before, ns | after, ns | tuned, ns | after / before | after / tuned | after, ns a gate | tuned, ns a gate |");
+    println!("|---|---:|---:|---:|---:|---:|---:|---:|");
+    for one in all {
+        let gates = one.given.count() as f64;
+        println!(
+            "| {} | {} | {} | {} | {} | {} | {} | {} |",
+            one.name,
+            one.before.text(1),
+            one.after.text(1),
+            one.tuned.text(1),
+            one.after.over(&one.before).text(3),
+            one.after.over(&one.tuned).text(2),
+            one.after.each(gates).text(2),
+            one.tuned.each(gates).text(2)
+        );
+    }
+}
+
+/// A ratio up to this counts as no slower, since the times of one pass lie about as far apart.
+const NO_SLOWER: f64 = 1.01;
+
+const VERDICT: &str = "\
+By the least times, and by the time that a twentieth of the turns stay below: the very least of thousands of turns is that
+of a single turn, and moves by some percent from run to run. How much, the columns \"before / before\" show: the same pass
+measured as if it were two. By the twentieth a ratio up to NO_SLOWER counts as no slower.
+";
+
+/// Whether the pass is no slower than it was, on each rule and on all.
+pub fn print_verdict(all: &[Measured]) {
+    println!("\n## Is after no slower than before?\n");
+    println!("{}", VERDICT.replace("NO_SLOWER", &NO_SLOWER.to_string()));
+    println!("| rule | after / before, least | before / before, least | after / before, twentieth | before / before, twentieth | no slower |");
+    println!("|---|---:|---:|---:|---:|---|");
+    let mut slower = 0;
+    for one in all {
+        let (ratio, itself) = (one.after.over(&one.before), &one.itself);
+        let is_slower = ratio.low > NO_SLOWER;
+        slower += usize::from(is_slower);
+        println!(
+            "| {} | {:.3} | {:.3} | {:.3} | {:.3} | {} |",
+            one.name,
+            ratio.least,
+            itself.least,
+            ratio.low,
+            itself.low,
+            if is_slower { "**no**" } else { "yes" }
+        );
+    }
+    match slower {
+        0 => println!("\nAfter is no slower than before on every rule."),
+        count => println!(
+            "\nAfter is slower than before on {count} of {} rules.",
+            all.len()
+        ),
+    }
+}
+
+pub fn print_rules(all: &[Measured]) {
+    println!("\n## The rules\n");
+    println!("| rule | gates | conditions | choices |");
+    println!("|---|---:|---:|---:|");
+    for one in all {
+        println!(
+            "| {} | {} | {} | {} |",
+            one.name,
+            one.given.count(),
+            one.given.conditions().len(),
+            one.given.choices()
+        );
+    }
+}
