@@ -74,7 +74,8 @@ pub fn print_times(all: &[Measured]) {
 }
 
 /// Ratios up to these count as no slower, by the least times and by the twentieth. With the same pass as before and as
-/// after, five runs on twelve rules gave 0.982 to 1.025 by the least, and by the twentieth 0.987 to 1.005, but once 1.071.
+/// after, six runs on twelve rules gave 0.982 to 1.025 by the least, and by the twentieth 0.987 to 1.005, but for 32 gates
+/// without a condition twice more, 1.016 and 1.071: that rule has two speeds, by what the processor holds of the one before.
 const LEAST: f64 = 1.03;
 const TWENTIETH: f64 = 1.01;
 
