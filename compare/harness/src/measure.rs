@@ -54,7 +54,7 @@ pub struct Times {
 }
 
 impl Times {
-    /// Of several rounds the least time of all, and of the others the median of the rounds.
+    /// Of several rounds the median of the medians, the lower quartile of the low times, and the least of all.
     pub fn of_rounds(rounds: &[Times]) -> Times {
         let sorted = |of: fn(&Times) -> f64| {
             let mut all: Vec<f64> = rounds.iter().map(of).collect();
@@ -63,7 +63,7 @@ impl Times {
         };
         Times {
             median: sorted(|times| times.median)[rounds.len() / 2],
-            low: sorted(|times| times.low)[rounds.len() / 2],
+            low: sorted(|times| times.low)[rounds.len() / 4],
             least: sorted(|times| times.least)[0],
         }
     }

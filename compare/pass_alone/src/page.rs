@@ -15,7 +15,7 @@ measured alone, without reading a rule and making its gates.
 
 Nanoseconds a call: the median of TURNS turns of about 100 µs, in brackets the least. The three are measured in one
 process, in turns, so that other work of the machine falls on all of them; it moves the least times least. Turns are
-taken in ROUNDS rounds over all rules; the median is that of the rounds' medians.
+taken in ROUNDS rounds over all rules; the median is that of the rounds' medians. Each pass lies within one page of memory.
 
 Lent to a call, and worked out before: four numbers a gate as operation 06 shows them, the conditions (each gate's number
 among them; to the tuned pass their gates in a row, and how many gates are starting values), the last gates of the result
@@ -73,43 +73,49 @@ pub fn print_times(all: &[Measured]) {
     }
 }
 
-/// A ratio up to this counts as no slower, since the times of one pass lie about as far apart.
-const NO_SLOWER: f64 = 1.01;
+/// Ratios up to these count as no slower, by the least times and by the twentieth. With the same pass as before and as
+/// after, six runs on twelve rules gave 0.982 to 1.025 by the least, and by the twentieth 0.987 to 1.005, but for 32 gates
+/// without a condition twice more, 1.016 and 1.071: that rule has two speeds, by what the processor holds of the one before.
+const LEAST: f64 = 1.03;
+const TWENTIETH: f64 = 1.01;
 
 const VERDICT: &str = "\
-By the least times, and by the time that a twentieth of the turns stay below: the very least of thousands of turns is that
-of a single turn, and moves by some percent from run to run. How much, the columns \"before / before\" show: the same pass
-measured as if it were two. By the twentieth a ratio up to NO_SLOWER counts as no slower.
+By the least times, and by the time that a twentieth of the turns stay below (in a quarter of the rounds). The very least
+of thousands of turns is that of a single turn, and moves by some percent from run to run; the twentieth mostly by less
+than one. How much in this run, \"before / before\" shows: the same pass measured as if it were two. By the least a ratio up
+to LEAST counts as no slower, by the twentieth one up to TWENTIETH; a no that another run does not repeat is chance.
 ";
+
+fn answer(no_slower: bool) -> &'static str {
+    match no_slower {
+        true => "yes",
+        false => "**no**",
+    }
+}
 
 /// Whether the pass is no slower than it was, on each rule and on all.
 pub fn print_verdict(all: &[Measured]) {
     println!("\n## Is after no slower than before?\n");
-    println!("{}", VERDICT.replace("NO_SLOWER", &NO_SLOWER.to_string()));
-    println!("| rule | after / before, least | before / before, least | after / before, twentieth | before / before, twentieth | no slower |");
-    println!("|---|---:|---:|---:|---:|---|");
-    let mut slower = 0;
+    let text = VERDICT.replace("LEAST", &LEAST.to_string());
+    println!("{}", text.replace("TWENTIETH", &TWENTIETH.to_string()));
+    println!("| rule | least: after / before | before / before | no slower | twentieth: after / before | before / before | no slower |");
+    println!("|---|---:|---:|---|---:|---:|---|");
+    let mut yes = [0; 2];
     for one in all {
         let (ratio, itself) = (one.after.over(&one.before), &one.itself);
-        let is_slower = ratio.low > NO_SLOWER;
-        slower += usize::from(is_slower);
+        let no_slower = [ratio.least <= LEAST, ratio.low <= TWENTIETH];
+        for (yes, no_slower) in yes.iter_mut().zip(no_slower) {
+            *yes += usize::from(no_slower);
+        }
+        let [least, low] = no_slower.map(answer);
         println!(
-            "| {} | {:.3} | {:.3} | {:.3} | {:.3} | {} |",
-            one.name,
-            ratio.least,
-            itself.least,
-            ratio.low,
-            itself.low,
-            if is_slower { "**no**" } else { "yes" }
+            "| {} | {:.3} | {:.3} | {least} | {:.3} | {:.3} | {low} |",
+            one.name, ratio.least, itself.least, ratio.low, itself.low
         );
     }
-    match slower {
-        0 => println!("\nAfter is no slower than before on every rule."),
-        count => println!(
-            "\nAfter is slower than before on {count} of {} rules.",
-            all.len()
-        ),
-    }
+    let [least, low] = yes;
+    let rules = all.len();
+    println!("\nBy the least times after is no slower than before on {least} of {rules} rules, by the twentieth on {low}.");
 }
 
 pub fn print_rules(all: &[Measured]) {
