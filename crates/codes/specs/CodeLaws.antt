@@ -2,7 +2,7 @@
 use Prim.Native.Nat.{ℕ, suc, _<_, _≤_}
 use native.Mathlib.Omega.{arith}
 use mathlib.Core.Path.{_≡_, refl, sym, ap, subst⁻¹, _∙_}
-use mathlib.Core.Logic.{_⊎_, inl, inr, ⊎-elim}
+use mathlib.Core.Logic.{_⊎_, inl, inr}
 use mathlib.Core.Bool.{Bool, true, false, _&&_, false≢true, cond}
 use lib.Dec.{eqb, leb}
 use borrow.Author.Tests.{ne-eqb, le-leb, lt-leb, eqb-true, leb-true}
@@ -102,9 +102,6 @@ one-or-two Equal = inr refl
 one-or-two And = inr refl
 one-or-two Or = inr refl
 one-or-two Not = inl refl
-
-pub some-arguments : (op : Operation) → 0 < entryOf op .arity
-some-arguments op = ⊎-elim (λ e. rw e (omega arith)) (λ e. rw e (omega arith)) (one-or-two op)
 
 -- not has one argument, an operation of a lower code two
 pub two-arguments : (b : ℕ) → 0x20 ≤ b → b < 0x27 → entryOf (operationOf b) .arity ≡ 2

@@ -1,13 +1,17 @@
 -- Laws of one gate's turn in the pass, by its code: a choice, whose condition has its number, an operation of one or two arguments, or neither.
-use Prim.Native.Nat.{ℕ, zero, suc, _-_, _≤_, _<_}
+use Prim.Native.Nat.{ℕ, suc, _-_, _≤_, _<_}
 use mathlib.Core.Path.{_≡_, refl, sym, ap, _∙_}
 use mathlib.Core.List.{List, [], _∷_}
+use mathlib.Core.Bool.{Bool, true, false, false≢true}
 use mathlib.Core.Logic.{inl, inr}
 use native.Mathlib.Omega.{arith}
-use lib.ListN.{getD, take}
+use lib.Dec.{ltb}
+use lib.ListN.{getD}
+use borrow.Author.Tests.{ltb-true, ltb-false}
+use Rattle.words.specs.TestLaws.{split}
 use Rattle.words.specs.Lists.{_∈_, Inside}
 use Rattle.codes.specs.Codes.{entryOf, operationOf}
-use Rattle.codes.specs.CodeLaws.{some-arguments, two-arguments, one-argument}
+use Rattle.codes.specs.CodeLaws.{two-arguments, one-argument}
 use Rattle.settings.specs.Sets.{given, without}
 use Rattle.gates.specs.Gates.{operation, choice, gateAt, conditions}
 use Rattle.gates.specs.ConditionLaws.{condition-in}
@@ -16,7 +20,7 @@ use Rattle.needed.specs.StepLaws.{addNumber, hand-choice}
 use Rattle.needed.specs.Held.{choiceCode, argumentsOf, codeAt, firstAt, secondAt, thirdAt, gatesIn}
 use Rattle.needed.specs.HeldLaws.{gates-at}
 use Rattle.needed.specs.RankLaws.{Found, rank-found, rank-at}
-use Rattle.needed.specs.Passing.{addNumbers, handGate, Passable}
+use Rattle.needed.specs.Passing.{addNumbers, oneOrTwo, handGate, Passable}
 use Rattle.needed.specs.PassingLaws.{add-all}
 use Rattle.needed.specs.QuadLaws.{Applies, KindIn, chooses, is-word, is-bit, applies, starts, choice-in, word-in, bit-in, applied-in, kind-in}
 
@@ -56,27 +60,38 @@ module _ (quads ranks : List ℕ) (count i : ℕ) (p : Passable quads ranks coun
       (secondAt quads i) (thirdAt quads i) (getD M i 0) M in
       n ∙ rw (choice-at, k) (sym (rw (condition-found .same) at u))
 
--- An operation: its arguments, one or two.
+-- An operation: one argument or two, which are gates, and what they get.
 
-module _ (code a b : ℕ) where
-  pub first-inside : Inside 256 (argumentsOf (entryOf (operationOf code)) a b) → a < 256
-  first-inside = go (entryOf (operationOf code) .arity) (some-arguments (operationOf code))
-    where
-      go : (n : ℕ) → 0 < n → Inside 256 (take n (a ∷ b ∷ [])) → a < 256
-      go zero h i = absurd (omega arith)
-      go (suc n) h i = i a (inl refl)
+module _ (a b : ℕ) where
+  pub first-inside : (two : Bool) → Inside 256 (oneOrTwo two a b) → a < 256
+  first-inside true i = i a (inl refl)
+  first-inside false i = i a (inl refl)
 
-  pub second-inside : Applies code → code < 0x27 → Inside 256 (argumentsOf (entryOf (operationOf code)) a b) → b < 256
-  second-inside h l i = i b (rw (two-arguments code (h .0) l) (inr (inl refl)))
+  pub second-inside : (two : Bool) → two ≡ true → Inside 256 (oneOrTwo two a b) → b < 256
+  second-inside true e i = i b (inr (inl refl))
+  second-inside false e i = absurd (false≢true e)
 
-  pub one-handed : Applies code → 0x27 ≤ code → (s : ℕ) (M N : List ℕ) → N ≡ addNumber a s M → N ≡ addNumbers (argumentsOf (entryOf (operationOf code)) a b) s M
+  pub one-handed : (two : Bool) → two ≡ false → (s : ℕ) (M N : List ℕ) → N ≡ addNumber a s M → N ≡ addNumbers (oneOrTwo two a b) s M
   unfolding addNumbers
-  one-handed h l s M N q = let e : code ≡ 0x27 = omega (arith, h .1) in rw (one-argument code e) q
+  one-handed two e s M N q = rw e q
 
-  pub two-handed : Applies code → code < 0x27 → (s : ℕ) (M N O : List ℕ) → N ≡ addNumber a s M → O ≡ addNumber b s N
-      → O ≡ addNumbers (argumentsOf (entryOf (operationOf code)) a b) s M
+  pub two-handed : (two : Bool) → two ≡ true → (s : ℕ) (M N O : List ℕ) → N ≡ addNumber a s M → O ≡ addNumber b s N → O ≡ addNumbers (oneOrTwo two a b) s M
   unfolding addNumbers
-  two-handed h l s M N O q r = rw (two-arguments code (h .0) l) (r ∙ ap (addNumber b s) q)
+  two-handed two e s M N O q r = rw e (r ∙ ap (addNumber b s) q)
+
+  -- how many, by the code
+  module _ (code : ℕ) (h : Applies code) where
+    code-arguments : argumentsOf (entryOf (operationOf code)) a b ≡ oneOrTwo (ltb code 0x27) a b
+    code-arguments =
+        split (ltb code 0x27) (λ t. rw (t, two-arguments code (h .0) (ltb-true _ _ t)))
+        (λ t. let e : code ≡ 0x27 = omega (arith, h .1, ltb-false code 0x27 t) in rw (t, one-argument code e))
+
+    pub code-inside : Inside 256 (argumentsOf (entryOf (operationOf code)) a b) → Inside 256 (oneOrTwo (ltb code 0x27) a b)
+    code-inside i x m = i x (rw code-arguments m)
+
+    pub code-handed : (s t : ℕ) (M N : List ℕ) → s ≡ t → N ≡ addNumbers (oneOrTwo (ltb code 0x27) a b) t M
+        → N ≡ addNumbers (argumentsOf (entryOf (operationOf code)) a b) s M
+    code-handed s t M N e q = rw (code-arguments, e) q
 
 module _ (quads ranks : List ℕ) (count i : ℕ) (p : Passable quads ranks count) (l : i < count) (h : Applies (codeAt quads i)) where
   operation-at : gateAt (gatesIn quads count) i

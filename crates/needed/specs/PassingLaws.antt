@@ -53,14 +53,14 @@ wanting-start wanted M i = record { low = omega arith; inside = i; done = refl }
 pub wanting-inside : (wanted M₀ M : List ℕ) (x g : ℕ) → Wanting wanted M₀ M x → x < length wanted → g ≡ getD wanted x 0 → g < 256
 wanting-inside wanted M₀ M x g w l e = rw e (w .inside (getD wanted x 0) (getD-in wanted x l))
 
-pub wanting-step : (wanted M₀ M N : List ℕ) (x g s : ℕ) → Wanting wanted M₀ M x → x < length wanted → g ≡ getD wanted x 0 → s ≡ whole 64
-    → N ≡ addNumber g s M → Wanting wanted M₀ N (x + 1)
-wanting-step wanted M₀ M N x g s w l e f q =
+pub wanting-step : (wanted M₀ M N : List ℕ) (x g : ℕ) → Wanting wanted M₀ M x → x < length wanted → g ≡ getD wanted x 0 → N ≡ addNumber g (whole 64) M
+    → Wanting wanted M₀ N (x + 1)
+wanting-step wanted M₀ M N x g w l e q =
     record {
       low = omega arith;
       inside = w .inside;
       done = let m : x + 1 ≡ suc x = omega arith in
-          q ∙ rw (e, f, m, take-suc wanted x 0 l, add-more (take x wanted) (getD wanted x 0) (whole 64) M₀) (ap (addNumber (getD wanted x 0) (whole 64)) (w .done));
+          q ∙ rw (e, m, take-suc wanted x 0 l, add-more (take x wanted) (getD wanted x 0) (whole 64) M₀) (ap (addNumber (getD wanted x 0) (whole 64)) (w .done));
     }
 
 pub wanting-end : (wanted M₀ M : List ℕ) (x : ℕ) → Wanting wanted M₀ M x → length wanted ≤ x → M ≡ addNumbers wanted (whole 64) M₀

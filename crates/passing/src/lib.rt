@@ -13,7 +13,7 @@ ghost use Rattle.needed.specs.Held.{argumentsOf, gatesIn};
 ghost use Rattle.needed.specs.QuadLaws.{Applies};
 ghost use Rattle.needed.specs.Pass.{preconditionSets};
 ghost use Rattle.needed.specs.StepLaws.{addNumber};
-ghost use Rattle.needed.specs.Passing.{addNumbers, handGate, passGates, handGatesFrom, Passable};
+ghost use Rattle.needed.specs.Passing.{addNumbers, oneOrTwo, handGate, passGates, handGatesFrom, Passable};
 
 // The set s is put to that of gate g.
 fn add(sets: &mut [u64; 256], g: GateId, s: u64)
@@ -24,6 +24,15 @@ fn add(sets: &mut [u64; 256], g: GateId, s: u64)
     sets[i] = settings::union(sets[i], s);
 }
 
+// Gate g is needed under every setting, whatever its set was: that is not read.
+fn add_whole(sets: &mut [u64; 256], g: GateId)
+    requires { ⌜ g .0 < 256 ⌝ }
+    ensures { λ r. ⌜ now (sets .exit) ≡ addNumber (g .0) (whole 64) (now (sets .entry)) ⌝ }
+{
+    let i = g.0 as usize;
+    sets[i] = settings::with_whole(sets[i]);
+}
+
 // Every wanted gate is needed under every setting.
 fn want_all(wanted: &[u16], sets: &mut [u64; 256])
     requires { ⌜ Inside 256 (now wanted) ⌝ }
@@ -32,8 +41,34 @@ fn want_all(wanted: &[u16], sets: &mut [u64; 256])
     let mut x: usize = 0;
     while x < wanted.len() {
         let g = GateId(wanted[x]);
-        add(sets, g, settings::whole());
+        add_whole(sets, g);
         x = x + 1;
+    }
+}
+
+// The set s is put to those of an operation's arguments, x, and y where it has two.
+fn hand_some(sets: &mut [u64; 256], two: bool, x: u32, y: u32, s: u64)
+    requires { ⌜ Inside 256 (oneOrTwo two x y) ⌝ }
+    ensures { λ r. ⌜ now (sets .exit) ≡ addNumbers (oneOrTwo two x y) s (now (sets .entry)) ⌝ }
+{
+    let a = GateId(x as u16);
+    add(sets, a, s);
+    if two {
+        let b = GateId(y as u16);
+        add(sets, b, s);
+    }
+}
+
+// The same of the whole set: no set is read for it, so no gate's turn waits for what the last one stored.
+fn hand_whole(sets: &mut [u64; 256], two: bool, x: u32, y: u32)
+    requires { ⌜ Inside 256 (oneOrTwo two x y) ⌝ }
+    ensures { λ r. ⌜ now (sets .exit) ≡ addNumbers (oneOrTwo two x y) (whole 64) (now (sets .entry)) ⌝ }
+{
+    let a = GateId(x as u16);
+    add_whole(sets, a);
+    if two {
+        let b = GateId(y as u16);
+        add_whole(sets, b);
     }
 }
 
@@ -42,11 +77,11 @@ fn hand_operation(sets: &mut [u64; 256], code: u32, x: u32, y: u32, s: u64)
     requires { ⌜ Applies code × Inside 256 (argumentsOf (entryOf (operationOf code)) x y) ⌝ }
     ensures { λ r. ⌜ now (sets .exit) ≡ addNumbers (argumentsOf (entryOf (operationOf code)) x y) s (now (sets .entry)) ⌝ }
 {
-    let a = GateId(x as u16);
-    add(sets, a, s);
-    if code < gates::NOT {
-        let b = GateId(y as u16);
-        add(sets, b, s);
+    let two = code < gates::NOT;
+    if s == settings::whole() {
+        hand_whole(sets, two, x, y);
+    } else {
+        hand_some(sets, two, x, y, s);
     }
 }
 

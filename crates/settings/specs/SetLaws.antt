@@ -42,6 +42,16 @@ whole-below N = collect-below N (λ j. true)
 pub union-below : (N s t : ℕ) → s < 2 ^ N → t < 2 ^ N → union s t < 2 ^ N
 union-below N s t h l = or-lt N s t h l
 
+-- a set of N settings joined with the whole one is the whole one
+or-true : (b : Bool) → (b || true) ≡ true
+or-true true = refl
+or-true false = refl
+
+pub union-whole : (N s : ℕ) → s < 2 ^ N → union s (whole N) ≡ whole N
+union-whole N s h =
+    same-bits N _ _ (union-below N s (whole N) h (whole-below N)) (whole-below N)
+    (λ j l. has-union s (whole N) j ∙ ap (λ (b : Bool). has s j || b) (has-whole N j l) ∙ or-true (has s j) ∙ sym (has-whole N j l))
+
 pub those-below : (N : ℕ) (p : ℕ → Bool) (s : ℕ) → bitAnd s (collect N p) < 2 ^ N
 those-below N p s = lt-of-le-of-lt (and-le-r s (collect N p)) (collect-below N p)
 

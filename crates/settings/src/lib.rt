@@ -39,6 +39,13 @@ pub fn union(a: u64, b: u64) -> u64
     a | b
 }
 
+// The union of a set with the whole one, which is the whole one: the set is not looked at, and a read of it for this falls away.
+pub fn with_whole(s: u64) -> u64
+    ensures { λ r. ⌜ r ≡ sets.union s (sets.whole 64) ⌝ }
+{
+    whole()
+}
+
 // No setting is in both sets.
 pub fn excludes(a: u64, b: u64) -> bool
     ensures { λ r. ⌜ r ≡ sets.excludes a b ⌝ }

@@ -1,37 +1,26 @@
-use native.Mathlib.Omega.{arith}
-use Rattle.needed.specs.HandSteps.{first-inside, second-inside, one-handed, two-handed}
+use mathlib.Core.Path.{refl, _∙_}
+use Rattle.needed.specs.HandSteps.{code-inside, code-handed}
+use borrow.Author.Needs.{needs}
 use Rattle.passing.proofs.hand_operation.Statement.{statement}
 use Rattle.passing.proofs.hand_operation.Tie as tie
 
-cast-x : tie.Need-cast-t8
-cast-x c = let x = c .args in record { fits = omega (arith, first-inside (x .code) (x .x) (x .y) (c .pre .1)) }
+hand-whole-requires : tie.Need-hand-whole-requires
+hand-whole-requires c κs = let d = c .before .before .before in let x = d .args in code-inside (x .x) (x .y) (x .code) (d .pre .0) (d .pre .1)
 
-add-requires : tie.Need-add-requires
-add-requires c κs = let x = c .before .args in first-inside (x .code) (x .x) (x .y) (c .before .pre .1)
-
-cast-y : tie.Need-cast-t12
-cast-y c =
-    let d = c .before .before .before in
-    let x = d .args in
-    record { fits = omega (arith, second-inside (x .code) (x .x) (x .y) (d .pre .0) (c .if1 .taken) (d .pre .1)) }
-
-add-requires-2 : tie.Need-add-requires-2
-add-requires-2 c κs =
-    let d = c .before .before .before .before in
-    let x = d .args in
-    second-inside (x .code) (x .x) (x .y) (d .pre .0) (c .before .if1 .taken) (d .pre .1)
+hand-some-requires : tie.Need-hand-some-requires
+hand-some-requires c κs = let d = c .before .before .before in let x = d .args in code-inside (x .x) (x .y) (x .code) (d .pre .0) (d .pre .1)
 
 returns : tie.Need-returns
 returns c =
-    let d = c .before .before .before .before .before in
+    let d = c .before .before .before .before in
     let x = d .args in
-    two-handed (x .code) (x .x) (x .y) (d .pre .0) (c .before .before .if1 .taken) (x .s) _ _ _ (c .before .before .before .add .ensures) (c .add2 .ensures)
+    code-handed (x .x) (x .y) (x .code) (d .pre .0) (x .s) _ _ _ (c .before .before .if1 .taken ∙ c .before .before .before .whole .ensures) (c .hand-whole .ensures)
 
 returns-2 : tie.Need-returns-2
 returns-2 c =
-    let d = c .before .before .before in
+    let d = c .before .before .before .before in
     let x = d .args in
-    one-handed (x .code) (x .x) (x .y) (d .pre .0) (c .if1 .left) (x .s) _ _ (c .before .add .ensures)
+    code-handed (x .x) (x .y) (x .code) (d .pre .0) (x .s) _ _ _ refl (c .hand-some .ensures)
 
 pub hand-operation-spec : {M : Type 1} → statement M
-hand-operation-spec = tie.close (tie.spec cast-x add-requires cast-y add-requires-2 returns returns-2)
+hand-operation-spec = tie.close (tie.spec (λ c κs. search needs) hand-whole-requires hand-some-requires returns returns-2)

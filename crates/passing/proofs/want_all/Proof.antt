@@ -15,13 +15,11 @@ abbrev μ-loop : tie.MeasureT-loop
 loop-holds : tie.Need-loop-holds Inv-loop μ-loop
 loop-holds c = wanting-start _ _ (c .before .pre)
 
-add-requires : tie.Need-add-requires Inv-loop μ-loop
-add-requires c κs = wanting-inside _ _ _ _ _ (c .before .before .before .before .loop .inv) (c .before .before .before .loop-test .taken) refl
+add-whole-requires : tie.Need-add-whole-requires Inv-loop μ-loop
+add-whole-requires c κs = wanting-inside _ _ _ _ _ (c .before .before .before .loop .inv) (c .before .before .loop-test .taken) refl
 
 loop-again : tie.Need-loop-again Inv-loop μ-loop
-loop-again c =
-    wanting-step _ _ _ _ _ _ _ (c .before .before .before .before .before .loop .inv) (c .before .before .before .before .loop-test .taken) refl
-    (c .before .whole .ensures) (c .add .ensures)
+loop-again c = wanting-step _ _ _ _ _ _ (c .before .before .before .before .loop .inv) (c .before .before .before .loop-test .taken) refl (c .add-whole .ensures)
 
 returns : tie.Need-returns Inv-loop μ-loop
 returns c = wanting-end _ _ _ _ (c .before .loop .inv) (c .loop-test .left)
@@ -35,8 +33,7 @@ want-all-spec =
     loop-holds
     (λ c. search needs)
     (λ c. search needs)
-    (λ c κs. search needs)
-    add-requires
+    add-whole-requires
     (λ c. search needs)
     (λ c. search needs)
     loop-again
