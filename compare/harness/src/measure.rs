@@ -48,30 +48,24 @@ fn below(steps: usize, call: &mut dyn FnMut() -> Duration) -> Duration {
 #[derive(Clone, Copy, Debug, Default)]
 pub struct Times {
     pub median: f64,
-    /// A twentieth of the turns took less. It is nearly as free of other work as the least, and steadier.
-    pub low: f64,
     pub least: f64,
 }
 
 impl Times {
-    /// Of several rounds the median of the medians, the lower quartile of the low times, and the least of all.
+    /// Of several rounds the median of the medians, and the least of all.
     pub fn of_rounds(rounds: &[Times]) -> Times {
-        let sorted = |of: fn(&Times) -> f64| {
-            let mut all: Vec<f64> = rounds.iter().map(of).collect();
-            all.sort_by(f64::total_cmp);
-            all
-        };
+        let mut medians: Vec<f64> = rounds.iter().map(|times| times.median).collect();
+        medians.sort_by(f64::total_cmp);
+        let least = rounds.iter().map(|times| times.least);
         Times {
-            median: sorted(|times| times.median)[rounds.len() / 2],
-            low: sorted(|times| times.low)[rounds.len() / 4],
-            least: sorted(|times| times.least)[0],
+            median: medians[rounds.len() / 2],
+            least: least.fold(f64::INFINITY, f64::min),
         }
     }
 
     pub fn over(&self, other: &Times) -> Times {
         Times {
             median: self.median / other.median,
-            low: self.low / other.low,
             least: self.least / other.least,
         }
     }
@@ -80,7 +74,6 @@ impl Times {
     pub fn each(&self, count: f64) -> Times {
         Times {
             median: self.median / count,
-            low: self.low / count,
             least: self.least / count,
         }
     }
@@ -121,13 +114,12 @@ fn calls_a_turn<S>(caller: &mut Caller<S>, subjects: &[S]) -> u32 {
     (TURN.as_nanos() / once.as_nanos().max(1)).clamp(1, 100_000) as u32
 }
 
-/// The pieces' medians, low and least times, added up.
+/// The pieces' medians and least times, added up.
 fn sum(pieces: Vec<Vec<f64>>, subjects: f64) -> Times {
     let mut sum = Times::default();
     for mut taken in pieces {
         taken.sort_by(f64::total_cmp);
         sum.median += taken[taken.len() / 2] / subjects;
-        sum.low += taken[taken.len() / 20] / subjects;
         sum.least += taken[0] / subjects;
     }
     sum

@@ -73,49 +73,33 @@ pub fn print_times(all: &[Measured]) {
     }
 }
 
-/// Ratios up to these count as no slower, by the least times and by the twentieth. With the same pass as before and as
-/// after, six runs on twelve rules gave 0.982 to 1.025 by the least, and by the twentieth 0.987 to 1.005, but for 32 gates
-/// without a condition twice more, 1.016 and 1.071: that rule has two speeds, by what the processor holds of the one before.
-const LEAST: f64 = 1.03;
-const TWENTIETH: f64 = 1.01;
-
 const VERDICT: &str = "\
-By the least times, and by the time that a twentieth of the turns stay below (in a quarter of the rounds). The very least
-of thousands of turns is that of a single turn, and moves by some percent from run to run; the twentieth mostly by less
-than one. How much in this run, \"before / before\" shows: the same pass measured as if it were two. By the least a ratio up
-to LEAST counts as no slower, by the twentieth one up to TWENTIETH; a no that another run does not repeat is chance.
+By the least times. How far those of one pass lie apart in this run, \"before / before\" shows: the same pass measured as if
+it were two.
 ";
-
-fn answer(no_slower: bool) -> &'static str {
-    match no_slower {
-        true => "yes",
-        false => "**no**",
-    }
-}
 
 /// Whether the pass is no slower than it was, on each rule and on all.
 pub fn print_verdict(all: &[Measured]) {
     println!("\n## Is after no slower than before?\n");
-    let text = VERDICT.replace("LEAST", &LEAST.to_string());
-    println!("{}", text.replace("TWENTIETH", &TWENTIETH.to_string()));
-    println!("| rule | least: after / before | before / before | no slower | twentieth: after / before | before / before | no slower |");
-    println!("|---|---:|---:|---|---:|---:|---|");
-    let mut yes = [0; 2];
+    println!("{VERDICT}");
+    println!("| rule | after / before | before / before | no slower |");
+    println!("|---|---:|---:|---|");
+    let mut yes = 0;
     for one in all {
-        let (ratio, itself) = (one.after.over(&one.before), &one.itself);
-        let no_slower = [ratio.least <= LEAST, ratio.low <= TWENTIETH];
-        for (yes, no_slower) in yes.iter_mut().zip(no_slower) {
-            *yes += usize::from(no_slower);
-        }
-        let [least, low] = no_slower.map(answer);
+        let no_slower = one.after.least <= one.before.least;
+        yes += usize::from(no_slower);
         println!(
-            "| {} | {:.3} | {:.3} | {least} | {:.3} | {:.3} | {low} |",
-            one.name, ratio.least, itself.least, ratio.low, itself.low
+            "| {} | {:.3} | {:.3} | {} |",
+            one.name,
+            one.after.over(&one.before).least,
+            one.itself.least,
+            if no_slower { "yes" } else { "**no**" }
         );
     }
-    let [least, low] = yes;
-    let rules = all.len();
-    println!("\nBy the least times after is no slower than before on {least} of {rules} rules, by the twentieth on {low}.");
+    println!(
+        "\nAfter is no slower than before on {yes} of {} rules.",
+        all.len()
+    );
 }
 
 pub fn print_rules(all: &[Measured]) {
