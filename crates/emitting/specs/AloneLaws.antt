@@ -12,8 +12,8 @@ use Rattle.codes.specs.Codes.{startKind, entryOf, operationOf, codeOf, startCod
 use Rattle.codes.specs.CodeLaws.{kind-bit, kind-word, code-operation, one-or-two, byte-back}
 use Rattle.codes.specs.declared.Code.{Code}
 use Rattle.gates.specs.Gates.{start, bit, arguments}
-use Rattle.needed.specs.Held.{choiceCode, gateIn, codeAt, firstAt, secondAt, thirdAt}
-use Rattle.needed.specs.QuadLaws.{Applies, KindIn, chooses, is-word, is-bit, applies, starts, kind-in, choice-in, word-in, bit-in, start-in, applied-in}
+use Rattle.needed.specs.Held.{choiceCode, Applies, gateIn, codeAt, firstAt, secondAt, thirdAt}
+use Rattle.needed.specs.QuadLaws.{KindIn, chooses, is-word, is-bit, applies, starts, kind-in, choice-in, word-in, bit-in, start-in, applied-in}
 use Rattle.records.specs.CircuitFile.{wiresBytes, recordBytes}
 use Rattle.records.specs.SizeLaws.{wires-size, input-size, word-size, bit-size, choice-size}
 use Rattle.emitting.specs.Emitted.{aloneIn, Grouped, FitsGate, Coded, Writable}

@@ -8,8 +8,7 @@ use Rattle.words.specs.Numbers.{bytesOf}
 use Rattle.words.specs.Buffers.{over}
 use Rattle.codes.specs.Codes.{codeOf}
 use Rattle.codes.specs.declared.Code.{Code}
-use Rattle.needed.specs.Held.{choiceCode, codeAt, firstAt, secondAt, thirdAt}
-use Rattle.needed.specs.QuadLaws.{Applies}
+use Rattle.needed.specs.Held.{choiceCode, Applies, codeAt, firstAt, secondAt, thirdAt}
 use Rattle.records.specs.CircuitFile.{wiresBytes, recordBytes}
 use Rattle.emitting.specs.Emitted.{aloneIn}
 use Rattle.emitting.specs.AloneLaws.{choice-bytes, choice-long, word-bytes, word-long, bit-bytes, bit-long, start-bytes, start-long, unary-bytes, unary-long, binary-bytes, binary-long}

@@ -8,8 +8,7 @@ ghost use Prim.Native.Nat.{_<_, _≤_};
 ghost use lib.ListN.{length, getD};
 ghost use Rattle.words.specs.Numbers.{bytesOf};
 ghost use Rattle.words.specs.Buffers.{over};
-ghost use Rattle.needed.specs.Held.{codeAt};
-ghost use Rattle.needed.specs.QuadLaws.{Applies};
+ghost use Rattle.needed.specs.Held.{Applies, codeAt};
 ghost use Rattle.records.specs.CircuitFile.{wiresBytes, recordBytes};
 ghost use Rattle.emitting.specs.Emitted.{wireIn, aloneIn, Grouped, Writable};
 

@@ -14,9 +14,9 @@ use Rattle.codes.specs.declared.Operation.{Operation}
 use Rattle.codes.specs.CodeLaws.{one-or-two, byte-back}
 use Rattle.gates.specs.Gates.{Gate, start, word, bit, operation, choice, gateAt, arguments, conditions}
 use Rattle.gates.specs.Limits.{mostConditions}
-use Rattle.needed.specs.Held.{gateIn, gatesIn, codeAt, firstAt, secondAt, thirdAt}
+use Rattle.needed.specs.Held.{Applies, gateIn, gatesIn, codeAt, firstAt, secondAt, thirdAt}
 use Rattle.needed.specs.HeldLaws.{gates-at}
-use Rattle.needed.specs.QuadLaws.{Applies, KindIn, chooses, is-word, is-bit, applies, starts, kind-in, choice-in, word-in, bit-in, applied-in}
+use Rattle.needed.specs.QuadLaws.{KindIn, chooses, is-word, is-bit, applies, starts, kind-in, choice-in, word-in, bit-in, applied-in}
 use Rattle.plan.specs.PlanFile.{groupAt}
 use Rattle.plan.specs.RestLaws.{rests-held}
 use Rattle.records.specs.Records.{Record, pick}

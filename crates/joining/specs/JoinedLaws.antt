@@ -8,8 +8,7 @@ use lib.ListN.{length, getD, take, drop, length-append}
 use borrow.Rule.Slice.PartMut.{putMid}
 use Rattle.words.specs.Buffers.{over}
 use Rattle.words.specs.BufferLaws.{length-over, room-rest}
-use Rattle.needed.specs.Held.{codeAt}
-use Rattle.needed.specs.QuadLaws.{Applies}
+use Rattle.needed.specs.Held.{Applies, codeAt}
 use Rattle.plan.specs.PlanFile.{groupAt}
 use Rattle.records.specs.Records.{Record, pick}
 use Rattle.records.specs.CircuitFile.{wiresBytes, recordBytes, recordsBytes}

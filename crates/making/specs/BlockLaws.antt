@@ -2,7 +2,7 @@
 use Prim.Native.Nat.{ℕ, _+_, _-_, _≤_, _<_}
 use native.Mathlib.Omega.{arith}
 use mathlib.Core.Path.{_≡_, refl, sym, ap, subst, subst⁻¹, _∙_}
-use mathlib.Core.Bool.{Bool, true, false, _||_}
+use mathlib.Core.Bool.{Bool, true, false, _||_, or-false}
 use mathlib.Core.List.{List}
 use lib.ListN.{length, getD}
 use lib.Bits.{bitOr}
@@ -12,7 +12,6 @@ use Rattle.words.specs.BufferLaws.{padded-at, padded-length}
 use Rattle.words.specs.ListLaws.{length-from}
 use Rattle.settings.specs.Sets.{has}
 use Rattle.settings.specs.BitLaws.{bit-or, bit-none}
-use Rattle.words.specs.TestLaws.{or-false}
 use Rattle.answers.specs.Parsing.{parsed, IsRead}
 use Rattle.answers.specs.ParsingLaws.{read-is, is-read, same-what, same-next}
 use Rattle.reading.specs.Limits.{nested}

@@ -12,8 +12,7 @@ use Rattle.codes.specs.CodeLaws.{code-operation}
 use Rattle.codes.specs.declared.Code.{Code}
 use Rattle.gates.specs.Gates.{conditions}
 use Rattle.gates.specs.Limits.{mostConditions}
-use Rattle.needed.specs.Held.{gatesIn, codeAt}
-use Rattle.needed.specs.QuadLaws.{Applies}
+use Rattle.needed.specs.Held.{Applies, gatesIn, codeAt}
 use Rattle.plan.specs.PlanFile.{groupAt}
 use Rattle.records.specs.Records.{Record, recordsCost}
 use Rattle.records.specs.CircuitFile.{recordBytes, recordsBytes}

@@ -10,8 +10,8 @@ use Rattle.codes.specs.Codes.{entryOf, operationOf, codeOf}
 use Rattle.codes.specs.CodeLaws.{code-operation, one-or-two}
 use Rattle.codes.specs.declared.Code.{Code}
 use Rattle.gates.specs.Gates.{Gate, start, word, bit, operation, choice, costOf}
-use Rattle.needed.specs.Held.{choiceCode, gateIn, codeAt, firstAt}
-use Rattle.needed.specs.QuadLaws.{Applies, KindIn, chooses, is-word, is-bit, applies, starts, kind-in, choice-in, word-in, bit-in, start-in, applied-in}
+use Rattle.needed.specs.Held.{choiceCode, Applies, gateIn, codeAt, firstAt}
+use Rattle.needed.specs.QuadLaws.{KindIn, chooses, is-word, is-bit, applies, starts, kind-in, choice-in, word-in, bit-in, start-in, applied-in}
 use Rattle.records.specs.Records.{recordCost}
 use Rattle.records.specs.CircuitFile.{recordBytes}
 use Rattle.records.specs.SizeLaws.{cost-one}

@@ -16,13 +16,13 @@ use Rattle.settings.specs.Sets.{given, without}
 use Rattle.gates.specs.Gates.{operation, choice, gateAt, conditions}
 use Rattle.gates.specs.ConditionLaws.{condition-in}
 use Rattle.needed.specs.PreconditionLaws.{conditions-once}
-use Rattle.needed.specs.StepLaws.{addNumber, hand-choice}
-use Rattle.needed.specs.Held.{choiceCode, argumentsOf, codeAt, firstAt, secondAt, thirdAt, gatesIn}
+use Rattle.needed.specs.StepLaws.{hand-choice}
+use Rattle.needed.specs.Held.{choiceCode, Applies, argumentsOf, codeAt, firstAt, secondAt, thirdAt, gatesIn}
 use Rattle.needed.specs.HeldLaws.{gates-at}
 use Rattle.needed.specs.RankLaws.{Found, rank-found, rank-at}
-use Rattle.needed.specs.Passing.{addNumbers, oneOrTwo, handGate, Passable}
+use Rattle.needed.specs.Passing.{addNumber, addNumbers, oneOrTwo, handGate, Passable}
 use Rattle.needed.specs.PassingLaws.{add-all}
-use Rattle.needed.specs.QuadLaws.{Applies, KindIn, chooses, is-word, is-bit, applies, starts, choice-in, word-in, bit-in, applied-in, kind-in}
+use Rattle.needed.specs.QuadLaws.{KindIn, chooses, is-word, is-bit, applies, starts, choice-in, word-in, bit-in, applied-in, kind-in}
 
 -- A choice.
 

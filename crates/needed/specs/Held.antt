@@ -1,5 +1,5 @@
 -- Inner, for document 01, "The plain circuit (000 Def. 1 and App. C)": the gates that lie in a lent array, four numbers a gate, read back; and the costs of their codes.
-use Prim.Native.Nat.{ℕ, zero, suc, _+_, _*_}
+use Prim.Native.Nat.{ℕ, zero, suc, _+_, _*_, _≤_}
 use mathlib.Core.Path.{_≡_}
 use mathlib.Core.List.{List, [], _∷_, _++_, map}
 use mathlib.Core.Bool.{cond}
@@ -15,6 +15,10 @@ use Rattle.gates.specs.Gates.{Gate, start, word, bit, operation, choice, Gates,
 -- a choice's code
 abbrev pub choiceCode : ℕ
 choiceCode = 0x30
+
+-- the codes of operations
+abbrev pub Applies : ℕ → Type 0
+Applies code = (0x20 ≤ code) × (code ≤ 0x27)
 
 -- 11, 12 and 20 to 27 mean what they mean in a rule, any other code a starting value; a: the first number, l: the arguments
 abbrev pub ofForm : Form → ℕ → List ℕ → Gate

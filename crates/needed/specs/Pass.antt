@@ -42,6 +42,7 @@ module _ {J : Type 0} {setting : J → Setting} {S : Type 0} {has : S → J → 
   abbrev pub wantedSets : Gates → List ℕ → List S
   wantedSets C wanted = addAll wanted whole (replicate (length C) empty)
 
+  -- the whole pass: the set of each gate is its precondition
   unfoldable pub preconditions : Gates → List ℕ → List S
   preconditions C wanted = passSets C (length C) (wantedSets C wanted)
 

@@ -3,15 +3,19 @@ use Prim.Native.Nat.{ℕ, _≤_}
 use mathlib.Core.Path.{_≡_}
 use mathlib.Core.List.{List, [], _∷_}
 use mathlib.Core.Bool.{Bool, true, false}
-use lib.ListN.{length, getD}
+use lib.ListN.{length, getD, set}
 use Rattle.gates.specs.Gates.{Gates, gateAt, Earlier, conditions}
 use Rattle.gates.specs.Limits.{mostGates, mostConditions}
+use Rattle.settings.specs.Sets.{union}
 use Rattle.settings.specs.Numbers.{numbers}
 use Rattle.needed.specs.Held.{gatesIn}
 use Rattle.needed.specs.Ranks.{ranksOf}
 use Rattle.needed.specs.Pass.{hand, passSets}
 use Rattle.needed.specs.Reaching.{Reaching, handFrom}
-use Rattle.needed.specs.StepLaws.{addNumber}
+
+-- put the set s to that of gate a
+abbrev pub addNumber : ℕ → ℕ → List ℕ → List ℕ
+addNumber a s M = set M a (union (getD M a 0) s)
 
 -- put the set s to those of the listed gates
 unfoldable pub addNumbers : List ℕ → ℕ → List ℕ → List ℕ

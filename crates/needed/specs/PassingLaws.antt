@@ -15,10 +15,10 @@ use Rattle.needed.specs.HandLaws.{addAll-length}
 use Rattle.needed.specs.PassLaws.{pass-length}
 use Rattle.needed.specs.Reaching.{begun, handed, handFrom}
 use Rattle.needed.specs.ReachingLaws.{reached-end, reached-final}
-use Rattle.needed.specs.StepLaws.{addNumber, preconditions-room}
+use Rattle.needed.specs.StepLaws.{preconditions-room}
 use Rattle.needed.specs.Held.{gatesIn}
 use Rattle.needed.specs.HeldLaws.{gates-length}
-use Rattle.needed.specs.Passing.{addNumbers, handGate, passGates, ReachingGates, handGatesFrom, Passable}
+use Rattle.needed.specs.Passing.{addNumber, addNumbers, handGate, passGates, ReachingGates, handGatesFrom, Passable}
 
 -- Unions, one after the other.
 

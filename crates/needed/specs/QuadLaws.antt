@@ -13,12 +13,8 @@ use Rattle.codes.specs.CodeLaws.{code-operation, code-unknown}
 use Rattle.codes.specs.declared.Operation.{Operation}
 use Rattle.codes.specs.declared.Operation.the-variants.{Sum, Difference, Product, LessThan, Equal, And, Or, Not}
 use Rattle.gates.specs.Gates.{start, word, bit, operation, choice, arguments, costOf}
-use Rattle.needed.specs.Held.{choiceCode, ofForm, argumentsOf, gateOf, codeAt, firstAt, secondAt, thirdAt, gateIn}
+use Rattle.needed.specs.Held.{choiceCode, Applies, ofForm, argumentsOf, gateOf, codeAt, firstAt, secondAt, thirdAt, gateIn}
 use Rattle.needed.specs.HeldLaws.{gate-choice, gate-other, arguments-other, cost-code, cost-other}
-
--- a code of the operation range
-abbrev pub Applies : ℕ → Type 0
-Applies code = (0x20 ≤ code) × (code ≤ 0x27)
 
 -- Of four numbers.
 

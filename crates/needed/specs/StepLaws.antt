@@ -15,10 +15,7 @@ use Rattle.settings.specs.Interface.{SetsOf}
 use Rattle.settings.specs.Numbers.{numbers, given-place, without-place}
 use Rattle.needed.specs.Pass.{add, addAll, hand, passSets, preconditions}
 use Rattle.needed.specs.HandLaws.{addAll-length, hand-length}
-
--- put the set s to that of gate a, sets being numbers
-abbrev pub addNumber : ℕ → ℕ → List ℕ → List ℕ
-addNumber a s M = set M a (sets.union (getD M a 0) s)
+use Rattle.needed.specs.Passing.{addNumber}
 
 module _ (N : ℕ) (cs : List ℕ) where
   -- a choice on the condition at place t

@@ -9,11 +9,9 @@ ghost use Rattle.codes.specs.Codes.{entryOf, operationOf};
 ghost use Rattle.settings.specs.Sets.{whole, given, without};
 ghost use Rattle.gates.specs.Limits.{mostGates, mostConditions};
 ghost use Rattle.words.specs.Lists.{Inside};
-ghost use Rattle.needed.specs.Held.{argumentsOf, gatesIn};
-ghost use Rattle.needed.specs.QuadLaws.{Applies};
+ghost use Rattle.needed.specs.Held.{Applies, argumentsOf, gatesIn};
 ghost use Rattle.needed.specs.Pass.{preconditionSets};
-ghost use Rattle.needed.specs.StepLaws.{addNumber};
-ghost use Rattle.needed.specs.Passing.{addNumbers, oneOrTwo, handGate, passGates, handGatesFrom, Passable};
+ghost use Rattle.needed.specs.Passing.{addNumber, addNumbers, oneOrTwo, handGate, passGates, handGatesFrom, Passable};
 
 // The set s is put to that of gate g.
 fn add(sets: &mut [u64; 256], g: GateId, s: u64)

@@ -1,6 +1,6 @@
 -- Laws for document 01, "Needed gates (000 Def. 4)": sets of settings held as numbers, for any number of settings or conditions.
 use mathlib.Core.Path.{_≡_, refl, sym, ap, ap₂, _∙_}
-use mathlib.Core.Bool.{Bool, true, false, not, _&&_, _||_, true≢false, false≢true}
+use mathlib.Core.Bool.{Bool, true, false, not, _&&_, _||_, true≢false, false≢true, or-true}
 use mathlib.Core.Logic.{_↔_}
 use Prim.Native.Nat.{ℕ, _+_, _/_, _^_, _<_}
 use native.Mathlib.Omega.{arith}
@@ -43,10 +43,6 @@ pub union-below : (N s t : ℕ) → s < 2 ^ N → t < 2 ^ N → union s t < 2 ^ 
 union-below N s t h l = or-lt N s t h l
 
 -- a set of N settings joined with the whole one is the whole one
-or-true : (b : Bool) → (b || true) ≡ true
-or-true true = refl
-or-true false = refl
-
 pub union-whole : (N s : ℕ) → s < 2 ^ N → union s (whole N) ≡ whole N
 union-whole N s h =
     same-bits N _ _ (union-below N s (whole N) h (whole-below N)) (whole-below N)

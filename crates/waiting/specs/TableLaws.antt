@@ -1,7 +1,7 @@
 -- Laws of sets of groups held as bits of words: what a put and a strike change, and that all else stays. Assumes nothing.
 use Prim.Native.Nat.{ℕ, zero, suc, _+_, _*_, _/_, _%_, _^_, _≤_, _<_}
 use mathlib.Core.Path.{_≡_, refl, sym, ap, ap₂, _∙_}
-use mathlib.Core.Bool.{Bool, true, false, cond, _||_}
+use mathlib.Core.Bool.{Bool, true, false, cond, _||_, or-true, or-false}
 use mathlib.Core.List.{List, [], _∷_, _++_}
 use mathlib.Core.Logic.{_⊎_, inl, inr}
 use native.Mathlib.Nat.{zero-add}
@@ -12,7 +12,7 @@ use lib.ListN.{length, getD, set, replicate, length-set, length-replicate}
 use lib.Seq.{getD-set-same, getD-set-other, set-out}
 use borrow.Author.Tests.{eq-eqb, ne-eqb}
 use Rattle.words.specs.Lists.{_∈_, elem}
-use Rattle.words.specs.TestLaws.{split, same?, or-false}
+use Rattle.words.specs.TestLaws.{split, same?}
 use Rattle.words.specs.ListLaws.{getD-zeros, inside-list}
 use Rattle.settings.specs.Settings.{bit, unlike}
 use Rattle.settings.specs.Sets.{union, flipBit}
@@ -40,10 +40,6 @@ bit-pow-other (suc t) zero n = bit-zero (2 ^ suc t) ∙ ne-eqb (2 ^ suc t % 2) 1
 bit-pow-other (suc t) (suc j) n =
     let h : 2 ^ suc t / 2 ≡ 2 ^ t = omega arith in
     bit-suc (2 ^ suc t) j ∙ ap (λ (x : ℕ). bit x j) h ∙ bit-pow-other t j (λ e. n (ap suc e))
-
-or-true : (b : Bool) → (b || true) ≡ true
-or-true true = refl
-or-true false = refl
 
 -- a clear table
 pub clear-words : (n : ℕ) (w : List ℕ) → w ≡ replicate n 0 → HasWords n w
