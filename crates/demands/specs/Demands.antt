@@ -1,4 +1,4 @@
--- The demands, sentence by sentence; each sentence is quoted above its theorems. The change requests of document 02: Requests.antt.
+-- The demands, sentence by sentence; each sentence is quoted above its theorems. The change requests of document 02: C11.antt and on, a file a request.
 -- s is a rule's bytes, p a plan's, f a circuit file's. That every operation ends, with the answers and bytes named here, is what it promises: crates/linnet/src/lib.rt.
 use Prim.Native.Nat.{ℕ, _<_}
 use mathlib.Core.Path.{_≡_}

@@ -5,4 +5,7 @@ pub mod OrderLaws
 pub mod ForeignLaws
 pub mod WorkingLaws
 pub mod Demands
-pub mod Requests
+pub mod C11
+pub mod C12
+pub mod C13
+pub mod C14

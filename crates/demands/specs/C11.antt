@@ -1,0 +1,74 @@
+-- Document 02, C-11, "Circuits from the other house": its sentences, each quoted above its theorems. s is a rule's bytes, p a plan's, f a circuit file's.
+use Prim.Native.Nat.{ℕ, _<_}
+use mathlib.Core.Path.{_≡_}
+use mathlib.Core.List.{List, []}
+use mathlib.Core.Logic.{_↔_}
+use lib.ListN.{length}
+use Rattle.codes.specs.Inputs.{FiguresFit}
+use Rattle.words.specs.Lists.{_∈_}
+use Rattle.words.specs.Numbers.{Bytes, Words}
+use Rattle.codes.specs.Codes.{Fits}
+use Rattle.answers.specs.Answers.{success}
+use Rattle.reading.specs.Header.{variables, kindAt}
+use Rattle.circuit.specs.Whole.{ruleAnswer}
+use Rattle.direct.specs.Direct.{runAnswer, runResults}
+use Rattle.plan.specs.Rows.{planAnswer}
+use Rattle.records.specs.Records.{Pair, Record, pick, guard, recordIn, ReadsEarlier, pickFigure, guardFigure}
+use Rattle.records.specs.WireKinds.{valuesOf, wireKind}
+use Rattle.records.specs.WireFigures.{pickSum, wireFigure}
+use Rattle.records.specs.CircuitFile.{recordBytes, fileBytes}
+use Rattle.records.specs.FileFigures.{wireCount, fileRecords}
+use Rattle.records.specs.WellFormed as circuits
+use Rattle.fused.specs.FusedCircuit.{recordsOf, fusedFile}
+use Rattle.fused.specs.PickSums as picks
+use Rattle.foreign.specs.Foreign.{circuitAnswer, recordPart, circuitRunAnswer, circuitRunResults}
+use Rattle.demands.specs.ForeignLaws as foreign
+
+-- "We want to read a circuit file": which files are read, said without a reader: those that are the bytes of a well-formed list of records and outputs,
+pub circuit-format : (f : List ℕ) → Bytes f
+    → (circuitAnswer f .number ≡ 0) ↔ ((v : ℕ) × (R : List Record) × (outputs : List ℕ) × circuits.WellFormed v R outputs × (f ≡ fileBytes v R outputs))
+circuit-format = foreign.circuit-format
+
+-- and every record of such a file reads only earlier wires.
+pub circuit-earlier : (f : List ℕ) → circuitAnswer f .number ≡ 0 → ReadsEarlier (fileRecords f)
+circuit-earlier = foreign.circuit-earlier
+
+-- "The reader shows the bytes of one gate record inside the caller's file, by wire number": those that were written for that wire;
+pub record-shown : (v : ℕ) (R : List Record) (outputs : List ℕ) → circuits.WellFormed v R outputs → (n : ℕ) → n < length R
+    → recordPart (fileBytes v R outputs) n ≡ recordBytes (recordIn R n)
+record-shown = foreign.record-shown
+
+pub own-record : (s p : List ℕ) → Bytes s → planAnswer s p .number ≡ 0 → (n : ℕ) → n < length (recordsOf s p)
+    → recordPart (fusedFile s p) n ≡ recordBytes (recordIn (recordsOf s p) n)
+own-record = foreign.own-record
+
+-- "it shows an empty part for a refused file or a number that is no wire."
+pub none-shown : (f : List ℕ) (n : ℕ) → (circuitAnswer f .number ≡ 0 → n < wireCount f → ⊥) → recordPart f n ≡ []
+none-shown = foreign.none-shown
+
+-- "A pick with several guards at 1 gives the sum of their values modulo 4,294,967,296, or modulo 2 for bits, as in the paper's formula; on our own files nothing changes":
+-- whatever the wires hold, so long as each guard has its figure and each value is of its kind, the sum is the value whose guard is 1, or 0 when none is;
+pub pick-value : (s p : List ℕ) → planAnswer s p .number ≡ 0 → Bytes s
+    → (W : ℕ → ℕ) → ((i : ℕ) (cs : List ℕ) (t : ℕ) → recordIn (recordsOf s p) i ≡ guard cs t → W i ≡ guardFigure W cs t)
+    → (i : ℕ) (l : List Pair) → recordIn (recordsOf s p) i ≡ pick l → ((w : ℕ) → w ∈ valuesOf l → Fits (wireKind (recordsOf s p) w) (W w))
+    → pickSum (wireKind (recordsOf s p)) W l ≡ pickFigure W l
+pick-value = picks.pick-value
+
+-- so it is for the figures of a run.
+pub pick-own : (s p : List ℕ) → planAnswer s p .number ≡ 0 → Bytes s → (inputs : List ℕ) → FiguresFit (variables s) (kindAt s) inputs
+    → (i : ℕ) (l : List Pair) → recordIn (recordsOf s p) i ≡ pick l → wireFigure inputs (recordsOf s p) i ≡ pickFigure (wireFigure inputs (recordsOf s p)) l
+pick-own = picks.pick-own
+
+-- "Every file that our writer makes is read": it is answered with number 0, its wires and its bytes,
+pub own-read : (s p : List ℕ) → Bytes s → planAnswer s p .number ≡ 0
+    → circuitAnswer (fusedFile s p) ≡ success 0 (length (recordsOf s p)) (length (fusedFile s p)) 0 0
+own-read = foreign.own-read
+
+-- "and gives the figures of its rule": its run is refused just where the rule's direct run is, with the same number, and writes what that writes.
+pub own-number : (s p : List ℕ) → Bytes s → planAnswer s p .number ≡ 0 → (inputs : List ℕ) (room : ℕ)
+    → circuitRunAnswer (fusedFile s p) inputs room .number ≡ runAnswer (ruleAnswer s) s inputs room .number
+own-number = foreign.own-number
+
+pub own-results : (s p : List ℕ) → Bytes s → planAnswer s p .number ≡ 0 → (inputs : List ℕ) → Words inputs → (results : List ℕ)
+    → circuitRunResults (fusedFile s p) inputs results ≡ runResults (ruleAnswer s) s inputs results
+own-results = foreign.own-results

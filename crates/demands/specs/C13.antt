@@ -1,0 +1,76 @@
+-- Document 02, C-13, "Working figures are not results": its sentences, each quoted above its theorems. s is a rule's bytes, p a plan's.
+use Prim.Native.Nat.{ℕ, _<_}
+use mathlib.Core.Path.{_≡_}
+use mathlib.Core.Bool.{true, false}
+use mathlib.Core.List.{List}
+use mathlib.Core.Logic.{_↔_}
+use lib.ListN.{length, getD, set}
+use Rattle.codes.specs.Inputs.{FiguresFit}
+use Rattle.words.specs.Lists.{_∈_}
+use Rattle.words.specs.Numbers.{Bytes}
+use Rattle.reading.specs.Header.{variables, kindAt, workingAt}
+use Rattle.reading.specs.Tree.{Block}
+use Rattle.reading.specs.Format.{ruleBytes, WellFormed}
+use Rattle.reading.specs.OnlyWorking.{OnlyWorking, MoreWorking}
+use Rattle.gates.specs.Running.{runRule, runWrites}
+use Rattle.gates.specs.WrittenLaws as written
+use Rattle.gates.specs.PlainCircuit.{gatesOf, outputsOf}
+use Rattle.settings.specs.Settings.{Setting}
+use Rattle.needed.specs.Needed.{Needed, wantedOf}
+use Rattle.circuit.specs.Whole.{ruleAnswer}
+use Rattle.plan.specs.Rows.{planAnswer}
+use Rattle.records.specs.Records.{Record}
+use Rattle.records.specs.CircuitFile.{fileBytes, noWire}
+use Rattle.records.specs.FileFigures.{wireCount, fileOutputs, fileFigures}
+use Rattle.records.specs.WellFormed as circuits
+use Rattle.fused.specs.FusedCircuit.{fusedFile}
+use Rattle.fused.specs.FusedFigures as figures
+use Rattle.foreign.specs.Foreign.{circuitAnswer}
+use Rattle.demands.specs.WorkingLaws as working
+
+-- "Only the other variables' last gates are needed from the start": what is wanted are the outputs of the variables that do not work,
+pub wanted-are : (s : List ℕ) (g : ℕ) → (g ∈ wantedOf s) ↔ ((x : ℕ) × (x < variables s) × (workingAt s x ≡ false) × (g ≡ getD (outputsOf s) x 0))
+wanted-are = working.wanted-are
+
+-- so that where more variables work no gate is needed that was not, under any setting,
+pub fewer-needed : (kinds other : List ℕ) → MoreWorking kinds other → (b : Block) → WellFormed kinds b → (σ : Setting) (g : ℕ)
+    → Needed (gatesOf (ruleBytes other b)) (wantedOf (ruleBytes other b)) σ g → Needed (gatesOf (ruleBytes kinds b)) (wantedOf (ruleBytes kinds b)) σ g
+fewer-needed kinds other m b w = working.fewer-needed kinds other (m .only) b w (m .more)
+
+-- and where all work nothing is needed.
+pub nothing-needed : (s : List ℕ) → ((x : ℕ) → x < variables s → workingAt s x ≡ true) → (σ : Setting) (g : ℕ) → Needed (gatesOf s) (wantedOf s) σ g → ⊥
+nothing-needed = working.nothing-needed
+
+-- (A rule is answered the same whichever of its variables work: so it is taken where all of them do.)
+pub working-answer : (kinds other : List ℕ) → OnlyWorking kinds other → (b : Block) → WellFormed kinds b → ruleAnswer (ruleBytes kinds b) ≡ ruleAnswer (ruleBytes other b)
+working-answer = working.same-answer
+
+-- "In the circuit file a working variable's output is FF FF, which names no wire" (and a result variable's is a wire),
+pub working-output : (s p : List ℕ) → Bytes s → planAnswer s p .number ≡ 0 → (x : ℕ) → x < variables s → workingAt s x ≡ true
+    → getD (fileOutputs (fusedFile s p)) x 0 ≡ noWire
+working-output = working.output-working
+
+pub result-output : (s p : List ℕ) → Bytes s → planAnswer s p .number ≡ 0 → (x : ℕ) → x < variables s → workingAt s x ≡ false
+    → getD (fileOutputs (fusedFile s p)) x 0 < wireCount (fusedFile s p)
+result-output = working.output-result
+
+-- "and running writes 0 for it." So the file's figures are all that a run writes:
+pub working-file : (s p : List ℕ) → Bytes s → planAnswer s p .number ≡ 0 → (inputs : List ℕ) → FiguresFit (variables s) (kindAt s) inputs
+    → length inputs ≡ variables s → fileFigures (fusedFile s p) inputs ≡ runWrites s inputs
+working-file = figures.file-run
+
+-- "a direct run keeps working figures to its end but writes 0 for them too", and for a result variable its figure at the end:
+pub working-written : (s inputs : List ℕ) (x : ℕ) → x < variables s → workingAt s x ≡ true → getD (runWrites s inputs) x 0 ≡ 0
+working-written = written.writes-working
+
+pub result-written : (s inputs : List ℕ) (x : ℕ) → x < variables s → workingAt s x ≡ false → getD (runWrites s inputs) x 0 ≡ getD (runRule s inputs) x 0
+result-written = written.writes-result
+
+-- "and the circuit reader admits FF FF as an output": any output of any file that is read may be made FF FF; running it then writes 0 there, and else what it wrote.
+pub no-wire-read : (v : ℕ) (R : List Record) (outputs : List ℕ) → circuits.WellFormed v R outputs → (x : ℕ)
+    → circuitAnswer (fileBytes v R (set outputs x noWire)) .number ≡ 0
+no-wire-read = working.no-wire-read
+
+pub no-wire-run : (v : ℕ) (R : List Record) (outputs : List ℕ) → circuits.WellFormed v R outputs → (x : ℕ) (inputs : List ℕ)
+    → fileFigures (fileBytes v R (set outputs x noWire)) inputs ≡ set (fileFigures (fileBytes v R outputs) inputs) x 0
+no-wire-run = working.no-wire-run
