@@ -17,7 +17,8 @@ use Rattle.circuit.specs.BuiltParts.{built-count, built-room, built-gates, buil
 use Rattle.plan.specs.PlanFile.{groupsIn}
 use Rattle.plan.specs.Groups.{groupOf}
 use Rattle.plan.specs.Rows.{Row, layoutRows, joinRows, orderRows, firstFailing, placed, planRow, planAnswer}
-use Rattle.plan.specs.AcceptedLaws.{failing-first, failing-second, answer-rule, answer-row, answer-accepted}
+use Rattle.plan.specs.FailingLaws.{failing-first, failing-second}
+use Rattle.plan.specs.AcceptedLaws.{answer-rule, answer-row, answer-accepted}
 use Rattle.plan.specs.SameLaws.{joins-same}
 use Rattle.checking.specs.InHand.{IsBuilt}
 

@@ -20,7 +20,7 @@ use Rattle.plan.specs.Groups.{groupOf, Named, groups, members}
 use Rattle.plan.specs.Order.{order}
 use Rattle.plan.specs.Rows.{layoutRows, firstFailing, planAnswer}
 use Rattle.plan.specs.RowLaws.{apart-right}
-use Rattle.plan.specs.AcceptedLaws.{none-fails}
+use Rattle.plan.specs.FailingLaws.{none-fails}
 use Rattle.plan.specs.GroupLaws.{groupOf-named}
 use Rattle.plan.specs.ListedLaws.{unlisted-name}
 use Rattle.plan.specs.Places.{placeOf}

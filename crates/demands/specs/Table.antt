@@ -1,4 +1,4 @@
--- Document 01, "Refusals by place", with document 02's C-11: the table, as a relation between a number and its place, for a rule or circuit file of `size` bytes.
+-- Document 01, "Refusals by place", with document 02's C-11 and C-15: the table, as a relation between a number and its place, for a rule or circuit file of `size` bytes.
 use Prim.Native.Nat.{ℕ, _≤_, _<_}
 use mathlib.Core.Path.{_≡_}
 use mathlib.Core.Logic.{_⊎_}
@@ -13,6 +13,7 @@ pub data TableRow (size : ℕ) : ℕ → ℕ → Type 0 where
   overGates : TableRow size 10 size
   overConditions : TableRow size 11 size
   ofPlan : {number : ℕ} → 20 ≤ number → number ≤ 30 → TableRow size number 0
+  ofGroupOrder : TableRow size 32 0
   ofInputs : {number : ℕ} → 40 ≤ number → number ≤ 42 → TableRow size number 0
   ofBuffer : TableRow size 50 0
   ofCircuit : {number : ℕ} → 60 ≤ number → number ≤ 62 → TableRow size number 0

@@ -21,7 +21,8 @@ use Rattle.plan.specs.PlanFile.{mark, leastBytes, mostBytes, gatesCounted, grou
 use Rattle.plan.specs.Rows.{everyGroup, rises, apart, parted, Row, layoutRows, joinRows, firstFailing}
 use Rattle.plan.specs.RowLaws.{each-right, ends-right, joins-right}
 use Rattle.plan.specs.MarkLaws.{mark-right}
-use Rattle.plan.specs.AcceptedLaws.{Hold, none-fails, failing-first, failing-second, rising-exist}
+use Rattle.plan.specs.FailingLaws.{Hold, none-fails, failing-first, failing-second}
+use Rattle.plan.specs.AcceptedLaws.{rising-exist}
 use Rattle.plan.specs.LayoutLaws.{length-numbers}
 use Rattle.grouping.specs.Tests.{shapeTest, membersTest, joinTest}
 use Rattle.grouping.specs.Walks.{Readable, Lie}

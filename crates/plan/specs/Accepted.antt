@@ -1,7 +1,7 @@
 -- Document 01, "The plan file and its check (001, section 5.1)": which plans are accepted, in its own terms (demand 3, first sentence).
 use Prim.Native.Nat.{ℕ, _≤_, _<_}
 use mathlib.Core.Path.{_≡_}
-use mathlib.Core.List.{List}
+use mathlib.Core.List.{List, map}
 use mathlib.Core.Bool.{true}
 use lib.ListN.{length, take}
 use Rattle.words.specs.Lists.{_∈_}
@@ -10,8 +10,8 @@ use Rattle.codes.specs.declared.Operation.{Operation}
 use Rattle.gates.specs.Gates.{Gates, gateAt, operation}
 use Rattle.gates.specs.PlainCircuit.{gatesOf, gateCount}
 use Rattle.needed.specs.Needed.{wantedOf, Exclude}
-use Rattle.plan.specs.PlanFile.{mark, leastBytes, mostBytes, gatesCounted, groupsCounted, groupsIn, EachGroup, Rising, Apart, Ends}
-use Rattle.plan.specs.Groups.{groupOf, Waits, Chain}
+use Rattle.plan.specs.PlanFile.{mark, leastBytes, mostBytes, gatesCounted, groupsCounted, Plan, groupsIn, EachGroup, Rising, Apart, Ends}
+use Rattle.plan.specs.Groups.{smallest, groupOf, Waits, Chain}
 
 -- "A plan is laid out when it has 9 to 1,024 bytes, this mark and version, the plain circuit's gate count, and as many groups as it counts,
 -- ending where the file ends, each of size 2 or more with rising numbers."
@@ -28,6 +28,10 @@ pub record LaidOut (s p : List ℕ) : Type 0 where
 abbrev pub Exist : ℕ → List ℕ → Type 0
 Exist n G = (g : ℕ) → g ∈ G → g < n
 
+-- document 02, C-15: "Groups must now stand in rising order of their smallest member."
+abbrev pub InOrder : Plan → Type 0
+InOrder Gs = Rising (map smallest Gs)
+
 -- the group's members are one costly operation
 abbrev pub OneCostly : Gates → List ℕ → Type 0
 OneCostly C G = (op : Operation) × (costly op ≡ true) × ((g : ℕ) → g ∈ G → (l : List ℕ) × (gateAt C g ≡ operation op l))
@@ -40,12 +44,13 @@ NoTwoNeeded C wanted G = (g h : ℕ) → g ∈ G → h ∈ G → (g ≡ h → �
 abbrev pub NoCircle : Gates → List ℕ → (ℕ → ℕ) → Type 0
 NoCircle C wanted group = (p : ℕ) → Chain (Waits C wanted group) p p → ⊥
 
--- the plan p for the accepted rule s: it is laid out as the exact rules say, names existing gates once each, joins in each group one costly
--- operation only, joins no two gates that some setting of the conditions needs together, and leaves no group waiting for itself by a chain
+-- the plan p for the accepted rule s: it is laid out as the exact rules say, names existing gates once each, has its groups in order (C-15), joins in each
+-- group one costly operation only, joins no two gates that some setting of the conditions needs together, and leaves no group waiting for itself by a chain
 pub record Acceptable (s p : List ℕ) : Type 0 where
   pub laid-out : LaidOut s p
   pub exist : EachGroup (Exist (gateCount s)) (groupsIn p)
   pub once : Apart (groupsIn p)
+  pub in-order : InOrder (groupsIn p)
   pub one-costly : EachGroup (OneCostly (gatesOf s)) (groupsIn p)
   pub exclude : EachGroup (NoTwoNeeded (gatesOf s) (wantedOf s)) (groupsIn p)
   pub no-circle : NoCircle (gatesOf s) (wantedOf s) (groupOf (groupsIn p))

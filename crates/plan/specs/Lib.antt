@@ -6,6 +6,7 @@ pub mod Order
 pub mod Rows
 pub mod RangeLaws
 pub mod Accepted
+pub mod SameGroups
 pub mod CircleLaws
 pub mod OrderLaws
 pub mod GroupLaws
@@ -14,10 +15,12 @@ pub mod WaitLaws
 pub mod RowLaws
 pub mod MarkLaws
 pub mod MemberLaws
+pub mod FailingLaws
 pub mod AcceptedLaws
 pub mod JoinedLaws
 pub mod ListedLaws
 pub mod LayoutLaws
+pub mod SameGroupsLaws
 pub mod NumberLaws
 pub mod FoundLaws
 pub mod PlaceLaws

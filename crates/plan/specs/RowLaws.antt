@@ -1,4 +1,4 @@
--- Laws of the rows 20 to 29: what each test says. Facts alike for all costly operations are proved over the operation.
+-- Laws of the rows 20 to 29 and 32: what each test says. Facts alike for all costly operations are proved over the operation.
 use mathlib.Core.Path.{_≡_, refl}
 use mathlib.Core.Bool.{Bool, true, false, not, false≢true}
 use mathlib.Core.List.{List, [], _∷_}
@@ -42,7 +42,7 @@ ends-right n p at = (to n at, back n at)
 pub joins-right : (G : List ℕ) → (leb 2 (length G) ≡ true) ↔ (2 ≤ length G)
 joins-right G = (leb-true 2 (length G), le-leb 2 (length G))
 
--- 25
+-- 25 and 32
 pub rises-right : (G : List ℕ) → (rises G ≡ true) ↔ Rising G
 rises-right G = (to G, back G)
   where

@@ -1,6 +1,6 @@
--- Document 01, "Refusals by place": the rows 20 to 30 of a plan, and what its check answers.
+-- Document 01, "Refusals by place", with document 02's C-15: the rows of a plan, 20 to 26, 32, 27 to 30, and what its check answers.
 use Prim.Native.Nat.{ℕ}
-use mathlib.Core.List.{List, [], _∷_, _++_}
+use mathlib.Core.List.{List, [], _∷_, _++_, map}
 use mathlib.Core.Bool.{Bool, true, false, not, cond, _&&_}
 use lib.Dec.{eqb, leb, ltb}
 use lib.ListN.{length, getD, take}
@@ -14,7 +14,7 @@ use Rattle.gates.specs.PlainCircuit.{gatesOf, gateCount}
 use Rattle.needed.specs.Pass.{rulePreconditions}
 use Rattle.circuit.specs.Whole.{ruleAnswer}
 use Rattle.plan.specs.PlanFile.{mark, leastBytes, mostBytes, gatesCounted, groupsCounted, Plan, ends, groupsIn}
-use Rattle.plan.specs.Groups.{groups, groupOf}
+use Rattle.plan.specs.Groups.{smallest, groups, groupOf}
 use Rattle.plan.specs.Order.{allIn, order}
 
 -- every group of a plan passes the test
@@ -39,6 +39,10 @@ listed (G ∷ Gs) g = cond (elem g G) true (listed Gs g)
 abbrev pub apart : Plan → Bool
 apart [] = true
 apart (G ∷ Gs) = every (λ g. not (listed Gs g)) G && apart Gs
+
+-- 32: the smallest members of the groups rise
+abbrev pub inOrder : Plan → Bool
+inOrder Gs = rises (map smallest Gs)
 
 -- 27: a costly operation
 abbrev pub isCostly : Gate → Bool
@@ -73,7 +77,7 @@ pub record Row : Type 0 where
   pub refuses : ℕ
   pub holds : Bool
 
--- the rows in rising number: 20 to 26, of the plan p for a circuit of n gates
+-- the rows as they are checked: 20 to 26, of the plan p for a circuit of n gates
 abbrev pub layoutRows : ℕ → List ℕ → List Row
 layoutRows n p =
     record { refuses = 20; holds = leb leastBytes (length p) && leb (length p) mostBytes }
@@ -85,10 +89,11 @@ layoutRows n p =
     ∷ record { refuses = 26; holds = apart (groupsIn p) }
     ∷ []
 
--- 27 to 29, of the plan p for the gates C, whose preconditions are the sets
+-- 32 and 27 to 29, of the plan p for the gates C, whose preconditions are the sets
 abbrev pub joinRows : Gates → List ℕ → List ℕ → List Row
 joinRows C sets p =
-    record { refuses = 27; holds = everyGroup (every (λ g. isCostly (gateAt C g))) (groupsIn p) }
+    record { refuses = 32; holds = inOrder (groupsIn p) }
+    ∷ record { refuses = 27; holds = everyGroup (every (λ g. isCostly (gateAt C g))) (groupsIn p) }
     ∷ record { refuses = 28; holds = everyGroup (alike C) (groupsIn p) }
     ∷ record { refuses = 29; holds = everyGroup (parted sets) (groupsIn p) }
     ∷ []
@@ -108,7 +113,7 @@ abbrev pub firstFailing : List Row → ℕ
 firstFailing [] = 0
 firstFailing (r ∷ l) = cond (r .holds) (firstFailing l) (r .refuses)
 
--- "the lowest number over the whole file decides"
+-- row by row, each over the whole file: the first failing row decides
 unfoldable pub planRow : List ℕ → List ℕ → ℕ
 planRow s p = firstFailing (rows s p)
 

@@ -112,7 +112,7 @@ each-same : (s t : List ℕ → Bool) → ((G : List ℕ) → s G ≡ t G) → (
 each-same s t h [] = refl
 each-same s t h (G ∷ Gs) = rw (h G, each-same s t h Gs)
 
--- the rows 27 to 29 with the one are those with the other
+-- the rows 32 and 27 to 29 with the one are those with the other
 pub joins-same : (C : Gates) (s t p : List ℕ) → ((g : ℕ) → getD s g 0 ≡ getD t g 0) → firstFailing (joinRows C s p) ≡ firstFailing (joinRows C t p)
 joins-same C s t p h = rw (each-same (parted s) (parted t) (parted-same s t h) (groupsIn p))
 
