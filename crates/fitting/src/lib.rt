@@ -1,8 +1,8 @@
-// Document 01, "The plan file and its check" and "Refusals by place": rows 27 to 29 of a plan, whether the members of each group fit together.
-// Each row is a pass over the whole file, in the order of their numbers; the groups are known to lie in the file.
+// Document 01, "The plan file and its check" and "Refusals by place", with document 02's C-15: rows 32 and 27 to 29 of a plan, whether its groups stand in
+// order and the members of each fit together. Each row is a pass over the whole file; the groups are known to lie in the file.
 use gates::GateId;
 ghost use mathlib.Core.Path.{_≡_};
-ghost use Prim.Native.Nat.{_<_};
+ghost use Prim.Native.Nat.{ℕ, _<_};
 ghost use lib.Dec.{ltb};
 ghost use Rattle.codes.specs.Codes.{codeOf};
 ghost use Rattle.needed.specs.Held.{codeAt, gateIn, gatesIn};
@@ -11,12 +11,38 @@ ghost use Rattle.plan.specs.Rows as checks;
 ghost use Rattle.grouping.specs.Tests.{memberTest, membersTest, joinTest, operationCode};
 ghost use Rattle.grouping.specs.Walks.{ReadableGroup, Readable};
 
-// The rows, by what they ask of each group.
+// The row of the groups' order.
+const ORDER: u8 = 32;
+
+// The rows that are tested of each group alone, by what they ask.
 const COSTLY: u8 = 27;
 
 const ALIKE: u8 = 28;
 
 const PARTED: u8 = 29;
+
+// 32: the groups stand in rising order of their smallest member. The numbers of a group rise, so it is the first.
+fn groups_rise(plan: &[u8]) -> bool
+    requires { ⌜ ((n : ℕ) × Readable n (now plan)) ⌝ }
+    ensures { λ r. ⌜ r ≡ checks.inOrder (file.groupsIn (now (plan .entry))) ⌝ }
+{
+    let mut left = grouping::groups_counted(plan);
+    if left == 0 {
+        return true;
+    }
+    let mut at = grouping::LEAST_BYTES;
+    let mut last = plan::member(plan, at, 0);
+    while 1 < left {
+        at = grouping::after(plan, at);
+        let first = plan::member(plan, at, 0);
+        if first.0 <= last.0 {
+            return false;
+        }
+        last = first;
+        left = left - 1;
+    }
+    true
+}
 
 // A costly operation, by a gate's code; a choice is none.
 fn costly(code: u32) -> bool
@@ -137,11 +163,15 @@ fn every_join(row: u8, plan: &[u8], quads: &[u32; 1024], count: usize, needs: &[
     true
 }
 
-// Rows 27 to 29 of a plan that the rows before do not refuse, for the gates that lie in `quads` and their preconditions: the lowest that refuses it, or 0.
+// Rows 32 and 27 to 29 of a plan that the rows before do not refuse, for the gates that lie in `quads` and their preconditions: the first that refuses it,
+// or 0.
 pub fn check_groups(plan: &[u8], quads: &[u32; 1024], count: usize, needs: &[u64; 256]) -> u8
     requires { ⌜ Readable count (now plan) ⌝ }
     ensures { λ r. ⌜ r ≡ checks.firstFailing (checks.joinRows (gatesIn (now (quads .entry)) count) (now (needs .entry)) (now (plan .entry))) ⌝ }
 {
+    if !groups_rise(plan) {
+        return ORDER;
+    }
     if !every_join(COSTLY, plan, quads, count, needs) {
         return COSTLY;
     }

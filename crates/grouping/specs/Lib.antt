@@ -8,5 +8,6 @@ pub mod GroupLaws
 pub mod WalkLaws
 pub mod TableLaws
 pub mod PutLaws
+pub mod RisingLaws
 pub mod JoinLaws
 pub mod RowLaws

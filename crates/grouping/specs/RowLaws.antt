@@ -1,4 +1,4 @@
--- Laws of the rows 20 to 29 one after the other, and what they establish. Assumes nothing.
+-- Laws of the rows 20 to 29 and 32 one after the other, and what they establish. Assumes nothing.
 use Prim.Native.Nat.{ℕ, _+_, _≤_, _<_}
 use mathlib.Core.Path.{_≡_, refl, sym, ap, _∙_}
 use mathlib.Core.List.{List, [], _∷_}
@@ -18,7 +18,7 @@ use Rattle.gates.specs.Limits.{mostGates}
 use Rattle.gates.specs.Gates.{Gates}
 use Rattle.needed.specs.HeldLaws.{code-above}
 use Rattle.plan.specs.PlanFile.{mark, leastBytes, mostBytes, gatesCounted, groupsCounted, groupAt, groupsIn, ends}
-use Rattle.plan.specs.Rows.{everyGroup, rises, apart, parted, Row, layoutRows, joinRows, firstFailing}
+use Rattle.plan.specs.Rows.{everyGroup, rises, apart, inOrder, parted, Row, layoutRows, joinRows, firstFailing}
 use Rattle.plan.specs.RowLaws.{each-right, ends-right, joins-right}
 use Rattle.plan.specs.MarkLaws.{mark-right}
 use Rattle.plan.specs.FailingLaws.{Hold, none-fails, failing-first, failing-second}
@@ -154,23 +154,27 @@ pub join-members : (C : Gates) (sets : List ℕ) (row : ℕ) (G : List ℕ) → 
 unfolding joinTest
 join-members C sets row G h = rw (ne-eqb row 29 h)
 
--- The rows 27 to 29 one after the other.
+-- The rows 32 and 27 to 29 one after the other.
 
 module _ (C : Gates) (sets p : List ℕ) where
-  pub row-27 : everyGroup (joinTest C sets 27) (groupsIn p) ≡ false → 27 ≡ firstFailing (joinRows C sets p)
-  unfolding joinTest membersTest
-  row-27 a = rw a
+  pub row-32 : inOrder (groupsIn p) ≡ false → 32 ≡ firstFailing (joinRows C sets p)
+  row-32 o = rw o
 
-  pub row-28 : everyGroup (joinTest C sets 27) (groupsIn p) ≡ true → everyGroup (joinTest C sets 28) (groupsIn p) ≡ false → 28 ≡ firstFailing (joinRows C sets p)
+  pub row-27 : inOrder (groupsIn p) ≡ true → everyGroup (joinTest C sets 27) (groupsIn p) ≡ false → 27 ≡ firstFailing (joinRows C sets p)
   unfolding joinTest membersTest
-  row-28 a b = rw (a, b)
+  row-27 o a = rw (o, a)
 
-  pub row-29 : everyGroup (joinTest C sets 27) (groupsIn p) ≡ true → everyGroup (joinTest C sets 28) (groupsIn p) ≡ true
+  pub row-28 : inOrder (groupsIn p) ≡ true → everyGroup (joinTest C sets 27) (groupsIn p) ≡ true → everyGroup (joinTest C sets 28) (groupsIn p) ≡ false
+      → 28 ≡ firstFailing (joinRows C sets p)
+  unfolding joinTest membersTest
+  row-28 o a b = rw (o, a, b)
+
+  pub row-29 : inOrder (groupsIn p) ≡ true → everyGroup (joinTest C sets 27) (groupsIn p) ≡ true → everyGroup (joinTest C sets 28) (groupsIn p) ≡ true
       → everyGroup (joinTest C sets 29) (groupsIn p) ≡ false → 29 ≡ firstFailing (joinRows C sets p)
   unfolding joinTest membersTest
-  row-29 a b d = rw (a, b, d)
+  row-29 o a b d = rw (o, a, b, d)
 
-  pub joins-none : everyGroup (joinTest C sets 27) (groupsIn p) ≡ true → everyGroup (joinTest C sets 28) (groupsIn p) ≡ true
+  pub joins-none : inOrder (groupsIn p) ≡ true → everyGroup (joinTest C sets 27) (groupsIn p) ≡ true → everyGroup (joinTest C sets 28) (groupsIn p) ≡ true
       → everyGroup (joinTest C sets 29) (groupsIn p) ≡ true → 0 ≡ firstFailing (joinRows C sets p)
   unfolding joinTest membersTest
-  joins-none a b d = rw (a, b, d)
+  joins-none o a b d = rw (o, a, b, d)
