@@ -1,7 +1,8 @@
 /* Linnetshelf: reads a matching rule, runs it, checks a plan for it and writes the fused circuit,
  * byte for byte as document 01 fixes it, with C-11 (circuit files from the other house are read and
- * run), C-12 (argument order) and C-13 (working figures) of document 02. Every function here is proved
- * to answer and to write what the definitions of crates/<crate>/specs give, for any bytes at all.
+ * run), C-12 (argument order), C-13 (working figures) and C-15 (groups in one order) of document 02.
+ * Every function here is proved to answer and to write what the definitions of crates/<crate>/specs
+ * give, for any bytes at all.
  *
  * Link with target/staticlib/liblinnet.a, which `rt staticlib linnet` writes (x86-64).
  *
@@ -16,8 +17,11 @@
  *
  * Refusals. An operation either succeeds, with number 0 and place 0, or refuses, with a number, a
  * place and every count 0. A refusal writes to no array. Rule comes before plan, plan before inputs
- * or buffer, a circuit file before inputs. docs/GUIDE.md, "The refusals", has for each number what it means, the smallest file that
- * gets it and what to do; `./shelf explain NUMBER` prints that. In its short words:
+ * or buffer, a circuit file before inputs. A rule is read up to its first wrong byte. In a plan, a
+ * circuit file or inputs each number is looked at over the whole before the next, in the order below,
+ * and the first that applies is answered: for a plan, 32 comes after 26 and before 27. docs/GUIDE.md,
+ * "The refusals", has for each number what it means, the smallest file that gets it and what to do;
+ * `./shelf explain NUMBER` prints that. In its short words:
  *
  *   rule     1 size (6 to 4,096 bytes)        2 mark or version        3 variables or a kind byte
  *            4 a byte is wanted past the end  5 unknown code           6 no such variable
@@ -25,8 +29,9 @@
  *           10 over 256 gates                11 over 6 conditions
  *   plan    20 size (9 to 1,024 bytes)       21 mark or version       22 gate count differs
  *           23 groups do not end with the file   24 a group below 2   25 no such gate, or not rising
- *           26 gate in two groups            27 member not costly     28 operations differ
- *           29 members do not exclude each other                      30 a group waits in a circle
+ *           26 gate in two groups            32 groups not in order   27 member not costly
+ *           28 operations differ             29 members do not exclude each other
+ *           30 a group waits in a circle
  *   inputs  40 not V of them                 41 a bit above 1         42 fewer than V result places
  *   buffer  50 shorter than the file
  *   circuit file
@@ -89,7 +94,8 @@ struct linnet_answer linnet_run_rule(
     const uint32_t *inputs, size_t inputs_count,
     uint32_t *results, size_t results_count);
 
-/* 03 Checks a plan for a rule. Answers gates and cost before. Writes nothing. */
+/* 03 Checks a plan for a rule. Answers gates and cost before. Writes nothing. Two plans that are accepted
+ * for a rule and form the same groups are the same bytes. */
 struct linnet_answer linnet_check_plan(
     const uint8_t *rule, size_t rule_count,
     const uint8_t *plan, size_t plan_count);

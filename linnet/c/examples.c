@@ -1,6 +1,6 @@
 /* Calls every operation of linnet.h on examples of document 01, on one with a working variable and on a
  * file as another house may write it; the exit status is 0 when each answer, byte and untouched place is
- * as documents 01 and 02 (C-11, C-13) say. */
+ * as documents 01 and 02 (C-11, C-13, C-15) say. */
 #include <stdio.h>
 #include <string.h>
 
@@ -60,6 +60,22 @@ static const uint8_t P1[14] = {
 static void check_plan(void) {
     hold(is(linnet_check_plan(R1, 29, P1, 14), 0, 0, 6, 0, 0, 33, 0), "P1 is accepted");
     hold(is(linnet_check_plan(R1, 29, P1, 13), 23, 0, 0, 0, 0, 0, 0), "P1 cut by one byte: 23");
+}
+
+/* The groups of a plan stand in rising order of their smallest members. The rule and the second plan are
+ * those of the guide's row 32: five ands, none of them needed, and groups {1, 2} and {3, 4}. */
+static void groups_in_order(void) {
+    const uint8_t rule[27] = {
+        0x52, 0x55, 0x4C, 0x00, 0x01, 0x01, 0x03, 0x01, 0x00, 0x25, 0x25, 0x25, 0x10, 0x00,
+        0x10, 0x00, 0x25, 0x10, 0x00, 0x10, 0x00, 0x25, 0x10, 0x00, 0x10, 0x00, 0x00};
+    const uint8_t rising[19] = {
+        0x50, 0x4C, 0x4E, 0x00, 0x01, 0x00, 0x06, 0x00, 0x02,
+        0x02, 0x00, 0x01, 0x00, 0x02, 0x02, 0x00, 0x03, 0x00, 0x04};
+    const uint8_t falling[19] = {
+        0x50, 0x4C, 0x4E, 0x00, 0x01, 0x00, 0x06, 0x00, 0x02,
+        0x02, 0x00, 0x03, 0x00, 0x04, 0x02, 0x00, 0x01, 0x00, 0x02};
+    hold(is(linnet_check_plan(rule, 27, rising, 19), 0, 0, 6, 0, 0, 5, 0), "groups in order are accepted");
+    hold(is(linnet_check_plan(rule, 27, falling, 19), 32, 0, 0, 0, 0, 0, 0), "the same groups turned: 32");
 }
 
 static void write_fused(void) {
@@ -147,6 +163,7 @@ int main(void) {
     run_rule();
     show_plain();
     check_plan();
+    groups_in_order();
     write_fused();
     run_fused();
     working();

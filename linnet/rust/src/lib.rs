@@ -69,7 +69,7 @@ pub fn show_plain(rule: &[u8]) -> Shown {
     unsafe { linnet_show_plain(rule.as_ptr(), rule.len()) }
 }
 
-/// Checks a plan for a rule: gates and cost before, or a refusal of the rule or by rows 20 to 30.
+/// Checks a plan for a rule: gates and cost before, or a refusal of the rule or by rows 20 to 30 and 32.
 #[rustfmt::skip]
 pub fn check_plan(rule: &[u8], plan: &[u8]) -> Answer {
     unsafe { linnet_check_plan(rule.as_ptr(), rule.len(), plan.as_ptr(), plan.len()) }

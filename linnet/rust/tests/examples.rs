@@ -90,6 +90,25 @@ fn plans_are_checked_written_and_run() {
     assert_eq!(results, [0, 49, 7, 9]);
 }
 
+/// The groups of a plan stand in rising order of their smallest members. The rule is that of the guide's row 32:
+/// five ands, none of them needed, and groups {1, 2} and {3, 4}.
+#[test]
+fn groups_stand_in_one_order() {
+    let rule = [
+        0x52, 0x55, 0x4C, 0, 1, 1, 3, 1, 0, 0x25, 0x25, 0x25, 0x10, 0, 0x10, 0, 0x25, 0x10, 0,
+        0x10, 0, 0x25, 0x10, 0, 0x10, 0, 0,
+    ];
+    let head = [0x50, 0x4C, 0x4E, 0, 1, 0, 6, 0, 2];
+    let (first, second) = ([2, 0, 1, 0, 2], [2, 0, 3, 0, 4]);
+    let answer = |one: [u8; 5], two: [u8; 5]| {
+        let plan = [&head[..], &one, &two].concat();
+        linnet::check_plan(&rule, &plan)
+    };
+    assert_eq!(answer(first, second), plain(6, 5));
+    assert_eq!(answer(second, first), refused(32, 0));
+    assert_eq!(answer(first, first), refused(26, 0));
+}
+
 /// R1 with v2 made a working word: every run writes 0 for it, and its output in the file is FF FF.
 #[test]
 fn working_variables_give_0() {
