@@ -1,4 +1,4 @@
-// Checking a plan for a rule, rows 20 to 30 after the rule's own, and what the layers above need of an accepted plan.
+// Checking a plan for a rule, rows 20 to 26, 32 and 27 to 30 after the rule's own, and what the layers above need of an accepted plan.
 use answers::Answer;
 use ordering::Order;
 ghost use mathlib.Core.Path.{_≡_};
@@ -26,7 +26,7 @@ fn ungrouped(row: u8, group: &mut [u16; 256], places: &mut [u16; 256]) -> Checke
     }
 }
 
-// Checks a plan for a rule: the rule's refusal first, then the lowest of the rows 20 to 30. Into arrays that are lent clear go the plain circuit of
+// Checks a plan for a rule: the rule's refusal first, then the first failing row. Into arrays that are lent clear go the plain circuit of
 // the rule, as `circuit::build` gives it; each gate's group, the place in the plan of each gate's group (0 for a group alone), and the groups in
 // the order of writing; zeros after them, and where the plan is refused.
 pub fn check(

@@ -24,7 +24,7 @@ use Rattle.fused.specs.FusedCircuit.{fusedFile}
 use Rattle.fused.specs.Answers.{fusedAnswer, writeAnswer, writtenOver}
 use Rattle.fused.specs.AnswerLaws.{fused-refused, fused-taken, write-refused, write-short, write-taken}
 use Rattle.running.specs.FusedRun.{fusedResults}
-use Rattle.demands.specs.Table.{TableRow, bySize, onByte, pastEnd, overGates, overConditions, ofPlan, ofInputs, ofBuffer, Answered}
+use Rattle.demands.specs.Table.{TableRow, bySize, onByte, pastEnd, overGates, overConditions, ofPlan, ofGroupOrder, ofInputs, ofBuffer, Answered}
 
 -- a refusal by a row of the table
 refused-by : {size number place : ℕ} → TableRow size number place → Answered size (refusal number place)
@@ -66,16 +66,17 @@ run-answered size before s inputs room h =
     inputs-row zero (inr (lo, hi)) =
         same-answered size (inputs-answer before s inputs zero room (λ z. omega arith)) (refused-by (ofInputs lo hi))
 
--- rows 20 to 30, after the rule's
+-- rows 20 to 30 and 32, after the rule's
 pub plan-answered : (s p : List ℕ) → Answered (length s) (planAnswer s p)
 plan-answered s p =
     split (eqb (ruleAnswer s .number) 0)
     (λ t. plan-row (eqb-true _ _ t) (row-range s p))
     (λ t. same-answered (length s) (answer-rule s p (eqb-false _ _ t)) (rule-answered s))
   where
-    plan-row : ruleAnswer s .number ≡ 0 → (planRow s p ≡ 0) ⊎ ((20 ≤ planRow s p) × (planRow s p ≤ 30)) → Answered (length s) (planAnswer s p)
+    plan-row : ruleAnswer s .number ≡ 0 → (planRow s p ≡ 0) ⊎ (((20 ≤ planRow s p) × (planRow s p ≤ 30)) ⊎ (planRow s p ≡ 32)) → Answered (length s) (planAnswer s p)
     plan-row zero (inl e) = same-answered (length s) (answer-accepted s p zero e) (rule-answered s)
-    plan-row zero (inr (lo, hi)) = same-answered (length s) (answer-row s p zero (λ z. omega arith)) (refused-by (ofPlan lo hi))
+    plan-row zero (inr (inl (lo, hi))) = same-answered (length s) (answer-row s p zero (λ z. omega arith)) (refused-by (ofPlan lo hi))
+    plan-row zero (inr (inr e)) = same-answered (length s) (answer-row s p zero (λ z. omega arith)) (rw e (refused-by ofGroupOrder))
 
 -- an accepted plan's answer with all five counts
 pub fused-answered : (s p : List ℕ) → Answered (length s) (fusedAnswer s p)

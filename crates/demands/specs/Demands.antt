@@ -92,7 +92,7 @@ pub file-fixed : (s p buffer : List ℕ) → writeAnswer s p (length buffer) .nu
 file-fixed = runs.file-written
 
 -- Demand 3. "A plan is accepted exactly when it is laid out, names existing gates once, joins one costly operation a group, joins no two gates that some setting
--- needs together, and leaves no group waiting for itself, conditions of joined gates counted."
+-- needs together, and leaves no group waiting for itself, conditions of joined gates counted." (Document 02, C-15: and has its groups in order.)
 pub plan-accepted : (s p : List ℕ) → (planAnswer s p .number ≡ 0) ↔ ((ruleAnswer s .number ≡ 0) × Acceptable s p)
 plan-accepted = laws.plan-accepted
 

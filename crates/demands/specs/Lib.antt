@@ -9,3 +9,4 @@ pub mod C11
 pub mod C12
 pub mod C13
 pub mod C14
+pub mod C15

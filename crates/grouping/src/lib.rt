@@ -235,7 +235,7 @@ fn join_groups(plan: &[u8], count: usize, group: &mut [u16; 256], places: &mut [
     true
 }
 
-// Rows 20 to 26 of the plan for a circuit of `count` gates: the lowest that refuses it, or 0. With 0 each gate's group, by its smallest member, is in
+// Rows 20 to 26 of the plan for a circuit of `count` gates: the first that refuses it, or 0. With 0 each gate's group, by its smallest member, is in
 // `group`, and the place of that group in the plan, 0 for a gate that no group lists, in `places`. Both are lent clear, and clear after a refusal.
 pub fn group_gates(plan: &[u8], count: usize, group: &mut [u16; 256], places: &mut [u16; 256]) -> u8
     requires { ⌜ (count ≤ mostGates) × ((now group ≡ replicate 256 0) × (now places ≡ replicate 256 0)) ⌝ }

@@ -1,0 +1,30 @@
+-- Document 02, C-15, "Groups in one order": its sentences, each quoted above its theorems. s is a rule's bytes, p and q are plans'.
+use Prim.Native.Nat.{ℕ}
+use mathlib.Core.Path.{_≡_}
+use mathlib.Core.List.{List}
+use mathlib.Core.Logic.{_↔_}
+use Rattle.words.specs.Numbers.{Bytes}
+use Rattle.gates.specs.PlainCircuit.{gateCount}
+use Rattle.circuit.specs.Whole.{ruleAnswer}
+use Rattle.plan.specs.PlanFile.{groupsIn, EachGroup, Apart}
+use Rattle.plan.specs.Rows.{planAnswer}
+use Rattle.plan.specs.Accepted.{LaidOut, Exist, InOrder}
+use Rattle.plan.specs.SameGroups.{SameGroups}
+use Rattle.plan.specs.AcceptedLaws as laws
+use Rattle.plan.specs.SameGroupsLaws as groups
+
+-- "Groups must now stand in rising order of their smallest member", and "the acceptance rule now includes this order": `in-order` of `Acceptable`, in demand 3's
+-- `plan-accepted`.
+pub accepted-in-order : (s p : List ℕ) → planAnswer s p .number ≡ 0 → InOrder (groupsIn p)
+accepted-in-order s p h = laws.plan-accepted s p .0 h .1 .in-order
+
+-- "two accepted plans for a rule that form the same groups are then the same bytes."
+pub same-bytes : (s p q : List ℕ) → Bytes p → Bytes q → planAnswer s p .number ≡ 0 → planAnswer s q .number ≡ 0
+    → SameGroups (groupsIn p) (groupsIn q) → p ≡ q
+same-bytes s p q bp bq h k = groups.same-bytes s p q bp bq (laws.plan-accepted s p .0 h .1) (laws.plan-accepted s q .0 k .1)
+
+-- "32 when a group's smallest member is not above that of the group before it, checked after 26 and before 27": a plan for an accepted rule is refused with 32
+-- exactly when it is laid out and names existing gates once, and its groups do not stand in order.
+pub out-of-order : (s p : List ℕ) → ruleAnswer s .number ≡ 0
+    → (planAnswer s p .number ≡ 32) ↔ ((LaidOut s p × (EachGroup (Exist (gateCount s)) (groupsIn p) × Apart (groupsIn p))) × (InOrder (groupsIn p) → ⊥))
+out-of-order = laws.out-of-order
