@@ -12,6 +12,8 @@ use Rattle.plan.specs.Accepted.{LaidOut, Exist, InOrder}
 use Rattle.plan.specs.SameGroups.{SameGroups}
 use Rattle.plan.specs.AcceptedLaws as laws
 use Rattle.plan.specs.SameGroupsLaws as groups
+use Rattle.fused.specs.FusedCircuit.{fusedFile}
+use Rattle.fused.specs.GroupOrderLaws as files
 
 -- "Groups must now stand in rising order of their smallest member", and "the acceptance rule now includes this order": `in-order` of `Acceptable`, in demand 3's
 -- `plan-accepted`.
@@ -22,6 +24,11 @@ accepted-in-order s p h = laws.plan-accepted s p .0 h .1 .in-order
 pub same-bytes : (s p q : List ℕ) → Bytes p → Bytes q → planAnswer s p .number ≡ 0 → planAnswer s q .number ≡ 0
     → SameGroups (groupsIn p) (groupsIn q) → p ≡ q
 same-bytes s p q bp bq h k = groups.same-bytes s p q bp bq (laws.plan-accepted s p .0 h .1) (laws.plan-accepted s q .0 k .1)
+
+-- (The order decides nothing else: plans that are laid out, name gates once and form the same groups have one file, in whatever order these stand.)
+pub same-file : (s p q : List ℕ) → LaidOut s p → LaidOut s q → Apart (groupsIn p) → Apart (groupsIn q)
+    → SameGroups (groupsIn p) (groupsIn q) → fusedFile s p ≡ fusedFile s q
+same-file = files.same-file
 
 -- "32 when a group's smallest member is not above that of the group before it, checked after 26 and before 27": a plan for an accepted rule is refused with 32
 -- exactly when it is laid out and names existing gates once, and its groups do not stand in order.

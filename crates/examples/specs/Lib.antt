@@ -3,3 +3,4 @@ pub mod MeaningLaws
 pub mod StarredProved
 pub mod ArgumentOrder
 pub mod Working
+pub mod GroupOrder

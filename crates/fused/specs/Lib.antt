@@ -27,3 +27,4 @@ pub mod InputLaws
 pub mod PickSums
 pub mod FusedFigures
 pub mod WellFormedLaws
+pub mod GroupOrderLaws
