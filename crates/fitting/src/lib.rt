@@ -8,13 +8,12 @@ ghost use Rattle.codes.specs.Codes.{codeOf};
 ghost use Rattle.needed.specs.Held.{codeAt, gateIn, gatesIn};
 ghost use Rattle.plan.specs.PlanFile as file;
 ghost use Rattle.plan.specs.Rows as checks;
-ghost use Rattle.grouping.specs.Tests.{memberTest, membersTest, joinTest, operationCode};
+ghost use Rattle.grouping.specs.Tests.{memberTest, membersTest, joinTest, rowTest, operationCode};
 ghost use Rattle.grouping.specs.Walks.{ReadableGroup, Readable};
 
-// The row of the groups' order.
+// The rows, by what they ask: of the groups together, then of each.
 const ORDER: u8 = 32;
 
-// The rows that are tested of each group alone, by what they ask.
 const COSTLY: u8 = 27;
 
 const ALIKE: u8 = 28;
@@ -31,11 +30,11 @@ fn groups_rise(plan: &[u8]) -> bool
         return true;
     }
     let mut at = grouping::LEAST_BYTES;
-    let mut last = plan::member(plan, at, 0);
+    let mut last = plan::member(plan, at, 0).0;
     while 1 < left {
         at = grouping::after(plan, at);
-        let first = plan::member(plan, at, 0);
-        if first.0 <= last.0 {
+        let first = plan::member(plan, at, 0).0;
+        if first <= last {
             return false;
         }
         last = first;
@@ -163,22 +162,34 @@ fn every_join(row: u8, plan: &[u8], quads: &[u32; 1024], count: usize, needs: &[
     true
 }
 
+// 32, 27, 28 or 29 of the plan.
+fn row_holds(row: u8, plan: &[u8], quads: &[u32; 1024], count: usize, needs: &[u64; 256]) -> bool
+    requires { ⌜ Readable count (now plan) ⌝ }
+    ensures { λ r. ⌜ r ≡ rowTest (gatesIn (now (quads .entry)) count) (now (needs .entry)) row (file.groupsIn (now (plan .entry))) ⌝ }
+{
+    if row == ORDER {
+        groups_rise(plan)
+    } else {
+        every_join(row, plan, quads, count, needs)
+    }
+}
+
 // Rows 32 and 27 to 29 of a plan that the rows before do not refuse, for the gates that lie in `quads` and their preconditions: the first that refuses it,
 // or 0.
 pub fn check_groups(plan: &[u8], quads: &[u32; 1024], count: usize, needs: &[u64; 256]) -> u8
     requires { ⌜ Readable count (now plan) ⌝ }
     ensures { λ r. ⌜ r ≡ checks.firstFailing (checks.joinRows (gatesIn (now (quads .entry)) count) (now (needs .entry)) (now (plan .entry))) ⌝ }
 {
-    if !groups_rise(plan) {
+    if !row_holds(ORDER, plan, quads, count, needs) {
         return ORDER;
     }
-    if !every_join(COSTLY, plan, quads, count, needs) {
+    if !row_holds(COSTLY, plan, quads, count, needs) {
         return COSTLY;
     }
-    if !every_join(ALIKE, plan, quads, count, needs) {
+    if !row_holds(ALIKE, plan, quads, count, needs) {
         return ALIKE;
     }
-    if !every_join(PARTED, plan, quads, count, needs) {
+    if !row_holds(PARTED, plan, quads, count, needs) {
         return PARTED;
     }
     0

@@ -17,14 +17,14 @@ use Rattle.codes.specs.declared.Code.{Code}
 use Rattle.gates.specs.Limits.{mostGates}
 use Rattle.gates.specs.Gates.{Gates}
 use Rattle.needed.specs.HeldLaws.{code-above}
-use Rattle.plan.specs.PlanFile.{mark, leastBytes, mostBytes, gatesCounted, groupsCounted, groupAt, groupsIn, ends}
+use Rattle.plan.specs.PlanFile.{mark, leastBytes, mostBytes, gatesCounted, groupsCounted, Plan, groupAt, groupsIn, ends}
 use Rattle.plan.specs.Rows.{everyGroup, rises, apart, inOrder, parted, Row, layoutRows, joinRows, firstFailing}
 use Rattle.plan.specs.RowLaws.{each-right, ends-right, joins-right}
 use Rattle.plan.specs.MarkLaws.{mark-right}
 use Rattle.plan.specs.FailingLaws.{Hold, none-fails, failing-first, failing-second}
 use Rattle.plan.specs.AcceptedLaws.{rising-exist}
 use Rattle.plan.specs.LayoutLaws.{length-numbers}
-use Rattle.grouping.specs.Tests.{shapeTest, membersTest, joinTest}
+use Rattle.grouping.specs.Tests.{shapeTest, membersTest, joinTest, rowTest}
 use Rattle.grouping.specs.Walks.{Readable, Lie}
 
 -- 20
@@ -154,27 +154,37 @@ pub join-members : (C : Gates) (sets : List ℕ) (row : ℕ) (G : List ℕ) → 
 unfolding joinTest
 join-members C sets row G h = rw (ne-eqb row 29 h)
 
+-- 32 and 27 to 29 of all groups
+pub row-order : (C : Gates) (sets : List ℕ) (row : ℕ) (Gs : Plan) → row ≡ 32 → inOrder Gs ≡ rowTest C sets row Gs
+unfolding rowTest
+row-order C sets row Gs h = rw (eq-eqb row 32 h)
+
+pub row-joins : (C : Gates) (sets : List ℕ) (row : ℕ) (Gs : Plan) → (row ≡ 32 → ⊥) → everyGroup (joinTest C sets row) Gs ≡ rowTest C sets row Gs
+unfolding rowTest
+row-joins C sets row Gs h = rw (ne-eqb row 32 h)
+
 -- The rows 32 and 27 to 29 one after the other.
 
 module _ (C : Gates) (sets p : List ℕ) where
-  pub row-32 : inOrder (groupsIn p) ≡ false → 32 ≡ firstFailing (joinRows C sets p)
+  pub row-32 : rowTest C sets 32 (groupsIn p) ≡ false → 32 ≡ firstFailing (joinRows C sets p)
+  unfolding rowTest
   row-32 o = rw o
 
-  pub row-27 : inOrder (groupsIn p) ≡ true → everyGroup (joinTest C sets 27) (groupsIn p) ≡ false → 27 ≡ firstFailing (joinRows C sets p)
-  unfolding joinTest membersTest
+  pub row-27 : rowTest C sets 32 (groupsIn p) ≡ true → rowTest C sets 27 (groupsIn p) ≡ false → 27 ≡ firstFailing (joinRows C sets p)
+  unfolding rowTest joinTest membersTest
   row-27 o a = rw (o, a)
 
-  pub row-28 : inOrder (groupsIn p) ≡ true → everyGroup (joinTest C sets 27) (groupsIn p) ≡ true → everyGroup (joinTest C sets 28) (groupsIn p) ≡ false
+  pub row-28 : rowTest C sets 32 (groupsIn p) ≡ true → rowTest C sets 27 (groupsIn p) ≡ true → rowTest C sets 28 (groupsIn p) ≡ false
       → 28 ≡ firstFailing (joinRows C sets p)
-  unfolding joinTest membersTest
+  unfolding rowTest joinTest membersTest
   row-28 o a b = rw (o, a, b)
 
-  pub row-29 : inOrder (groupsIn p) ≡ true → everyGroup (joinTest C sets 27) (groupsIn p) ≡ true → everyGroup (joinTest C sets 28) (groupsIn p) ≡ true
-      → everyGroup (joinTest C sets 29) (groupsIn p) ≡ false → 29 ≡ firstFailing (joinRows C sets p)
-  unfolding joinTest membersTest
+  pub row-29 : rowTest C sets 32 (groupsIn p) ≡ true → rowTest C sets 27 (groupsIn p) ≡ true → rowTest C sets 28 (groupsIn p) ≡ true
+      → rowTest C sets 29 (groupsIn p) ≡ false → 29 ≡ firstFailing (joinRows C sets p)
+  unfolding rowTest joinTest membersTest
   row-29 o a b d = rw (o, a, b, d)
 
-  pub joins-none : inOrder (groupsIn p) ≡ true → everyGroup (joinTest C sets 27) (groupsIn p) ≡ true → everyGroup (joinTest C sets 28) (groupsIn p) ≡ true
-      → everyGroup (joinTest C sets 29) (groupsIn p) ≡ true → 0 ≡ firstFailing (joinRows C sets p)
-  unfolding joinTest membersTest
+  pub joins-none : rowTest C sets 32 (groupsIn p) ≡ true → rowTest C sets 27 (groupsIn p) ≡ true → rowTest C sets 28 (groupsIn p) ≡ true
+      → rowTest C sets 29 (groupsIn p) ≡ true → 0 ≡ firstFailing (joinRows C sets p)
+  unfolding rowTest joinTest membersTest
   joins-none o a b d = rw (o, a, b, d)

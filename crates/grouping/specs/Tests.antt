@@ -1,4 +1,4 @@
--- Inner: the rows 24, 25 and 27 to 29 as tests of one group, by the row's number, as the code runs them.
+-- Inner: the rows 24, 25 and 27 to 29 as tests of one group, and 32 and 27 to 29 as tests of all, by the row's number, as the code runs them.
 use Prim.Native.Nat.{ℕ, _+_, _-_, _*_}
 use mathlib.Core.List.{List, [], _∷_}
 use mathlib.Core.Bool.{Bool, true, false, cond, _&&_}
@@ -7,8 +7,8 @@ use lib.ListN.{length, getD, set}
 use Rattle.words.specs.Lists.{every}
 use Rattle.settings.specs.Sets.{union, excludes}
 use Rattle.gates.specs.Gates.{Gate, Gates, gateAt}
-use Rattle.plan.specs.PlanFile.{numbersAt}
-use Rattle.plan.specs.Rows.{rises, isCostly, operationByte, alike, parted}
+use Rattle.plan.specs.PlanFile.{Plan, numbersAt}
+use Rattle.plan.specs.Rows.{everyGroup, rises, inOrder, isCostly, operationByte, alike, parted}
 
 -- 24 or 25 of a group, for n gates
 unfoldable pub shapeTest : ℕ → ℕ → List ℕ → Bool
@@ -25,6 +25,10 @@ membersTest C row G = cond (eqb row 27) (every (λ g. isCostly (gateAt C g)) G) 
 -- 27, 28 or 29 of a group
 unfoldable pub joinTest : Gates → List ℕ → ℕ → List ℕ → Bool
 joinTest C sets row G = cond (eqb row 29) (parted sets G) (membersTest C row G)
+
+-- 32, 27, 28 or 29 of all groups
+unfoldable pub rowTest : Gates → List ℕ → ℕ → Plan → Bool
+rowTest C sets row Gs = cond (eqb row 32) (inOrder Gs) (everyGroup (joinTest C sets row) Gs)
 
 -- the operation's byte by a gate's code, 0 for a code that is none
 unfoldable pub operationCode : ℕ → ℕ

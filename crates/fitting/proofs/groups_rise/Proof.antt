@@ -8,7 +8,7 @@ use Rattle.fitting.proofs.groups_rise.Statement.{statement}
 use Rattle.fitting.proofs.groups_rise.Tie as tie
 
 abbrev Inv-loop : tie.InvT-loop
-Inv-loop plan left₀ at₀ last₀ left at last = (n : ℕ) × RisingGroups n plan left at (last .0)
+Inv-loop plan left₀ at₀ last₀ left at last = (n : ℕ) × RisingGroups n plan left at last
 
 abbrev μ-loop : tie.MeasureT-loop
 μ-loop plan left₀ at₀ last₀ left at last = left
@@ -39,16 +39,14 @@ member-requires-2 c κs =
 
 returns-2 : tie.Need-returns-2 Inv-loop μ-loop
 returns-2 c =
-    let c5 = c .before .before .before .before .before in
-    rising-fails _ _ _ _ _ (c5 .before .loop .inv .1) (c5 .loop-test .taken) _ _ (c .before .before .before .before .after .ensures) (c .before .before .before .member2 .ensures)
-    (c .if2 .taken)
+    let c3 = c .before .before .before in
+    rising-fails _ _ _ _ _ (c3 .before .loop .inv .1) (c3 .loop-test .taken) _ _ (c .before .before .after .ensures) (c .before .member2 .ensures) (c .if2 .taken)
 
 loop-again : tie.Need-loop-again Inv-loop μ-loop
 loop-again c =
-    let c5 = c .before .before .before .before .before in (
-      c5 .before .loop .inv .0,
-      rising-step _ _ _ _ _ (c5 .before .loop .inv .1) (c5 .loop-test .taken) _ _ (c .before .before .before .before .after .ensures)
-          (c .before .before .before .member2 .ensures) (c .if2 .left),
+    let c3 = c .before .before .before in (
+      c3 .before .loop .inv .0,
+      rising-step _ _ _ _ _ (c3 .before .loop .inv .1) (c3 .loop-test .taken) _ _ (c .before .before .after .ensures) (c .before .member2 .ensures) (c .if2 .left),
     )
 
 returns-3 : tie.Need-returns-3 Inv-loop μ-loop
