@@ -30,14 +30,16 @@ fn groups_rise(plan: &[u8]) -> bool
         return true;
     }
     let mut at = grouping::LEAST_BYTES;
-    let mut last = plan::member(plan, at, 0).0;
+    let g = plan::member(plan, at, 0);
+    let mut last = g.0 as usize;
     while 1 < left {
         at = grouping::after(plan, at);
-        let first = plan::member(plan, at, 0).0;
-        if first <= last {
+        let first = plan::member(plan, at, 0);
+        let i = first.0 as usize;
+        if i <= last {
             return false;
         }
-        last = first;
+        last = i;
         left = left - 1;
     }
     true

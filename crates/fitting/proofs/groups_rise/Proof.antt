@@ -26,7 +26,8 @@ member-requires c κs =
 
 loop-holds : tie.Need-loop-holds Inv-loop μ-loop
 loop-holds c =
-    (c .before .before .before .before .pre .0, rising-start _ _ _ _ (c .before .before .before .before .pre .1) (c .before .before .groups-counted .ensures) (c .before .if1 .left) (c .member .ensures))
+    let c5 = c .before .before .before .before .before in
+    (c5 .pre .0, rising-start _ _ _ _ (c5 .pre .1) (c .before .before .before .groups-counted .ensures) (c .before .before .if1 .left) (c .before .member .ensures))
 
 after-requires : tie.Need-after-requires Inv-loop μ-loop
 after-requires c κs = lie-inside _ _ _ (c .before .loop .inv .1 .ahead .lie) (c .before .loop .inv .1 .some)
@@ -39,14 +40,16 @@ member-requires-2 c κs =
 
 returns-2 : tie.Need-returns-2 Inv-loop μ-loop
 returns-2 c =
-    let c3 = c .before .before .before in
-    rising-fails _ _ _ _ _ (c3 .before .loop .inv .1) (c3 .loop-test .taken) _ _ (c .before .before .after .ensures) (c .before .member2 .ensures) (c .if2 .taken)
+    let c4 = c .before .before .before .before in
+    rising-fails _ _ _ _ _ (c4 .before .loop .inv .1) (c4 .loop-test .taken) _ _ (c .before .before .before .after .ensures) (c .before .before .member2 .ensures)
+    (c .if2 .taken)
 
 loop-again : tie.Need-loop-again Inv-loop μ-loop
 loop-again c =
-    let c3 = c .before .before .before in (
-      c3 .before .loop .inv .0,
-      rising-step _ _ _ _ _ (c3 .before .loop .inv .1) (c3 .loop-test .taken) _ _ (c .before .before .after .ensures) (c .before .member2 .ensures) (c .if2 .left),
+    let c4 = c .before .before .before .before in (
+      c4 .before .loop .inv .0,
+      rising-step _ _ _ _ _ (c4 .before .loop .inv .1) (c4 .loop-test .taken) _ _ (c .before .before .before .after .ensures) (c .before .before .member2 .ensures)
+          (c .if2 .left),
     )
 
 returns-3 : tie.Need-returns-3 Inv-loop μ-loop
@@ -61,9 +64,11 @@ groups-rise-spec =
     groups-counted-requires
     returns
     member-requires
+    (λ c. search needs)
     loop-holds
     after-requires
     member-requires-2
+    (λ c. search needs)
     returns-2
     (λ c. search needs)
     (λ c. search needs)
