@@ -10,14 +10,16 @@ use crate::plan::lay_out;
 pub enum GroupOrder {
     /// As they come, mostly shuffled; row 32 is not looked for.
     Any,
-    /// In rising order of smallest members, but of one plan in so many.
+    /// In rising order of smallest members, but for a share of the plans.
     Rising,
 }
 
 /// One plan in so many has its groups in another order.
-const FALLING: usize = 8;
-/// The rows of a plan, 32 as often as two others, since it comes with four of them.
-const ROWS: [u8; 13] = [20, 21, 22, 23, 24, 25, 26, 32, 32, 27, 28, 29, 30];
+pub const SELDOM: usize = 8;
+/// The same of plans that break a row before 32, so that it is seen which one decides.
+pub const OFTEN: usize = 2;
+/// The rows of a plan, 32 as often as three others, since it comes with four of them.
+const ROWS: [u8; 14] = [20, 21, 22, 23, 24, 25, 26, 32, 32, 32, 27, 28, 29, 30];
 
 impl GroupOrder {
     /// A number that a plan is to be refused by.
@@ -28,13 +30,14 @@ impl GroupOrder {
         }
     }
 
-    /// The groups in the order in which a plan is to have them. Any order takes nothing from `random`.
-    pub fn arrange(self, random: &mut Random, groups: &mut Groups) {
+    /// The groups in the order in which a plan is to have them, one in so many turned. Any order takes nothing from
+    /// `random`.
+    pub fn arrange(self, random: &mut Random, groups: &mut Groups, one_in: usize) {
         if self == GroupOrder::Any {
             return;
         }
         sort(groups);
-        if random.below(FALLING) == 0 {
+        if random.below(one_in) == 0 {
             turn(random, groups);
         }
     }

@@ -4,7 +4,7 @@ mod refused;
 
 pub use refused::refused;
 
-use super::group_order::{sort, GroupOrder};
+use super::group_order::{sort, GroupOrder, SELDOM};
 use super::{damage, Random};
 use crate::circuit::{Circuit, Settings};
 use crate::law::*;
@@ -164,7 +164,7 @@ fn any_groups(random: &mut Random, ground: &Ground, from: &[usize]) -> Groups {
 /// Any plan: valid, damaged, or of any bytes at all.
 pub fn any(random: &mut Random, ground: &Ground, order: GroupOrder) -> Vec<u8> {
     let mut groups = joins(random, ground);
-    order.arrange(random, &mut groups);
+    order.arrange(random, &mut groups, SELDOM);
     let mut plan = ground.bytes(&groups);
     match random.below(4) {
         0 => {}
@@ -183,7 +183,7 @@ pub fn valid(random: &mut Random, ground: &Ground) -> Vec<u8> {
 /// A plan that would be valid in order, with its groups in the order that is asked for.
 pub fn arranged(random: &mut Random, ground: &Ground, order: GroupOrder) -> Vec<u8> {
     let mut groups = valid_groups(random, ground);
-    order.arrange(random, &mut groups);
+    order.arrange(random, &mut groups, SELDOM);
     ground.bytes(&groups)
 }
 

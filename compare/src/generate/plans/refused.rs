@@ -1,9 +1,12 @@
 //! Plans refused by a wanted number.
 
-use super::super::group_order::{sort, turn, GroupOrder};
+use super::super::group_order::{in_order, sort, turn, GroupOrder, OFTEN, SELDOM};
 use super::super::{damage, Random};
 use super::{all_at_once, any_groups, joins, Ground, Groups};
 use crate::law::*;
+
+/// So often a rule's plans are tried before another rule is taken.
+const TRIES: usize = 12;
 
 /// A plan refused by the wanted number, 20 to 30 or 32; none if this rule gave none in some tries.
 pub fn refused(
@@ -12,7 +15,10 @@ pub fn refused(
     order: GroupOrder,
     wanted: u8,
 ) -> Option<Vec<u8>> {
-    for _ in 0..12 {
+    if wanted == 32 {
+        return turned(random, ground);
+    }
+    for _ in 0..TRIES {
         let plan = try_refused(random, ground, order, wanted);
         if ground.number(&order.judged(&plan)) == wanted {
             return Some(plan);
@@ -21,23 +27,31 @@ pub fn refused(
     None
 }
 
-fn try_refused(random: &mut Random, ground: &Ground, order: GroupOrder, wanted: u8) -> Vec<u8> {
-    let mut groups = match wanted {
-        // Groups that come to any row after it, or to none.
-        32 => {
-            let other = random.pick(&[26, 26, 27, 28, 29, 30]);
-            some_groups(random, ground, other)
+/// A plan refused by 32 that, in order, would come to a row after it, or to none.
+fn turned(random: &mut Random, ground: &Ground) -> Option<Vec<u8>> {
+    // Circles and gates that meet are rarer, and looked for more often.
+    let behind = random.pick(&[0, 27, 28, 28, 29, 29, 30, 30, 30, 30]);
+    for _ in 0..TRIES {
+        let mut groups = some_groups(random, ground, behind);
+        sort(&mut groups);
+        turn(random, &mut groups);
+        let plan = ground.bytes(&groups);
+        if ground.number(&plan) == 32 && ground.number(&in_order(&plan)) == behind {
+            return Some(plan);
         }
-        _ => some_groups(random, ground, wanted),
-    };
-    spoil_groups(random, ground.circuit.gates.len(), wanted, &mut groups);
-    match wanted {
-        32 => {
-            sort(&mut groups);
-            turn(random, &mut groups);
-        }
-        _ => order.arrange(random, &mut groups),
     }
+    None
+}
+
+fn try_refused(random: &mut Random, ground: &Ground, order: GroupOrder, wanted: u8) -> Vec<u8> {
+    let mut groups = some_groups(random, ground, wanted);
+    spoil_groups(random, ground.circuit.gates.len(), wanted, &mut groups);
+    let one_in = match wanted {
+        20..=26 => OFTEN,
+        // One that is turned would come to 32.
+        _ => SELDOM,
+    };
+    order.arrange(random, &mut groups, one_in);
     let mut plan = ground.bytes(&groups);
     spoil_bytes(random, wanted, &mut plan);
     // Sometimes a second fault behind the mark, so that it is seen which one decides.
@@ -47,12 +61,12 @@ fn try_refused(random: &mut Random, ground: &Ground, order: GroupOrder, wanted: 
     plan
 }
 
-/// Groups that often come to the wanted number, or can be spoiled to come to it.
+/// Groups that often come to the wanted number, 0 for none, or can be spoiled to come to it.
 fn some_groups(random: &mut Random, ground: &Ground, wanted: u8) -> Groups {
     let every: Vec<usize> = (0..ground.circuit.gates.len()).collect();
     let groups = match wanted {
-        20..=26 if random.chance(70) => joins(random, ground),
-        20..=27 => any_groups(random, ground, &every),
+        0..=26 if random.chance(70) => joins(random, ground),
+        0..=27 => any_groups(random, ground, &every),
         28 | 29 => any_groups(random, ground, &ground.costly),
         _ => all_at_once(random, ground),
     };
