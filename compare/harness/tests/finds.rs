@@ -169,8 +169,8 @@ fn every_fault_is_found() {
             [&Proved, &Plain, &wrong],
         ];
         for (place, tools) in three.iter().enumerate() {
-            let tally = compare_tools(tools, 5, 600);
-            assert_eq!(tally.cases, 600);
+            let tally = compare_tools(tools, 5, 1200);
+            assert_eq!(tally.cases, 1200);
             assert!(tally.differing > 0, "{fault:?} is not found at {place}");
             assert_eq!(tally.kept.len() as u64, tally.differing.min(10));
             let named = |text: &String| text.contains("wrong");
