@@ -9,16 +9,25 @@ pub const JOINED: u8 = 1;
 pub const INNER: u8 = 2;
 pub const WATCHED: u8 = 4;
 
-/// The rows that the groups can break, in their order: 32 comes after 26 (C-15). The last place fills the table up.
-const ROWS: [u8; 8] = [24, 25, 26, 32, 27, 28, 29, 0];
-// The bit of each row is its place there, so the lowest bit set is the first row broken.
-const SMALL: u32 = 0;
-const UNKNOWN: u32 = 1;
-const TWICE: u32 = 2;
-const FALLS: u32 = 3;
-const NOT_COSTLY: u32 = 4;
-const DIFFERS: u32 = 5;
-const MEETS: u32 = 6;
+// A bit for each row that groups can break, in the order of the rows: 24, 25, 26, 32 (C-15), 27, 28, 29. The lowest bit set
+// is the first row broken.
+const SMALL: u32 = 24;
+const UNKNOWN: u32 = 25;
+const TWICE: u32 = 26;
+const FALLS: u32 = 27;
+const NOT_COSTLY: u32 = 28;
+const DIFFERS: u32 = 29;
+const MEETS: u32 = 30;
+
+/// The number of a bit's row.
+#[inline(always)]
+fn row_of(bit: u32) -> u8 {
+    match bit {
+        ..FALLS => bit as u8,
+        FALLS => 32,
+        _ => bit as u8 - 1,
+    }
+}
 
 /// Wires that a joined group has beside its guards: two picks and the operation.
 pub const AFTER_GUARDS: usize = 3;
@@ -131,7 +140,7 @@ impl Planned {
         if broken == 0 {
             0
         } else {
-            ROWS[(broken.trailing_zeros() & 7) as usize]
+            row_of(broken.trailing_zeros())
         }
     }
 
