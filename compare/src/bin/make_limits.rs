@@ -1,6 +1,6 @@
 //! `make_limits [circuits | working | ordered]`: writes a conformance stream of fixed cases to stdout, those of
 //! operations 01 to 06 at the limits of document 01 or, if named, those of circuit files (07 to 09, C-11), those of working
-//! variables (01 to 09, C-13) or those of the order of groups (01 to 06, C-15), and how many came to each number, by
+//! variables (01 to 09, C-13) or those of the order of groups (nearly all 03 to 05, C-15), and how many came to each number, by
 //! operation, to stderr.
 
 use compare::counts::Counts;
