@@ -12,7 +12,7 @@ impl Refusal {
         Refusal { number, place }
     }
 
-    /// For the rows whose place is always 0: 1, 20 to 30, 40 to 42, 50 and 60 to 62.
+    /// For the rows whose place is always 0: 1, 20 to 30, 32, 40 to 42, 50 and 60 to 62.
     pub fn nowhere(number: u8) -> Refusal {
         Refusal { number, place: 0 }
     }

@@ -3,6 +3,7 @@
 
 pub mod cases;
 pub mod circuits;
+pub mod group_order;
 pub mod kinds;
 pub mod plans;
 pub mod rules;

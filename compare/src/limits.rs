@@ -1,4 +1,4 @@
-//! Fixed cases at the limits of document 01, of C-11 and of C-13: its examples, every refusal, every limit, for every
+//! Fixed cases at the limits of document 01, of C-11, C-13 and C-15: its examples, every refusal, every limit, for every
 //! operation. Rules, plans and circuits are put together from their parts. The number that a case must come to is
 //! written beside it, from the document, and looked at when the case is added; only the cases of
 //! `reading` and the empty plans of refused rules have none.
@@ -6,7 +6,9 @@
 mod arguments;
 mod circles;
 mod circuits;
+mod empty;
 mod examples;
+mod groups;
 mod guards;
 mod large;
 mod layout;
@@ -14,10 +16,12 @@ mod order;
 pub mod parts;
 mod reading;
 mod rows;
+mod turned;
 mod working;
 
 use crate::answer::Answer;
 use crate::circuit::accept;
+use crate::generate::group_order::in_order;
 use crate::generate::plans::bytes_of;
 use crate::law::*;
 use crate::stream::{Case, CHECK, DIRECT, FUSED, PLAIN, READ, WRITE};
@@ -25,8 +29,13 @@ use std::collections::HashSet;
 
 /// The fixed cases of operations 01 to 06, each once, in the order of the stored stream.
 pub fn cases() -> Vec<Case> {
+    each_once(rules().cases)
+}
+
+fn rules() -> List {
     let mut list = List {
         cases: reading::cases(),
+        ..List::default()
     };
     examples::add(&mut list);
     layout::add(&mut list);
@@ -36,22 +45,40 @@ pub fn cases() -> Vec<Case> {
     large::add(&mut list);
     order::add(&mut list);
     arguments::add(&mut list);
-    empty_plans(&mut list);
-    each_once(list.cases)
+    empty::add(&mut list);
+    list
 }
 
 /// The fixed cases of operations 07 to 09, each once. They come after all that was stored before them.
 pub fn circuit_cases() -> Vec<Case> {
-    let mut list = List { cases: Vec::new() };
+    let mut list = List::default();
     circuits::add(&mut list);
     each_once(list.cases)
 }
 
 /// The fixed cases of C-13, over all operations, each once. They come after all that was stored before them.
 pub fn working_cases() -> Vec<Case> {
-    let mut list = List { cases: Vec::new() };
+    each_once(working().cases)
+}
+
+fn working() -> List {
+    let mut list = List::default();
     working::add(&mut list);
-    each_once(list.cases)
+    list
+}
+
+/// The fixed cases of C-15, and those of before whose groups stood in another order once more with them in order; each
+/// once, and none that was there before. They come after all that was stored before them.
+pub fn ordered_cases() -> Vec<Case> {
+    let mut list = List::default();
+    groups::add(&mut list);
+    let [mut rules, mut working] = [rules(), working()];
+    list.cases.append(&mut rules.in_order);
+    list.cases.append(&mut working.in_order);
+    let mut all = each_once([rules.cases, working.cases].concat());
+    let before = all.len();
+    all.append(&mut list.cases);
+    each_once(all).split_off(before)
 }
 
 fn each_once(mut cases: Vec<Case>) -> Vec<Case> {
@@ -62,38 +89,6 @@ fn each_once(mut cases: Vec<Case>) -> Vec<Case> {
         seen.insert(bytes)
     });
     cases
-}
-
-/// The empty plan for every rule of the list; a refused rule's has gate count 0 and must not matter. That of a rule
-/// with a working variable has it too, since such a rule was refused when the cases were first stored.
-fn empty_plans(list: &mut List) {
-    let mut seen = HashSet::new();
-    let rules: Vec<Vec<u8>> = list.cases.iter().map(|case| case.first.clone()).collect();
-    for rule in rules {
-        if !seen.insert(rule.clone()) {
-            continue;
-        }
-        match accept(&rule) {
-            Ok(accepted) if accepted.rule.variables.iter().any(|one| one.working) => {
-                list.check(&rule, &plan(0, &[]), 22);
-                list.write(&rule, &plan(0, &[]), CIRCUIT_BYTES_MAX, 22);
-                list.fused(&rule, &plan(0, &[]), &[], 1, 22);
-            }
-            Ok(accepted) => {
-                let plan = plan(accepted.circuit.gates.len(), &[]);
-                list.check(&rule, &plan, 0);
-                list.write(&rule, &plan, list.length(&rule, &plan), 0);
-                list.fused(
-                    &rule,
-                    &plan,
-                    &inputs(&rule, 1),
-                    accepted.rule.variables.len(),
-                    0,
-                );
-            }
-            Err(refusal) => list.with_plan(&rule, &plan(0, &[]), refusal.number),
-        }
-    }
 }
 
 /// The bytes of a plan with these groups, in this order.
@@ -121,13 +116,19 @@ fn inputs_of(kinds: &[Kind], turn: usize) -> Vec<u32> {
     kinds.iter().enumerate().map(one).collect()
 }
 
+#[derive(Default)]
 struct List {
     cases: Vec<Case>,
+    /// Whether the cases that are added have the groups of their plan in another order.
+    turned: bool,
+    /// Those cases with the groups in order.
+    in_order: Vec<Case>,
 }
 
 impl List {
     #[track_caller]
     fn add(&mut self, case: Case, wanted: u8) {
+        let wanted = self.as_it_stands(&case, wanted);
         let (answer, _) = case.work().expect("an operation that is built");
         let operation = case.operation;
         assert_eq!(answer.number, wanted, "operation {operation:02X}");
@@ -259,18 +260,18 @@ impl List {
         }
     }
 
-    /// How long the circuit file is; 0 for a refused one.
+    /// How long the circuit file is, groups in order; 0 for a refused one.
     fn length(&self, rule: &[u8], plan: &[u8]) -> usize {
         self.written(rule, plan).0.bytes
     }
 
-    /// What writing answers and prints, with all the room there can be.
+    /// What writing answers and prints, groups in order, with all the room there can be.
     fn written(&self, rule: &[u8], plan: &[u8]) -> (Answer, String) {
         let case = Case {
             operation: WRITE,
             room: u16::MAX,
             first: rule.to_vec(),
-            second: plan.to_vec(),
+            second: in_order(plan),
             ..Case::default()
         };
         case.work().expect("an operation that is built")

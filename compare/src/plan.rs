@@ -1,4 +1,4 @@
-//! The plan file: its layout and its check, rows 20 to 30.
+//! The plan file: its layout and its check, rows 20 to 30 and 32, which comes after 26 (C-15).
 
 use crate::answer::{Answer, Refusal};
 use crate::circuit::{accept, preconditions, Accepted, Circuit, GateNumber, Settings};
@@ -33,52 +33,12 @@ pub fn accept_both(rule: &[u8], plan: &[u8]) -> Result<(Accepted, Plan), Refusal
     Ok((accepted, plan))
 }
 
-/// Checks the rows one after the other, each over the whole file, so the lowest number decides.
+/// Checks the rows one after the other, each over the whole file, so the first failing row decides.
 pub fn check(circuit: &Circuit, needs: Vec<Settings>, bytes: &[u8]) -> Result<Plan, Refusal> {
     let gate_count = circuit.gates.len();
-    if bytes.len() < PLAN_BYTES_MIN || bytes.len() > PLAN_BYTES_MAX {
-        return Err(Refusal::nowhere(20));
-    }
-    if bytes[..5] != PLAN_MARK {
-        return Err(Refusal::nowhere(21));
-    }
-    if two_bytes(bytes, 5) != gate_count {
-        return Err(Refusal::nowhere(22));
-    }
-    let listed = lay_out(bytes).ok_or(Refusal::nowhere(23))?;
-    if listed.iter().any(|group| group.len() < GROUP_SIZE_MIN) {
-        return Err(Refusal::nowhere(24));
-    }
-    for group in &listed {
-        let unknown = group.iter().any(|&member| member >= gate_count);
-        let falls = group.windows(2).any(|pair| pair[0] >= pair[1]);
-        if unknown || falls {
-            return Err(Refusal::nowhere(25));
-        }
-    }
-    let mut times = vec![0; gate_count];
-    for &member in listed.iter().flatten() {
-        times[member] += 1;
-    }
-    if times.iter().any(|&count| count > 1) {
-        return Err(Refusal::nowhere(26));
-    }
-    if listed.iter().flatten().any(|&m| !circuit.gates[m].costly()) {
-        return Err(Refusal::nowhere(27));
-    }
-    for group in &listed {
-        let code = circuit.gates[group[0]].code();
-        if group.iter().any(|&m| circuit.gates[m].code() != code) {
-            return Err(Refusal::nowhere(28));
-        }
-    }
-    for group in &listed {
-        for (i, &one) in group.iter().enumerate() {
-            if group[i + 1..].iter().any(|&m| needs[one].meets(&needs[m])) {
-                return Err(Refusal::nowhere(29));
-            }
-        }
-    }
+    let listed = listed(gate_count, bytes)?;
+    check_numbers(gate_count, &listed)?;
+    check_members(circuit, &needs, &listed)?;
 
     let (groups, group_of) = all_groups(gate_count, &listed);
     let waits = waits(circuit, &needs, &groups, &group_of);
@@ -93,12 +53,77 @@ pub fn check(circuit: &Circuit, needs: Vec<Settings>, bytes: &[u8]) -> Result<Pl
     })
 }
 
+/// The groups as the file lists them: rows 20 to 23.
+fn listed(gate_count: usize, bytes: &[u8]) -> Result<Vec<Vec<usize>>, Refusal> {
+    if bytes.len() < PLAN_BYTES_MIN || bytes.len() > PLAN_BYTES_MAX {
+        return Err(Refusal::nowhere(20));
+    }
+    if bytes[..5] != PLAN_MARK {
+        return Err(Refusal::nowhere(21));
+    }
+    if two_bytes(bytes, 5) != gate_count {
+        return Err(Refusal::nowhere(22));
+    }
+    lay_out(bytes).ok_or(Refusal::nowhere(23))
+}
+
+/// What the numbers alone decide: rows 24 to 26, then 32.
+fn check_numbers(gate_count: usize, listed: &[Vec<usize>]) -> Result<(), Refusal> {
+    if listed.iter().any(|group| group.len() < GROUP_SIZE_MIN) {
+        return Err(Refusal::nowhere(24));
+    }
+    for group in listed {
+        let unknown = group.iter().any(|&member| member >= gate_count);
+        let falls = group.windows(2).any(|pair| pair[0] >= pair[1]);
+        if unknown || falls {
+            return Err(Refusal::nowhere(25));
+        }
+    }
+    let mut times = vec![0; gate_count];
+    for &member in listed.iter().flatten() {
+        times[member] += 1;
+    }
+    if times.iter().any(|&count| count > 1) {
+        return Err(Refusal::nowhere(26));
+    }
+    // Members rise, so the first is the smallest.
+    if listed.windows(2).any(|pair| pair[1][0] <= pair[0][0]) {
+        return Err(Refusal::nowhere(32));
+    }
+    Ok(())
+}
+
+/// What the members' gates decide: rows 27 to 29.
+fn check_members(
+    circuit: &Circuit,
+    needs: &[Settings],
+    listed: &[Vec<usize>],
+) -> Result<(), Refusal> {
+    if listed.iter().flatten().any(|&m| !circuit.gates[m].costly()) {
+        return Err(Refusal::nowhere(27));
+    }
+    for group in listed {
+        let code = circuit.gates[group[0]].code();
+        if group.iter().any(|&m| circuit.gates[m].code() != code) {
+            return Err(Refusal::nowhere(28));
+        }
+    }
+    for group in listed {
+        for (i, &one) in group.iter().enumerate() {
+            if group[i + 1..].iter().any(|&m| needs[one].meets(&needs[m])) {
+                return Err(Refusal::nowhere(29));
+            }
+        }
+    }
+    Ok(())
+}
+
 fn two_bytes(bytes: &[u8], at: usize) -> usize {
     usize::from(u16::from_be_bytes([bytes[at], bytes[at + 1]]))
 }
 
-/// As many groups as the file counts, of any size, if they end just where the file ends.
-fn lay_out(bytes: &[u8]) -> Option<Vec<Vec<usize>>> {
+/// As many groups as the file counts, of any size, if they end just where the file ends. It has 9 bytes or more.
+pub(crate) fn lay_out(bytes: &[u8]) -> Option<Vec<Vec<usize>>> {
     let mut at = PLAN_BYTES_MIN;
     let mut groups = Vec::new();
     for _ in 0..two_bytes(bytes, 7) {

@@ -2,12 +2,14 @@
 //! than keep the order written.
 
 use compare::circuit::{accept, make, preconditions, Accepted, Circuit, Gate, GateNumber};
+use compare::generate::group_order::GroupOrder;
 use compare::generate::kinds::Kinds;
 use compare::generate::{cases, inputs, plans, rules, Random};
 use compare::law::*;
 use compare::limits::parts::{not, rule, set, two, var, when, word};
 use compare::plan::check;
 use compare::rule::{bytes_of, Block, Expression, Rule, Statement};
+use compare::stream::{Case, LAST, PLAIN};
 use compare::write::Record;
 use compare::{direct, run, write};
 
@@ -332,14 +334,23 @@ fn falls(record: &Record) -> bool {
     matches!(record, Record::Operation(code, wires) if turns(*code) && wires[0] > wires[1])
 }
 
-/// The first 2,000 cases of seed 1, as they are stored: how many hold what C-12 decides.
+/// The cases of rules among those of seeds 1 and 4, as they are stored: before C-15, and with it.
+fn stored_cases() -> Vec<Case> {
+    let (mut one, mut four) = (Random::new(1), Random::new(4));
+    let operations: Vec<u8> = (1..=LAST).collect();
+    let ordered = |_| cases::case(&mut four, &operations, Kinds::Working, GroupOrder::Rising);
+    let mut stored: Vec<Case> = (0..2000).map(ordered).collect();
+    stored.retain(|case| case.operation <= PLAIN);
+    stored.extend((0..2000).map(|_| cases::rule_case(&mut one, Kinds::Results, GroupOrder::Any)));
+    stored
+}
+
+/// How many of the stored random cases hold what C-12 decides.
 #[test]
 fn turned_gates_are_often_made() {
-    let mut random = Random::new(1);
     let [mut accepted, mut pairs, mut some, mut joined, mut falling] = [0; 5];
     let (mut gates, mut gates_turned) = (0, 0);
-    for _ in 0..2000 {
-        let case = cases::rule_case(&mut random, Kinds::Results);
+    for case in stored_cases() {
         let Ok(Accepted { rule, circuit }) = accept(&case.first) else {
             continue;
         };

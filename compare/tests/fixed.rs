@@ -17,7 +17,7 @@ fn every_number_comes() {
         let by = counts.by_number.get(&number);
         by.map_or(0, |by| by[usize::from(operation)])
     };
-    for number in (0..=11).chain(20..=30) {
+    for number in (0..=11).chain(20..=30).chain([32]) {
         for operation in [CHECK, WRITE, FUSED] {
             assert!(of(number, operation) >= 5, "{number} by {operation:02X}");
         }
@@ -90,7 +90,7 @@ fn every_number_of_working_variables_comes() {
         assert!(of(3, operation) >= 10 && of(7, operation) >= 10);
     }
     for operation in [CHECK, WRITE, FUSED] {
-        assert!(of(29, operation) >= 20 && of(30, operation) >= 20);
+        assert!(of(29, operation) >= 20 && of(30, operation) >= 10);
     }
     for operation in [DIRECT, FUSED, RUN_CIRCUIT] {
         assert!(of(41, operation) >= 20);
@@ -99,4 +99,22 @@ fn every_number_of_working_variables_comes() {
         assert!(of(62, operation) >= 100);
     }
     assert!(of(50, WRITE) >= 100);
+}
+
+/// Those of C-15 reach 32 often, every row beside it, and 26 before it.
+#[test]
+fn every_number_of_group_orders_comes() {
+    let mut counts = Counts::default();
+    for case in limits::ordered_cases() {
+        counts.count(&case);
+    }
+    let of = |number: u8, operation: u8| counts.by_number[&number][usize::from(operation)];
+    for operation in [CHECK, WRITE, FUSED] {
+        assert!(of(32, operation) >= 150 && of(26, operation) >= 30);
+        assert!(of(0, operation) >= 30);
+        for row in 20..=30 {
+            assert!(of(row, operation) >= 2, "{row} by {operation:02X}");
+        }
+    }
+    assert!(of(50, WRITE) >= 30);
 }

@@ -1,6 +1,7 @@
 //! What holds for every accepted rule, plan and inputs, tried on many random ones.
 
 use compare::circuit::{accept, preconditions};
+use compare::generate::group_order::GroupOrder;
 use compare::generate::kinds::Kinds;
 use compare::generate::{cases, damage, inputs, plans, rules, Random};
 use compare::law::*;
@@ -132,17 +133,19 @@ fn reading_takes_any_bytes() {
 #[test]
 fn every_number_is_reached() {
     for kinds in [Kinds::Results, Kinds::Working] {
-        reaches_every_number(kinds);
+        for order in [GroupOrder::Any, GroupOrder::Rising] {
+            reaches_every_number(kinds, order);
+        }
     }
 }
 
-fn reaches_every_number(kinds: Kinds) {
+fn reaches_every_number(kinds: Kinds, order: GroupOrder) {
     let mut random = Random::new(3);
     let mut bytes = stream::STREAM_MARK.to_vec();
     let operations: Vec<u8> = (1..=stream::LAST).collect();
     let count = 3000;
     for _ in 0..count {
-        cases::case(&mut random, &operations, kinds).put(&mut bytes);
+        cases::case(&mut random, &operations, kinds, order).put(&mut bytes);
     }
     let mut numbers = vec![0; 63];
     let mut printed = 0;
@@ -155,7 +158,7 @@ fn reaches_every_number(kinds: Kinds) {
     for number in (0..=11)
         .chain(20..=30)
         .chain(40..=42)
-        .chain([50, 60, 61, 62])
+        .chain([32, 50, 60, 61, 62])
     {
         assert!(numbers[number] > 0, "{number} is not reached");
     }

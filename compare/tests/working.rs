@@ -5,6 +5,7 @@ use compare::answer::Answer;
 use compare::circuit::{accept, preconditions, read_rule, Accepted, Settings};
 use compare::circuit_file::{self, read_circuit, record};
 use compare::examples::{P1, R1, R2, R8};
+use compare::generate::group_order::GroupOrder;
 use compare::generate::kinds::Kinds;
 use compare::generate::{cases, inputs, plans, rules, Random};
 use compare::law::*;
@@ -357,7 +358,7 @@ fn mark_of(cases: impl Iterator<Item = Case>) -> u64 {
 
 fn random_cases(seed: u64, operations: &[u8], kinds: Kinds) -> impl Iterator<Item = Case> + '_ {
     let mut random = Random::new(seed);
-    std::iter::repeat_with(move || cases::case(&mut random, operations, kinds))
+    std::iter::repeat_with(move || cases::case(&mut random, operations, kinds, GroupOrder::Any))
 }
 
 /// What was stored before C-13 is made as it was then.

@@ -1,6 +1,7 @@
 //! Many rules in a row, each another one, so that a processor foresees less than on one rule again and again.
 
 use crate::subject::{Goal, Row, Subject};
+use compare::generate::group_order::{in_order, GroupOrder};
 use compare::generate::kinds::Kinds;
 use compare::generate::{cases, Random};
 use compare::law::VARIABLES_MAX;
@@ -19,12 +20,13 @@ pub fn mixed() -> Row {
 }
 
 /// The first accepted cases of operation 05 that the generator makes from the seed: rules of every sort that
-/// it knows, each with a plan and inputs that all operations take.
+/// it knows, each with a plan and inputs that all operations take. They are those that were measured before C-15, with
+/// the groups of their plans put in order, so that times can be held beside those of before.
 pub fn subjects(count: usize) -> Vec<Subject> {
     let mut random = Random::new(SEED);
-    std::iter::repeat_with(|| cases::rule_case(&mut random, Kinds::Results))
+    std::iter::repeat_with(|| cases::rule_case(&mut random, Kinds::Results, GroupOrder::Any))
         .filter(|case| case.operation == FUSED)
-        .map(|case| Subject::of_rule(case.first, case.second, case.inputs))
+        .map(|case| Subject::of_rule(case.first, in_order(&case.second), case.inputs))
         .filter(accepted)
         .take(count)
         .collect()

@@ -43,7 +43,7 @@ a fifth of the gates joined; as many joined pairs as fit, each waiting for the o
 waiting for all of the other half (held up); a group that waits for each of many such pairs, with as many sums that wait
 for it (passed again: the search goes back to that group after every pair, and past the sums, so that this one grows with
 the square of the gates); and COUNT mixed rules, one call each in a row: the first COUNT accepted cases of operation 05
-that the generator of `compare/run` makes from seed SEED, used for every operation.
+that the generator of `compare/run` makes from seed SEED, groups put in order, used for every operation.
 
 Circuit files, for 07 and 09, with a table at the end: that of R1; files that grow, made of turns of a comparison, two
 guards, two picks, a product, a constant, a sum, a choice and an and; the largest that there is, the same records with

@@ -1,5 +1,6 @@
 //! Whole cases of the conformance stream.
 
+use super::group_order::GroupOrder;
 use super::kinds::Kinds;
 use super::{circuits, inputs, plans, rules, Random};
 use crate::circuit::{accept, preconditions, Accepted};
@@ -21,8 +22,9 @@ enum Aim {
 }
 
 /// A case of one of these operations, some of which are built. Those of rules alone, 01 to 06, make the same
-/// cases of a seed as before there were others, and results alone those of before there were working variables.
-pub fn case(random: &mut Random, operations: &[u8], kinds: Kinds) -> Case {
+/// cases of a seed as before there were others, results alone those of before there were working variables, and any
+/// order those of before groups had one.
+pub fn case(random: &mut Random, operations: &[u8], kinds: Kinds, order: GroupOrder) -> Case {
     let rules = operations.iter().any(|one| (READ..=PLAIN).contains(one));
     let circuits = operations
         .iter()
@@ -32,7 +34,7 @@ pub fn case(random: &mut Random, operations: &[u8], kinds: Kinds) -> Case {
         let case = if circuits && (!rules || random.chance(30)) {
             circuit_case(random, kinds)
         } else {
-            rule_case(random, kinds)
+            rule_case(random, kinds, order)
         };
         if operations.contains(&case.operation) {
             return case;
@@ -41,7 +43,7 @@ pub fn case(random: &mut Random, operations: &[u8], kinds: Kinds) -> Case {
 }
 
 /// A case of operations 01 to 06.
-pub fn rule_case(random: &mut Random, kinds: Kinds) -> Case {
+pub fn rule_case(random: &mut Random, kinds: Kinds, order: GroupOrder) -> Case {
     let operation = match random.below(100) {
         0..=17 => READ,
         18..=35 => DIRECT,
@@ -60,7 +62,7 @@ pub fn rule_case(random: &mut Random, kinds: Kinds) -> Case {
         return case;
     }
     // A rule whose plan can be what is aimed at: not every rule has joins or circles.
-    let wanted = random.among(20, 30) as u8;
+    let wanted = order.wanted(random);
     loop {
         let bytes = rules::accepted(random, kinds);
         let accepted = accept(&bytes).expect("made so");
@@ -69,13 +71,13 @@ pub fn rule_case(random: &mut Random, kinds: Kinds) -> Case {
         let plan = match (operation, aim) {
             // An operation that takes no plan ignores whatever stands there.
             (READ | DIRECT | PLAIN, _) if random.chance(80) => Vec::new(),
-            (READ | DIRECT | PLAIN, _) => plans::any(random, &ground),
-            (_, Aim::Plan) if random.chance(10) => plans::any(random, &ground),
-            (_, Aim::Plan) => match plans::refused(random, &ground, wanted) {
+            (READ | DIRECT | PLAIN, _) => plans::any(random, &ground, order),
+            (_, Aim::Plan) if random.chance(10) => plans::any(random, &ground, order),
+            (_, Aim::Plan) => match plans::refused(random, &ground, order, wanted) {
                 Some(plan) => plan,
                 None => continue,
             },
-            _ => plans::valid(random, &ground),
+            _ => plans::arranged(random, &ground, order),
         };
         // Circuits with something joined are worth more: mostly go on until there is one.
         let joined = plan.len() > PLAN_BYTES_MIN;
@@ -83,7 +85,7 @@ pub fn rule_case(random: &mut Random, kinds: Kinds) -> Case {
             continue;
         }
         give_inputs(random, &mut case, aim, &accepted);
-        give_room(random, &mut case, aim, &accepted, &plan);
+        give_room(random, &mut case, aim, &accepted, &order.judged(&plan));
         case.first = bytes;
         case.second = plan;
         return case;
@@ -169,6 +171,7 @@ fn spoil_inputs(random: &mut Random, case: &mut Case, kinds: &[Kind]) {
     }
 }
 
+/// The room rests on the plan that is judged.
 fn give_room(random: &mut Random, case: &mut Case, aim: Aim, accepted: &Accepted, plan: &[u8]) {
     if !takes_room(case.operation) {
         return;

@@ -1,5 +1,10 @@
 //! Plans for an accepted rule: valid joins found by trying, and plans refused by a wanted number.
 
+mod refused;
+
+pub use refused::refused;
+
+use super::group_order::{sort, GroupOrder, SELDOM};
 use super::{damage, Random};
 use crate::circuit::{Circuit, Settings};
 use crate::law::*;
@@ -34,6 +39,11 @@ impl<'a> Ground<'a> {
         }
     }
 
+    /// Whether a plan of these groups, in order, is accepted.
+    fn accepts(&self, groups: &Groups) -> bool {
+        self.number(&self.in_order(groups)) == 0
+    }
+
     fn joinable(&self, one: usize, other: usize) -> bool {
         one != other
             && self.circuit.gates[one].code() == self.circuit.gates[other].code()
@@ -42,6 +52,12 @@ impl<'a> Ground<'a> {
 
     fn bytes(&self, groups: &Groups) -> Vec<u8> {
         bytes_of(self.circuit.gates.len(), groups)
+    }
+
+    fn in_order(&self, groups: &Groups) -> Vec<u8> {
+        let mut groups = groups.clone();
+        sort(&mut groups);
+        self.bytes(&groups)
     }
 }
 
@@ -59,7 +75,7 @@ pub fn bytes_of(gates: usize, groups: &Groups) -> Vec<u8> {
     bytes
 }
 
-/// Valid joins, found by trying one gate more, again and again.
+/// Valid joins in any order, found by trying one gate more, again and again.
 pub fn joins(random: &mut Random, ground: &Ground) -> Groups {
     let mut groups: Groups = Vec::new();
     if ground.costly.is_empty() {
@@ -67,7 +83,7 @@ pub fn joins(random: &mut Random, ground: &Ground) -> Groups {
     }
     if random.chance(30) {
         groups = all_at_once(random, ground);
-        if ground.number(&ground.bytes(&groups)) != 0 {
+        if !ground.accepts(&groups) {
             groups.clear();
         }
     }
@@ -85,7 +101,7 @@ pub fn joins(random: &mut Random, ground: &Ground) -> Groups {
         for group in &mut tried {
             group.sort();
         }
-        if ground.number(&ground.bytes(&tried)) == 0 {
+        if ground.accepts(&tried) {
             groups = tried;
         }
     }
@@ -145,93 +161,10 @@ fn any_groups(random: &mut Random, ground: &Ground, from: &[usize]) -> Groups {
     groups
 }
 
-/// A plan refused by the wanted number, 20 to 30; none if this rule gave none in some tries.
-pub fn refused(random: &mut Random, ground: &Ground, wanted: u8) -> Option<Vec<u8>> {
-    for _ in 0..12 {
-        let plan = try_refused(random, ground, wanted);
-        if ground.number(&plan) == wanted {
-            return Some(plan);
-        }
-    }
-    None
-}
-
-fn try_refused(random: &mut Random, ground: &Ground, wanted: u8) -> Vec<u8> {
-    let count = ground.circuit.gates.len();
-    let every: Vec<usize> = (0..count).collect();
-    let mut groups = match wanted {
-        20..=26 if random.chance(70) => joins(random, ground),
-        20..=27 => any_groups(random, ground, &every),
-        28 | 29 => any_groups(random, ground, &ground.costly),
-        _ => all_at_once(random, ground),
-    };
-    if groups.is_empty() {
-        groups = any_groups(random, ground, &every);
-    }
-    match wanted {
-        24 => {
-            let short = random.pick(&[0, 1]);
-            let group = any_group(random, count, short);
-            groups.insert(random.below(groups.len() + 1), group);
-        }
-        25 => {
-            let mut group = any_group(random, count, 2);
-            match random.below(4) {
-                0 => group[1] = group[0],
-                1 => group.swap(0, 1),
-                2 => group[1] = count,
-                _ => group[1] = random.among(count, 65_535),
-            }
-            groups.insert(random.below(groups.len() + 1), group);
-        }
-        // As many pairs as 1,024 bytes hold: more than any circuit has, so some gate comes twice.
-        26 if count >= 2 && random.chance(10) => {
-            let pairs = (PLAN_BYTES_MAX - PLAN_BYTES_MIN) / 5;
-            groups = (0..pairs)
-                .map(|turn| vec![turn % (count - 1), turn % (count - 1) + 1])
-                .collect();
-        }
-        26 => {
-            if let Some(again) = groups.last().cloned() {
-                let mut other = any_group(random, count, 2);
-                other[random.below(2)] = again[random.below(again.len())];
-                other.sort();
-                groups.insert(0, other);
-            }
-        }
-        _ => {}
-    }
-    let mut plan = ground.bytes(&groups);
-    match wanted {
-        20 if random.chance(50) => plan.truncate(random.below(PLAN_BYTES_MIN)),
-        20 => plan.resize(random.pick(&[1025, 1025, 1026, 2000]), 0x00),
-        21 => plan[random.below(PLAN_MARK.len())] ^= 1 << random.below(8),
-        22 => plan[random.among(5, 6)] ^= 1 << random.below(8),
-        23 if random.chance(10) => plan.resize(PLAN_BYTES_MAX, 0x00),
-        23 => match random.below(4) {
-            0 => plan.push(random.any() as u8),
-            1 => plan[8] = plan[8].wrapping_add(random.pick(&[1, 255])),
-            2 => plan.truncate(random.among(PLAN_BYTES_MIN, plan.len().max(10) - 1)),
-            _ => plan[7] = 1,
-        },
-        _ => {}
-    }
-    // Sometimes a second fault behind the mark, so that it is seen which one decides.
-    if random.chance(20) {
-        damage(random, &mut plan, 5);
-    }
-    plan
-}
-
-fn any_group(random: &mut Random, count: usize, size: usize) -> Vec<usize> {
-    let mut group: Vec<usize> = (0..size).map(|_| random.below(count)).collect();
-    group.sort();
-    group
-}
-
 /// Any plan: valid, damaged, or of any bytes at all.
-pub fn any(random: &mut Random, ground: &Ground) -> Vec<u8> {
-    let groups = joins(random, ground);
+pub fn any(random: &mut Random, ground: &Ground, order: GroupOrder) -> Vec<u8> {
+    let mut groups = joins(random, ground);
+    order.arrange(random, &mut groups, SELDOM);
     let mut plan = ground.bytes(&groups);
     match random.below(4) {
         0 => {}
@@ -243,8 +176,20 @@ pub fn any(random: &mut Random, ground: &Ground) -> Vec<u8> {
 
 /// A valid plan, mostly with joins.
 pub fn valid(random: &mut Random, ground: &Ground) -> Vec<u8> {
+    let groups = valid_groups(random, ground);
+    ground.in_order(&groups)
+}
+
+/// A plan that would be valid in order, with its groups in the order that is asked for.
+pub fn arranged(random: &mut Random, ground: &Ground, order: GroupOrder) -> Vec<u8> {
+    let mut groups = valid_groups(random, ground);
+    order.arrange(random, &mut groups, SELDOM);
+    ground.bytes(&groups)
+}
+
+fn valid_groups(random: &mut Random, ground: &Ground) -> Groups {
     if random.chance(10) {
-        return ground.bytes(&Vec::new());
+        return Vec::new();
     }
-    ground.bytes(&joins(random, ground))
+    joins(random, ground)
 }

@@ -34,9 +34,10 @@ fn through_arguments(list: &mut List) {
     list.with_plan(&rule, &plan(9, &[&[2, 3, 4, 5, 6, 7]]), 30);
     // Over two groups and over three, in two file orders.
     list.with_plan(&rule, &plan(9, &[&[2, 5], &[3, 4]]), 30);
-    list.with_plan(&rule, &plan(9, &[&[3, 4], &[2, 5]]), 30);
+    list.turned(|list| list.with_plan(&rule, &plan(9, &[&[3, 4], &[2, 5]]), 30));
     list.with_plan(&rule, &plan(9, &[&[2, 7], &[3, 6], &[4, 5]]), 30);
-    list.with_plan(&rule, &plan(9, &[&[4, 5], &[3, 6], &[2, 7]]), 30);
+    let turned = plan(9, &[&[4, 5], &[3, 6], &[2, 7]]);
+    list.turned(|list| list.with_plan(&rule, &turned, 30));
 
     // Bits in a chain: every costly operation whose result can be its argument.
     for code in [AND, OR] {
@@ -83,7 +84,7 @@ fn crossed(list: &mut List) {
         let groups: Vec<&[usize]> = straight.iter().map(|pair| &pair[..]).collect();
         list.accepted(&rule, &plan(gates, &groups), &[0, 1]);
         let turned: Vec<&[usize]> = straight.iter().rev().map(|pair| &pair[..]).collect();
-        list.accepted(&rule, &plan(gates, &turned), &[0, 1]);
+        list.turned(|list| list.accepted(&rule, &plan(gates, &turned), &[0, 1]));
         let across: Vec<[usize; 2]> = (0..steps).map(|k| step(k, steps - 1 - k)).collect();
         let groups: Vec<&[usize]> = across.iter().map(|pair| &pair[..]).collect();
         list.with_plan(&rule, &plan(gates, &groups), 30);
@@ -95,7 +96,7 @@ fn crossed(list: &mut List) {
         let close = step(0, steps - 1);
         let mut groups = groups;
         groups.push(&close);
-        list.with_plan(&rule, &plan(gates, &groups), 30);
+        list.turned(|list| list.with_plan(&rule, &plan(gates, &groups), 30));
     }
 }
 
@@ -118,7 +119,7 @@ fn through_conditions(list: &mut List) {
     list.accepted(&with_not, &plan(12, &[&[4, 8]]), &turns);
     list.accepted(&with_not, &plan(12, &[&[5, 6]]), &turns);
     list.with_plan(&with_not, &plan(12, &[&[4, 8], &[5, 6]]), 30);
-    list.with_plan(&with_not, &plan(12, &[&[5, 6], &[4, 8]]), 30);
+    list.turned(|list| list.with_plan(&with_not, &plan(12, &[&[5, 6], &[4, 8]]), 30));
 
     // A joined gate with the condition that it rests on, or with that condition's argument: 29.
     // Gates: 0 and 1, product 2, comparison 3, in the first block comparison 4 and product 5.
@@ -153,13 +154,12 @@ fn nothing_needs(list: &mut List) {
     block.push(set(2, crate::rule::Expression::Bit(true)));
     let rule = rule(&[Kind::Word, Kind::Word, Kind::Bit], block);
     list.rule(&rule, &[0, 1]);
-    for groups in [
-        &[&[3, 4][..]][..],
-        &[&[3, 6], &[4, 5]],
-        &[&[7, 8], &[3, 4, 5, 6]],
-        &[&[3, 4, 5, 6], &[7, 8]],
-        &[&[3, 4, 6]],
-    ] {
+    for groups in [&[&[3, 4][..]][..], &[&[3, 6], &[4, 5]]] {
+        list.accepted(&rule, &plan(11, groups), &[0, 1]);
+    }
+    let turned = plan(11, &[&[7, 8], &[3, 4, 5, 6]]);
+    list.turned(|list| list.accepted(&rule, &turned, &[0, 1]));
+    for groups in [&[&[3, 4, 5, 6][..], &[7, 8]][..], &[&[3, 4, 6]]] {
         list.accepted(&rule, &plan(11, groups), &[0, 1]);
     }
     list.with_plan(&rule, &plan(11, &[&[3, 7]]), 28);

@@ -8,6 +8,7 @@ mod sums;
 use super::List;
 use crate::circuit::Settings;
 use crate::circuit_file::accept;
+use crate::generate::group_order::in_order;
 use crate::law::*;
 use crate::stream::{Case, READ_CIRCUIT, RECORD, RUN_CIRCUIT};
 use crate::write::{Fused, Record, Wire};
@@ -82,10 +83,10 @@ impl List {
         }
     }
 
-    /// What writing makes of an accepted rule and plan.
+    /// What writing makes of an accepted rule and plan, groups in order.
     pub(super) fn file(&self, rule: &[u8], plan: &[u8]) -> Vec<u8> {
         let mut buffer = vec![0; CIRCUIT_BYTES_MAX];
-        let answer = crate::write::write(rule, plan, &mut buffer);
+        let answer = crate::write::write(rule, &in_order(plan), &mut buffer);
         assert_eq!(answer.number, 0, "an accepted plan");
         buffer.truncate(answer.bytes);
         buffer

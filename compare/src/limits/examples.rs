@@ -76,7 +76,7 @@ fn five_to_eight(list: &mut List) {
     list.accepted(&R2, &plan(11, &[&[4, 7]]), &turns);
     list.accepted(&R2, &plan(11, &[&[5, 6]]), &turns);
     list.with_plan(&R2, &plan(11, &[&[4, 7], &[5, 6]]), 30);
-    list.with_plan(&R2, &plan(11, &[&[5, 6], &[4, 7]]), 30);
+    list.turned(|list| list.with_plan(&R2, &plan(11, &[&[5, 6], &[4, 7]]), 30));
     // Inputs on both sides of the inner comparison.
     for bit in [0, 1] {
         for (low, high) in [(2, 9), (9, 2), (9, 9), (65_536, u32::MAX)] {

@@ -67,7 +67,11 @@ fn on_first(list: &mut List, count: usize) {
         .map(|k| [joined[k], joined[joined.len() - 1 - k]])
         .collect();
     let far: Vec<&[usize]> = far.iter().rev().map(|pair| &pair[..]).collect();
-    list.accepted(&rule, &plan(gates, &far), &[0, last / 2]);
+    let add = |list: &mut List| list.accepted(&rule, &plan(gates, &far), &[0, last / 2]);
+    match far.len() {
+        1 => add(list),
+        _ => list.turned(add),
+    }
     if count > 0 {
         // Every setting once.
         for turn in 0..=last {

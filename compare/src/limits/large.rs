@@ -40,7 +40,7 @@ fn unneeded_pairs(list: &mut List) {
     list.write(&rule, &plan(256, &groups(&next)), CIRCUIT_BYTES_MAX, 0);
     list.write(&rule, &plan(256, &groups(&next)), 0, 50);
     next.reverse();
-    list.accepted(&rule, &plan(256, &groups(&next)), &[0]);
+    list.turned(|list| list.accepted(&rule, &plan(256, &groups(&next)), &[0]));
     let far: Vec<[usize; 2]> = (0..GROUPS_MAX).map(|k| [2 + k, 255 - k]).collect();
     list.accepted(&rule, &plan(256, &groups(&far)), &[0]);
     // A group more is a gate too many, or one gate twice.
@@ -50,7 +50,7 @@ fn unneeded_pairs(list: &mut List) {
     over[GROUPS_MAX] = [254, 255];
     list.with_plan(&rule, &plan(256, &groups(&over)), 26);
     over[GROUPS_MAX] = [0, 1];
-    list.with_plan(&rule, &plan(256, &groups(&over)), 27);
+    list.turned(|list| list.with_plan(&rule, &plan(256, &groups(&over)), 27));
 }
 
 /// 256 gates: 127 products that nothing needs, then 127 of which each is the next one's argument.
@@ -94,13 +94,16 @@ fn needed_pairs(list: &mut List) {
     list.with_plan(&rule, &plan(gates, &groups(&across)), 30);
 }
 
-/// One word; `if v0 < v0` with nothing in it makes a comparison and no choice, so all gates but one
-/// are costly: the largest group there is has 255 members.
+/// One word and so many gates; `if v0 < v0` with nothing in it makes a comparison and no choice, so all but one
+/// are costly, and nothing needs them.
+pub fn comparisons(gates: usize) -> Vec<u8> {
+    let empty = when(two(LESS, var(0), var(0)), vec![], vec![]);
+    rule(&[Kind::Word], vec![empty; gates - 1])
+}
+
+/// The largest group there is has 255 members.
 fn many_members(list: &mut List) {
-    let only = rule(
-        &[Kind::Word],
-        vec![when(two(LESS, var(0), var(0)), vec![], vec![]); 255],
-    );
+    let only = comparisons(GATES_MAX);
     assert_eq!(read_rule(&only).gates, GATES_MAX);
     list.rule(&only, &[0]);
     let every: Vec<usize> = (1..256).collect();
@@ -110,7 +113,8 @@ fn many_members(list: &mut List) {
     list.accepted(&only, &plan(256, &pairs), &[0]);
     let threes: Vec<&[usize]> = every.chunks(3).collect();
     list.accepted(&only, &plan(256, &threes), &[0]);
-    list.accepted(&only, &plan(256, &[&every[128..], &every[..128]]), &[0]);
+    let halves = plan(256, &[&every[128..], &every[..128]]);
+    list.turned(|list| list.accepted(&only, &halves, &[0]));
     let all: Vec<usize> = (0..255).collect();
     list.with_plan(&only, &plan(256, &[&all]), 27);
 
@@ -140,11 +144,12 @@ fn exclusive(list: &mut List) {
     let second: Vec<usize> = ends.iter().copied().skip(1).step_by(2).collect();
     list.accepted(&rule, &plan(gates, &[&first]), &[0, 63]);
     list.accepted(&rule, &plan(gates, &[&first, &second]), &[0, 5, 42, 63]);
-    list.accepted(&rule, &plan(gates, &[&second, unneeded, &first]), &[1, 62]);
+    let three = plan(gates, &[&second, unneeded, &first]);
+    list.turned(|list| list.accepted(&rule, &three, &[1, 62]));
     // 64 groups of two that rest on six conditions, and the unneeded ones by twos.
     let pairs = first.chunks(2).chain(second.chunks(2));
     let pairs: Vec<&[usize]> = pairs.chain(unneeded.chunks_exact(2)).collect();
-    list.accepted(&rule, &plan(gates, &pairs), &[0, 5, 42, 63]);
+    list.turned(|list| list.accepted(&rule, &plan(gates, &pairs), &[0, 5, 42, 63]));
     // An unneeded product goes with any other.
     let mut more = unneeded.to_vec();
     more.extend(&first);

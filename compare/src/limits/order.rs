@@ -101,18 +101,30 @@ fn plan_first(list: &mut List) {
         (&r1, plan(6, &[&[3, 4], &[3, 4]]), 26),
         (&r1, plan(6, &[&[3, 5]]), 27),
         (&r2, plan(11, &[&[4, 6]]), 28),
+        // Groups in another order.
         (&r2, plan(11, &[&[5, 6], &[4, 7]]), 30),
         (&R8.to_vec(), plan(11, &[&[5, 9]]), 29),
     ] {
+        match wanted {
+            30 => list.turned(|list| list.before_others(rule, &plan, wanted)),
+            _ => list.before_others(rule, &plan, wanted),
+        }
+    }
+}
+
+impl List {
+    /// A refused plan with refused inputs, places and rooms.
+    #[track_caller]
+    pub(super) fn before_others(&mut self, rule: &[u8], plan: &[u8], wanted: u8) {
         let good = inputs(rule, 1);
         let mut over = good.clone();
         over[0] = u32::MAX;
-        list.fused(rule, &plan, &good, good.len() - 1, wanted);
-        list.fused(rule, &plan, &good[1..], good.len(), wanted);
-        list.fused(rule, &plan, &over, good.len(), wanted);
-        list.fused(rule, &plan, &[], 0, wanted);
+        self.fused(rule, plan, &good, good.len() - 1, wanted);
+        self.fused(rule, plan, &good[1..], good.len(), wanted);
+        self.fused(rule, plan, &over, good.len(), wanted);
+        self.fused(rule, plan, &[], 0, wanted);
         for room in [0, 1, 40, 65_535] {
-            list.write(rule, &plan, room, wanted);
+            self.write(rule, plan, room, wanted);
         }
     }
 }

@@ -1,5 +1,5 @@
-//! Rows 26 to 29 over every kind of gate, and plans that break two rows or more at once: the lowest
-//! number is answered, wherever in the file its fault stands.
+//! Rows 26 to 29 over every kind of gate, and plans that break two rows or more at once: the first failing
+//! row is answered, wherever in the file its fault stands.
 
 use super::parts::{costly, not, rule, set, two, var, when, word};
 use super::{plan, List};
@@ -28,7 +28,7 @@ const EVERY: usize = CHOICES + MADE.len();
 
 /// A bit v0, a word v1, a bit v2, and one variable for each of `MADE`: a rule with every kind of gate.
 /// The variable of the sum is first (v1 x v1) x v1, which both blocks store over.
-fn every() -> Vec<u8> {
+pub fn every() -> Vec<u8> {
     let mut kinds = vec![Kind::Bit, Kind::Word, Kind::Bit];
     for code in MADE {
         kinds.push(match operation(code) {
@@ -100,7 +100,7 @@ fn kinds_of_gates(list: &mut List) {
     let groups: Vec<&[usize]> = all.iter().map(|pair| &pair[..]).collect();
     list.accepted(&rule, &plan(EVERY, &groups), &[0, 1, 2, 3, 4, 5]);
     let turned: Vec<&[usize]> = all.iter().rev().map(|pair| &pair[..]).collect();
-    list.accepted(&rule, &plan(EVERY, &turned), &[4, 5]);
+    list.turned(|list| list.accepted(&rule, &plan(EVERY, &turned), &[4, 5]));
 }
 
 /// A bit, an argument, two results; an if with the same two operations in both blocks.
@@ -125,10 +125,11 @@ fn each_costly(list: &mut List) {
             &[&[5, 6]],
             &[&[4, 6], &[5, 7]],
             &[&[4, 7], &[5, 6]],
-            &[&[5, 6], &[4, 7]],
         ] {
             list.accepted(&rule, &plan(10, groups), &[0, 1, 2, 3]);
         }
+        let turned = plan(10, &[&[5, 6], &[4, 7]]);
+        list.turned(|list| list.accepted(&rule, &turned, &[0, 1, 2, 3]));
         for group in [&[4, 5][..], &[6, 7], &[4, 5, 6], &[4, 6, 7], &[4, 5, 6, 7]] {
             list.with_plan(&rule, &plan(10, &[group]), 29);
         }
@@ -138,9 +139,13 @@ fn each_costly(list: &mut List) {
     }
 }
 
+/// The gates of `every` that one operation makes, the first of them in each block.
+pub fn pair(code: u8) -> Vec<usize> {
+    vec![FIRST + made(code), SECOND + made(code)]
+}
+
 /// The groups of `every` that break one row from 24 on; no gate comes in two of them.
-fn broken(row: u8) -> Vec<Vec<usize>> {
-    let pair = |code: u8| vec![FIRST + made(code), SECOND + made(code)];
+pub fn broken(row: u8) -> Vec<Vec<usize>> {
     match row {
         24 => vec![vec![FIRST + made(EQUAL)]],
         25 => vec![vec![SECOND + made(OR), FIRST + made(OR)]],
@@ -156,6 +161,11 @@ fn broken(row: u8) -> Vec<Vec<usize>> {
 /// A plan for `every` that breaks these rows, with the groups in the order of the rows.
 fn breaking(rows: &[u8]) -> Vec<u8> {
     let groups: Vec<Vec<usize>> = rows.iter().flat_map(|&row| broken(row)).collect();
+    spoiled(rows, &groups)
+}
+
+/// A plan for `every` with these groups, and in its other bytes what breaks those of these rows that lie there.
+pub fn spoiled(rows: &[u8], groups: &[Vec<usize>]) -> Vec<u8> {
     let groups: Vec<&[usize]> = groups.iter().map(|group| &group[..]).collect();
     let mut bytes = plan(EVERY, &groups);
     for row in rows {
@@ -170,12 +180,22 @@ fn breaking(rows: &[u8]) -> Vec<u8> {
     bytes
 }
 
+/// These rows broken, in rising order: from 27 on the smallest members of their groups fall, so that two of them
+/// are turned.
+fn rising(list: &mut List, rule: &[u8], rows: &[u8]) {
+    let add = |list: &mut List| list.with_plan(rule, &breaking(rows), rows[0]);
+    match rows {
+        [27..=30, _, ..] => list.turned(add),
+        _ => add(list),
+    }
+}
+
 fn two_at_once(list: &mut List) {
     let rule = every();
     for one in 20..=30 {
-        list.with_plan(&rule, &breaking(&[one]), one);
+        rising(list, &rule, &[one]);
         for other in one + 1..=30 {
-            list.with_plan(&rule, &breaking(&[one, other]), one);
+            rising(list, &rule, &[one, other]);
             list.with_plan(&rule, &breaking(&[other, one]), one);
         }
     }
@@ -189,7 +209,7 @@ fn all_at_once(list: &mut List) {
     let rule = every();
     for one in 20..=30 {
         let mut rows: Vec<u8> = (one..=30).collect();
-        list.with_plan(&rule, &breaking(&rows), one);
+        rising(list, &rule, &rows);
         rows.reverse();
         list.with_plan(&rule, &breaking(&rows), one);
     }

@@ -7,6 +7,7 @@ mod plans;
 mod rules;
 
 use super::circuits::run_case;
+use super::turned::put_in_order;
 use super::{plan, List};
 use crate::law::*;
 use crate::rule::{bytes_of, read};
@@ -57,12 +58,14 @@ impl Subject {
 }
 
 impl List {
-    /// A run that succeeds and writes these figures, and nothing after them.
+    /// A run that, groups in order, succeeds and writes these figures, and nothing after them.
     #[track_caller]
     fn gives(&mut self, case: Case, figures: &[u32]) {
         let mut wanted = figures.to_vec();
         wanted.resize(usize::from(case.room), UNTOUCHED_RESULT);
-        let (_, text) = case.work().expect("an operation that is built");
+        let (_, text) = put_in_order(&case)
+            .work()
+            .expect("an operation that is built");
         assert_eq!(text, results_text(&wanted), "of {:?}", case.inputs);
         self.add(case, 0);
     }

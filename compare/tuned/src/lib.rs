@@ -98,7 +98,7 @@ pub fn show_plain<'a>(rule: &[u8], shown: &'a mut MaybeUninit<Shown>) -> &'a Sho
     }
 }
 
-/// The rule read and made, needed gates found, the plan held against rows 20 to 29; or the refusal.
+/// The rule read and made, needed gates found, the plan held against rows 20 to 29 and 32; or the refusal.
 /// The place for the reader is the caller's, since handing one up would copy it.
 #[inline(always)]
 fn plan<'a>(

@@ -1,4 +1,4 @@
-//! A plan for a rule's circuit: rows 20 to 29 in one pass over its bytes, and what joining adds to the counts.
+//! A plan for a rule's circuit: rows 20 to 29 and 32 in one pass over its bytes, and what joining adds to the counts.
 
 use crate::law::*;
 use crate::needed::{counted, Conditions, Rested};
@@ -8,6 +8,26 @@ use crate::places::{rising, two, Places};
 pub const JOINED: u8 = 1;
 pub const INNER: u8 = 2;
 pub const WATCHED: u8 = 4;
+
+// A bit for each row that groups can break, in the order of the rows: 24, 25, 26, 32 (C-15), 27, 28, 29. The lowest bit set
+// is the first row broken.
+const SMALL: u32 = 24;
+const UNKNOWN: u32 = 25;
+const TWICE: u32 = 26;
+const FALLS: u32 = 27;
+const NOT_COSTLY: u32 = 28;
+const DIFFERS: u32 = 29;
+const MEETS: u32 = 30;
+
+/// The number of a bit's row.
+#[inline(always)]
+fn row_of(bit: u32) -> u8 {
+    match bit {
+        ..FALLS => bit as u8,
+        FALLS => 32,
+        _ => bit as u8 - 1,
+    }
+}
 
 /// Wires that a joined group has beside its guards: two picks and the operation.
 pub const AFTER_GUARDS: usize = 3;
@@ -72,7 +92,7 @@ impl Planned {
         }
     }
 
-    /// Rows 20 to 29, the lowest that any place of the plan breaks, or 0.
+    /// Rows 20 to 29 and 32, after 26: the first that any place of the plan breaks, or 0.
     #[inline(always)]
     pub fn check(&mut self, plan: &[u8]) -> u8 {
         if plan.len() < PLAN_BYTES_MIN || plan.len() > PLAN_BYTES_MAX {
@@ -86,7 +106,7 @@ impl Planned {
         }
     }
 
-    /// Rows 23 to 29, likewise.
+    /// Rows 23 to 29 and 32, likewise.
     #[inline(always)]
     fn check_groups(&mut self, plan: &[u8]) -> u8 {
         self.marks.fill(0, self.gates, 0);
@@ -96,6 +116,7 @@ impl Planned {
         let mut broken = 0;
         let mut rested = Rested::NONE;
         let mut place = PLAN_BYTES_MIN;
+        let mut least = 0;
         for _ in 0..groups {
             let size = usize::from(*plan.get(place).unwrap_or(&u8::MAX));
             let end = place + 1 + 2 * size;
@@ -103,9 +124,12 @@ impl Planned {
                 return 23;
             }
             broken |= if size < 2 {
-                1 << 24
+                1 << SMALL
             } else {
-                self.join(plan, place, size, &mut rested)
+                let first = member(plan, place, 0);
+                let falls = u32::from(first < least) << FALLS;
+                least = first + 1;
+                falls | self.join(plan, place, size, &mut rested)
             };
             place = end;
         }
@@ -116,17 +140,17 @@ impl Planned {
         if broken == 0 {
             0
         } else {
-            broken.trailing_zeros() as u8
+            row_of(broken.trailing_zeros())
         }
     }
 
-    /// One group: the rows that it breaks, bit 25 for row 25 and so on. All are looked for at every member,
-    /// without a branch for each.
+    /// One group: the rows that it breaks by itself, a bit each. All are looked for at every member, without a branch
+    /// for each.
     #[inline(always)]
     fn join(&mut self, plan: &[u8], begins: usize, size: usize, rested: &mut Rested) -> u32 {
         let first = member(plan, begins, 0);
         if first >= self.gates {
-            return 1 << 25;
+            return 1 << UNKNOWN;
         }
         let code = self.rows.get(first) as u8;
         let mut broken = 0;
@@ -135,15 +159,15 @@ impl Planned {
         for place in 0..size {
             let gate = member(plan, begins, place);
             if gate >= self.gates || gate < least {
-                return 1 << 25;
+                return 1 << UNKNOWN;
             }
             least = gate + 1;
             let needs = self.needs.get(gate);
             let own = self.rows.get(gate) as u8;
-            broken |= u32::from(self.marks.get(gate) != 0) << 26;
-            broken |= u32::from(!costly(own)) << 27;
-            broken |= u32::from(own != code) << 28;
-            broken |= u32::from(seen & needs != 0) << 29;
+            broken |= u32::from(self.marks.get(gate) != 0) << TWICE;
+            broken |= u32::from(!costly(own)) << NOT_COSTLY;
+            broken |= u32::from(own != code) << DIFFERS;
+            broken |= u32::from(seen & needs != 0) << MEETS;
             seen |= needs;
             let rests = rested.of(needs, place);
             on |= rests;

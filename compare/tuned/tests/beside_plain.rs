@@ -1,6 +1,8 @@
 //! The tuned implementation beside the plain one, line by line as the conformance stream has them: on every fixed case,
-//! and on random ones with and without working variables (C-13). Both ways of running a fused circuit.
+//! and on random ones with and without working variables (C-13), with groups in order (C-15) and in any. Both ways of
+//! running a fused circuit.
 
+use compare::generate::group_order::GroupOrder;
 use compare::generate::kinds::Kinds;
 use compare::generate::{cases, Random};
 use compare::limits;
@@ -99,15 +101,20 @@ fn on_fixed_cases() {
     limits::cases().iter().for_each(assert_same);
     limits::circuit_cases().iter().for_each(assert_same);
     limits::working_cases().iter().for_each(assert_same);
+    limits::ordered_cases().iter().for_each(assert_same);
 }
 
 #[test]
 fn on_random_cases() {
     let operations: Vec<u8> = (1..=LAST).collect();
-    for (kinds, seed, count) in [(Kinds::Working, 13, 8_000), (Kinds::Results, 14, 2_000)] {
+    for (kinds, order, seed, count) in [
+        (Kinds::Working, GroupOrder::Rising, 13, 6_000),
+        (Kinds::Results, GroupOrder::Rising, 14, 2_000),
+        (Kinds::Working, GroupOrder::Any, 15, 2_000),
+    ] {
         let mut random = Random::new(seed);
         for _ in 0..count {
-            assert_same(&cases::case(&mut random, &operations, kinds));
+            assert_same(&cases::case(&mut random, &operations, kinds, order));
         }
     }
 }

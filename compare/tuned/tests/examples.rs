@@ -200,3 +200,53 @@ fn a_pick_is_a_sum() {
         assert_eq!(results, [inputs[0], wanted, inputs[2]]);
     }
 }
+
+/// One word and nine comparisons, gates 1 to 9, that nothing needs: "if v0 < v0" with nothing in it.
+fn nine() -> Vec<u8> {
+    let mut rule = vec![0x52, 0x55, 0x4C, 0x00, 0x01, 0x01, 0x00];
+    rule.extend([0x03, 0x23, 0x10, 0x00, 0x10, 0x00, 0x00, 0x00].repeat(9));
+    rule.push(0x00);
+    rule
+}
+
+fn plan(gates: u8, groups: &[&[u8]]) -> Vec<u8> {
+    let mut plan = vec![0x50, 0x4C, 0x4E, 0x00, 0x01, 0x00, gates];
+    plan.extend([0x00, groups.len() as u8]);
+    for group in groups {
+        plan.push(group.len() as u8);
+        group.iter().for_each(|&member| plan.extend([0, member]));
+    }
+    plan
+}
+
+/// C-15: smallest members rise, 32 after 26 and before 27, wherever in the file each fault stands.
+#[test]
+fn groups_in_order() {
+    for (groups, wanted) in [
+        (&[][..], 0),
+        (&[&[8, 9][..]], 0),
+        (&[&[1, 9], &[3, 5]], 0),
+        (&[&[3, 5], &[1, 9]], 32),
+        (&[&[1, 2], &[3, 4], &[5, 6]], 0),
+        (&[&[3, 4], &[1, 2], &[5, 6]], 32),
+        (&[&[1, 2], &[5, 6], &[3, 4]], 32),
+        (&[&[1, 2], &[1, 3]], 26),
+        (&[&[3, 4], &[1, 2], &[5, 6], &[6, 7]], 26),
+        (&[&[1, 2], &[2, 3], &[7, 8], &[5, 6]], 26),
+        (&[&[3, 4], &[1, 2], &[6, 5]], 25),
+        (&[&[3, 4], &[1, 2], &[5]], 24),
+        (&[&[0, 1], &[2, 3]], 27),
+        (&[&[2, 3], &[0, 1]], 32),
+    ] {
+        let plan = plan(10, groups);
+        assert_eq!(check_plan(&nine(), &plan).number, wanted, "{groups:?}");
+        let mut out = [0xEE; 400];
+        assert_eq!(write_fused(&nine(), &plan, &mut out).number, wanted);
+        assert!(wanted == 0 || out == [0xEE; 400]);
+        for fused in [run_fused, run_fused_unwritten] {
+            let mut results = [9];
+            assert_eq!(fused(&nine(), &plan, &[5], &mut results).number, wanted);
+            assert_eq!(results, [if wanted == 0 { 5 } else { 9 }]);
+        }
+    }
+}

@@ -67,7 +67,7 @@ fn example_6(list: &mut List) {
         let subject = subject.working(mask);
         let wanted = if mask & 0b0010 == 0 { 30 } else { 0 };
         list.planned(&subject, &plan(11, &[&[4, 7], &[5, 6]]), wanted);
-        list.planned(&subject, &plan(11, &[&[5, 6], &[4, 7]]), wanted);
+        list.turned(|list| list.planned(&subject, &plan(11, &[&[5, 6], &[4, 7]]), wanted));
         list.planned(&subject, &plan(11, &[&[4, 7]]), 0);
         list.planned(&subject, &plan(11, &[&[5, 6]]), 0);
     }
