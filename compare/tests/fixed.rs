@@ -90,7 +90,8 @@ fn every_number_of_working_variables_comes() {
         assert!(of(3, operation) >= 10 && of(7, operation) >= 10);
     }
     for operation in [CHECK, WRITE, FUSED] {
-        assert!(of(29, operation) >= 20 && of(30, operation) >= 10);
+        // Each of these 15 once: since C-15 another order of their groups is 32.
+        assert!(of(29, operation) >= 20 && of(30, operation) >= 15);
     }
     for operation in [DIRECT, FUSED, RUN_CIRCUIT] {
         assert!(of(41, operation) >= 20);

@@ -8,7 +8,7 @@ use Rattle.gates.specs.PlainCircuit.{gateCount}
 use Rattle.circuit.specs.Whole.{ruleAnswer}
 use Rattle.plan.specs.PlanFile.{groupsIn, EachGroup, Apart}
 use Rattle.plan.specs.Rows.{planAnswer}
-use Rattle.plan.specs.Accepted.{LaidOut, Exist, InOrder}
+use Rattle.plan.specs.Accepted.{LaidOut, Exist, GroupsRise}
 use Rattle.plan.specs.SameGroups.{SameGroups}
 use Rattle.plan.specs.AcceptedLaws as laws
 use Rattle.plan.specs.SameGroupsLaws as groups
@@ -17,7 +17,7 @@ use Rattle.fused.specs.GroupOrderLaws as files
 
 -- "Groups must now stand in rising order of their smallest member", and "the acceptance rule now includes this order": `in-order` of `Acceptable`, in demand 3's
 -- `plan-accepted`.
-pub accepted-in-order : (s p : List ℕ) → planAnswer s p .number ≡ 0 → InOrder (groupsIn p)
+pub accepted-in-order : (s p : List ℕ) → planAnswer s p .number ≡ 0 → GroupsRise (groupsIn p)
 accepted-in-order s p h = laws.plan-accepted s p .0 h .1 .in-order
 
 -- "two accepted plans for a rule that form the same groups are then the same bytes."
@@ -33,5 +33,5 @@ same-file = files.same-file
 -- "32 when a group's smallest member is not above that of the group before it, checked after 26 and before 27": a plan for an accepted rule is refused with 32
 -- exactly when it is laid out and names existing gates once, and its groups do not stand in order.
 pub out-of-order : (s p : List ℕ) → ruleAnswer s .number ≡ 0
-    → (planAnswer s p .number ≡ 32) ↔ ((LaidOut s p × (EachGroup (Exist (gateCount s)) (groupsIn p) × Apart (groupsIn p))) × (InOrder (groupsIn p) → ⊥))
+    → (planAnswer s p .number ≡ 32) ↔ ((LaidOut s p × (EachGroup (Exist (gateCount s)) (groupsIn p) × Apart (groupsIn p))) × (GroupsRise (groupsIn p) → ⊥))
 out-of-order = laws.out-of-order

@@ -23,7 +23,7 @@ const PARTED: u8 = 29;
 // 32: the groups stand in rising order of their smallest member. The numbers of a group rise, so it is the first.
 fn groups_rise(plan: &[u8]) -> bool
     requires { ⌜ ((n : ℕ) × Readable n (now plan)) ⌝ }
-    ensures { λ r. ⌜ r ≡ checks.inOrder (file.groupsIn (now (plan .entry))) ⌝ }
+    ensures { λ r. ⌜ r ≡ checks.groupsRise (file.groupsIn (now (plan .entry))) ⌝ }
 {
     let mut left = grouping::groups_counted(plan);
     if left == 0 {

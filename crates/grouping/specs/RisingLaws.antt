@@ -8,7 +8,7 @@ use lib.ListN.{getD}
 use borrow.Author.Tests.{lt-ltb, le-ltb}
 use Rattle.plan.specs.PlanFile.{leastBytes, groupsCounted, groupAt, after, groupsFrom, groupsIn}
 use Rattle.plan.specs.Groups.{smallest}
-use Rattle.plan.specs.Rows.{rises, inOrder}
+use Rattle.plan.specs.Rows.{rises, groupsRise}
 use Rattle.grouping.specs.Walks.{Readable, Ahead}
 use Rattle.grouping.specs.GroupLaws.{ahead-start, ahead-fits, ahead-step}
 use Rattle.grouping.specs.WalkLaws.{first-smallest}
@@ -17,12 +17,12 @@ use Rattle.grouping.specs.WalkLaws.{first-smallest}
 pub record RisingGroups (n : ℕ) (p : List ℕ) (left at last : ℕ) : Type 0 where
   pub some : 0 < left
   pub ahead : Ahead n p left at
-  pub same : inOrder (groupsIn p) ≡ rises (last ∷ map smallest (groupsFrom (left - 1) p (after p at)))
+  pub same : groupsRise (groupsIn p) ≡ rises (last ∷ map smallest (groupsFrom (left - 1) p (after p at)))
 
 -- no group, and nothing to compare
-pub rising-none : (p : List ℕ) (left : ℕ) → left ≡ groupsCounted p → left ≡ 0 → true ≡ inOrder (groupsIn p)
+pub rising-none : (p : List ℕ) (left : ℕ) → left ≡ groupsCounted p → left ≡ 0 → true ≡ groupsRise (groupsIn p)
 unfolding groupsIn
-rising-none p left e z = ap (λ (k : ℕ). inOrder (groupsFrom k p leastBytes)) (sym z ∙ e)
+rising-none p left e z = ap (λ (k : ℕ). groupsRise (groupsFrom k p leastBytes)) (sym z ∙ e)
 
 pub rising-start : (n : ℕ) (p : List ℕ) (left g : ℕ) → Readable n p → left ≡ groupsCounted p → (left ≡ 0 → ⊥) → g ≡ getD (groupAt p leastBytes) 0 0
     → RisingGroups n p left leastBytes g
@@ -36,7 +36,7 @@ rising-start n p left g r e z q = go left e z (ahead-start n p left r e)
         record {
           some = omega arith;
           ahead = w;
-          same = ap (λ (i : ℕ). inOrder (groupsFrom i p leastBytes)) (sym e)
+          same = ap (λ (i : ℕ). groupsRise (groupsFrom i p leastBytes)) (sym e)
               ∙ rw (m, first-smallest n p leastBytes g (ahead-fits n p (suc k) leastBytes w (omega arith)) q);
         }
 
@@ -45,7 +45,7 @@ module _ (n : ℕ) (p : List ℕ) (left at last : ℕ) (w : RisingGroups n p lef
   ahead-next = ahead-step n p left at next (w .ahead) (w .some) e
 
   -- one group more
-  next-smallest : inOrder (groupsIn p) ≡ rises (last ∷ g ∷ map smallest (groupsFrom (left - 1 - 1) p (after p next)))
+  next-smallest : groupsRise (groupsIn p) ≡ rises (last ∷ g ∷ map smallest (groupsFrom (left - 1 - 1) p (after p next)))
   next-smallest = w .same ∙ go left h ahead-next
     where
       go : (k : ℕ) → 1 < k → Ahead n p (k - 1) next
@@ -57,13 +57,13 @@ module _ (n : ℕ) (p : List ℕ) (left at last : ℕ) (w : RisingGroups n p lef
           let l : suc k - 1 ≡ k = omega arith in
           rw (m, l, sym e, first-smallest n p next g (ahead-fits n p (suc k) next (rw m at a) (omega arith)) q)
 
-  pub rising-fails : g ≤ last → false ≡ inOrder (groupsIn p)
+  pub rising-fails : g ≤ last → false ≡ groupsRise (groupsIn p)
   rising-fails l = sym (next-smallest ∙ rw (le-ltb last g l))
 
   pub rising-step : last < g → RisingGroups n p (left - 1) next g
   rising-step l = record { some = omega arith; ahead = ahead-next; same = next-smallest ∙ rw (lt-ltb last g l) }
 
-pub rising-end : (n : ℕ) (p : List ℕ) (left at last : ℕ) → RisingGroups n p left at last → left ≤ 1 → true ≡ inOrder (groupsIn p)
+pub rising-end : (n : ℕ) (p : List ℕ) (left at last : ℕ) → RisingGroups n p left at last → left ≤ 1 → true ≡ groupsRise (groupsIn p)
 rising-end n p left at last w h =
     let z : left - 1 ≡ 0 = omega arith in
     sym (w .same ∙ ap (λ (k : ℕ). rises (last ∷ map smallest (groupsFrom k p (after p at)))) z)

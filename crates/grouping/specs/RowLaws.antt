@@ -18,7 +18,7 @@ use Rattle.gates.specs.Limits.{mostGates}
 use Rattle.gates.specs.Gates.{Gates}
 use Rattle.needed.specs.HeldLaws.{code-above}
 use Rattle.plan.specs.PlanFile.{mark, leastBytes, mostBytes, gatesCounted, groupsCounted, Plan, groupAt, groupsIn, ends}
-use Rattle.plan.specs.Rows.{everyGroup, rises, apart, inOrder, parted, Row, layoutRows, joinRows, firstFailing}
+use Rattle.plan.specs.Rows.{everyGroup, rises, apart, groupsRise, parted, Row, layoutRows, joinRows, firstFailing}
 use Rattle.plan.specs.RowLaws.{each-right, ends-right, joins-right}
 use Rattle.plan.specs.MarkLaws.{mark-right}
 use Rattle.plan.specs.FailingLaws.{Hold, none-fails, failing-first, failing-second}
@@ -155,7 +155,7 @@ unfolding joinTest
 join-members C sets row G h = rw (ne-eqb row 29 h)
 
 -- 32 and 27 to 29 of all groups
-pub row-order : (C : Gates) (sets : List ℕ) (row : ℕ) (Gs : Plan) → row ≡ 32 → inOrder Gs ≡ rowTest C sets row Gs
+pub row-order : (C : Gates) (sets : List ℕ) (row : ℕ) (Gs : Plan) → row ≡ 32 → groupsRise Gs ≡ rowTest C sets row Gs
 unfolding rowTest
 row-order C sets row Gs h = rw (eq-eqb row 32 h)
 

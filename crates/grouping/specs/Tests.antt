@@ -8,7 +8,7 @@ use Rattle.words.specs.Lists.{every}
 use Rattle.settings.specs.Sets.{union, excludes}
 use Rattle.gates.specs.Gates.{Gate, Gates, gateAt}
 use Rattle.plan.specs.PlanFile.{Plan, numbersAt}
-use Rattle.plan.specs.Rows.{everyGroup, rises, inOrder, isCostly, operationByte, alike, parted}
+use Rattle.plan.specs.Rows.{everyGroup, rises, groupsRise, isCostly, operationByte, alike, parted}
 
 -- 24 or 25 of a group, for n gates
 unfoldable pub shapeTest : ℕ → ℕ → List ℕ → Bool
@@ -28,7 +28,7 @@ joinTest C sets row G = cond (eqb row 29) (parted sets G) (membersTest C row G)
 
 -- 32, 27, 28 or 29 of all groups
 unfoldable pub rowTest : Gates → List ℕ → ℕ → Plan → Bool
-rowTest C sets row Gs = cond (eqb row 32) (inOrder Gs) (everyGroup (joinTest C sets row) Gs)
+rowTest C sets row Gs = cond (eqb row 32) (groupsRise Gs) (everyGroup (joinTest C sets row) Gs)
 
 -- the operation's byte by a gate's code, 0 for a code that is none
 unfoldable pub operationCode : ℕ → ℕ

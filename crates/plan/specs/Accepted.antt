@@ -29,8 +29,8 @@ abbrev pub Exist : ℕ → List ℕ → Type 0
 Exist n G = (g : ℕ) → g ∈ G → g < n
 
 -- document 02, C-15: "Groups must now stand in rising order of their smallest member."
-abbrev pub InOrder : Plan → Type 0
-InOrder Gs = Rising (map smallest Gs)
+abbrev pub GroupsRise : Plan → Type 0
+GroupsRise Gs = Rising (map smallest Gs)
 
 -- the group's members are one costly operation
 abbrev pub OneCostly : Gates → List ℕ → Type 0
@@ -50,7 +50,7 @@ pub record Acceptable (s p : List ℕ) : Type 0 where
   pub laid-out : LaidOut s p
   pub exist : EachGroup (Exist (gateCount s)) (groupsIn p)
   pub once : Apart (groupsIn p)
-  pub in-order : InOrder (groupsIn p)
+  pub in-order : GroupsRise (groupsIn p)
   pub one-costly : EachGroup (OneCostly (gatesOf s)) (groupsIn p)
   pub exclude : EachGroup (NoTwoNeeded (gatesOf s) (wantedOf s)) (groupsIn p)
   pub no-circle : NoCircle (gatesOf s) (wantedOf s) (groupOf (groupsIn p))

@@ -27,8 +27,8 @@ use Rattle.circuit.specs.Whole.{ruleAnswer}
 use Rattle.circuit.specs.WholeLaws.{accepted}
 use Rattle.plan.specs.PlanFile.{mark, leastBytes, groupsCounted, groupsIn, Plan, EachGroup, Rising, Apart}
 use Rattle.plan.specs.Groups.{smallest, groupOf}
-use Rattle.plan.specs.Rows.{everyGroup, rises, inOrder, Row, layoutRows, joinRows, orderRows, rows, planRow, planAnswer}
-use Rattle.plan.specs.Accepted.{LaidOut, Exist, InOrder, Acceptable}
+use Rattle.plan.specs.Rows.{everyGroup, rises, groupsRise, Row, layoutRows, joinRows, orderRows, rows, planRow, planAnswer}
+use Rattle.plan.specs.Accepted.{LaidOut, Exist, GroupsRise, Acceptable}
 use Rattle.plan.specs.FailingLaws.{Hold, none-fails, hold-both, fails-at}
 use Rattle.plan.specs.GroupLaws.{groupOf-named}
 use Rattle.plan.specs.WaitLaws.{placed-right}
@@ -82,7 +82,7 @@ layout-right s p = (to, back)
         (t20, (t21, (t22, (t23, (t24, (t25, (apart-right (groupsIn p) .1 once, tt)))))))
 
 -- 32
-pub order-right : (Gs : Plan) → (inOrder Gs ≡ true) ↔ InOrder Gs
+pub order-right : (Gs : Plan) → (groupsRise Gs ≡ true) ↔ GroupsRise Gs
 order-right Gs = rises-right (map smallest Gs)
 
 module _ (s : List ℕ) (b : Block) (n : ℕ) (read : readRule s ≡ parsed b n) (few : length (conditions (gatesOf s)) ≤ mostConditions) (p : List ℕ) where
@@ -127,10 +127,10 @@ row-right s p h =
     )
 
 -- row 32 is the one exactly when the rows 20 to 26 hold and the groups are out of order
-row-32 : (s p : List ℕ) → (planRow s p ≡ 32) ↔ (Hold (layoutRows (gateCount s) p) × (inOrder (groupsIn p) ≡ false))
+row-32 : (s p : List ℕ) → (planRow s p ≡ 32) ↔ (Hold (layoutRows (gateCount s) p) × (groupsRise (groupsIn p) ≡ false))
 unfolding planRow
 row-32 s p =
-    fails-at (layoutRows (gateCount s) p) (record { refuses = 32; holds = inOrder (groupsIn p) })
+    fails-at (layoutRows (gateCount s) p) (record { refuses = 32; holds = groupsRise (groupsIn p) })
     (drop 1 (joinRows (gatesOf s) (rulePreconditions s) p) ++ orderRows (gatesOf s) (rulePreconditions s) p) refl refl refl
 
 -- what the check answers: the rule's refusal comes first; then the first failing row; else what reading the rule counts
@@ -164,10 +164,10 @@ plan-accepted s p = (
 
 -- document 02, C-15: 32 is answered exactly when the plan is laid out and names existing gates once, and its groups are out of order
 pub out-of-order : (s p : List ℕ) → ruleAnswer s .number ≡ 0
-    → (planAnswer s p .number ≡ 32) ↔ ((LaidOut s p × (EachGroup (Exist (gateCount s)) (groupsIn p) × Apart (groupsIn p))) × (InOrder (groupsIn p) → ⊥))
+    → (planAnswer s p .number ≡ 32) ↔ ((LaidOut s p × (EachGroup (Exist (gateCount s)) (groupsIn p) × Apart (groupsIn p))) × (GroupsRise (groupsIn p) → ⊥))
 out-of-order s p r = (
   λ h. let q = row-32 s p .0 (sym (answer-number s p r) ∙ h) in
       (layout-right s p .0 (q .0), λ o. true≢false (sym (order-right (groupsIn p) .1 o) ∙ q .1)),
   λ (l, n). answer-number s p r ∙ row-32 s p .1
-      (layout-right s p .1 l, split (inOrder (groupsIn p)) (λ t. absurd (n (order-right (groupsIn p) .0 t))) (λ t. t)),
+      (layout-right s p .1 l, split (groupsRise (groupsIn p)) (λ t. absurd (n (order-right (groupsIn p) .0 t))) (λ t. t)),
 )

@@ -41,8 +41,8 @@ apart [] = true
 apart (G ∷ Gs) = every (λ g. not (listed Gs g)) G && apart Gs
 
 -- 32: the smallest members of the groups rise
-abbrev pub inOrder : Plan → Bool
-inOrder Gs = rises (map smallest Gs)
+abbrev pub groupsRise : Plan → Bool
+groupsRise Gs = rises (map smallest Gs)
 
 -- 27: a costly operation
 abbrev pub isCostly : Gate → Bool
@@ -92,7 +92,7 @@ layoutRows n p =
 -- 32 and 27 to 29, of the plan p for the gates C, whose preconditions are the sets
 abbrev pub joinRows : Gates → List ℕ → List ℕ → List Row
 joinRows C sets p =
-    record { refuses = 32; holds = inOrder (groupsIn p) }
+    record { refuses = 32; holds = groupsRise (groupsIn p) }
     ∷ record { refuses = 27; holds = everyGroup (every (λ g. isCostly (gateAt C g))) (groupsIn p) }
     ∷ record { refuses = 28; holds = everyGroup (alike C) (groupsIn p) }
     ∷ record { refuses = 29; holds = everyGroup (parted sets) (groupsIn p) }

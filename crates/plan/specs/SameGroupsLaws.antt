@@ -13,7 +13,7 @@ use Rattle.gates.specs.PlainCircuit.{gateCount}
 use Rattle.plan.specs.PlanFile.{Plan, groupsIn, EachGroup, Rising, Listed, Apart}
 use Rattle.plan.specs.Groups.{smallest, groupOf}
 use Rattle.plan.specs.Layout.{planBytes}
-use Rattle.plan.specs.Accepted.{LaidOut, InOrder, Acceptable}
+use Rattle.plan.specs.Accepted.{LaidOut, GroupsRise, Acceptable}
 use Rattle.plan.specs.SameGroups.{Joined, SameGroups}
 use Rattle.plan.specs.GroupLaws.{smallest-in, smallest-le, groupOf-named}
 use Rattle.plan.specs.LayoutLaws.{laid-bytes}
@@ -24,7 +24,7 @@ record Shaped (Gs : Plan) : Type 0 where
   joins : EachGroup (λ G. 2 ≤ length G) Gs
   rising : EachGroup Rising Gs
   once : Apart Gs
-  in-order : InOrder Gs
+  in-order : GroupsRise Gs
 
 rest : (G : List ℕ) (Gs : Plan) → Shaped (G ∷ Gs) → Shaped Gs
 rest G Gs w = record { joins = w .joins .1; rising = w .rising .1; once = w .once .1; in-order = w .in-order .1 }
