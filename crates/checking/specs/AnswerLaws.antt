@@ -66,7 +66,7 @@ module _ (s p : List ℕ) (a : Answer) (quads needs outputs conds : List ℕ) (s
       unfolding planRow
       layout-refused h = row-refused laid (laid-is ∙ sym (failing-first layout (joins ++ last) (λ z. h (laid-is ∙ z)))) h
 
-      -- 27 to 29
+      -- 32 and 27 to 29
       module _ (none : laid ≡ 0) (join : ℕ) (f : join ≡ firstFailing (joinRows (gatesIn quads (a .gates)) needs p)) where
         join-is : join ≡ firstFailing joins
         join-is =

@@ -8,10 +8,12 @@ use Rattle.gates.specs.PlainCircuit.{gateCount}
 use Rattle.circuit.specs.Whole.{ruleAnswer}
 use Rattle.plan.specs.PlanFile.{groupsIn, EachGroup, Apart}
 use Rattle.plan.specs.Rows.{planAnswer}
+use Rattle.plan.specs.Groups.{groupOf}
 use Rattle.plan.specs.Accepted.{LaidOut, Exist, GroupsRise}
-use Rattle.plan.specs.SameGroups.{SameGroups}
+use Rattle.plan.specs.SameGroups.{Joined, SameGroups}
 use Rattle.plan.specs.AcceptedLaws as laws
 use Rattle.plan.specs.SameGroupsLaws as groups
+use Rattle.plan.specs.NameLaws as names
 use Rattle.fused.specs.FusedCircuit.{fusedFile}
 use Rattle.fused.specs.GroupOrderLaws as files
 
@@ -24,6 +26,11 @@ accepted-in-order s p h = laws.plan-accepted s p .0 h .1 .in-order
 pub same-bytes : (s p q : List ℕ) → Bytes p → Bytes q → planAnswer s p .number ≡ 0 → planAnswer s q .number ≡ 0
     → SameGroups (groupsIn p) (groupsIn q) → p ≡ q
 same-bytes s p q bp bq h k = groups.same-bytes s p q bp bq (laws.plan-accepted s p .0 h .1) (laws.plan-accepted s q .0 k .1)
+
+-- (To form the same groups is to join the same pairs of gates. A plan joins two gates exactly when they have one group in the circuit.)
+pub joined-groups : (s p : List ℕ) → planAnswer s p .number ≡ 0 → (g h : ℕ) → (g ≡ h → ⊥)
+    → Joined (groupsIn p) g h ↔ (groupOf (groupsIn p) g ≡ groupOf (groupsIn p) h)
+joined-groups s p k = let a = laws.plan-accepted s p .0 k .1 in names.joined-groups (groupsIn p) (a .laid-out .joins) (a .once)
 
 -- (The order decides nothing else: plans that are laid out, name gates once and form the same groups have one file, in whatever order these stand.)
 pub same-file : (s p q : List ℕ) → LaidOut s p → LaidOut s q → Apart (groupsIn p) → Apart (groupsIn q)

@@ -10,11 +10,10 @@ use Rattle.reading.specs.Header.{variables, workingAt}
 use Rattle.gates.specs.PlainCircuit.{gatesOf, outputsOf}
 use Rattle.needed.specs.Pass.{rulePreconditions}
 use Rattle.plan.specs.PlanFile.{groupsIn, Apart}
-use Rattle.plan.specs.Groups.{groupOf}
 use Rattle.plan.specs.Order.{order}
 use Rattle.plan.specs.Accepted.{LaidOut}
 use Rattle.plan.specs.SameGroups.{SameGroups}
-use Rattle.plan.specs.SameGroupsLaws.{same-names}
+use Rattle.plan.specs.NameLaws.{same-names}
 use Rattle.fused.specs.FusedCircuit.{written, fused, fusedFile}
 
 -- the file by the map from gates to groups

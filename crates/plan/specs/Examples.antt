@@ -2,7 +2,6 @@
 use Prim.Native.Nat.{ℕ}
 use mathlib.Core.Path.{_≡_, refl}
 use mathlib.Core.List.{List, [], _∷_, _++_, map}
-use mathlib.Core.Bool.{true}
 use lib.ListN.{take, set}
 use Rattle.words.specs.Numbers.{number}
 use Rattle.codes.specs.Codes.{operationOf, codeOf}

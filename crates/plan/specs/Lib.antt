@@ -21,6 +21,7 @@ pub mod JoinedLaws
 pub mod ListedLaws
 pub mod LayoutLaws
 pub mod SameGroupsLaws
+pub mod NameLaws
 pub mod NumberLaws
 pub mod FoundLaws
 pub mod PlaceLaws

@@ -5,17 +5,16 @@ use mathlib.Core.Logic.{_⊎_, inl, inr}
 use Prim.Native.Nat.{ℕ, _≤_, _<_}
 use native.Mathlib.Omega.{arith}
 use lib.ListN.{length}
-use Rattle.words.specs.Lists.{_∈_, elem}
+use Rattle.words.specs.Lists.{_∈_}
 use Rattle.words.specs.Numbers.{Bytes}
-use Rattle.words.specs.MemberLaws.{elem→∈, ∈→elem}
-use Rattle.words.specs.TestLaws.{split, same?}
+use Rattle.words.specs.TestLaws.{same?}
 use Rattle.gates.specs.PlainCircuit.{gateCount}
 use Rattle.plan.specs.PlanFile.{Plan, groupsIn, EachGroup, Rising, Listed, Apart}
-use Rattle.plan.specs.Groups.{smallest, groupOf}
+use Rattle.plan.specs.Groups.{smallest}
 use Rattle.plan.specs.Layout.{planBytes}
-use Rattle.plan.specs.Accepted.{LaidOut, GroupsRise, Acceptable}
+use Rattle.plan.specs.Accepted.{GroupsRise, Acceptable}
 use Rattle.plan.specs.SameGroups.{Joined, SameGroups}
-use Rattle.plan.specs.GroupLaws.{smallest-in, smallest-le, groupOf-named}
+use Rattle.plan.specs.GroupLaws.{smallest-in, smallest-le}
 use Rattle.plan.specs.LayoutLaws.{laid-bytes}
 use Rattle.plan.specs.ListedLaws.{rising-same}
 
@@ -30,19 +29,14 @@ rest : (G : List ℕ) (Gs : Plan) → Shaped (G ∷ Gs) → Shaped Gs
 rest G Gs w = record { joins = w .joins .1; rising = w .rising .1; once = w .once .1; in-order = w .in-order .1 }
 
 -- what P joins, Q joins
-abbrev JoinsAll : Plan → Plan → Type 0
+abbrev pub JoinsAll : Plan → Plan → Type 0
 JoinsAll P Q = (g h : ℕ) → (g ≡ h → ⊥) → Joined P g h → Joined Q g h
 
 -- joined gates are listed
-joined-listed : (Gs : Plan) (g h : ℕ) → Joined Gs g h → Listed Gs g
+pub joined-listed : (Gs : Plan) (g h : ℕ) → Joined Gs g h → Listed Gs g × Listed Gs h
 joined-listed [] g h j = absurd j
-joined-listed (G ∷ Gs) g h (inl (m, k)) = inl m
-joined-listed (G ∷ Gs) g h (inr j) = inr (joined-listed Gs g h j)
-
-joined-right : (Gs : Plan) (g h : ℕ) → Joined Gs g h → Listed Gs h
-joined-right [] g h j = absurd j
-joined-right (G ∷ Gs) g h (inl (m, k)) = inl k
-joined-right (G ∷ Gs) g h (inr j) = inr (joined-right Gs g h j)
+joined-listed (G ∷ Gs) g h (inl (m, k)) = (inl m, inl k)
+joined-listed (G ∷ Gs) g h (inr j) = let r = joined-listed Gs g h j in (inr (r .0), inr (r .1))
 
 -- a member above the smallest
 second : (G : List ℕ) → 2 ≤ length G → Rising G → (k : ℕ) × (k ∈ G) × (smallest G < k)
@@ -54,7 +48,7 @@ second (m ∷ k ∷ l) o (a, r) = (k, inr (inl refl), a)
 smallest-joined : (G : List ℕ) (Gs Q : Plan) → Shaped (G ∷ Gs) → JoinsAll (G ∷ Gs) Q → Listed Q (smallest G)
 smallest-joined G Gs Q w to =
     let (k, m, l) = second G (w .joins .0) (w .rising .0) in
-    joined-listed Q (smallest G) k (to (smallest G) k (λ e. omega arith) (inl (smallest-in G (w .joins .0), m)))
+    joined-listed Q (smallest G) k (to (smallest G) k (λ e. omega arith) (inl (smallest-in G (w .joins .0), m))) .0
 
 -- no listed gate is below the smallest member of the first group
 first-lowest : (G : List ℕ) (Gs : Plan) → Shaped (G ∷ Gs) → (g : ℕ) → Listed (G ∷ Gs) g → smallest G ≤ g
@@ -82,7 +76,7 @@ module _ (G H : List ℕ) (P Q : Plan) (w : Shaped (G ∷ P)) (v : Shaped (H ∷
 
       joined : ((smallest G ∈ H) × (g ∈ H)) ⊎ Joined Q (smallest G) g → g ∈ H
       joined (inl (k, i)) = i
-      joined (inr j) = absurd (v .once .0 (smallest G) here (joined-listed Q (smallest G) g j))
+      joined (inr j) = absurd (v .once .0 (smallest G) here (joined-listed Q (smallest G) g j .0))
 
       go : (smallest G ≡ g) ⊎ (smallest G ≡ g → ⊥) → g ∈ H
       go (inl q) = rw (sym q) here
@@ -93,7 +87,7 @@ module _ (G H : List ℕ) (P Q : Plan) (w : Shaped (G ∷ P)) (v : Shaped (H ∷
   rest-within e g h n j = go (to g h n (inr j))
     where
       go : ((g ∈ H) × (h ∈ H)) ⊎ Joined Q g h → Joined Q g h
-      go (inl (m, k)) = absurd (w .once .0 g (rw e m) (joined-listed P g h j))
+      go (inl (m, k)) = absurd (w .once .0 g (rw e m) (joined-listed P g h j .0))
       go (inr i) = i
 
 -- the same groups in the same order
@@ -118,39 +112,3 @@ same-bytes s p q bp bq a b same =
     ∙ ap (planBytes (gateCount s)) (same-groups (groupsIn p) (groupsIn q) (accepted-shaped s p a) (accepted-shaped s q b)
     (λ g h n. same g h n .0) (λ g h n. same g h n .1))
     ∙ sym (laid-bytes q bq s (b .laid-out))
-
--- Whatever order the groups stand in, they name the gates alike.
-
--- a gate's group is named by the gate itself or by one that it is joined with,
-name-joined : (Gs : Plan) → EachGroup (λ G. 2 ≤ length G) Gs → (g : ℕ) → (groupOf Gs g ≡ g) ⊎ Joined Gs (groupOf Gs g) g
-name-joined [] o g = inl refl
-name-joined (G ∷ Gs) (o, u) g = split (elem g G) (λ t. rw t (inr (inl (smallest-in G o, elem→∈ g G t)))) (λ t. rw t (go (name-joined Gs u g)))
-  where
-    go : (groupOf Gs g ≡ g) ⊎ Joined Gs (groupOf Gs g) g → (groupOf Gs g ≡ g) ⊎ Joined (G ∷ Gs) (groupOf Gs g) g
-    go (inl e) = inl e
-    go (inr j) = inr (inr j)
-
--- and by none above one that it is joined with
-name-low : (Gs : Plan) → EachGroup Rising Gs → Apart Gs → (g h : ℕ) → Joined Gs g h → groupOf Gs h ≤ g
-name-low [] r a g h j = absurd j
-name-low (G ∷ Gs) (r, u) (d, a) g h (inl (m, k)) = rw (∈→elem h G k) (smallest-le G r g m)
-name-low (G ∷ Gs) (r, u) (d, a) g h (inr j) =
-    split (elem h G) (λ t. absurd (d h (elem→∈ h G t) (joined-right Gs g h j))) (λ t. rw t (name-low Gs u a g h j))
-
-names-above : (s p q : List ℕ) → LaidOut s p → LaidOut s q → Apart (groupsIn q) → JoinsAll (groupsIn p) (groupsIn q) → (g : ℕ) → groupOf (groupsIn q) g ≤ groupOf (groupsIn p) g
-names-above s p q l m a to g = go (same? (groupOf (groupsIn p) g) g) (name-joined (groupsIn p) (l .joins) g)
-  where
-    low : groupOf (groupsIn q) g ≤ g
-    low = groupOf-named (groupsIn q) (m .joins) (m .rising) a g .0
-
-    go : (groupOf (groupsIn p) g ≡ g) ⊎ (groupOf (groupsIn p) g ≡ g → ⊥) → (groupOf (groupsIn p) g ≡ g) ⊎ Joined (groupsIn p) (groupOf (groupsIn p) g) g
-        → groupOf (groupsIn q) g ≤ groupOf (groupsIn p) g
-    go (inl e) k = omega (arith, low)
-    go (inr n) (inl e) = absurd (n e)
-    go (inr n) (inr j) = name-low (groupsIn q) (m .rising) a (groupOf (groupsIn p) g) g (to (groupOf (groupsIn p) g) g n j)
-
--- two plans that are laid out, name gates once and form the same groups, in whatever order, have one map from gates to groups
-pub same-names : (s p q : List ℕ) → LaidOut s p → LaidOut s q → Apart (groupsIn p) → Apart (groupsIn q) → SameGroups (groupsIn p) (groupsIn q)
-    → (g : ℕ) → groupOf (groupsIn p) g ≡ groupOf (groupsIn q) g
-same-names s p q l m a b same g =
-    omega (arith, names-above s p q l m b (λ x y n. same x y n .0) g, names-above s q p m l a (λ x y n. same x y n .1) g)
