@@ -3,17 +3,19 @@ use Prim.Native.Nat.{ℕ}
 use mathlib.Core.Path.{_≡_}
 use mathlib.Core.List.{List}
 use mathlib.Core.Logic.{_↔_}
+use lib.ListN.{drop}
 use Rattle.words.specs.Numbers.{Bytes}
 use Rattle.gates.specs.PlainCircuit.{gateCount}
 use Rattle.circuit.specs.Whole.{ruleAnswer}
 use Rattle.plan.specs.PlanFile.{groupsIn, EachGroup, Apart}
-use Rattle.plan.specs.Rows.{planAnswer}
+use Rattle.plan.specs.Rows.{rows, firstFailing, planAnswer}
 use Rattle.plan.specs.Groups.{groupOf}
 use Rattle.plan.specs.Accepted.{LaidOut, Exist, GroupsRise}
 use Rattle.plan.specs.SameGroups.{Joined, SameGroups}
 use Rattle.plan.specs.AcceptedLaws as laws
 use Rattle.plan.specs.SameGroupsLaws as groups
 use Rattle.plan.specs.NameLaws as names
+use Rattle.plan.specs.AnyOrderLaws as any
 use Rattle.fused.specs.FusedCircuit.{fusedFile}
 use Rattle.fused.specs.GroupOrderLaws as files
 
@@ -42,3 +44,8 @@ same-file = files.same-file
 pub out-of-order : (s p : List ℕ) → ruleAnswer s .number ≡ 0
     → (planAnswer s p .number ≡ 32) ↔ ((LaidOut s p × (EachGroup (Exist (gateCount s)) (groupsIn p) × Apart (groupsIn p))) × (GroupsRise (groupsIn p) → ⊥))
 out-of-order = laws.out-of-order
+
+-- (Put in order such a plan is answered as if there were no 32: by its rows 27 to 30, which come after the first eight. So it is accepted where nothing else is wrong.)
+pub put-in-order : (s p q : List ℕ) → ruleAnswer s .number ≡ 0 → planAnswer s p .number ≡ 32 → LaidOut s q → Apart (groupsIn q) → GroupsRise (groupsIn q)
+    → SameGroups (groupsIn p) (groupsIn q) → planAnswer s q .number ≡ firstFailing (drop 8 (rows s p))
+put-in-order = any.put-in-order

@@ -146,7 +146,7 @@ unfolding planAnswer
 answer-accepted s p h e = rw (eq-eqb (ruleAnswer s .number) 0 h, eq-eqb (planRow s p) 0 e)
 
 -- with an accepted rule its number is the row's
-answer-number : (s p : List ℕ) → ruleAnswer s .number ≡ 0 → planAnswer s p .number ≡ planRow s p
+pub answer-number : (s p : List ℕ) → ruleAnswer s .number ≡ 0 → planAnswer s p .number ≡ planRow s p
 answer-number s p h =
     split (eqb (planRow s p) 0)
     (λ t. let e = eqb-true _ _ t in ap (λ (a : Answer). a .number) (answer-accepted s p h e) ∙ h ∙ sym e)

@@ -24,7 +24,7 @@ pub smallest-in : (G : List ℕ) → 2 ≤ length G → smallest G ∈ G
 smallest-in [] h = omega arith
 smallest-in (m ∷ l) h = inl refl
 
-pub smallest-le : (G : List ℕ) → Rising G → (g : ℕ) → g ∈ G → smallest G ≤ g
+smallest-le : (G : List ℕ) → Rising G → (g : ℕ) → g ∈ G → smallest G ≤ g
 smallest-le [] r g m = absurd m
 smallest-le (k ∷ l) r g (inl e) = omega arith
 smallest-le (k ∷ l) (a, r) g (inr m) = omega (arith, rising-first k l a r g m)

@@ -20,8 +20,9 @@ pub mod AcceptedLaws
 pub mod JoinedLaws
 pub mod ListedLaws
 pub mod LayoutLaws
-pub mod SameGroupsLaws
 pub mod NameLaws
+pub mod AnyOrderLaws
+pub mod SameGroupsLaws
 pub mod NumberLaws
 pub mod FoundLaws
 pub mod PlaceLaws

@@ -71,7 +71,7 @@ name-to (H ∷ Gs) G g (d, a) (inl e) m = rw (e, ∈→elem g G m)
 name-to (H ∷ Gs) G g (d, a) (inr s) m =
     split (elem g H) (λ t. absurd (d g (elem→∈ g H t) (stands-listed Gs G g s m))) (λ t. rw t (name-to Gs G g a s m))
 
-name-back : (Gs : Plan) (G : List ℕ) (g : ℕ) → EachGroup (λ H. 2 ≤ length H) Gs → Apart Gs → StandsIn Gs G → groupOf Gs g ≡ smallest G → g ∈ G
+pub name-back : (Gs : Plan) (G : List ℕ) (g : ℕ) → EachGroup (λ H. 2 ≤ length H) Gs → Apart Gs → StandsIn Gs G → groupOf Gs g ≡ smallest G → g ∈ G
 name-back (H ∷ Gs) G g (o, u) (d, a) (inl e) h =
     split (elem g H) (λ t. rw e at (elem→∈ g H t)) (λ t. absurd (foreign H Gs o d u g t (rw t at h ∙ ap smallest (sym e))))
 name-back (H ∷ Gs) G g (o, u) (d, a) (inr s) h =

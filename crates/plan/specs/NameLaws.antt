@@ -9,13 +9,18 @@ use lib.ListN.{length}
 use Rattle.words.specs.Lists.{elem}
 use Rattle.words.specs.MemberLaws.{elem→∈, ∈→elem}
 use Rattle.words.specs.TestLaws.{split, same?}
-use Rattle.plan.specs.PlanFile.{Plan, groupsIn, EachGroup, Apart}
+use Rattle.plan.specs.PlanFile.{Plan, groupsIn, EachGroup, Listed, Apart}
 use Rattle.plan.specs.Groups.{groupOf, Named}
 use Rattle.plan.specs.Accepted.{LaidOut}
 use Rattle.plan.specs.SameGroups.{Joined, SameGroups}
 use Rattle.plan.specs.GroupLaws.{groupOf-named}
 use Rattle.plan.specs.JoinedLaws.{foreign}
-use Rattle.plan.specs.SameGroupsLaws.{JoinsAll, joined-listed}
+
+-- joined gates are listed
+joined-listed : (Gs : Plan) (g h : ℕ) → Joined Gs g h → Listed Gs g × Listed Gs h
+joined-listed [] g h j = absurd j
+joined-listed (G ∷ Gs) g h (inl (m, k)) = (inl m, inl k)
+joined-listed (G ∷ Gs) g h (inr j) = let r = joined-listed Gs g h j in (inr (r .0), inr (r .1))
 
 -- a plan joins two gates exactly when they have one group
 pub joined-groups : (Gs : Plan) → EachGroup (λ G. 2 ≤ length G) Gs → Apart Gs → (g h : ℕ) → (g ≡ h → ⊥) → Joined Gs g h ↔ (groupOf Gs g ≡ groupOf Gs h)
@@ -34,6 +39,10 @@ joined-groups Gs o a g h n = (to Gs a, back Gs o a)
         split (elem g G)
         (λ t. split (elem h G) (λ w. inl (elem→∈ g G t, elem→∈ h G w)) (λ w. absurd (foreign G Gs o d u h w (sym (rw (t, w) at e)))))
         (λ t. split (elem h G) (λ w. absurd (foreign G Gs o d u g t (rw (t, w) at e))) (λ w. inr (back Gs u a (rw (t, w) at e))))
+
+-- what P joins, Q joins
+abbrev JoinsAll : Plan → Plan → Type 0
+JoinsAll P Q = (g h : ℕ) → (g ≡ h → ⊥) → Joined P g h → Joined Q g h
 
 names-above : (s p q : List ℕ) → LaidOut s p → LaidOut s q → Apart (groupsIn p) → Apart (groupsIn q) → JoinsAll (groupsIn p) (groupsIn q)
     → (g : ℕ) → groupOf (groupsIn q) g ≤ groupOf (groupsIn p) g
