@@ -1,17 +1,18 @@
 -- Document 02, C-15, "Groups in one order": its sentences, each quoted above its theorems. s is a rule's bytes, p and q are plans'.
 use Prim.Native.Nat.{ℕ}
 use mathlib.Core.Path.{_≡_}
-use mathlib.Core.List.{List}
+use mathlib.Core.List.{List, [], _∷_, map}
 use mathlib.Core.Logic.{_↔_}
 use lib.ListN.{drop}
 use Rattle.words.specs.Numbers.{Bytes}
 use Rattle.gates.specs.PlainCircuit.{gateCount}
 use Rattle.circuit.specs.Whole.{ruleAnswer}
 use Rattle.plan.specs.PlanFile.{groupsIn, EachGroup, Apart}
-use Rattle.plan.specs.Rows.{rows, firstFailing, planAnswer}
+use Rattle.plan.specs.Rows.{Row, rows, firstFailing, planAnswer}
 use Rattle.plan.specs.Groups.{groupOf}
 use Rattle.plan.specs.Accepted.{LaidOut, Exist, GroupsRise}
 use Rattle.plan.specs.SameGroups.{Joined, SameGroups}
+use Rattle.plan.specs.RangeLaws as numbers
 use Rattle.plan.specs.AcceptedLaws as laws
 use Rattle.plan.specs.SameGroupsLaws as groups
 use Rattle.plan.specs.NameLaws as names
@@ -39,7 +40,11 @@ pub same-file : (s p q : List ℕ) → LaidOut s p → LaidOut s q → Apart (gr
     → SameGroups (groupsIn p) (groupsIn q) → fusedFile s p ≡ fusedFile s q
 same-file = files.same-file
 
--- "32 when a group's smallest member is not above that of the group before it, checked after 26 and before 27": a plan for an accepted rule is refused with 32
+-- "checked after 26 and before 27": the rows in the order in which they are checked.
+pub rows-are : (s p : List ℕ) → map (λ (r : Row). r .refuses) (rows s p) ≡ 20 ∷ 21 ∷ 22 ∷ 23 ∷ 24 ∷ 25 ∷ 26 ∷ 32 ∷ 27 ∷ 28 ∷ 29 ∷ 30 ∷ []
+rows-are = numbers.rows-are
+
+-- "32 when a group's smallest member is not above that of the group before it": a plan for an accepted rule is refused with 32
 -- exactly when it is laid out and names existing gates once, and its groups do not stand in order.
 pub out-of-order : (s p : List ℕ) → ruleAnswer s .number ≡ 0
     → (planAnswer s p .number ≡ 32) ↔ ((LaidOut s p × (EachGroup (Exist (gateCount s)) (groupsIn p) × Apart (groupsIn p))) × (GroupsRise (groupsIn p) → ⊥))

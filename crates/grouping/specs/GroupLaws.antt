@@ -12,7 +12,7 @@ use Rattle.plan.specs.Rows.{everyGroup}
 use Rattle.plan.specs.LayoutLaws.{length-numbers}
 use Rattle.grouping.specs.Walks.{Readable, Lie, Ahead, ReadableGroup}
 
-pred : (n : ℕ) → suc n - 1 ≡ n
+pub pred : (n : ℕ) → suc n - 1 ≡ n
 pred n = omega arith
 
 -- 23: what is left of the groups decides

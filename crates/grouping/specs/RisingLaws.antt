@@ -10,7 +10,7 @@ use Rattle.plan.specs.PlanFile.{leastBytes, groupsCounted, groupAt, after, grou
 use Rattle.plan.specs.Groups.{smallest}
 use Rattle.plan.specs.Rows.{rises, groupsRise}
 use Rattle.grouping.specs.Walks.{Readable, Ahead}
-use Rattle.grouping.specs.GroupLaws.{ahead-start, ahead-fits, ahead-step}
+use Rattle.grouping.specs.GroupLaws.{pred, ahead-start, ahead-fits, ahead-step}
 use Rattle.grouping.specs.WalkLaws.{first-smallest}
 
 -- the group at the place was reached, `last` is its smallest member: what comes after it decides
@@ -32,12 +32,11 @@ rising-start n p left g r e z q = go left e z (ahead-start n p left r e)
     go : (k : ℕ) → k ≡ groupsCounted p → (k ≡ 0 → ⊥) → Ahead n p k leastBytes → RisingGroups n p k leastBytes g
     go zero e z w = absurd (z (omega arith))
     go (suc k) e z w =
-        let m : suc k - 1 ≡ k = omega arith in
         record {
           some = omega arith;
           ahead = w;
           same = ap (λ (i : ℕ). groupsRise (groupsFrom i p leastBytes)) (sym e)
-              ∙ rw (m, first-smallest n p leastBytes g (ahead-fits n p (suc k) leastBytes w (omega arith)) q);
+              ∙ rw (pred k, first-smallest n p leastBytes g (ahead-fits n p (suc k) leastBytes w (omega arith)) q);
         }
 
 module _ (n : ℕ) (p : List ℕ) (left at last : ℕ) (w : RisingGroups n p left at last) (h : 1 < left) (next g : ℕ) (e : next ≡ after p at) (q : g ≡ getD (groupAt p next) 0 0) where
@@ -53,9 +52,7 @@ module _ (n : ℕ) (p : List ℕ) (left at last : ℕ) (w : RisingGroups n p lef
       go zero h a = absurd (omega arith)
       go (suc zero) h a = absurd (omega arith)
       go (suc (suc k)) h a =
-          let m : suc (suc k) - 1 ≡ suc k = omega arith in
-          let l : suc k - 1 ≡ k = omega arith in
-          rw (m, l, sym e, first-smallest n p next g (ahead-fits n p (suc k) next (rw m at a) (omega arith)) q)
+          rw (pred (suc k), pred k, sym e, first-smallest n p next g (ahead-fits n p (suc k) next (rw (pred (suc k)) at a) (omega arith)) q)
 
   pub rising-fails : g ≤ last → false ≡ groupsRise (groupsIn p)
   rising-fails l = sym (next-smallest ∙ rw (le-ltb last g l))

@@ -20,26 +20,19 @@ use Rattle.plan.specs.Accepted.{LaidOut, Exist, GroupsRise}
 use Rattle.plan.specs.SameGroups.{SameGroups}
 use Rattle.plan.specs.GroupLaws.{smallest-in, groupOf-kind}
 use Rattle.plan.specs.RowLaws.{each-right}
-use Rattle.plan.specs.ListedLaws.{StandsIn, stands-each, rising-same, name-to, name-back}
+use Rattle.plan.specs.ListedLaws.{StandsIn, stands-each, each-stands, listed-stands, rising-same, name-to, name-back}
 use Rattle.plan.specs.NameLaws.{same-names}
 use Rattle.plan.specs.FailingLaws.{none-fails, failing-second}
 use Rattle.plan.specs.AcceptedLaws.{layout-right, order-right, answer-number, out-of-order}
-
--- a listed gate stands in a group; what holds of every group that stands in the plan holds of each
-listed-stands : (Gs : Plan) (g : ℕ) → Listed Gs g → (H : List ℕ) × StandsIn Gs H × (g ∈ H)
-listed-stands [] g h = absurd h
-listed-stands (G ∷ Gs) g (inl m) = (G, inl refl, m)
-listed-stands (G ∷ Gs) g (inr h) = let (H, s, m) = listed-stands Gs g h in (H, inr s, m)
-
-each-stands : (P : List ℕ → Type 0) (Gs : Plan) → ((G : List ℕ) → StandsIn Gs G → P G) → EachGroup P Gs
-each-stands P [] f = tt
-each-stands P (G ∷ Gs) f = (f G (inl refl), each-stands P Gs (λ H s. f H (inr s)))
 
 -- groups of two or more gates, rising, no gate in two
 pub record Laid (Gs : Plan) : Type 0 where
   pub joins : EachGroup (λ G. 2 ≤ length G) Gs
   pub rising : EachGroup Rising Gs
   pub once : Apart Gs
+
+pub laid : (s p : List ℕ) → LaidOut s p → Apart (groupsIn p) → Laid (groupsIn p)
+laid s p l a = record { joins = l .joins; rising = l .rising; once = a }
 
 -- a member above the smallest
 second : (G : List ℕ) → 2 ≤ length G → Rising G → (k : ℕ) × (k ∈ G) × (smallest G < k)
@@ -93,14 +86,11 @@ abbrev laterRows : List ℕ → List ℕ → List Row
 laterRows s p = drop 1 (joinRows (gatesOf s) (rulePreconditions s) p) ++ orderRows (gatesOf s) (rulePreconditions s) p
 
 module _ (s p q : List ℕ) (l : LaidOut s p) (m : LaidOut s q) (a : Apart (groupsIn p)) (b : Apart (groupsIn q)) (same : SameGroups (groupsIn p) (groupsIn q)) where
-  laid : (r : List ℕ) → LaidOut s r → Apart (groupsIn r) → Laid (groupsIn r)
-  laid r k c = record { joins = k .joins; rising = k .rising; once = c }
-
   -- they hold of both or of none
   later-same : firstFailing (laterRows s p) ≡ firstFailing (laterRows s q)
   later-same =
       let names = same-names s p q l m a b same in
-      let t = every-turned (groupsIn p) (groupsIn q) (laid p l a) (laid q m b) names in
+      let t = every-turned (groupsIn p) (groupsIn q) (laid s p l a) (laid s q m b) names in
       rw (
         t (every (λ g. isCostly (gateAt (gatesOf s) g))),
         t (alike (gatesOf s)),
@@ -110,7 +100,7 @@ module _ (s p q : List ℕ) (l : LaidOut s p) (m : LaidOut s q) (a : Apart (grou
 
   -- gates that exist for the one exist for the other
   exist-same : EachGroup (Exist (gateCount s)) (groupsIn p) → EachGroup (Exist (gateCount s)) (groupsIn q)
-  exist-same = each-turned (groupsIn p) (groupsIn q) (laid p l a) (laid q m b) (same-names s p q l m a b same) (Exist (gateCount s))
+  exist-same = each-turned (groupsIn p) (groupsIn q) (laid s p l a) (laid s q m b) (same-names s p q l m a b same) (Exist (gateCount s))
 
 -- a plan that 32 refuses, put in order, is answered by its rows 27 to 30
 pub put-in-order : (s p q : List ℕ) → ruleAnswer s .number ≡ 0 → planAnswer s p .number ≡ 32 → LaidOut s q → Apart (groupsIn q) → GroupsRise (groupsIn q)

@@ -22,7 +22,7 @@ use Rattle.circuit.specs.Whole.{wholeWithin, ruleAnswer}
 use Rattle.plan.specs.PlanFile.{groupsIn}
 use Rattle.plan.specs.Groups.{groups, restsOf, waitsFor}
 use Rattle.plan.specs.Order.{order}
-use Rattle.plan.specs.Rows.{Row, rows, planRow, planAnswer}
+use Rattle.plan.specs.Rows.{planRow, planAnswer}
 
 -- the plan P1: gates 3 and 4 of R1 in one group
 abbrev pub p1 : List ℕ
@@ -35,10 +35,6 @@ pair n a b = 0x50 ∷ 0x4C ∷ 0x4E ∷ 0x00 ∷ 0x01 ∷ 0x00 ∷ n ∷ 0x00 �
 abbrev pairs : ℕ → ℕ → ℕ → ℕ → ℕ → List ℕ
 pairs n a b c d =
     0x50 ∷ 0x4C ∷ 0x4E ∷ 0x00 ∷ 0x01 ∷ 0x00 ∷ n ∷ 0x00 ∷ 0x02 ∷ 0x02 ∷ 0x00 ∷ a ∷ 0x00 ∷ b ∷ 0x02 ∷ 0x00 ∷ c ∷ 0x00 ∷ d ∷ []
-
-abbrev numbers-of : List Row → List ℕ
-numbers-of [] = []
-numbers-of (r ∷ l) = r .refuses ∷ numbers-of l
 
 -- R1 with P1: accepted, with R1's counts
 pub example-p1 : planAnswer r1 p1 ≡ success 6 0 0 33 0
@@ -86,7 +82,3 @@ unfolding number kindOf workingOf operationOf codeOf readMark readCount readKind
     statementWith blockWith blockFuel readBlock readRule applyGate makeExpr assignsIn assigns choices makeStatement makeBlock plainCircuit conditions collect numbers
     preconditions preconditionSets restsOn rests groupsIn groups restsOf waitsFor order planRow
 examples-rows = refl
-
--- the rows as they are checked: 32 after 26 and before 27
-pub rows-are : numbers-of (rows r1 p1) ≡ 20 ∷ 21 ∷ 22 ∷ 23 ∷ 24 ∷ 25 ∷ 26 ∷ 32 ∷ 27 ∷ 28 ∷ 29 ∷ 30 ∷ []
-rows-are = refl

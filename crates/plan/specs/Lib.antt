@@ -4,7 +4,6 @@ pub mod Layout
 pub mod Places
 pub mod Order
 pub mod Rows
-pub mod RangeLaws
 pub mod Accepted
 pub mod SameGroups
 pub mod CircleLaws
@@ -16,6 +15,7 @@ pub mod RowLaws
 pub mod MarkLaws
 pub mod MemberLaws
 pub mod FailingLaws
+pub mod RangeLaws
 pub mod AcceptedLaws
 pub mod JoinedLaws
 pub mod ListedLaws

@@ -65,6 +65,16 @@ pub stands-listed : (Gs : Plan) (G : List ℕ) (g : ℕ) → StandsIn Gs G → g
 stands-listed (H ∷ Gs) G g (inl e) m = inl (rw e m)
 stands-listed (H ∷ Gs) G g (inr s) m = inr (stands-listed Gs G g s m)
 
+-- and back
+pub each-stands : (P : List ℕ → Type 0) (Gs : Plan) → ((G : List ℕ) → StandsIn Gs G → P G) → EachGroup P Gs
+each-stands P [] f = tt
+each-stands P (G ∷ Gs) f = (f G (inl refl), each-stands P Gs (λ H s. f H (inr s)))
+
+pub listed-stands : (Gs : Plan) (g : ℕ) → Listed Gs g → (H : List ℕ) × StandsIn Gs H × (g ∈ H)
+listed-stands [] g h = absurd h
+listed-stands (G ∷ Gs) g (inl m) = (G, inl refl, m)
+listed-stands (G ∷ Gs) g (inr h) = let (H, s, m) = listed-stands Gs g h in (H, inr s, m)
+
 -- a listed group's gates have its name, and no others
 pub name-to : (Gs : Plan) (G : List ℕ) (g : ℕ) → Apart Gs → StandsIn Gs G → g ∈ G → groupOf Gs g ≡ smallest G
 name-to (H ∷ Gs) G g (d, a) (inl e) m = rw (e, ∈→elem g G m)

@@ -14,7 +14,7 @@ use Rattle.plan.specs.SameGroups.{SameGroups}
 use Rattle.plan.specs.LayoutLaws.{laid-bytes}
 use Rattle.plan.specs.ListedLaws.{StandsIn, rising-same, members-listed}
 use Rattle.plan.specs.NameLaws.{same-names}
-use Rattle.plan.specs.AnyOrderLaws.{Laid, stands-same}
+use Rattle.plan.specs.AnyOrderLaws.{Laid, laid, stands-same}
 
 -- the smallest members are those of the groups that stand in the plan
 smallest-stands : (Gs : Plan) (a : ℕ) → a ∈ map smallest Gs → (G : List ℕ) × StandsIn Gs G × (a ≡ smallest G)
@@ -45,13 +45,10 @@ same-groups n P Q v w x y o u names =
     (rising-same (map smallest P) (map smallest Q) o u (smallest-within P Q v w names) (smallest-within Q P w v (λ g. sym (names g))))
     ∙ by-smallest (members n (groupOf Q)) Q (members-listed n Q (w .joins) (w .rising) (w .once) y)
 
-accepted-laid : (s p : List ℕ) → Acceptable s p → Laid (groupsIn p)
-accepted-laid s p a = record { joins = a .laid-out .joins; rising = a .laid-out .rising; once = a .once }
-
 -- two acceptable plans for a rule that form the same groups are the same bytes
 pub same-bytes : (s p q : List ℕ) → Bytes p → Bytes q → Acceptable s p → Acceptable s q → SameGroups (groupsIn p) (groupsIn q) → p ≡ q
 same-bytes s p q bp bq a b same =
     laid-bytes p bp s (a .laid-out)
-    ∙ ap (planBytes (gateCount s)) (same-groups (gateCount s) (groupsIn p) (groupsIn q) (accepted-laid s p a) (accepted-laid s q b) (a .exist) (b .exist)
+    ∙ ap (planBytes (gateCount s)) (same-groups (gateCount s) (groupsIn p) (groupsIn q) (laid s p (a .laid-out) (a .once)) (laid s q (b .laid-out) (b .once)) (a .exist) (b .exist)
     (a .in-order) (b .in-order) (same-names s p q (a .laid-out) (b .laid-out) (a .once) (b .once) same))
     ∙ sym (laid-bytes q bq s (b .laid-out))
