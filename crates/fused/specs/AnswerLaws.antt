@@ -1,5 +1,6 @@
 -- Laws of the answer of an accepted plan and of a refused one, of the bytes that it counts, and of writing it into a buffer. Assumes nothing.
 use Prim.Native.Nat.{ℕ, _≤_, _<_}
+use native.Mathlib.Omega.{arith}
 use mathlib.Core.Path.{_≡_, refl, sym, ap, _∙_}
 use mathlib.Core.List.{List}
 use lib.Dec.{eqb}
@@ -8,10 +9,14 @@ use borrow.Author.Tests.{eq-eqb, ne-eqb, eqb-true, eqb-false, le-leb, lt-leb}
 use Rattle.words.specs.TestLaws.{split}
 use Rattle.answers.specs.Answers.{refusal}
 use Rattle.answers.specs.declared.Answer.{Answer}
+use Rattle.gates.specs.CostLaws.{costs-most}
+use Rattle.gates.specs.PlainCircuit.{gatesOf}
+use Rattle.circuit.specs.WholeLaws.{accepted}
 use Rattle.plan.specs.Rows.{planAnswer}
+use Rattle.plan.specs.AcceptedLaws.{plan-accepted}
 use Rattle.fused.specs.FusedCircuit.{fusedFile}
 use Rattle.fused.specs.Answers.{fusedCounts, fusedAnswer, writeAnswer}
-use Rattle.fused.specs.SizeBounds.{bytes-bound}
+use Rattle.fused.specs.SizeBounds.{bytes-bound, plan-most}
 
 module _ (s p : List ℕ) where
   -- a refused plan has the plan's answer
@@ -34,6 +39,14 @@ module _ (s p : List ℕ) where
   pub answer-bytes : planAnswer s p .number ≡ 0 → fusedAnswer s p .bytes ≡ length (fusedFile s p)
   unfolding fusedAnswer fusedCounts
   answer-bytes h = rw (eq-eqb _ _ h)
+
+  -- no gate costs more than 40, so neither cost is above 10,240
+  pub costs-bound : fusedAnswer s p .number ≡ 0 → (fusedAnswer s p .before ≤ 10240) × (fusedAnswer s p .after ≤ 10240)
+  unfolding fusedAnswer fusedCounts
+  costs-bound z =
+      let h = fused-plan z in
+      let few = accepted s (plan-accepted s p .0 h .0) .gates in
+      rw (eq-eqb _ _ h) (omega (arith, costs-most (gatesOf s), few), plan-most s p h .2)
 
   -- writing it: the plan's refusal first, then 50, else the same answer
   module _ (room : ℕ) where

@@ -8,7 +8,7 @@ ghost use lib.ListN.{length, replicate};
 ghost use Rattle.words.specs.Buffers.{over};
 ghost use Rattle.answers.specs.Answers.{success};
 ghost use Rattle.fused.specs.FusedCircuit.{fusedFile};
-ghost use Rattle.fused.specs.Answers.{writeAnswer, writtenOver};
+ghost use Rattle.fused.specs.Answers.{fusedAnswer, writeAnswer, writtenOver};
 ghost use Rattle.writing.specs.Ready.{Ready};
 
 // The answer of a circuit that is written: the rule's counts, and those that were measured.
@@ -108,6 +108,31 @@ pub fn put(
         order,
         prepared.groups,
     );
+}
+
+// Counts the fused circuit of a rule and a plan, and writes it nowhere: the answer with all five counts that writing it has.
+pub fn count(rule: &[u8], plan: &[u8]) -> Answer
+    ensures { λ r. ⌜ r ≡ fusedAnswer (now (rule .entry)) (now (plan .entry)) ⌝ }
+{
+    let mut quads = [0u32; 1024];
+    let mut needs = [0u64; 256];
+    let mut outputs = [0u16; 32];
+    let mut conditions = [0u16; 6];
+    let mut group = [0u16; 256];
+    let mut places = [0u16; 256];
+    let mut order = [0u16; 256];
+    let prepared = prepare(
+        rule,
+        plan,
+        &mut quads,
+        &mut needs,
+        &mut outputs,
+        &mut conditions,
+        &mut group,
+        &mut places,
+        &mut order,
+    );
+    prepared.answer
 }
 
 // Writes the fused circuit of a rule and a plan into the buffer: the file and nothing after it. A refused plan, or a buffer that is
