@@ -1,8 +1,9 @@
--- Examples of the line, from the definitions.
+-- Examples of the lines, from the definitions.
 use mathlib.Core.Path.{_≡_, refl}
 use mathlib.Core.List.{[], _∷_, _++_}
 use Rattle.answers.specs.Answers.{success, refusal}
 use Rattle.lines.specs.Line.{digits, decimal, spaced, line, accepted, refused, placed, lineOf}
+use Rattle.lines.specs.Total.{total, spacedLess, totalLine}
 
 -- 0 and 10
 nought : decimal 0 ≡ 48 ∷ []
@@ -36,3 +37,18 @@ first-unplaced = refl
 circle : lineOf (refusal 30 0) ≡ refused ++ (32 ∷ 51 ∷ 48 ∷ 10 ∷ [])
 unfolding lineOf placed line spaced decimal digits
 circle = refl
+
+-- two entries that cost 66 and then 61: `total 2 0 66 61 5`
+saved : totalLine 2 0 66 61 ≡ total ++ (32 ∷ 50 ∷ 32 ∷ 48 ∷ 32 ∷ 54 ∷ 54 ∷ 32 ∷ 54 ∷ 49 ∷ 32 ∷ 53 ∷ 10 ∷ [])
+unfolding totalLine spacedLess spaced decimal digits
+saved = refl
+
+-- one that costs more than before: `total 1 0 3 5 -2`
+lost : totalLine 1 0 3 5 ≡ total ++ (32 ∷ 49 ∷ 32 ∷ 48 ∷ 32 ∷ 51 ∷ 32 ∷ 53 ∷ 32 ∷ 45 ∷ 50 ∷ 10 ∷ [])
+unfolding totalLine spacedLess spaced decimal digits
+lost = refl
+
+-- no entry: `total 0 0 0 0 0`, without a sign
+none : totalLine 0 0 0 0 ≡ total ++ (32 ∷ 48 ∷ 32 ∷ 48 ∷ 32 ∷ 48 ∷ 32 ∷ 48 ∷ 32 ∷ 48 ∷ 10 ∷ [])
+unfolding totalLine spacedLess spaced decimal digits
+none = refl

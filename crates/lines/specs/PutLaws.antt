@@ -13,7 +13,7 @@ use Rattle.words.specs.Buffers.{over}
 use Rattle.words.specs.BufferLaws.{over-nil, length-over, take-over, sets-over, over-snoc, over-rest, room-rest}
 use Rattle.lines.specs.Line.{digit, decimal, spaced, line, putOver, putCount}
 use Rattle.lines.specs.DecimalLaws.{decimal-one, decimal-more, length-more}
-use Rattle.lines.specs.LineLaws.{length-spaced, length-line, put-fits}
+use Rattle.lines.specs.LineLaws.{length-spaced, put-fits}
 
 -- one digit, and one more
 pub put-one : (n : ℕ) (d : List ℕ) → n < 10 → length (decimal n) ≤ length d → (1 ≡ length (decimal n)) × (set d 0 (48 + n) ≡ over (decimal n) d)
@@ -111,35 +111,34 @@ copied : (text d e : List ℕ) → e ≡ take (length text) text ++ drop (length
 unfolding over
 copied text d e p = p ∙ ap (λ (t : List ℕ). t ++ drop (length text) d) (take-all (length text) text (omega arith))
 
--- a line: its word is copied, its numbers follow in the rest, and then the line feed
-module _ (word numbers d : List ℕ) (n : ℕ) (e : List ℕ) (room : length (line word numbers) ≤ length d) (q : n ≡ length word)
+-- a word is copied, and its numbers follow in the rest
+module _ (word numbers d : List ℕ) (n : ℕ) (e : List ℕ) (room : length (word ++ flat spaced numbers) ≤ length d) (q : n ≡ length word)
     (p : e ≡ take (length word) word ++ drop (length word) d) where
-  pub line-rest : length e ≡ length d
-  line-rest = ap (λ (o : List ℕ). length o) (copied word d e p) ∙ length-over word d (omega (arith, length-line word numbers))
+  front-size : length (word ++ flat spaced numbers) ≡ n + length (flat spaced numbers)
+  front-size = length-append word (flat spaced numbers) ∙ omega arith
 
-  pub line-fits : n + length (flat spaced numbers) + 1 ≤ length e
-  line-fits = omega (arith, length-line word numbers, line-rest)
+  pub front-fits : n + length (flat spaced numbers) ≤ length e
+  front-fits = omega (arith, front-size, ap (λ (o : List ℕ). length o) (copied word d e p) ∙ length-over word d (omega (arith, front-size)))
 
-  pub line-room : length (flat spaced numbers) ≤ length (take (length e - n) (drop n e))
-  line-room = rw (room-rest e n) (omega (arith, line-fits))
+  pub front-room : length (flat spaced numbers) ≤ length (take (length e - n) (drop n e))
+  front-room = rw (room-rest e n) (omega (arith, front-fits))
 
   module _ (k : ℕ) (ys : List ℕ) (r : k ≡ length (flat spaced numbers)) (w : ys ≡ over (flat spaced numbers) (take (length e - n) (drop n e))) where
-    unended : putMid n (length e - n) e ys ≡ over (word ++ flat spaced numbers) d
-    unended = over-rest word (flat spaced numbers) d e ys n q (omega (arith, length-line word numbers)) (copied word d e p) w
+    pub front-put : (n + k ≡ length (word ++ flat spaced numbers)) × (putMid n (length e - n) e ys ≡ over (word ++ flat spaced numbers) d)
+    front-put = (omega (arith, front-size), over-rest word (flat spaced numbers) d e ys n q (omega (arith, front-size)) (copied word d e p) w)
 
-    joined : length (word ++ flat spaced numbers) ≡ n + k
-    joined = length-append word (flat spaced numbers) ∙ omega arith
+-- a line feed behind a text
+pub ended : (text d e : List ℕ) (n : ℕ) → length text + 1 ≤ length d → n ≡ length text → e ≡ over text d
+    → (n + 1 ≡ length (text ++ (10 ∷ []))) × (set e n 10 ≡ over (text ++ (10 ∷ [])) d)
+ended text d e n h q p = (
+  omega (arith, length-append text (10 ∷ [])),
+  ap (λ (o : List ℕ). set o n 10) p ∙ over-snoc text d n 10 (sym q) (omega arith),
+)
 
-    pub line-kept : length (putMid n (length e - n) e ys) ≡ length d
-    line-kept = ap (λ (o : List ℕ). length o) unended ∙ length-over (word ++ flat spaced numbers) d (omega (arith, joined, length-line word numbers))
-
-    pub line-put : (n + k + 1 ≡ length (line word numbers)) × (set (putMid n (length e - n) e ys) (n + k) 10 ≡ over (line word numbers) d)
-    unfolding line
-    line-put = (
-      omega (arith, length-line word numbers),
-      ap (λ (o : List ℕ). set o (n + k) 10) unended ∙ over-snoc (word ++ flat spaced numbers) d (n + k) 10 joined (omega (arith, length-line word numbers))
-          ∙ ap (λ (o : List ℕ). over o d) (append-assoc word (flat spaced numbers) (10 ∷ [])),
-    )
+-- a line is a word and its numbers, and the line feed
+pub line-ended : (word numbers : List ℕ) → (word ++ flat spaced numbers) ++ (10 ∷ []) ≡ line word numbers
+unfolding line
+line-ended word numbers = append-assoc word (flat spaced numbers) (10 ∷ [])
 
 -- what a buffer of its own holds of a text that was written there
 pub text-held : (text d e : List ℕ) (n : ℕ) → n ≡ length text → e ≡ over text d → take (n - 0) (drop 0 e) ≡ text

@@ -1,17 +1,22 @@
 // The line that a program prints for an answer.
 use answers::Answer;
 ghost use mathlib.Core.Path.{_≡_};
+ghost use mathlib.Core.List.{_++_};
 ghost use Prim.Native.Nat.{_≤_};
 ghost use lib.ListN.{length};
 ghost use Rattle.words.specs.Buffers.{over};
 ghost use Rattle.words.specs.Lists.{flat};
 ghost use Rattle.lines.specs.Line.{decimal, spaced, line, lineOf, putOver, putCount};
+ghost use Rattle.lines.specs.Total.{spacedLess, totalLine};
 
 // The last refusal that is printed with its place.
 const LAST_PLACED: u8 = 11;
 
 // No line has more bytes: `accepted`, four numbers of 20 digits behind spaces, a line feed.
 pub const LONGEST: usize = 93;
+
+// No total is longer: `total`, five numbers of 20 digits behind spaces, a sign, a line feed.
+pub const LONGEST_TOTAL: usize = 112;
 
 // The digits of n, the highest first: those of n / 10 and then the last. At most 20 calls deep.
 fn put_decimal(n: usize, out: &mut [u8]) -> usize
@@ -53,15 +58,24 @@ fn put_numbers(numbers: &[usize], out: &mut [u8]) -> usize
     at
 }
 
+// A word and the numbers behind it, without the line feed.
+fn put_front(word: &[u8], numbers: &[usize], out: &mut [u8]) -> usize
+    requires { ⌜ length (now word ++ flat spaced (now numbers)) ≤ length (now out) ⌝ }
+    ensures counted { λ r. ⌜ r ≡ length (now (word .entry) ++ flat spaced (now (numbers .entry))) ⌝ }
+    ensures written { λ _. ⌜ now (out .exit) ≡ over (now (word .entry) ++ flat spaced (now (numbers .entry))) (now (out .entry)) ⌝ }
+{
+    let n = bytes::copy(word, out);
+    n + put_numbers(numbers, &mut out[n..])
+}
+
 fn put_words(word: &[u8], numbers: &[usize], out: &mut [u8]) -> usize
     requires { ⌜ length (line (now word) (now numbers)) ≤ length (now out) ⌝ }
     ensures counted { λ r. ⌜ r ≡ length (line (now (word .entry)) (now (numbers .entry))) ⌝ }
     ensures written { λ _. ⌜ now (out .exit) ≡ over (line (now (word .entry)) (now (numbers .entry))) (now (out .entry)) ⌝ }
 {
-    let n = bytes::copy(word, out);
-    let k = put_numbers(numbers, &mut out[n..]);
-    out[n + k] = b'\n';
-    n + k + 1
+    let n = put_front(word, numbers, out);
+    out[n] = b'\n';
+    n + 1
 }
 
 fn put_answer(answer: Answer, out: &mut [u8]) -> usize
@@ -80,6 +94,32 @@ fn put_answer(answer: Answer, out: &mut [u8]) -> usize
     }
     let refusal = [number];
     put_words(b"refused", &refusal, out)
+}
+
+// Before less after, with its sign where it is negative.
+fn put_less(before: usize, after: usize, out: &mut [u8]) -> usize
+    requires { ⌜ length (spacedLess before after) ≤ length (now out) ⌝ }
+    ensures counted { λ r. ⌜ r ≡ length (spacedLess before after) ⌝ }
+    ensures written { λ _. ⌜ now (out .exit) ≡ over (spacedLess before after) (now (out .entry)) ⌝ }
+{
+    if after <= before {
+        return put_spaced(before - after, out);
+    }
+    out[0] = b' ';
+    out[1] = b'-';
+    put_decimal(after - before, &mut out[2..]) + 2
+}
+
+fn put_total(accepted: usize, refused: usize, before: usize, after: usize, out: &mut [u8]) -> usize
+    requires { ⌜ length (totalLine accepted refused before after) ≤ length (now out) ⌝ }
+    ensures counted { λ r. ⌜ r ≡ length (totalLine accepted refused before after) ⌝ }
+    ensures written { λ _. ⌜ now (out .exit) ≡ over (totalLine accepted refused before after) (now (out .entry)) ⌝ }
+{
+    let counts = [accepted, refused, before, after];
+    let n = put_front(b"total", &counts, out);
+    let k = put_less(before, after, &mut out[n..]);
+    out[n + k] = b'\n';
+    n + k + 1
 }
 
 // All of the text or nothing: a buffer that is shorter than it is not touched.
@@ -110,5 +150,21 @@ pub fn write_line(answer: Answer, out: &mut [u8]) -> usize
 {
     let mut text = [0u8; LONGEST];
     let n = put_answer(answer, &mut text);
+    put_whole(&text[0..n], out)
+}
+
+// Writes the last line of a report. Answers how many bytes it wrote.
+pub fn write_total(
+    accepted: usize,
+    refused: usize,
+    before: usize,
+    after: usize,
+    out: &mut [u8],
+) -> usize
+    ensures counted { λ r. ⌜ r ≡ putCount (totalLine accepted refused before after) (now (out .entry)) ⌝ }
+    ensures written { λ _. ⌜ now (out .exit) ≡ putOver (totalLine accepted refused before after) (now (out .entry)) ⌝ }
+{
+    let mut text = [0u8; LONGEST_TOTAL];
+    let n = put_total(accepted, refused, before, after, &mut text);
     put_whole(&text[0..n], out)
 }
