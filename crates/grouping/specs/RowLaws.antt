@@ -9,9 +9,6 @@ use lib.ListN.{length, getD, take}
 use borrow.Author.Tests.{eq-eqb, ne-eqb, leb-true, le-leb, lt-leb}
 use Rattle.words.specs.Lists.{every, same}
 use Rattle.words.specs.TestLaws.{split, both}
-use Rattle.answers.specs.Parsing.{stepOf, readMark}
-use Rattle.answers.specs.ParsingLaws.{past-read, not-refused}
-use Rattle.answers.specs.declared.Step.the-variants.{Past, Refused}
 use Rattle.codes.specs.Codes.{codeOf}
 use Rattle.codes.specs.declared.Code.{Code}
 use Rattle.gates.specs.Limits.{mostGates}
@@ -20,7 +17,6 @@ use Rattle.needed.specs.HeldLaws.{code-above}
 use Rattle.plan.specs.PlanFile.{mark, leastBytes, mostBytes, gatesCounted, groupsCounted, Plan, groupAt, groupsIn, ends}
 use Rattle.plan.specs.Rows.{everyGroup, rises, apart, groupsRise, parted, Row, layoutRows, joinRows, firstFailing}
 use Rattle.plan.specs.RowLaws.{each-right, ends-right, joins-right}
-use Rattle.plan.specs.MarkLaws.{mark-right}
 use Rattle.plan.specs.FailingLaws.{Hold, none-fails, failing-first, failing-second}
 use Rattle.plan.specs.AcceptedLaws.{rising-exist}
 use Rattle.plan.specs.LayoutLaws.{length-numbers}
@@ -36,14 +32,6 @@ size-rest p h = rw (le-leb leastBytes (length p) h)
 
 pub size-right : (p : List ℕ) → (leb leastBytes (length p) && leb (length p) mostBytes) ≡ true → (leastBytes ≤ length p) × (length p ≤ mostBytes)
 size-right p h = let r = both (leb leastBytes (length p)) _ h in (leb-true leastBytes (length p) (r .0), leb-true (length p) mostBytes (r .1))
-
--- 21
-pub mark-past : (p : List ℕ) (n : ℕ) → leastBytes ≤ length p → Past n ≡ stepOf (readMark 21 mark p 0) → true ≡ same (take 5 p) mark
-mark-past p n h e = sym (mark-right 21 p h .1 (past-read (readMark 21 mark p 0) e))
-
-pub mark-refused : (p : List ℕ) (k n : ℕ) → leastBytes ≤ length p → Refused k n ≡ stepOf (readMark 21 mark p 0) → false ≡ same (take 5 p) mark
-mark-refused p k n h e =
-    split (same (take 5 p) mark) (λ t. absurd (not-refused (readMark 21 mark p 0) (mark-right 21 p h .0 t) e)) (λ t. sym t)
 
 -- 24 and 25
 pub shape-size : (row n : ℕ) (p : List ℕ) (at size : ℕ) → row ≡ 24 → size ≡ getD p at 0 → leb 2 size ≡ shapeTest row n (groupAt p at)

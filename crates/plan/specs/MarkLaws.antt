@@ -1,8 +1,7 @@
--- Laws of row 21: reading the mark byte by byte finds it exactly when the plan begins with it.
-use mathlib.Core.Path.{_≡_, refl}
-use mathlib.Core.Bool.{true}
+-- Laws of marks: reading one byte by byte finds it exactly when the bytes begin with it.
+use mathlib.Core.Path.{_≡_, refl, sym}
+use mathlib.Core.Bool.{true, false}
 use mathlib.Core.List.{List, [], _∷_}
-use mathlib.Core.Logic.{_↔_}
 use Prim.Native.Nat.{ℕ, suc, _+_, _≤_}
 use native.Mathlib.Omega.{arith}
 use native.Mathlib.Numerals.{add-one}
@@ -11,8 +10,9 @@ use lib.ListN.{length, getD, take, drop}
 use lib.Seq.{drop-cons}
 use Rattle.words.specs.Lists.{same}
 use Rattle.words.specs.TestLaws.{split, both, and}
-use Rattle.answers.specs.Parsing.{readMark, IsRead}
-use Rattle.plan.specs.PlanFile.{mark, leastBytes}
+use Rattle.answers.specs.Parsing.{readMark, stepOf, IsRead}
+use Rattle.answers.specs.ParsingLaws.{past-read, not-refused}
+use Rattle.answers.specs.declared.Step.the-variants.{Past, Refused}
 
 module _ (number : ℕ) (p : List ℕ) where
   mark-to : (m : List ℕ) (at : ℕ) → at + length m ≤ length p → IsRead (readMark number m p at) → same (take (length m) (drop at p)) m ≡ true
@@ -32,5 +32,11 @@ module _ (number : ℕ) (p : List ℕ) where
       let q : (eqb (getD p at 0) b ≡ true) × (same (take (length m) (drop (suc at) p)) m ≡ true) = both _ _ (rw (drop-cons p at 0 (omega arith)) at r) in
       rw (q .0) (mark-back m (at + 1) (omega arith) (rw add-one (q .1)))
 
-  pub mark-right : leastBytes ≤ length p → (same (take 5 p) mark ≡ true) ↔ IsRead (readMark number mark p 0)
-  mark-right h = (mark-back mark 0 (omega arith), mark-to mark 0 (omega arith))
+  -- so the step that reading the mark takes tells whether it is there
+  module _ (m : List ℕ) (h : length m ≤ length p) where
+    pub mark-there : (n : ℕ) → Past n ≡ stepOf (readMark number m p 0) → true ≡ same (take (length m) p) m
+    mark-there n e = sym (mark-to m 0 (omega arith) (past-read (readMark number m p 0) e))
+
+    pub mark-missing : (k n : ℕ) → Refused k n ≡ stepOf (readMark number m p 0) → false ≡ same (take (length m) p) m
+    mark-missing k n e =
+        split (same (take (length m) p) m) (λ t. absurd (not-refused (readMark number m p 0) (mark-back m 0 (omega arith) t) e)) (λ t. sym t)

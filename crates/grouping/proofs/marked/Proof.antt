@@ -1,14 +1,16 @@
 use borrow.Author.Needs.{needs}
 use mathlib.Core.Path.{sym, _∙_}
-use Rattle.grouping.specs.RowLaws.{mark-past, mark-refused}
+use native.Mathlib.Omega.{arith}
+use Rattle.plan.specs.PlanFile.{mark}
+use Rattle.plan.specs.MarkLaws.{mark-there, mark-missing}
 use Rattle.grouping.proofs.marked.Statement.{statement}
 use Rattle.grouping.proofs.marked.Tie as tie
 
 returns : tie.Need-returns
-returns c = mark-past _ _ (c .before .before .before .before .before .pre) (sym (c .enum-told .given .1) ∙ c .before .before .read-mark .ensures)
+returns c = mark-there _ _ mark (omega (arith, c .before .before .before .before .before .pre)) _ (sym (c .enum-told .given .1) ∙ c .before .before .read-mark .ensures)
 
 returns-2 : tie.Need-returns-2
-returns-2 c = mark-refused _ _ _ (c .before .before .before .before .before .pre) (sym (c .enum-told2 .given .1) ∙ c .before .before .read-mark .ensures)
+returns-2 c = mark-missing _ _ mark (omega (arith, c .before .before .before .before .before .pre)) _ _ (sym (c .enum-told2 .given .1) ∙ c .before .before .read-mark .ensures)
 
 pub marked-spec : {M : Type 1} → statement M
 marked-spec =
