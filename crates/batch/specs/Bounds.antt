@@ -1,0 +1,36 @@
+-- Document 02, C-16, "What a month saved": how large the sums of a report can become. No entry costs more than 10,240, and a batch counts at most 65,535.
+use mathlib.Core.Path.{_≡_}
+use Prim.Native.Nat.{ℕ, _+_, _*_, _≤_, _<_}
+use Rattle.answers.specs.declared.Answer.{Answer}
+use Rattle.batch.specs.declared.Sums.{Sums}
+use Rattle.batch.specs.declared.Progress.{Progress}
+use Rattle.batch.specs.declared.Taken.{Taken}
+use Rattle.batch.specs.declared.Progress.the-variants.{Head, Entries, Stopped}
+
+-- n entries more, and these sums, are of a batch
+abbrev pub Sized : ℕ → Sums → Type 0
+Sized n t = (n + t .accepted + t .refused ≤ 65535) × (t .before ≤ 10240 * t .accepted) × (t .after ≤ 10240 * t .accepted)
+
+-- what an accepted answer adds
+abbrev pub Costs : Answer → Type 0
+Costs a = a .number ≡ 0 → (a .before ≤ 10240) × (a .after ≤ 10240)
+
+-- so far as the report is, its sums are of a batch
+abbrev pub Within : Progress → Type 0
+Within Head = Unit {0}
+Within (Entries n t) = Sized n t
+Within Stopped = Unit {0}
+
+-- the longest entry: a rule and a plan of 65,535 bytes, each behind its two
+abbrev pub mostHeld : ℕ
+mostHeld = 131074
+
+-- more than all the bytes that a report can still want, one for every entry: so a program that reads on comes to an end
+abbrev pub mostWanted : Progress → ℕ
+mostWanted Head = 8 + 65535 * 131075
+mostWanted (Entries n t) = n * 131075
+mostWanted Stopped = 0
+
+-- what a step or a run of steps took is no longer wanted: r is never further from its end than p was, and nearer where a byte was taken
+abbrev pub Nears : Progress → Taken → Type 0
+Nears p r = (mostWanted (r .progress) + r .bytes ≤ mostWanted p) × ((r .bytes ≡ 0 → ⊥) → mostWanted (r .progress) + r .bytes < mostWanted p)

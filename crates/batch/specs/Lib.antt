@@ -1,0 +1,13 @@
+pub mod Batch
+pub mod Packed
+pub mod Steps
+pub mod Bounds
+pub mod Promised
+pub mod PartLaws
+pub mod StepLaws
+pub mod FeedLaws
+pub mod PackedLaws
+pub mod BoundLaws
+pub mod TakenLaws
+pub mod DrainLaws
+pub mod FrontLaws

@@ -1,0 +1,258 @@
+// Document 02, C-16: a batch read step by step, one entry at most a step, from the bytes at hand.
+use answers::Answer;
+use answers::Step;
+ghost use mathlib.Core.Path.{_≡_};
+ghost use mathlib.Core.Bool.{true, cond};
+ghost use Prim.Native.Nat.{_+_, _-_, _≤_};
+ghost use lib.ListN.{length, take, drop};
+ghost use Rattle.words.specs.Lists.{same};
+ghost use Rattle.words.specs.Buffers.{over};
+ghost use Rattle.lines.specs.Line.{putOver, putCount};
+ghost use Rattle.batch.specs.Batch.{batchMark, hasPart, partSize, hasEntry, entrySize, entryAnswer, plus};
+ghost use Rattle.batch.specs.Steps.{headStep, entryStep, step, ending};
+ghost use Rattle.batch.specs.Bounds.{Sized, Costs, Within, Nears};
+ghost use Rattle.batch.specs.declared.Progress.the-variants.{Head, Entries};
+ghost use Rattle.batch.specs.Promised.{took, Quiet, Does, Drains};
+
+// The bytes of a batch before its first entry.
+const HEAD: usize = 7;
+
+// No line of an entry is longer.
+pub const LONGEST: usize = lines::LONGEST;
+
+// The entries accepted and refused so far, and the accepted ones' cost before and after.
+pub struct Sums {
+    pub accepted: usize,
+    pub refused: usize,
+    pub before: usize,
+    pub after: usize,
+}
+
+// How far a report is: the head is to come; so many entries are to come; or it is refused with 75, whatever comes.
+pub enum Progress {
+    Head,
+    Entries(usize, Sums),
+    Stopped,
+}
+
+// What a step did: how far the report is then, how many bytes it took and how many it printed.
+pub struct Taken {
+    pub progress: Progress,
+    pub bytes: usize,
+    pub printed: usize,
+}
+
+// A step that prints nothing.
+fn quiet(progress: Progress, bytes: usize) -> Taken
+    ensures { λ r. ⌜ r ≡ took progress bytes ⌝ }
+{
+    Taken {
+        progress,
+        bytes,
+        printed: 0,
+    }
+}
+
+// The mark and the version stand at the start.
+fn marked(s: &[u8]) -> bool
+    requires { ⌜ 7 ≤ length (now s) ⌝ }
+    ensures { λ r. ⌜ r ≡ same (take 5 (now (s .entry))) batchMark ⌝ }
+{
+    match answers::read_mark(s, b"BAT\x00\x01", 75) {
+        Step::Past(_) => true,
+        Step::Refused(_, _) => false,
+    }
+}
+
+fn take_head(s: &[u8]) -> Taken
+    ensures done { λ r. ⌜ Quiet (headStep (now (s .entry))) r ⌝ }
+    ensures kept { λ r. ⌜ Within (r .progress) × Nears Head r ⌝ }
+{
+    if s.len() < HEAD {
+        return quiet(Progress::Head, 0);
+    }
+    if !marked(s) {
+        return quiet(Progress::Stopped, 0);
+    }
+    let sums = Sums {
+        accepted: 0,
+        refused: 0,
+        before: 0,
+        after: 0,
+    };
+    quiet(Progress::Entries(words::wide16(words::read16(s, 5)), sums), HEAD)
+}
+
+// The bytes of the part at the start, or 0 where it is not whole.
+fn part_size(s: &[u8]) -> usize
+    ensures size { λ r. ⌜ r ≡ cond (hasPart (now (s .entry))) (partSize (now (s .entry))) 0 ⌝ }
+    ensures small { λ r. ⌜ r ≤ 65537 ⌝ }
+{
+    if s.len() < 2 {
+        return 0;
+    }
+    let size = 2 + words::wide16(words::read16(s, 0));
+    if s.len() < size {
+        return 0;
+    }
+    size
+}
+
+// The bytes of the entry at the start, or 0 where it is not whole.
+fn entry_size(s: &[u8]) -> usize
+    ensures size { λ r. ⌜ r ≡ cond (hasEntry (now (s .entry))) (entrySize (now (s .entry))) 0 ⌝ }
+    ensures small { λ r. ⌜ r ≤ 131074 ⌝ }
+{
+    let rule = part_size(s);
+    if rule == 0 {
+        return 0;
+    }
+    let plan = part_size(&s[rule..]);
+    if plan == 0 {
+        return 0;
+    }
+    rule + plan
+}
+
+// What the tool answers for the entry at the start, which is whole.
+fn answer_entry(s: &[u8]) -> Answer
+    requires { ⌜ hasEntry (now s) ≡ true ⌝ }
+    ensures { λ r. ⌜ r ≡ entryAnswer (now (s .entry)) ⌝ }
+{
+    let rule = part_size(s);
+    let plan = part_size(&s[rule..]);
+    writing::count(&s[2..rule], &s[rule + 2..rule + plan])
+}
+
+// The costs are those of the accepted entries alone.
+fn add(sums: Sums, answer: Answer) -> Sums
+    requires { ⌜ Sized 1 sums × Costs answer ⌝ }
+    ensures { λ r. ⌜ r ≡ plus sums answer ⌝ }
+{
+    if answer.number != 0 {
+        return Sums {
+            accepted: sums.accepted,
+            refused: sums.refused + 1,
+            before: sums.before,
+            after: sums.after,
+        };
+    }
+    Sums {
+        accepted: sums.accepted + 1,
+        refused: sums.refused,
+        before: sums.before + answer.before,
+        after: sums.after + answer.after,
+    }
+}
+
+// One of the entries to come, if it is whole, and its line.
+fn take_entry(left: usize, sums: Sums, s: &[u8], out: &mut [u8]) -> Taken
+    requires { ⌜ (Sized left sums × (1 ≤ left)) × (93 ≤ length (now out)) ⌝ }
+    ensures done { λ r. ⌜ Does (entryStep left sums (now (s .entry))) r (now (out .entry)) (now (out .exit)) ⌝ }
+    ensures kept { λ r. ⌜ Within (r .progress) × Nears (Entries left sums) r ⌝ }
+{
+    let size = entry_size(s);
+    if size == 0 {
+        return quiet(Progress::Entries(left, sums), 0);
+    }
+    let answer = answer_entry(s);
+    let printed = lines::write_line(answer, out);
+    Taken {
+        progress: Progress::Entries(left - 1, add(sums, answer)),
+        bytes: size,
+        printed,
+    }
+}
+
+// Nothing may be left behind the last entry.
+fn take_end(sums: Sums, s: &[u8]) -> Taken
+    requires { ⌜ Sized 0 sums ⌝ }
+    ensures done { λ r. ⌜ Quiet (entryStep 0 sums (now (s .entry))) r ⌝ }
+    ensures kept { λ r. ⌜ Within (r .progress) × Nears (Entries 0 sums) r ⌝ }
+{
+    if s.len() == 0 {
+        return quiet(Progress::Entries(0, sums), 0);
+    }
+    quiet(Progress::Stopped, 0)
+}
+
+// One step with the bytes at hand.
+fn step(progress: Progress, s: &[u8], out: &mut [u8]) -> Taken
+    requires { ⌜ Within progress × (93 ≤ length (now out)) ⌝ }
+    ensures done { λ r. ⌜ Does (step progress (now (s .entry))) r (now (out .entry)) (now (out .exit)) ⌝ }
+    ensures kept { λ r. ⌜ Within (r .progress) × Nears progress r ⌝ }
+{
+    match progress {
+        Progress::Head => take_head(s),
+        Progress::Entries(left, sums) => {
+            if left == 0 {
+                return take_end(sums, s);
+            }
+            take_entry(left, sums, s, out)
+        }
+        Progress::Stopped => quiet(progress, 0),
+    }
+}
+
+// Takes as many steps as the bytes at hand allow, for as long as there is room for a line.
+pub fn take_entries(progress: Progress, s: &[u8], out: &mut [u8]) -> Taken
+    requires { ⌜ Within progress ⌝ }
+    ensures done { λ r. ⌜ Drains progress (now (s .entry)) r (now (out .entry)) (now (out .exit)) ⌝ }
+    ensures kept { λ r. ⌜ Within (r .progress) × Nears progress r ⌝ }
+{
+    let mut reached = progress;
+    let mut bytes: usize = 0;
+    let mut printed: usize = 0;
+    loop {
+        if out.len() - printed < LONGEST {
+            break;
+        }
+        let taken = step(reached, &s[bytes..], &mut out[printed..]);
+        reached = taken.progress;
+        if taken.bytes == 0 {
+            break;
+        }
+        bytes = bytes + taken.bytes;
+        printed = printed + taken.printed;
+    }
+    Taken {
+        progress: reached,
+        bytes,
+        printed,
+    }
+}
+
+// Writes the last line, when the batch has ended and no step is left. Answers how many bytes it wrote.
+pub fn finish(progress: Progress, out: &mut [u8]) -> usize
+    ensures counted { λ r. ⌜ r ≡ putCount (ending progress) (now (out .entry)) ⌝ }
+    ensures written { λ _. ⌜ now (out .exit) ≡ putOver (ending progress) (now (out .entry)) ⌝ }
+{
+    match progress {
+        Progress::Head => lines::write_line(answers::refused(75, 0), out),
+        Progress::Entries(left, sums) => {
+            if left == 0 {
+                return lines::write_total(
+                    sums.accepted,
+                    sums.refused,
+                    sums.before,
+                    sums.after,
+                    out,
+                );
+            }
+            lines::write_line(answers::refused(75, 0), out)
+        }
+        Progress::Stopped => lines::write_line(answers::refused(75, 0), out),
+    }
+}
+
+// Moves the bytes from one place on to the start; nothing behind them is touched.
+pub fn to_front(buf: &mut [u8], from: usize)
+    requires { ⌜ from ≤ length (now buf) ⌝ }
+    ensures { λ _. ⌜ now (buf .exit) ≡ over (drop from (now (buf .entry))) (now (buf .entry)) ⌝ }
+{
+    let mut i: usize = 0;
+    while i < buf.len() - from {
+        buf[i] = buf[from + i];
+        i = i + 1;
+    }
+}
