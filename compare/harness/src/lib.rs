@@ -15,6 +15,7 @@ pub mod ladder;
 pub mod machine;
 pub mod measure;
 pub mod mixed;
+pub mod months;
 #[cfg(feature = "proved")]
 pub mod page;
 pub mod subject;
