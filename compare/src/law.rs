@@ -1,4 +1,4 @@
-//! The numbers, codes and costs of document 01 and of C-11 to C-13, in one place: later requests move them here.
+//! The numbers, codes and costs of document 01 and of C-11 to C-13 and C-16, in one place: later requests move them here.
 
 pub const RULE_MARK: [u8; 5] = [0x52, 0x55, 0x4C, 0x00, 0x01];
 pub const PLAN_MARK: [u8; 5] = [0x50, 0x4C, 0x4E, 0x00, 0x01];

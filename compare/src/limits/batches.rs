@@ -28,7 +28,8 @@ pub fn cases() -> Vec<Case> {
     left(&mut list);
     empty(&mut list);
     refusals(&mut list);
-    sizes(&mut list);
+    rule_sizes(&mut list);
+    plan_sizes(&mut list);
     skipped(&mut list);
     rule_first(&mut list);
     savings(&mut list);
@@ -209,44 +210,46 @@ fn refusals(list: &mut List) {
     list.entries(&turned, "total 0 23 0 0 0");
 }
 
-/// Parts at their limits, over them, and as long as their lengths can say.
-fn sizes(list: &mut List) {
+/// Rules at their limit, over it, and as long as their length can say.
+fn rule_sizes(list: &mut List) {
     let small = unjoined(&padded_rule(8));
     for length in [255, 256, 257, 511, 512, RULE_BYTES_MAX - 1, RULE_BYTES_MAX] {
         let entry = unjoined(&padded_rule(length));
         list.entries(&[small.clone(), entry, small.clone()], "total 3 0 0 0 0");
     }
-    // The first 4,096 bytes alone would be accepted, and so would what a length says with its bytes in turn.
+    // The first 4,096 bytes alone would be accepted.
     for length in [RULE_BYTES_MAX + 1, RULE_BYTES_MAX + 2, 8192, MOST] {
         let mut entry = unjoined(&padded_rule(RULE_BYTES_MAX));
         entry.0.resize(length, 0x00);
         list.entries(&[r1(), entry, r1()], "total 2 1 66 56 10");
     }
-    for length in [255, 256, 257, PLAN_BYTES_MAX - 1, PLAN_BYTES_MAX] {
+}
+
+/// Plans at their limit, where none is accepted any more, over it, and as long as their length can say; then both parts
+/// over their limits.
+fn plan_sizes(list: &mut List) {
+    for (length, line) in [
+        (255, "refused 23\n"),
+        (256, "refused 23\n"),
+        (257, "refused 23\n"),
+        (PLAN_BYTES_MAX - 1, "refused 23\n"),
+        (PLAN_BYTES_MAX, "refused 23\n"),
+        (PLAN_BYTES_MAX + 1, "refused 20\n"),
+        (PLAN_BYTES_MAX + 2, "refused 20\n"),
+        (4096, "refused 20\n"),
+        (4097, "refused 20\n"),
+        (MOST, "refused 20\n"),
+    ] {
         let entry = (R1.to_vec(), padded_plan(length));
-        list.exact(
-            0,
-            &bytes_of(&[entry.clone()]),
-            "refused 23\ntotal 0 1 0 0 0\n",
-        );
-        list.entries(&[r1(), entry, r1()], "total 2 1 66 56 10");
-    }
-    for length in [PLAN_BYTES_MAX + 1, PLAN_BYTES_MAX + 2, 4096, 4097, MOST] {
-        let entry = (R1.to_vec(), padded_plan(length));
-        list.exact(
-            0,
-            &bytes_of(&[entry.clone()]),
-            "refused 20\ntotal 0 1 0 0 0\n",
-        );
+        let alone = bytes_of(std::slice::from_ref(&entry));
+        list.exact(0, &alone, &format!("{line}total 0 1 0 0 0\n"));
         if length < MOST {
             list.entries(&[r1(), entry, r1()], "total 2 1 66 56 10");
         }
     }
-    let both = (
-        padded_rule(RULE_BYTES_MAX + 1),
-        padded_plan(PLAN_BYTES_MAX + 1),
-    );
-    list.entries(&[both, r1()], "total 1 1 33 28 5");
+    let rule = padded_rule(RULE_BYTES_MAX + 1);
+    let plan = padded_plan(PLAN_BYTES_MAX + 1);
+    list.entries(&[(rule, plan), r1()], "total 1 1 33 28 5");
 }
 
 /// Parts that are skipped between entries that are not, in pieces of several sizes, and cut at every boundary, beside it and

@@ -9,9 +9,9 @@ const GOAL: f64 = 20_000.0;
 
 const HEAD: &str = "\
 The program of C-16 reads a batch on standard input and prints a line for each entry, then the total. Here whole processes
-are measured, from their start to their end: TURNS times each, in turns in one run, so that other work of the machine falls
-on all of them, PINNED. The batch is a file that was read before, the report goes to a file, and every report had the same
-bytes. Times are medians, in brackets the least, throughput by the median and in brackets the best.
+are measured, from their start to their end: TURNS times each, PINNED, in turns in one run, so that other work of the
+machine falls on all of them. The batch is a file that was read before, the report goes to a file, and in every turn all
+reports had the same bytes. Times are medians, in brackets the least; throughput is by the median, in brackets at best.
 
 - proved: the program `month`.
 - plain: `compare/src/bin/month.rs`, Rust written to be compared with and not tuned.
