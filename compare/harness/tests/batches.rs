@@ -7,7 +7,7 @@ use compare::generate::Random;
 use harness::batches::{cases, compare as compare_reports, write_all, writes, Tally, TOOLS};
 
 const SEED: u64 = 9;
-const BATCHES: u64 = 30;
+const BATCHES: u64 = 60;
 
 /// All reports of the random cases, each as the fault makes it of the case and of its true report.
 fn reports(fault: impl Fn(&Case, Vec<u8>) -> Vec<u8>) -> Vec<u8> {

@@ -61,6 +61,12 @@ impl List {
         self.cases.push(Case::new(size, batch));
     }
 
+    /// A batch of one entry, which is refused.
+    #[track_caller]
+    fn refused(&mut self, entry: &Entry) {
+        self.entries(std::slice::from_ref(entry), "total 0 1 0 0 0");
+    }
+
     /// A whole batch of these entries, all at once and in pieces of 1 and of 7, and its last byte gone.
     #[track_caller]
     fn entries(&mut self, entries: &[Entry], last: &str) {
@@ -171,9 +177,9 @@ fn empty(list: &mut List) {
     let no_rule: Entry = (Vec::new(), plan);
     let no_plan: Entry = (rule, Vec::new());
     let neither: Entry = (Vec::new(), Vec::new());
-    list.entries(&[neither.clone()], "total 0 1 0 0 0");
-    list.entries(&[no_rule.clone()], "total 0 1 0 0 0");
-    list.entries(&[no_plan.clone()], "total 0 1 0 0 0");
+    list.refused(&neither);
+    list.refused(&no_rule);
+    list.refused(&no_plan);
     let mixed = [
         no_plan.clone(),
         r1(),
@@ -200,7 +206,7 @@ fn refusals(list: &mut List) {
     for number in NUMBERS {
         let most = if number == 10 { 1500 } else { 200 };
         let [one, other] = [(); 2].map(|()| batches::refused(&mut random, number, most));
-        list.entries(&[one.clone()], "total 0 1 0 0 0");
+        list.refused(&one);
         let mixed = [r1(), one.clone(), r1(), other.clone()];
         list.entries(&mixed, "total 2 2 66 56 10");
         all.extend([one, r1()]);
