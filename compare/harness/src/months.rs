@@ -28,7 +28,17 @@ pub struct Program {
     pub path: PathBuf,
 }
 
-/// A batch in a file, and what is expected of it.
+impl Program {
+    /// Its path as a page names it: from the folder above this one on, where it lies there.
+    fn shown(&self) -> String {
+        let here = std::env::current_dir().unwrap_or_default();
+        let above = here.parent().unwrap_or(&here);
+        let path = self.path.strip_prefix(above).unwrap_or(&self.path);
+        path.display().to_string()
+    }
+}
+
+/// A batch in a file.
 pub struct Batch {
     pub name: &'static str,
     pub entries: usize,

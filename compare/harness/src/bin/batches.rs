@@ -40,7 +40,7 @@ fn all(seed: u64, batches: u64) -> io::Result<u64> {
         "batch_cases: {} cases of {batches} batches; {} reports end in a total, {refused} in 75",
         streamed.cases, streamed.totals
     );
-    let whole = whole(seed, batches.div_ceil(10))?;
+    let whole = whole(seed, batches.div_ceil(4))?;
     let refused = whole.cases - whole.totals;
     println!(
         "month: {} batches in small writes; {} reports end in a total, {refused} in 75",

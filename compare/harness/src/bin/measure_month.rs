@@ -33,7 +33,12 @@ fn main() -> ExitCode {
 fn page(pinned: bool, folder: &Path, turns: usize) -> io::Result<()> {
     let programs = programs()?;
     let batches = batches(folder)?;
-    print_head(&format!("compare/month {turns}"), turns, pinned);
+    print_head(
+        &format!("compare/month {turns}"),
+        turns,
+        pinned,
+        &programs[0],
+    );
     let mut rows = Vec::new();
     for batch in &batches {
         rows.push((batch, measure(turns, &programs, batch)?));

@@ -9,11 +9,11 @@ const GOAL: f64 = 20_000.0;
 
 const HEAD: &str = "\
 The program of C-16 reads a batch on standard input and prints a line for each entry, then the total. Here whole processes
-are measured, from their start to their end: TURNS times each, PINNED, in turns in one run, so that other work of the
-machine falls on all of them. The batch is a file that was read before, the report goes to a file, and in every turn all
+are measured, from their start to their end: TURNS times each, PINNED, in turns in one run, so that other work
+of the machine falls on all of them. The batch is a file that was read before, the report goes to a file, and in every turn all
 reports had the same bytes. Times are medians, in brackets the least; throughput is by the median, in brackets at best.
 
-- proved: the program `month`.
+- proved: the program `PROVED`.
 - plain: `compare/src/bin/month.rs`, Rust written to be compared with and not tuned.
 - tuned: `compare/tuned/src/bin/tuned_month.rs`, Rust written for speed and proved by nobody: reads of 128 KiB, entries
   worked out where they were read to, nothing allocated for an entry, digits by table.
@@ -25,7 +25,7 @@ none at all, which shows what a process takes by itself and is in every other ti
 /// One batch, measured: what each program took.
 pub type Row<'a> = (&'a Batch, Vec<Taken>);
 
-pub fn print_head(command: &str, turns: usize, pinned: bool) {
+pub fn print_head(command: &str, turns: usize, pinned: bool, proved: &Program) {
     println!("# What a month saved: the proved program beside plain and tuned Rust\n");
     println!("Command: `{command}`, whose output this page is.");
     println!("{}\n", machine::line());
@@ -36,7 +36,8 @@ pub fn print_head(command: &str, turns: usize, pinned: bool) {
     let head = HEAD
         .replace("TURNS", &turns.to_string())
         .replace("ROUNDS", &ROUNDS.to_string())
-        .replace("PINNED", pinned);
+        .replace("PINNED", pinned)
+        .replace("PROVED", &proved.shown());
     println!("{head}");
 }
 
