@@ -1,5 +1,5 @@
-//! Document 01's operations 01 to 06 with requests C-12 and C-13, and C-11's 07 to 09, in Rust tuned for speed: a tool
-//! to measure the proved one beside. No allocation, nothing cleared that is not read, one pass over the rule, one
+//! Document 01's operations 01 to 06 with requests C-12 and C-13, C-11's 07 to 09 and C-16's program, in Rust tuned for speed:
+//! a tool to measure the proved one beside. No allocation, nothing cleared that is not read, one pass over the rule, one
 //! over the plan, one backward over the gates, one to order and one to write; one over a circuit file.
 //!
 //! Indices are mostly not tested and places are read uncleared (`places`): the functions here are safe to call
