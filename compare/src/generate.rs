@@ -1,6 +1,7 @@
-//! A generator of rules, plans, circuit files, inputs and whole cases: valid, damaged, and at every limit.
+//! A generator of rules, plans, circuit files, batches, inputs and whole cases: valid, damaged, and at every limit.
 //! The same seed always makes the same cases.
 
+pub mod batches;
 pub mod cases;
 pub mod circuits;
 pub mod group_order;

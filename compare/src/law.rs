@@ -1,8 +1,10 @@
-//! The numbers, codes and costs of document 01 and of C-11 to C-13, in one place: later requests move them here.
+//! The numbers, codes and costs of document 01 and of C-11 to C-13 and C-16, in one place: later requests move them here.
 
 pub const RULE_MARK: [u8; 5] = [0x52, 0x55, 0x4C, 0x00, 0x01];
 pub const PLAN_MARK: [u8; 5] = [0x50, 0x4C, 0x4E, 0x00, 0x01];
 pub const CIRCUIT_MARK: [u8; 5] = [0x43, 0x49, 0x52, 0x00, 0x01];
+/// The mark and version of a batch (C-16).
+pub const BATCH_MARK: [u8; 5] = [0x42, 0x41, 0x54, 0x00, 0x01];
 
 pub const RULE_BYTES_MIN: usize = 6;
 pub const RULE_BYTES_MAX: usize = 4096;

@@ -1,6 +1,8 @@
 //! Linnetshelf's tool once more, written from the documents alone, to compare bytes with.
 
 pub mod answer;
+pub mod batch;
+pub mod batch_cases;
 pub mod circuit;
 pub mod circuit_file;
 pub mod counts;
@@ -10,6 +12,7 @@ pub mod generate;
 pub mod good;
 pub mod law;
 pub mod limits;
+pub mod month;
 pub mod plan;
 pub mod rule;
 pub mod run;

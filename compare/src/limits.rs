@@ -4,6 +4,7 @@
 //! `reading` and the empty plans of refused rules have none.
 
 mod arguments;
+mod batches;
 mod circles;
 mod circuits;
 mod empty;
@@ -20,6 +21,7 @@ mod turned;
 mod working;
 
 use crate::answer::Answer;
+use crate::batch_cases;
 use crate::circuit::accept;
 use crate::generate::group_order::in_order;
 use crate::generate::plans::bytes_of;
@@ -79,6 +81,16 @@ pub fn ordered_cases() -> Vec<Case> {
     let before = all.len();
     all.append(&mut list.cases);
     each_once(all).split_off(before)
+}
+
+/// The batches of C-16, fixed and random ones, each with the size of its pieces, in the order of the stored stream.
+pub fn batch_cases() -> Vec<batch_cases::Case> {
+    batches::cases()
+}
+
+/// The one batch of some 300 entries that is stored for the program itself.
+pub fn month() -> Vec<u8> {
+    batches::month()
 }
 
 fn each_once(mut cases: Vec<Case>) -> Vec<Case> {

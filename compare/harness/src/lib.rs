@@ -3,6 +3,7 @@
 //! Without the feature `proved` what calls the proved library is left out, and its archive is not needed: rules and
 //! measuring then serve `../pass_alone`.
 
+pub mod batches;
 #[cfg(feature = "proved")]
 pub mod calls;
 #[cfg(feature = "proved")]
@@ -14,6 +15,7 @@ pub mod ladder;
 pub mod machine;
 pub mod measure;
 pub mod mixed;
+pub mod months;
 #[cfg(feature = "proved")]
 pub mod page;
 pub mod subject;

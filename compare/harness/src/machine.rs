@@ -1,12 +1,22 @@
 //! The machine that is measured on, as a page names it.
 
 pub fn line() -> String {
-    let cores = std::thread::available_parallelism().map_or(1, |count| count.get());
     format!(
-        "Machine: {}, {cores} cores, {} at work when this began.",
+        "Machine: {}, {} cores, {} at work when this began.",
         processor(),
+        cores(),
         load()
     )
+}
+
+/// All there are, as Linux gives them, though this process may be held to one of them.
+fn cores() -> usize {
+    let text = std::fs::read_to_string("/proc/cpuinfo").unwrap_or_default();
+    let cores = text.lines().filter(|line| line.starts_with("processor"));
+    match cores.count() {
+        0 => std::thread::available_parallelism().map_or(1, |count| count.get()),
+        count => count,
+    }
 }
 
 /// The processor's name, as Linux gives it.

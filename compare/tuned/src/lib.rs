@@ -1,5 +1,5 @@
-//! Document 01's operations 01 to 06 with requests C-12 and C-13, and C-11's 07 to 09, in Rust tuned for speed: a tool
-//! to measure the proved one beside. No allocation, nothing cleared that is not read, one pass over the rule, one
+//! Document 01's operations 01 to 06 with requests C-12 and C-13, C-11's 07 to 09 and C-16's program, in Rust tuned for speed:
+//! a tool to measure the proved one beside. No allocation, nothing cleared that is not read, one pass over the rule, one
 //! over the plan, one backward over the gates, one to order and one to write; one over a circuit file.
 //!
 //! Indices are mostly not tested and places are read uncleared (`places`): the functions here are safe to call
@@ -8,6 +8,7 @@
 mod answer;
 mod circuit_file;
 mod law;
+mod month;
 mod needed;
 mod order;
 mod places;
@@ -17,6 +18,7 @@ mod running;
 mod writing;
 
 pub use answer::{Answer, Shown};
+pub use month::month;
 pub use needed::pass_alone;
 
 use circuit_file::{header, Pass};
@@ -152,6 +154,20 @@ pub fn check_plan(rule: &[u8], plan: &[u8]) -> Answer {
         return Answer::refused(30, 0);
     }
     reader.accepted()
+}
+
+/// What operation 04 answers with room enough, and nothing written: one entry of a batch (C-16). Its one caller takes it in.
+#[inline(always)]
+fn count_fused(rule: &[u8], plan: &[u8]) -> Answer {
+    let (mut circuit, mut reader) = (Planned::new(), MaybeUninit::uninit());
+    let reader = match self::plan(&mut circuit, &mut reader, rule, plan) {
+        Ok(reader) => reader,
+        Err(answer) => return answer,
+    };
+    match order(&mut circuit, plan, &mut Nothing) {
+        true => counted(&circuit, reader),
+        false => Answer::refused(30, 0),
+    }
 }
 
 /// Operation 04: writes the fused circuit's file at the start of `out`.
