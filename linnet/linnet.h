@@ -42,6 +42,7 @@
  *           62 records do not fit together: inputs that are not just the first V records in order, a
  *              wire that is not earlier or of the wrong kind, a table bit from 2^d up in a guard of d
  *              wires, an output that is neither FF FF nor a wire of its variable's kind
+ *   batch   75 no whole batch: `./shelf month` alone answers it, and no function here
  *
  * The place is the offending byte for 2, 3 and 5 to 9, the rule's length for 4, 10 and 11, else 0. */
 #ifndef LINNET_H
