@@ -1,29 +1,29 @@
--- Laws for moving the bytes from a place on to the start: each is read before it is written over.
+-- Laws for moving n bytes from a place on to the start: each is read before it is written over.
 use mathlib.Core.List.{List, _++_}
 use mathlib.Core.Path.{_≡_, sym, ap, _∙_}
-use Prim.Native.Nat.{ℕ, _+_, _-_, _≤_, _<_}
+use Prim.Native.Nat.{ℕ, _+_, _≤_, _<_}
 use native.Mathlib.Nat.{add-comm}
 use native.Mathlib.Omega.{arith}
 use lib.ListN.{length, take, drop, getD, set, length-drop}
 use lib.Seq.{getD-append-add, getD-drop, length-take-le}
 use Rattle.words.specs.Buffers.{over}
-use Rattle.words.specs.BufferLaws.{over-nil, length-over, copy-more, copy-all}
+use Rattle.words.specs.BufferLaws.{over-nil, length-over, copy-more}
 
--- the first i bytes are moved
-pub record Moved (b : List ℕ) (from : ℕ) (e : List ℕ) (i : ℕ) : Type 0 where
-  pub inside : from ≤ length b
-  pub some : i ≤ length b - from
+-- the first i of them are moved
+pub record Moved (b : List ℕ) (from n : ℕ) (e : List ℕ) (i : ℕ) : Type 0 where
+  pub inside : from + n ≤ length b
+  pub some : i ≤ n
   pub held : e ≡ over (take i (drop from b)) b
 
-pub moved-start : (b : List ℕ) (from : ℕ) → from ≤ length b → Moved b from b 0
-moved-start b from h = record { inside = h; some = omega arith; held = sym (over-nil b) }
+pub moved-start : (b : List ℕ) (from n : ℕ) → from + n ≤ length b → Moved b from n b 0
+moved-start b from n h = record { inside = h; some = omega arith; held = sym (over-nil b) }
 
-module _ (b : List ℕ) (from : ℕ) (e : List ℕ) (i : ℕ) (m : Moved b from e i) where
+module _ (b : List ℕ) (from n : ℕ) (e : List ℕ) (i : ℕ) (m : Moved b from n e i) where
   front : length (take i (drop from b)) ≡ i
-  front = length-take-le i (drop from b) (rw (length-drop from b) (m .some))
+  front = length-take-le i (drop from b) (rw (length-drop from b) (omega (arith, m .some, m .inside)))
 
   pub moved-length : length e ≡ length b
-  moved-length = ap (λ (o : List ℕ). length o) (m .held) ∙ length-over (take i (drop from b)) b (omega (arith, front, m .some))
+  moved-length = ap (λ (o : List ℕ). length o) (m .held) ∙ length-over (take i (drop from b)) b (omega (arith, front, m .some, m .inside))
 
   -- what is read lies behind what is written
   behind : getD e (from + i) 0 ≡ getD (drop from b) i 0
@@ -35,14 +35,14 @@ module _ (b : List ℕ) (from : ℕ) (e : List ℕ) (i : ℕ) (m : Moved b from 
       ∙ ap (λ (k : ℕ). getD (drop k b) from 0) front ∙ getD-drop i b from 0 ∙ ap (λ (k : ℕ). getD b k 0) (add-comm i from)
       ∙ sym (getD-drop from b i 0)
 
-  pub moved-more : i < length e - from → Moved b from (set e i (getD e (from + i) 0)) (i + 1)
+  pub moved-more : i < n → Moved b from n (set e i (getD e (from + i) 0)) (i + 1)
   moved-more l =
       record {
         inside = m .inside;
-        some = omega (arith, moved-length, l);
+        some = omega arith;
         held = ap (λ (v : ℕ). set e i v) behind ∙ ap (λ (o : List ℕ). set o i (getD (drop from b) i 0)) (m .held)
-            ∙ copy-more (drop from b) b i (rw (length-drop from b) (omega (arith, moved-length, l))) (rw (length-drop from b) (omega arith));
+            ∙ copy-more (drop from b) b i (rw (length-drop from b) (omega (arith, m .inside))) (rw (length-drop from b) (omega arith));
       }
 
-  pub moved-all : length e - from ≤ i → e ≡ over (drop from b) b
-  moved-all l = m .held ∙ copy-all (drop from b) b i (rw (length-drop from b) (omega (arith, moved-length, l)))
+  pub moved-all : n ≤ i → e ≡ over (take n (drop from b)) b
+  moved-all l = let k : i ≡ n = omega (arith, m .some) in rw k at (m .held)

@@ -1,5 +1,5 @@
 -- Document 02, C-16, "The batch need not fit in memory": a batch read step by step from the bytes at hand, whatever comes after them.
-use mathlib.Core.Bool.{cond}
+use mathlib.Core.Bool.{Bool, true, false, cond}
 use mathlib.Core.List.{List, [], _∷_, _++_}
 use mathlib.Core.Path.{_≡_}
 use Prim.Native.Nat.{ℕ, zero, suc, _+_}
@@ -43,6 +43,12 @@ abbrev pub step : Progress → List ℕ → Stepped
 step Head s = headStep s
 step (Entries n t) s = entryStep n t s
 step Stopped s = quiet Stopped 0
+
+-- the report is refused, whatever comes
+abbrev pub hasStopped : Progress → Bool
+hasStopped Head = false
+hasStopped (Entries n t) = false
+hasStopped Stopped = true
 
 -- the last line, when no byte is to come and no step is left
 abbrev pub ending : Progress → List ℕ

@@ -9,7 +9,7 @@ ghost use Rattle.words.specs.Lists.{same};
 ghost use Rattle.words.specs.Buffers.{over};
 ghost use Rattle.lines.specs.Line.{putOver, putCount};
 ghost use Rattle.batch.specs.Batch.{batchMark, hasPart, partSize, hasEntry, entrySize, entryAnswer, plus};
-ghost use Rattle.batch.specs.Steps.{headStep, entryStep, step, ending};
+ghost use Rattle.batch.specs.Steps.{headStep, entryStep, step, hasStopped, ending};
 ghost use Rattle.batch.specs.Bounds.{Sized, Costs, Within, Nears};
 ghost use Rattle.batch.specs.declared.Progress.the-variants.{Head, Entries};
 ghost use Rattle.batch.specs.Promised.{took, Quiet, Does, Drains};
@@ -80,7 +80,10 @@ fn take_head(s: &[u8]) -> Taken
         before: 0,
         after: 0,
     };
-    quiet(Progress::Entries(words::wide16(words::read16(s, 5)), sums), HEAD)
+    quiet(
+        Progress::Entries(words::wide16(words::read16(s, 5)), sums),
+        HEAD,
+    )
 }
 
 // The bytes of the part at the start, or 0 where it is not whole.
@@ -245,14 +248,27 @@ pub fn finish(progress: Progress, out: &mut [u8]) -> usize
     }
 }
 
-// Moves the bytes from one place on to the start; nothing behind them is touched.
-pub fn to_front(buf: &mut [u8], from: usize)
-    requires { ⌜ from ≤ length (now buf) ⌝ }
-    ensures { λ _. ⌜ now (buf .exit) ≡ over (drop from (now (buf .entry))) (now (buf .entry)) ⌝ }
+// The report is refused with 75, whatever comes.
+pub fn has_stopped(progress: Progress) -> bool
+    ensures { λ r. ⌜ r ≡ hasStopped progress ⌝ }
+{
+    match progress {
+        Progress::Head => false,
+        Progress::Entries(_, _) => false,
+        Progress::Stopped => true,
+    }
+}
+
+// Takes the first `bytes` off the `to` bytes at hand: the others move to the start, and nothing behind them is touched. Answers how many they are.
+pub fn drop_front(window: &mut [u8], to: usize, bytes: usize) -> usize
+    requires { ⌜ (bytes ≤ to) × (to ≤ length (now window)) ⌝ }
+    ensures left { λ r. ⌜ r ≡ to - bytes ⌝ }
+    ensures held { λ _. ⌜ now (window .exit) ≡ over (take (to - bytes) (drop bytes (now (window .entry)))) (now (window .entry)) ⌝ }
 {
     let mut i: usize = 0;
-    while i < buf.len() - from {
-        buf[i] = buf[from + i];
+    while i < to - bytes {
+        window[i] = window[bytes + i];
         i = i + 1;
     }
+    to - bytes
 }

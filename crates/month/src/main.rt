@@ -3,7 +3,7 @@ use batch::Progress;
 use libc::STDERR_FILENO;
 use libc::STDIN_FILENO;
 use libc::STDOUT_FILENO;
-ghost use Prim.Native.Nat.{_-_, _≤_};
+ghost use Prim.Native.Nat.{_≤_};
 ghost use mathlib.Core.Path.{_≡_};
 ghost use lib.ListN.{length};
 ghost use Rattle.batch.specs.Bounds.{Within};
@@ -87,13 +87,6 @@ fn tell(w: Watch, progress: Progress) -> Watch
     }
 }
 
-fn stopped(progress: Progress) -> bool {
-    match progress {
-        Progress::Stopped => true,
-        _ => false,
-    }
-}
-
 // Prints so many bytes of the text behind the progress line's place. Answers whether they were written.
 fn print(w: Watch, text: &[u8], n: usize) -> bool
     requires { ⌜ n ≤ length (now text) ⌝ }
@@ -113,15 +106,6 @@ fn finish(w: Watch, progress: Progress) {
     let mut line = [0u8; lines::LONGEST_TOTAL];
     let n = batch::finish(progress, &mut line);
     print(w, &line, n);
-}
-
-// Takes so many bytes off the front of those at hand, and answers how many are left.
-fn drop_front(window: &mut [u8], to: usize, bytes: usize) -> usize
-    requires { ⌜ (bytes ≤ to) × (to ≤ length (now window)) ⌝ }
-    ensures { λ r. ⌜ r ≡ to - bytes ⌝ }
-{
-    batch::to_front(&mut window[0..to], bytes);
-    to - bytes
 }
 
 // Reads behind the bytes at hand, and answers how many there are then: as many as before at the end of the input, more than there is room for
@@ -152,9 +136,9 @@ fn main() {
             return;
         }
         if bytes != 0 {
-            to = drop_front(&mut window, to, bytes);
+            to = batch::drop_front(&mut window, to, bytes);
         } else {
-            if stopped(progress) {
+            if batch::has_stopped(progress) {
                 break;
             }
             let reached = read_behind(&mut window, to);

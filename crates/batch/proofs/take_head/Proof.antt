@@ -21,7 +21,7 @@ returns c = (
 returns-2 : tie.Need-returns-2
 returns-2 c = (
   quiet-took _ _ _ _ (head-wrong _ (le-leb _ _ (c .before .before .before .if1 .left)) (sym (c .before .before .marked .ensures) ∙ not-true _ (c .before .if2 .taken)))
-  (c .quiet2 .ensures),
+      (c .quiet2 .ensures),
   (rw (c .quiet2 .ensures) tt, stop-nears Head _ (c .quiet2 .ensures)),
 )
 
