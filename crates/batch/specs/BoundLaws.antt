@@ -11,7 +11,7 @@ use lib.Seq.{getD-drop}
 use borrow.Author.Tests.{eq-eqb, ne-eqb, eqb-true, eqb-false, leb-true, leb-false}
 use Rattle.words.specs.TestLaws.{split}
 use Rattle.words.specs.Lists.{same}
-use Rattle.words.specs.Numbers.{numberAt, Bytes}
+use Rattle.words.specs.Numbers.{Bytes}
 use Rattle.words.specs.NumberLaws.{number-small}
 use Rattle.answers.specs.declared.Answer.{Answer}
 use Rattle.fused.specs.AnswerLaws.{costs-bound}
@@ -74,7 +74,7 @@ part-short s b h =
     (λ m. omega (arith, leb-false (partSize s) (length s) m, number-small 2 s 0 b (leb-true 2 (length s) l))))
     (λ l. omega (arith, leb-false 2 (length s) l))
 
-bytes-drop : (s : List ℕ) (n : ℕ) → Bytes s → Bytes (drop n s)
+pub bytes-drop : (s : List ℕ) (n : ℕ) → Bytes s → Bytes (drop n s)
 bytes-drop s n b i l = rw (getD-drop n s i 0) (b (n + i) (omega (arith, length-drop n s)))
 
 -- so where no entry is whole, fewer than the longest entry has

@@ -17,8 +17,8 @@ use Rattle.words.specs.MemberLaws.{same-right}
 use Rattle.fused.specs.Answers.{fusedAnswer}
 use Rattle.lines.specs.Line.{lineOf}
 use Rattle.batch.specs.declared.Sums.{Sums}
-use Rattle.batch.specs.Batch.{batchMark, headBytes, headed, entriesCounted, partSize, hasPart, partOf, pastPart, hasEntry, entryAnswer, entrySize, pastEntry, noSums, plus, refused75, totalOf, reportFrom, reportOf}
-use Rattle.batch.specs.Packed.{Entry, partBytes, entryBytes, headOf, batchOf, Fits, answerTo, linesOf, sumsFrom}
+use Rattle.batch.specs.Batch.{batchMark, headBytes, headed, hasPart, partOf, pastPart, hasEntry, entryAnswer, entrySize, pastEntry, noSums, plus, refused75, totalOf, reportFrom, reportOf}
+use Rattle.batch.specs.Packed.{Entry, Fits, AllFit, partBytes, entryBytes, headOf, batchOf, answerTo, linesOf}
 use Rattle.batch.specs.PartLaws.{part-whole, past-both, entry-fits, entry-size-more}
 
 -- a part is found again
@@ -49,7 +49,7 @@ module _ (b x : List ℕ) (h : length b < 65536) where
       ∙ drop-at (partBytes b) x (2 + length b) (length-append (bytesOf 2 (length b)) b ∙ ap (λ (n : ℕ). n + length b) (length-bytes 2 (length b)))
 
 -- so is an entry
-module _ (e : Entry) (x : List ℕ) (h : (length (e .rule) < 65536) × (length (e .plan) < 65536)) where
+module _ (e : Entry) (x : List ℕ) (h : Fits e) where
   two : entryBytes e ++ x ≡ partBytes (e .rule) ++ (partBytes (e .plan) ++ x)
   two = append-assoc (partBytes (e .rule)) (partBytes (e .plan)) x
 
@@ -87,7 +87,7 @@ module _ (e : Entry) (x : List ℕ) (h : (length (e .rule) < 65536) × (length (
       )
 
 -- an entry that is cut is not whole
-pub entry-cut : (e : Entry) (k : ℕ) → (length (e .rule) < 65536) × (length (e .plan) < 65536) → k < length (entryBytes e) → hasEntry (take k (entryBytes e)) ≡ false
+pub entry-cut : (e : Entry) (k : ℕ) → Fits e → k < length (entryBytes e) → hasEntry (take k (entryBytes e)) ≡ false
 entry-cut e k h l =
     split (hasEntry (take k (entryBytes e)))
     (λ t.
@@ -103,13 +103,18 @@ entry-cut e k h l =
     )))
     (λ t. t)
 
+-- the sums, entry by entry, on top of t
+abbrev pub sumsFrom : Sums → List Entry → Sums
+sumsFrom t [] = t
+sumsFrom t (e ∷ es) = sumsFrom (plus t (answerTo e)) es
+
 -- the report of whole entries and what comes behind them
-entry-line : (e : Entry) (n : ℕ) (t : Sums) (x : List ℕ) → (length (e .rule) < 65536) × (length (e .plan) < 65536)
+entry-line : (e : Entry) (n : ℕ) (t : Sums) (x : List ℕ) → Fits e
     → reportFrom (suc n) t (entryBytes e ++ x) ≡ lineOf (answerTo e) ++ reportFrom n (plus t (answerTo e)) x
 unfolding reportFrom
 entry-line e n t x h = rw (entry-there e x h, answer-found e x h, entry-past e x h)
 
-pub entries-lines : (es : List Entry) (n : ℕ) (t : Sums) (x : List ℕ) → Fits es
+pub entries-lines : (es : List Entry) (n : ℕ) (t : Sums) (x : List ℕ) → AllFit es
     → reportFrom (length es + n) t (flatMap entryBytes es ++ x) ≡ linesOf es ++ reportFrom n (sumsFrom t es) x
 unfolding flatMap
 entries-lines [] n t x f = ap (λ (k : ℕ). reportFrom k t x) (zero-add n)
@@ -130,7 +135,7 @@ head-report n x h =
     ∙ ap (reportFrom n noSums) (drop-at (bytesOf 2 n) x 2 (length-bytes 2 n)))
 
 -- The report of a batch of entries: whole, with bytes left, or ending within an entry.
-module _ (es : List Entry) (f : Fits es) where
+module _ (es : List Entry) (f : AllFit es) where
   pub whole-batch : length es < 65536 → reportOf (batchOf es) ≡ linesOf es ++ totalOf (sumsFrom noSums es)
   unfolding reportFrom
   whole-batch h =

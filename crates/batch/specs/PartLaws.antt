@@ -1,14 +1,14 @@
 -- Laws of parts and entries: what is whole at the start of some bytes is the same with more bytes behind them; how long it can be.
-use mathlib.Core.Bool.{true, false, _&&_}
+use mathlib.Core.Bool.{true, _&&_}
 use mathlib.Core.List.{List, [], _∷_, _++_}
-use mathlib.Core.Path.{_≡_, refl, sym, ap, _∙_}
+use mathlib.Core.Path.{_≡_, sym, ap, _∙_}
 use Prim.Native.Nat.{ℕ, _+_, _-_, _≤_, _<_}
 use native.Mathlib.Omega.{arith}
 use lib.Dec.{leb}
 use lib.ListN.{length, take, drop, length-append, length-drop}
 use lib.Seq.{take-append-le, drop-append-le, drop-drop}
-use borrow.Author.Tests.{leb-true, leb-false, le-leb}
-use Rattle.words.specs.TestLaws.{split, both, and}
+use borrow.Author.Tests.{leb-true, le-leb}
+use Rattle.words.specs.TestLaws.{both, and}
 use Rattle.words.specs.Numbers.{number, numberAt}
 use Rattle.fused.specs.Answers.{fusedAnswer}
 use Rattle.batch.specs.Batch.{partSize, hasPart, partOf, pastPart, hasEntry, entryAnswer, entrySize, pastEntry}

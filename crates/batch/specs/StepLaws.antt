@@ -1,6 +1,6 @@
 -- Laws of a step: what it printed and where it left the report make up the report, whatever bytes come; where none takes a byte, the last line is the report.
 use mathlib.Core.Bool.{true, false}
-use mathlib.Core.List.{List, [], _∷_, _++_, append-assoc, append-nil}
+use mathlib.Core.List.{List, [], _∷_, _++_}
 use mathlib.Core.Path.{_≡_, refl, sym, ap, _∙_}
 use mathlib.Core.Logic.{_⊎_, inl, inr}
 use Prim.Native.Nat.{ℕ, zero, suc, _+_, _≤_, _<_}
@@ -16,7 +16,7 @@ use Rattle.batch.specs.declared.Sums.{Sums}
 use Rattle.batch.specs.declared.Progress.{Progress}
 use Rattle.batch.specs.declared.Progress.the-variants.{Head, Entries, Stopped}
 use Rattle.batch.specs.Batch.{batchMark, headBytes, headed, entriesCounted, hasEntry, entryAnswer, entrySize, noSums, plus, refused75, reportFrom, reportOf}
-use Rattle.batch.specs.Steps.{Stepped, quiet, headStep, entryStep, step, ending, report, Prints, takes, reads, ends, stops}
+use Rattle.batch.specs.Steps.{Stepped, quiet, headStep, entryStep, step, ending}
 use Rattle.batch.specs.PartLaws.{number-more, entry-fits, entry-more, answer-more, past-entry-more}
 
 -- the head, by cases
@@ -41,6 +41,12 @@ entry-past n t s h = rw h
 pub entry-none : (n : ℕ) (t : Sums) (s : List ℕ) → hasEntry s ≡ false → entryStep (suc n) t s ≡ quiet (Entries (suc n) t) 0
 unfolding entryStep
 entry-none n t s h = rw h
+
+-- the report of the bytes that come, from some progress on; of a whole batch it is `reportOf`
+abbrev pub report : Progress → List ℕ → List ℕ
+report Head s = reportOf s
+report (Entries n t) s = reportFrom n t s
+report Stopped s = refused75
 
 -- what a step makes of the report of the bytes s with x to come
 abbrev pub Tells : Stepped → List ℕ → List ℕ → List ℕ → Type 0
@@ -137,9 +143,28 @@ rest-tells Head s e = head-rests s e
 rest-tells (Entries n t) s e = entries-rest n t s e
 rest-tells Stopped s e = refl
 
--- however a batch is read, what is printed is its report
-pub prints-report : {p : Progress} {s x text : List ℕ} → Prints p s x text → text ≡ report p (s ++ x)
-prints-report {p} {s} {x} (takes r) = ap (λ (t : List ℕ). step p s .text ++ t) (prints-report r) ∙ sym (step-tells x p s)
-prints-report {p} {s} (reads {x = x} piece r) = prints-report r ∙ ap (report p) (append-assoc s piece x)
-prints-report {p} {s} (ends e) = sym (rest-tells p s e) ∙ ap (report p) (sym (append-nil s))
-prints-report stops = refl
+-- What a step takes: bytes that are there; where it takes none it prints none, and the next one changes nothing.
+abbrev pub Orderly : Stepped → List ℕ → Type 0
+Orderly st s = (st .taken ≤ length s) × (st .taken ≡ 0 → (st .text ≡ []) × (step (st .progress) s ≡ quiet (st .progress) 0))
+
+head-orderly : (s : List ℕ) → Orderly (headStep s) s
+head-orderly s =
+    split (leb headBytes (length s))
+    (λ h. split (same (take 5 s) batchMark)
+    (λ m. rw (head-past s h m) (leb-true headBytes (length s) h, λ z. absurd (omega (arith, z))))
+    (λ m. rw (head-wrong s h m) (omega arith, λ z. (refl, refl))))
+    (λ h. let e = head-short s h in rw e (omega arith, λ z. (refl, e)))
+
+entry-orderly : (n : ℕ) (t : Sums) (s : List ℕ) → Orderly (entryStep n t s) s
+unfolding entryStep
+entry-orderly zero t [] = (omega arith, λ z. (refl, refl))
+entry-orderly zero t (b ∷ s) = (omega arith, λ z. (refl, refl))
+entry-orderly (suc n) t s =
+    split (hasEntry s)
+    (λ h. rw h (entry-fits s h, λ z. absurd (omega (arith, z))))
+    (λ h. let e = entry-none n t s h in rw h (omega arith, λ z. (refl, e)))
+
+pub step-orderly : (p : Progress) (s : List ℕ) → Orderly (step p s) s
+step-orderly Head s = head-orderly s
+step-orderly (Entries n t) s = entry-orderly n t s
+step-orderly Stopped s = (omega arith, λ z. (refl, refl))

@@ -1,16 +1,15 @@
 -- Document 02, C-16, "The batch need not fit in memory": a batch read step by step from the bytes at hand, whatever comes after them.
 use mathlib.Core.Bool.{Bool, true, false, cond}
 use mathlib.Core.List.{List, [], _∷_, _++_}
-use mathlib.Core.Path.{_≡_}
 use Prim.Native.Nat.{ℕ, zero, suc, _+_}
-use lib.Dec.{leb}
+use lib.Dec.{eqb, leb}
 use lib.ListN.{length, take, drop}
 use Rattle.words.specs.Lists.{same}
 use Rattle.lines.specs.Line.{lineOf}
 use Rattle.batch.specs.declared.Sums.{Sums}
 use Rattle.batch.specs.declared.Progress.{Progress}
 use Rattle.batch.specs.declared.Progress.the-variants.{Head, Entries, Stopped}
-use Rattle.batch.specs.Batch.{batchMark, headBytes, entriesCounted, hasEntry, entrySize, entryAnswer, noSums, plus, refused75, totalOf, reportFrom, reportOf}
+use Rattle.batch.specs.Batch.{batchMark, headBytes, entriesCounted, hasEntry, entrySize, entryAnswer, noSums, plus, refused75, totalOf}
 
 -- what a step leaves: how far the report is, how many of the bytes at hand it took, and what it printed
 pub record Stepped : Type 0 where
@@ -57,20 +56,6 @@ ending (Entries zero t) = totalOf t
 ending (Entries (suc n) t) = refused75
 ending Stopped = refused75
 
--- the report of the bytes that come, from some progress on; of a whole batch it is `reportOf`
-abbrev pub report : Progress → List ℕ → List ℕ
-report Head s = reportOf s
-report (Entries n t) s = reportFrom n t s
-report Stopped s = refused75
-
--- every way to read a batch: with the bytes s at hand and x to come, a step is taken or a piece of what comes is read, in whatever order, until
--- all is read and no step takes a byte, or the report has stopped; then the last line is printed
-pub data Prints : Progress → List ℕ → List ℕ → List ℕ → Type 0 where
-  takes : {p : Progress} {s x text : List ℕ} → Prints (step p s .progress) (drop (step p s .taken) s) x text → Prints p s x (step p s .text ++ text)
-  reads : {p : Progress} {s x text : List ℕ} (piece : List ℕ) → Prints p (s ++ piece) x text → Prints p s (piece ++ x) text
-  ends : {p : Progress} {s : List ℕ} → step p s ≡ quiet p 0 → Prints p s [] (ending p)
-  stops : {s x : List ℕ} → Prints Stopped s x (ending Stopped)
-
 -- a reader of a batch: how far the report is, the bytes at hand, and what was printed so far
 pub record Reader : Type 0 where
   pub progress : Progress
@@ -80,26 +65,46 @@ pub record Reader : Type 0 where
 abbrev pub reader : Progress → List ℕ → List ℕ → Reader
 reader p s text = record { progress = p; held = s; printed = text }
 
--- one step more, and so many
+-- one step more
 abbrev pub next : Reader → Reader
 next r = let st = step (r .progress) (r .held) in reader (st .progress) (drop (st .taken) (r .held)) (r .printed ++ st .text)
 
-unfoldable pub steps : ℕ → Reader → Reader
-steps zero r = r
-steps (suc n) r = steps n (next r)
+-- no line of an entry has more bytes
+abbrev pub mostLine : ℕ
+mostLine = 93
 
--- a piece more, and every step that it allows: a step takes a byte, or it is the one that stops
-unfoldable pub feed : Reader → List ℕ → Reader
-feed r piece = steps (length (r .held ++ piece) + 1) (reader (r .progress) (r .held ++ piece) (r .printed))
+-- the steps that are taken at once into a buffer of so many bytes: as long as it has room for a line, until one takes no byte; at most n
+unfoldable pub drain : ℕ → ℕ → Reader → Reader
+drain zero room r = r
+drain (suc n) room r =
+    cond (leb (length (r .printed) + mostLine) room)
+    (cond (eqb (step (r .progress) (r .held) .taken) 0) (next r) (drain n room (next r)))
+    r
 
-unfoldable pub feedAll : Reader → List (List ℕ) → Reader
-feedAll r [] = r
-feedAll r (piece ∷ pieces) = feedAll (feed r piece) pieces
+-- with the bytes s at hand and an empty buffer: each step but the last takes a byte
+abbrev pub drained : Progress → List ℕ → ℕ → Reader
+drained p s room = drain (suc (length s)) room (reader p s [])
 
--- nothing was fed, and nothing printed
+-- what is in the buffer is printed, and it is empty again; so n times
+abbrev pub emptied : ℕ → Reader → Reader
+emptied room r = let q = drained (r .progress) (r .held) room in reader (q .progress) (q .held) (r .printed ++ q .printed)
+
+unfoldable pub emptiedTimes : ℕ → ℕ → Reader → Reader
+emptiedTimes zero room r = r
+emptiedTimes (suc n) room r = emptiedTimes n room (emptied room r)
+
+-- a piece more, and that until no byte is taken: each time but the last one is
+unfoldable pub feed : ℕ → Reader → List ℕ → Reader
+feed room r piece = emptiedTimes (length (r .held ++ piece) + 1) room (reader (r .progress) (r .held ++ piece) (r .printed))
+
+unfoldable pub feedAll : ℕ → Reader → List (List ℕ) → Reader
+feedAll room r [] = r
+feedAll room r (piece ∷ pieces) = feedAll room (feed room r piece) pieces
+
+-- nothing is read, and nothing printed
 abbrev pub start : Reader
 start = reader Head [] []
 
--- what is printed of a batch that is fed in these pieces
-abbrev pub fed : List (List ℕ) → List ℕ
-fed pieces = feedAll start pieces .printed ++ ending (feedAll start pieces .progress)
+-- what is printed of a batch that comes in these pieces
+abbrev pub fed : ℕ → List (List ℕ) → List ℕ
+fed room pieces = let r = feedAll room start pieces in r .printed ++ ending (r .progress)

@@ -1,5 +1,5 @@
 -- Laws for the code of a step: its tests, the parts that it lends, and what it then promises.
-use mathlib.Core.Bool.{true, false, true≢false, cond, _&&_}
+use mathlib.Core.Bool.{true, false, cond, _&&_}
 use mathlib.Core.List.{List, [], _∷_, _++_}
 use mathlib.Core.Path.{_≡_, refl, sym, ap, _∙_}
 use Prim.Native.Nat.{ℕ, zero, suc, _+_, _-_, _*_, _≤_, _<_}
@@ -19,14 +19,14 @@ use Rattle.lines.specs.Line.{lineOf, putOver, putCount}
 use Rattle.lines.specs.LineLaws.{put-fits}
 use Rattle.batch.specs.declared.Sums.{Sums}
 use Rattle.batch.specs.declared.Progress.{Progress}
-use Rattle.batch.specs.declared.Progress.the-variants.{Head, Entries, Stopped}
+use Rattle.batch.specs.declared.Progress.the-variants.{Entries, Stopped}
 use Rattle.batch.specs.declared.Taken.{Taken}
-use Rattle.batch.specs.Batch.{batchMark, headBytes, entriesCounted, partSize, hasPart, partOf, pastPart, hasEntry, entryAnswer, entrySize, noSums, plus, refused75, totalOf}
-use Rattle.batch.specs.Steps.{Stepped, quiet, headStep, entryStep, step, ending}
-use Rattle.batch.specs.Bounds.{Sized, Within, mostWanted, Nears}
+use Rattle.batch.specs.Batch.{partSize, hasPart, partOf, pastPart, hasEntry, entryAnswer, entrySize, plus, refused75, totalOf}
+use Rattle.batch.specs.Steps.{Stepped, quiet, entryStep, ending}
+use Rattle.batch.specs.Bounds.{Sized, Within, Nears}
 use Rattle.batch.specs.Promised.{took, Quiet, Does}
 use Rattle.batch.specs.PartLaws.{entry-parts, entry-fits}
-use Rattle.batch.specs.StepLaws.{head-short, head-wrong, head-past, entry-past, entry-none}
+use Rattle.batch.specs.StepLaws.{entry-past, entry-none}
 use Rattle.batch.specs.BoundLaws.{plus-sized, entry-costs}
 
 -- a part that is not whole: its length is not, or its bytes are not

@@ -8,7 +8,7 @@ use lib.Dec.{leb, ltb}
 use lib.ListN.{length, getD, take}
 use borrow.Author.Tests.{eq-eqb, ne-eqb, leb-true, le-leb, lt-leb}
 use Rattle.words.specs.Lists.{every, same}
-use Rattle.words.specs.TestLaws.{split, both}
+use Rattle.words.specs.TestLaws.{both}
 use Rattle.codes.specs.Codes.{codeOf}
 use Rattle.codes.specs.declared.Code.{Code}
 use Rattle.gates.specs.Limits.{mostGates}

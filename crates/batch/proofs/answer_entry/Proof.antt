@@ -1,13 +1,13 @@
 use borrow.Author.Needs.{needs}
 use mathlib.Core.Bool.{true, cond}
 use mathlib.Core.List.{List}
-use mathlib.Core.Path.{_≡_, sym, ap, _∙_}
+use mathlib.Core.Path.{_≡_, _∙_}
 use Prim.Native.Nat.{ℕ, _+_, _-_, _≤_}
 use native.Mathlib.Omega.{arith}
 use denote.Ref.{now}
-use lib.ListN.{length, take, drop, length-drop}
+use lib.ListN.{length}
 use Rattle.batch.specs.Batch.{partSize, hasPart, pastPart, hasEntry}
-use Rattle.batch.specs.PartLaws.{part-fits, entry-parts, entry-fits}
+use Rattle.batch.specs.PartLaws.{part-fits, entry-parts}
 use Rattle.batch.specs.TakenLaws.{sizes-are, answer-lent}
 use Rattle.batch.proofs.answer_entry.Statement.{statement}
 use Rattle.batch.proofs.answer_entry.Tie as tie

@@ -35,16 +35,16 @@ step-requires : tie.Need-step-requires Inv-loop μ-loop
 step-requires c κs = (c .before .before .before .loop .inv .within, rw (room-rest _ _) (c .before .before .loop-test .left))
 
 add-bytes : tie.Need-add-bytes Inv-loop μ-loop
-add-bytes c = record { fits = omega (arith, drain-took _ _ _ _ _ _ _ (c .before .before .before .before .before .before .before .before .before .loop .inv) _ _ (c .before .before .before .before .before .step .ensures .0) (c .before .before .before .before .before .step .ensures .1 .0) (c .before .before .before .before .before .step .ensures .1 .1) .0, c .before .before .before .before .before .before .before .before .before .before .before .before .good) }
+add-bytes c = record { fits = omega (arith, drain-took _ _ _ _ _ _ _ (c .before .before .before .before .before .before .before .before .before .loop .inv) _ _ (c .before .before .before .before .before .step .ensures .0) (c .before .before .before .before .before .step .ensures .1 .0) (c .before .before .before .before .before .step .ensures .1 .1) (c .before .before .before .before .before .before .before .before .loop-test .left) .0, c .before .before .before .before .before .before .before .before .before .before .before .before .good) }
 
 add-printed : tie.Need-add-printed Inv-loop μ-loop
-add-printed c = record { fits = omega (arith, drain-took _ _ _ _ _ _ _ (c .before .before .before .before .before .before .before .before .before .before .loop .inv) _ _ (c .before .before .before .before .before .before .step .ensures .0) (c .before .before .before .before .before .before .step .ensures .1 .0) (c .before .before .before .before .before .before .step .ensures .1 .1) .1, c .before .before .before .before .before .before .before .before .before .before .before .before .before .good) }
+add-printed c = record { fits = omega (arith, drain-took _ _ _ _ _ _ _ (c .before .before .before .before .before .before .before .before .before .before .loop .inv) _ _ (c .before .before .before .before .before .before .step .ensures .0) (c .before .before .before .before .before .before .step .ensures .1 .0) (c .before .before .before .before .before .before .step .ensures .1 .1) (c .before .before .before .before .before .before .before .before .before .loop-test .left) .1, c .before .before .before .before .before .before .before .before .before .before .before .before .before .good) }
 
 loop-less : tie.Need-loop-less Inv-loop μ-loop
-loop-less c = drain-less _ _ _ _ _ _ _ (c .before .before .before .before .before .before .before .before .before .before .loop .inv) _ _ (c .before .before .before .before .before .before .step .ensures .0) (c .before .before .before .before .before .before .step .ensures .1 .0) (c .before .before .before .before .before .before .step .ensures .1 .1) (c .before .before .if1 .left)
+loop-less c = drain-less _ _ _ _ _ _ _ (c .before .before .before .before .before .before .before .before .before .before .loop .inv) _ _ (c .before .before .before .before .before .before .step .ensures .0) (c .before .before .before .before .before .before .step .ensures .1 .0) (c .before .before .before .before .before .before .step .ensures .1 .1) (c .before .before .before .before .before .before .before .before .before .loop-test .left) (c .before .before .if1 .left)
 
 loop-again : tie.Need-loop-again Inv-loop μ-loop
-loop-again c = drain-more _ _ _ _ _ _ _ (c .before .before .before .before .before .before .before .before .before .before .loop .inv) _ _ (c .before .before .before .before .before .before .step .ensures .0) (c .before .before .before .before .before .before .step .ensures .1 .0) (c .before .before .before .before .before .before .step .ensures .1 .1) (c .before .before .if1 .left)
+loop-again c = drain-more _ _ _ _ _ _ _ (c .before .before .before .before .before .before .before .before .before .before .loop .inv) _ _ (c .before .before .before .before .before .before .step .ensures .0) (c .before .before .before .before .before .before .step .ensures .1 .0) (c .before .before .before .before .before .before .step .ensures .1 .1) (c .before .before .before .before .before .before .before .before .before .loop-test .left) (c .before .before .if1 .left)
 
 same-length : tie.Need-same-length Inv-loop μ-loop
 same-length c = drain-length _ _ _ _ _ _ _ (c .before .loop .inv)
@@ -53,12 +53,12 @@ returns : tie.Need-returns Inv-loop μ-loop
 returns c = let i = c .before .loop .inv in (drain-full _ _ _ _ _ _ _ i (c .loop-test .taken), (i .within, i .nears))
 
 same-length-2 : tie.Need-same-length-2 Inv-loop μ-loop
-same-length-2 c = rest-length _ _ _ _ _ _ _ (c .before .before .before .before .before .before .before .before .loop .inv) _ _ (c .before .before .before .before .step .ensures .0) (c .before .before .before .before .step .ensures .1 .0) (c .before .before .before .before .step .ensures .1 .1) (c .if1 .taken)
+same-length-2 c = rest-length _ _ _ _ _ _ _ (c .before .before .before .before .before .before .before .before .loop .inv) _ _ (c .before .before .before .before .step .ensures .0) (c .before .before .before .before .step .ensures .1 .0) (c .before .before .before .before .step .ensures .1 .1) (c .before .before .before .before .before .before .before .loop-test .left) (c .if1 .taken)
 
 returns-2 : tie.Need-returns-2 Inv-loop μ-loop
 returns-2 c = (
-  drain-rests _ _ _ _ _ _ _ (c .before .before .before .before .before .before .before .before .loop .inv) _ _ (c .before .before .before .before .step .ensures .0) (c .before .before .before .before .step .ensures .1 .0) (c .before .before .before .before .step .ensures .1 .1) (c .if1 .taken),
-  (c .before .before .before .before .step .ensures .1 .0, rest-nears _ _ _ _ _ _ _ (c .before .before .before .before .before .before .before .before .loop .inv) _ _ (c .before .before .before .before .step .ensures .0) (c .before .before .before .before .step .ensures .1 .0) (c .before .before .before .before .step .ensures .1 .1) (c .if1 .taken)),
+  drain-rests _ _ _ _ _ _ _ (c .before .before .before .before .before .before .before .before .loop .inv) _ _ (c .before .before .before .before .step .ensures .0) (c .before .before .before .before .step .ensures .1 .0) (c .before .before .before .before .step .ensures .1 .1) (c .before .before .before .before .before .before .before .loop-test .left) (c .if1 .taken),
+  (c .before .before .before .before .step .ensures .1 .0, rest-nears _ _ _ _ _ _ _ (c .before .before .before .before .before .before .before .before .loop .inv) _ _ (c .before .before .before .before .step .ensures .0) (c .before .before .before .before .step .ensures .1 .0) (c .before .before .before .before .step .ensures .1 .1) (c .before .before .before .before .before .before .before .loop-test .left) (c .if1 .taken)),
 )
 
 pub take-entries-spec : {M : Type 1} → statement M
