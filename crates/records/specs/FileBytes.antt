@@ -1,11 +1,12 @@
 -- Laws for document 01, "The fused circuit file": a file of records that fit consists of bytes. Assumes nothing.
 use mathlib.Core.Path.{_≡_}
 use mathlib.Core.List.{List, [], _∷_, _++_}
-use Prim.Native.Nat.{ℕ, zero, suc, _<_}
+use Prim.Native.Nat.{ℕ, _<_}
 use native.Mathlib.Omega.{arith}
 use lib.ListN.{length}
 use Rattle.words.specs.Numbers.{bytesOf, Bytes}
 use Rattle.words.specs.NumberLaws.{bytes-below}
+use Rattle.words.specs.ByteLaws.{bytes-none, bytes-cons, bytes-join}
 use Rattle.codes.specs.Codes.{byteOf, startCode}
 use Rattle.codes.specs.declared.Kind.{Kind}
 use Rattle.codes.specs.declared.Kind.the-variants as kind
@@ -15,20 +16,8 @@ use Rattle.records.specs.Records.{Record, input, word, bit, operation, c
 use Rattle.records.specs.CircuitFile.{mark, wiresBytes, recordBytes, recordsBytes, fileBytes}
 use Rattle.records.specs.FitRecords.{ReadsBack, AllReadBack}
 
--- no byte, one byte more, and two runs of bytes
-nothing : Bytes []
-nothing i h = absurd (omega arith)
-
-bytes-cons : (b : ℕ) (l : List ℕ) → b < 256 → Bytes l → Bytes (b ∷ l)
-bytes-cons b l h k zero i = h
-bytes-cons b l h k (suc j) i = k j (omega arith)
-
-bytes-join : (a b : List ℕ) → Bytes a → Bytes b → Bytes (a ++ b)
-bytes-join [] b h k = k
-bytes-join (x ∷ a) b h k = bytes-cons x (a ++ b) (h 0 (omega arith)) (bytes-join a b (λ i l. h (suc i) (omega arith)) k)
-
 wires-bytes : (l : List ℕ) → Bytes (wiresBytes l)
-wires-bytes [] = nothing
+wires-bytes [] = bytes-none
 wires-bytes (w ∷ l) = bytes-join (bytesOf 2 w) (wiresBytes l) (bytes-below 2 w) (wires-bytes l)
 
 byte-small : (op : Operation) → byteOf op < 256
@@ -46,9 +35,9 @@ start-small kind.Word = omega arith
 start-small kind.Bit = omega arith
 
 pub record-bytes : (r : Record) → ReadsBack r → Bytes (recordBytes r)
-record-bytes (input k x) h = bytes-cons (startCode k) (x ∷ []) (start-small k) (bytes-cons x [] h nothing)
+record-bytes (input k x) h = bytes-cons (startCode k) (x ∷ []) (start-small k) (bytes-cons x [] h bytes-none)
 record-bytes (word n) h = bytes-cons 0x11 (bytesOf 4 n) (omega arith) (bytes-below 4 n)
-record-bytes (bit b) h = bytes-cons 0x12 (b ∷ []) (omega arith) (bytes-cons b [] h nothing)
+record-bytes (bit b) h = bytes-cons 0x12 (b ∷ []) (omega arith) (bytes-cons b [] h bytes-none)
 record-bytes (operation op l) h = bytes-cons (byteOf op) (wiresBytes l) (byte-small op) (wires-bytes l)
 record-bytes (choice c a b) h = bytes-cons 0x30 (wiresBytes (c ∷ a ∷ b ∷ [])) (omega arith) (wires-bytes (c ∷ a ∷ b ∷ []))
 record-bytes (pick l) (h, w) =
@@ -58,7 +47,7 @@ record-bytes (guard cs t) (h, w, u) =
     (bytes-cons (length cs) (wiresBytes cs ++ bytesOf 8 t) h (bytes-join (wiresBytes cs) (bytesOf 8 t) (wires-bytes cs) (bytes-below 8 t)))
 
 pub records-bytes : (R : List Record) → AllReadBack R → Bytes (recordsBytes R)
-records-bytes [] f = nothing
+records-bytes [] f = bytes-none
 records-bytes (r ∷ R) (h, f) = bytes-join (recordBytes r) (recordsBytes R) (record-bytes r h) (records-bytes R f)
 
 pub file-bytes : (v : ℕ) (R : List Record) (outputs : List ℕ) → v < 256 → AllReadBack R → Bytes (fileBytes v R outputs)
@@ -74,4 +63,4 @@ file-bytes v R outputs h f =
         (bytes-cons 0x49 (0x52 ∷ 0x00 ∷ 0x01 ∷ []) (omega arith)
         (bytes-cons 0x52 (0x00 ∷ 0x01 ∷ []) (omega arith)
         (bytes-cons 0x00 (0x01 ∷ []) (omega arith)
-        (bytes-cons 0x01 [] (omega arith) nothing))))
+        (bytes-cons 0x01 [] (omega arith) bytes-none))))

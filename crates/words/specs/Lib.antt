@@ -1,5 +1,6 @@
 pub mod Numbers
 pub mod NumberLaws
+pub mod ByteLaws
 pub mod Buffers
 pub mod BufferLaws
 pub mod Lists
