@@ -8,19 +8,20 @@ use native.Mathlib.Nat.{zero-add, add-zero}
 use native.Mathlib.Omega.{arith}
 use lib.Dec.{eqb, leb}
 use lib.ListN.{length, take, drop, length-drop, take-append-drop}
-use lib.Seq.{drop-drop, drop-append-seam, length-take-le}
+use lib.Seq.{drop-drop, length-take-le}
 use borrow.Author.Tests.{leb-true, leb-false, eqb-true, eqb-false}
 use Rattle.words.specs.TestLaws.{split}
 use Rattle.words.specs.Lists.{same}
 use Rattle.words.specs.MemberLaws.{same-right}
 use Rattle.words.specs.Numbers.{bytesOf, numberAt, Bytes}
 use Rattle.words.specs.NumberLaws.{number-small, number-back}
+use Rattle.words.specs.ByteLaws.{bytes-drop, bytes-behind}
 use Rattle.answers.specs.declared.Answer.{Answer}
 use Rattle.batch.specs.declared.Sums.{Sums}
 use Rattle.batch.specs.Batch.{batchMark, headBytes, entriesCounted, partSize, hasPart, partOf, pastPart, hasEntry, entrySize, pastEntry, noSums, plus, totalOf, reportOf}
 use Rattle.batch.specs.Packed.{Entry, Fits, AllFit, partBytes, entryBytes, headOf, answerTo, linesOf, accepts, refuses, among, costOf, totalIn, NoEntry, Found, whole, left, missing, short, other, printedFor}
 use Rattle.batch.specs.PartLaws.{part-fits, entry-parts, past-both}
-use Rattle.batch.specs.BoundLaws.{plus-accepted, plus-refused, bytes-drop}
+use Rattle.batch.specs.BoundLaws.{plus-accepted, plus-refused}
 use Rattle.batch.specs.PackedLaws.{entry-there, sumsFrom, whole-batch, bytes-left, entries-missing, head-cut, head-other}
 
 -- a part that is whole, and what comes after it, are the bytes that it stands in
@@ -165,9 +166,6 @@ unfolding totalIn
 total-is es = let s = sums-are es noSums in rw (s .accepted-is ∙ zero-add _, s .refused-is ∙ zero-add _, s .before-is ∙ zero-add _, s .after-is ∙ zero-add _)
 
 -- what is printed of each sort is the report
-bytes-behind : (a b : List ℕ) → Bytes (a ++ b) → Bytes b
-bytes-behind a b h = rw (drop-append-seam a b) at (bytes-drop (a ++ b) (length a) h)
-
 pub found-report : (b : List ℕ) → Bytes b → (f : Found b) → reportOf b ≡ printedFor f
 found-report b bytes (whole es f h) = whole-batch es f h ∙ ap (λ (x : List ℕ). linesOf es ++ x) (total-is es)
 found-report b bytes (left es f h c x) = bytes-left es f h c x

@@ -8,6 +8,7 @@ pub mod StepLaws
 pub mod FeedLaws
 pub mod PackedLaws
 pub mod BoundLaws
+pub mod HeldLaws
 pub mod FoundLaws
 pub mod TakenLaws
 pub mod DrainLaws
