@@ -19,7 +19,7 @@ use Rattle.words.specs.ByteLaws.{bytes-drop, bytes-behind}
 use Rattle.answers.specs.declared.Answer.{Answer}
 use Rattle.batch.specs.declared.Sums.{Sums}
 use Rattle.batch.specs.Batch.{batchMark, headBytes, entriesCounted, partSize, hasPart, partOf, pastPart, hasEntry, entrySize, pastEntry, noSums, plus, totalOf, reportOf}
-use Rattle.batch.specs.Packed.{Entry, Fits, AllFit, partBytes, entryBytes, headOf, answerTo, linesOf, accepts, refuses, among, costOf, totalIn, NoEntry, Found, whole, left, missing, short, other, printedFor}
+use Rattle.batch.specs.Packed.{Entry, Fits, AllFit, partBytes, entryBytes, headOf, batchOf, answerTo, linesOf, accepts, refuses, among, costOf, totalIn, NoEntry, Found, whole, left, missing, short, other, printedFor}
 use Rattle.batch.specs.PartLaws.{part-fits, entry-parts, past-both}
 use Rattle.batch.specs.BoundLaws.{plus-accepted, plus-refused}
 use Rattle.batch.specs.PackedLaws.{entry-there, sumsFrom, whole-batch, bytes-left, entries-missing, head-cut, head-other}
@@ -166,8 +166,11 @@ unfolding totalIn
 total-is es = let s = sums-are es noSums in rw (s .accepted-is ∙ zero-add _, s .refused-is ∙ zero-add _, s .before-is ∙ zero-add _, s .after-is ∙ zero-add _)
 
 -- what is printed of each sort is the report
+pub whole-report : (es : List Entry) → AllFit es → length es < 65536 → reportOf (batchOf es) ≡ linesOf es ++ totalIn es
+whole-report es f h = whole-batch es f h ∙ ap (λ (x : List ℕ). linesOf es ++ x) (total-is es)
+
 pub found-report : (b : List ℕ) → Bytes b → (f : Found b) → reportOf b ≡ printedFor f
-found-report b bytes (whole es f h) = whole-batch es f h ∙ ap (λ (x : List ℕ). linesOf es ++ x) (total-is es)
+found-report b bytes (whole es f h) = whole-report es f h
 found-report b bytes (left es f h c x) = bytes-left es f h c x
 found-report b bytes (missing es f n h x none) =
     entries-missing es f n x h (none-there x (bytes-behind (flatMap entryBytes es) x (bytes-behind (headOf (length es + suc n)) (flatMap entryBytes es ++ x) bytes)) none)

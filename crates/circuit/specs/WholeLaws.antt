@@ -11,8 +11,10 @@ use Rattle.words.specs.TestLaws.{split}
 use Rattle.answers.specs.Answers.{success, refusal, answerOf}
 use Rattle.answers.specs.Parsing.{Parsed, parsed, refused, stepOf, IsRead}
 use Rattle.answers.specs.declared.Answer.{Answer}
+use Rattle.reading.specs.Limits.{mostBytes}
 use Rattle.reading.specs.Tree.{Block}
 use Rattle.reading.specs.Rule.{readRule}
+use Rattle.reading.specs.RuleLaws.{rule-large}
 use Rattle.reading.specs.RowLaws.{ByteRow, ByteRows, rule-rows}
 use Rattle.gates.specs.Limits.{mostGates, mostConditions}
 use Rattle.gates.specs.Gates.{Gates, costs, conditions}
@@ -95,6 +97,11 @@ rule-cases s = go (readRule s) (rule-rows s)
 pub answer-whole : (s : List ℕ) → IsRead (readRule s) → ruleAnswer s ≡ wholeWithin mostGates mostConditions (gatesOf s) (length s)
 unfolding ruleAnswer
 answer-whole s h = bytes-whole (readRule s) _ h
+
+-- a rule over its limit of bytes is refused for that
+pub rule-over : (s : List ℕ) → mostBytes < length s → ruleAnswer s ≡ refusal 1 0
+unfolding ruleAnswer
+rule-over s h = rw (rule-large s h)
 
 -- "A rule is accepted when reading it returns number 0": then it was read, and is within both limits
 pub record Accepted (s : List ℕ) : Type 0 where

@@ -4,9 +4,11 @@ pub mod FusedRunLaws
 pub mod OrderLaws
 pub mod ForeignLaws
 pub mod WorkingLaws
+pub mod BatchLaws
 pub mod Demands
 pub mod C11
 pub mod C12
 pub mod C13
 pub mod C14
 pub mod C15
+pub mod C16

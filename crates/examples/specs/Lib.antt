@@ -4,3 +4,4 @@ pub mod StarredProved
 pub mod ArgumentOrder
 pub mod Working
 pub mod GroupOrder
+pub mod Batches

@@ -3,9 +3,10 @@ use mathlib.Core.Path.{_≡_, refl, sym, ap, _∙_}
 use mathlib.Core.Bool.{true, false, true≢false, _&&_}
 use mathlib.Core.List.{List, [], _∷_, _++_, map}
 use mathlib.Core.Logic.{_↔_}
-use Prim.Native.Nat.{ℕ, _≤_}
+use Prim.Native.Nat.{ℕ, _≤_, _<_}
+use native.Mathlib.Omega.{arith}
 use lib.Dec.{eqb, leb, ltb}
-use borrow.Author.Tests.{eqb-true, eqb-false, eq-eqb, ne-eqb, leb-true, le-leb}
+use borrow.Author.Tests.{eqb-true, eqb-false, eq-eqb, ne-eqb, leb-true, le-leb, lt-leb}
 use lib.ListN.{length, take, drop}
 use Rattle.words.specs.MemberLaws.{same-right}
 use Rattle.words.specs.Lists.{every}
@@ -24,7 +25,7 @@ use Rattle.needed.specs.Pass.{rulePreconditions}
 use Rattle.needed.specs.RulePreconditions.{rule-earlier, wanted-inside, rule-exclude}
 use Rattle.circuit.specs.Whole.{ruleAnswer}
 use Rattle.circuit.specs.WholeLaws.{accepted}
-use Rattle.plan.specs.PlanFile.{mark, leastBytes, groupsCounted, groupsIn, Plan, EachGroup, Rising, Apart}
+use Rattle.plan.specs.PlanFile.{mark, leastBytes, mostBytes, groupsCounted, groupsIn, Plan, EachGroup, Rising, Apart}
 use Rattle.plan.specs.Groups.{smallest, groupOf}
 use Rattle.plan.specs.Rows.{everyGroup, rises, groupsRise, Row, layoutRows, joinRows, orderRows, rows, planRow, planAnswer}
 use Rattle.plan.specs.Accepted.{LaidOut, Exist, GroupsRise, Acceptable}
@@ -144,6 +145,11 @@ answer-row s p h f = rw (eq-eqb (ruleAnswer s .number) 0 h, ne-eqb (planRow s p)
 pub answer-accepted : (s p : List ℕ) → ruleAnswer s .number ≡ 0 → planRow s p ≡ 0 → planAnswer s p ≡ ruleAnswer s
 unfolding planAnswer
 answer-accepted s p h e = rw (eq-eqb (ruleAnswer s .number) 0 h, eq-eqb (planRow s p) 0 e)
+
+-- a plan over its limit of bytes is refused for that, with an accepted rule
+pub plan-over : (s p : List ℕ) → ruleAnswer s .number ≡ 0 → mostBytes < length p → planAnswer s p ≡ refusal 20 0
+unfolding planRow planAnswer
+plan-over s p h l = rw (eq-eqb (ruleAnswer s .number) 0 h, le-leb leastBytes (length p) (omega arith), lt-leb (length p) mostBytes l)
 
 -- with an accepted rule its number is the row's
 pub answer-number : (s p : List ℕ) → ruleAnswer s .number ≡ 0 → planAnswer s p .number ≡ planRow s p

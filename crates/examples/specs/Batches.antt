@@ -1,0 +1,79 @@
+-- Examples of document 02, C-16, "What a month saved": examples, proved from the definitions. Assumes nothing.
+use Prim.Native.Nat.{ℕ}
+use mathlib.Core.Path.{_≡_, refl}
+use mathlib.Core.List.{List, [], _∷_, _++_, map, flatMap}
+use lib.ListN.{take}
+use Rattle.words.specs.Numbers.{number, bytesOf}
+use Rattle.settings.specs.Sets.{collect, restsOn, rests}
+use Rattle.settings.specs.Numbers.{numbers}
+use Rattle.settings.specs.Guards.{spread, tableOver, table}
+use Rattle.codes.specs.Codes.{operationOf, codeOf}
+use Rattle.answers.specs.Parsing.{readMark}
+use Rattle.reading.specs.Header.{kindOf, workingOf, readCount, readKinds, readHeader}
+use Rattle.reading.specs.Expressions.{readVariable, readWord, readBit, operationWith, exprWith, readExpr}
+use Rattle.reading.specs.Blocks.{readAssign, branchWith, statementWith, blockWith, blockFuel, readBlock}
+use Rattle.reading.specs.Rule.{readRule}
+use Rattle.reading.specs.Examples.{r1}
+use Rattle.gates.specs.Gates.{conditions, costs}
+use Rattle.gates.specs.PlainCircuit.{applyGate, makeExpr, assignsIn, assigns, choices, makeStatement, makeBlock, plainCircuit}
+use Rattle.needed.specs.Pass.{preconditions, preconditionSets}
+use Rattle.circuit.specs.Whole.{wholeWithin, ruleAnswer}
+use Rattle.plan.specs.PlanFile.{groupsIn}
+use Rattle.plan.specs.Groups.{groups, restsOf, waitsFor}
+use Rattle.plan.specs.Order.{order}
+use Rattle.plan.specs.Rows.{planRow, planAnswer}
+use Rattle.plan.specs.Examples.{p1}
+use Rattle.records.specs.Records.{recordsCost}
+use Rattle.fused.specs.FusedCircuit.{written, fused, fusedFile}
+use Rattle.fused.specs.Answers.{fusedCounts, fusedAnswer}
+use Rattle.lines.specs.Line.{digits, decimal, spaced, line, accepted, refused, placed, lineOf}
+use Rattle.lines.specs.Total.{total, spacedLess, totalLine}
+use Rattle.batch.specs.Batch.{headed, hasPart, hasEntry, entryAnswer, plus, reportFrom, reportOf}
+use Rattle.batch.specs.Packed.{Entry, batchOf}
+
+-- "a 9-byte plan of no groups" for R1's six gates
+abbrev pub no-groups : List ℕ
+no-groups = 0x50 ∷ 0x4C ∷ 0x4E ∷ 0x00 ∷ 0x01 ∷ 0x00 ∷ 0x06 ∷ 0x00 ∷ 0x00 ∷ []
+
+-- "R1 with P1, then R1 with a 9-byte plan of no groups"
+abbrev pub two-of-r1 : List ℕ
+two-of-r1 = batchOf (record { rule = r1; plan = p1 } ∷ record { rule = r1; plan = no-groups } ∷ [])
+
+-- the lines `accepted 6 9 33 28` and `accepted 6 6 33 33`
+abbrev pub first-line : List ℕ
+first-line = accepted ++ (32 ∷ 54 ∷ 32 ∷ 57 ∷ 32 ∷ 51 ∷ 51 ∷ 32 ∷ 50 ∷ 56 ∷ 10 ∷ [])
+
+abbrev pub second-line : List ℕ
+second-line = accepted ++ (32 ∷ 54 ∷ 32 ∷ 54 ∷ 32 ∷ 51 ∷ 51 ∷ 32 ∷ 51 ∷ 51 ∷ 10 ∷ [])
+
+-- the line `refused 75`
+abbrev pub refused-75 : List ℕ
+refused-75 = refused ++ (32 ∷ 55 ∷ 53 ∷ 10 ∷ [])
+
+-- it "ends `total 2 0 66 61 5`"
+pub saved-five : reportOf two-of-r1 ≡ first-line ++ (second-line ++ (total ++ (32 ∷ 50 ∷ 32 ∷ 48 ∷ 32 ∷ 54 ∷ 54 ∷ 32 ∷ 54 ∷ 49 ∷ 32 ∷ 53 ∷ 10 ∷ [])))
+unfolding number kindOf workingOf operationOf codeOf readMark readCount readKinds readHeader readVariable readWord readBit operationWith exprWith readExpr readAssign branchWith
+    statementWith blockWith blockFuel readBlock readRule applyGate makeExpr assignsIn assigns choices makeStatement makeBlock plainCircuit conditions collect numbers
+    preconditions preconditionSets costs wholeWithin ruleAnswer restsOn rests groupsIn groups restsOf waitsFor order planRow planAnswer bytesOf spread tableOver table
+    written fused fusedFile recordsCost fusedCounts fusedAnswer digits decimal spaced line placed lineOf spacedLess totalLine flatMap headed hasPart hasEntry entryAnswer plus
+    reportFrom reportOf
+saved-five = refl
+
+-- one byte more, one byte less, and one byte less than its first entry
+pub not-whole : map reportOf ((two-of-r1 ++ (0x00 ∷ [])) ∷ take 95 two-of-r1 ∷ take 53 two-of-r1 ∷ [])
+    ≡ (first-line ++ (second-line ++ refused-75)) ∷ (first-line ++ refused-75) ∷ refused-75 ∷ []
+unfolding number kindOf workingOf operationOf codeOf readMark readCount readKinds readHeader readVariable readWord readBit operationWith exprWith readExpr readAssign branchWith
+    statementWith blockWith blockFuel readBlock readRule applyGate makeExpr assignsIn assigns choices makeStatement makeBlock plainCircuit conditions collect numbers
+    preconditions preconditionSets costs wholeWithin ruleAnswer restsOn rests groupsIn groups restsOf waitsFor order planRow planAnswer bytesOf spread tableOver table
+    written fused fusedFile recordsCost fusedCounts fusedAnswer digits decimal spaced line placed lineOf spacedLess totalLine flatMap headed hasPart hasEntry entryAnswer plus
+    reportFrom reportOf
+not-whole = refl
+
+-- a batch that counts no entry is whole; one that ends before its header, and one of another version, are not
+pub no-entry : reportOf (batchOf []) ≡ total ++ (32 ∷ 48 ∷ 32 ∷ 48 ∷ 32 ∷ 48 ∷ 32 ∷ 48 ∷ 32 ∷ 48 ∷ 10 ∷ [])
+unfolding number bytesOf flatMap headed digits decimal spaced spacedLess totalLine reportFrom reportOf
+no-entry = refl
+
+pub no-batch : map reportOf (take 6 (batchOf []) ∷ (0x42 ∷ 0x41 ∷ 0x54 ∷ 0x00 ∷ 0x02 ∷ 0x00 ∷ 0x00 ∷ []) ∷ []) ≡ refused-75 ∷ refused-75 ∷ []
+unfolding number bytesOf flatMap headed digits decimal spaced line placed lineOf reportFrom reportOf
+no-batch = refl
