@@ -11,7 +11,7 @@ use Rattle.words.specs.Buffers.{over}
 use Rattle.words.specs.BufferLaws.{over-nil, length-over, room-rest, over-rest}
 use Rattle.batch.specs.declared.Progress.{Progress}
 use Rattle.batch.specs.declared.Taken.{Taken}
-use Rattle.batch.specs.Steps.{Stepped, step, reader, mostLine, next, drain, drained}
+use Rattle.batch.specs.Steps.{Stepped, step, Reader, reader, mostLine, next, drain, drained}
 use Rattle.batch.specs.Bounds.{Within, Nears}
 use Rattle.batch.specs.Promised.{Does, Drains}
 use Rattle.batch.specs.StepLaws.{step-orderly}
@@ -30,6 +30,19 @@ pub record Draining (p : Progress) (s d : List ℕ) (reached : Progress) (bytes 
   pub written : e ≡ over text d
   pub within : Within reached
   pub nears : Nears p (record { progress = reached; bytes = bytes; printed = printed })
+
+-- what is promised, once it is known where the steps lead
+drains : (p : Progress) (s d e text : List ℕ) (r : Taken) → drained p s (length d) ≡ reader (r .progress) (drop (r .bytes) s) text
+    → r .bytes ≤ length s → length text ≤ length d → r .printed ≡ length text → e ≡ over text d → Drains p s r d e
+drains p s d e text r is inside room counted written =
+    record {
+      reached = ap (λ (q : Reader). q .progress) (sym is);
+      left = ap (λ (q : Reader). q .held) (sym is);
+      inside = inside;
+      room = rw is room;
+      counted = rw is counted;
+      written = rw is written;
+    }
 
 pub drain-start : (p : Progress) (s d : List ℕ) → Within p → Draining p s d p 0 0 d
 drain-start p s d w =
@@ -56,14 +69,9 @@ module _ (p : Progress) (s d : List ℕ) (reached : Progress) (bytes printed : �
   -- no room for a line
   pub drain-full : length e - printed < 93 → Drains p s (record { progress = reached; bytes = bytes; printed = printed }) d e
   drain-full h =
-      record {
-        text = i .text;
-        is = i .is ∙ drain-no-room (i .fuel) (length d) (reader reached (drop bytes s) (i .text)) (omega (arith, drain-length, i .counted));
-        inside = i .inside;
-        room = i .room;
-        counted = i .counted;
-        written = i .written;
-      }
+      drains p s d e (i .text) _
+      (i .is ∙ drain-no-room (i .fuel) (length d) (reader reached (drop bytes s) (i .text)) (omega (arith, drain-length, i .counted)))
+      (i .inside) (i .room) (i .counted) (i .written)
 
   -- one step more, on the bytes and the buffer that are left
   module _ (r : Taken) (ys : List ℕ) (does : Does (step reached (take (length s - bytes) (drop bytes s))) r (take (length e - printed) (drop printed e)) ys)
@@ -143,16 +151,12 @@ module _ (p : Progress) (s d : List ℕ) (reached : Progress) (bytes printed : �
 
       pub drain-rests : Drains p s (record { progress = r .progress; bytes = bytes; printed = printed }) d (putMid printed (length e - printed) e ys)
       drain-rests =
-          record {
-            text = i .text;
-            is = i .is ∙ drain-last (i .fuel) (length d) (reader reached (drop bytes s) (i .text)) space (taken-is ∙ none) ∙ led
-                ∙ ap (λ (n : ℕ). reader (r .progress) (drop (bytes + n) s) (i .text ++ st .text)) none ∙ ap (λ (n : ℕ). reader (r .progress) (drop n s) (i .text ++ st .text)) (add-zero bytes)
-                ∙ ap (λ (x : List ℕ). reader (r .progress) (drop bytes s) x) unchanged;
-            inside = i .inside;
-            room = i .room;
-            counted = i .counted;
-            written = held ∙ ap (λ (x : List ℕ). over x d) unchanged;
-          }
+          drains p s d _ (i .text) _
+          (i .is ∙ drain-last (i .fuel) (length d) (reader reached (drop bytes s) (i .text)) space (taken-is ∙ none) ∙ led
+          ∙ ap (λ (n : ℕ). reader (r .progress) (drop (bytes + n) s) (i .text ++ st .text)) none
+          ∙ ap (λ (n : ℕ). reader (r .progress) (drop n s) (i .text ++ st .text)) (add-zero bytes)
+          ∙ ap (λ (x : List ℕ). reader (r .progress) (drop bytes s) x) unchanged)
+          (i .inside) (i .room) (i .counted) (held ∙ ap (λ (x : List ℕ). over x d) unchanged)
 
       pub rest-nears : Nears p (record { progress = r .progress; bytes = bytes; printed = printed })
       rest-nears = (omega (arith, i .nears .0, nears .0), λ z. omega (arith, i .nears .1 z, nears .0))

@@ -6,7 +6,7 @@ use lib.ListN.{length, drop}
 use Rattle.words.specs.Buffers.{over}
 use Rattle.batch.specs.declared.Progress.{Progress}
 use Rattle.batch.specs.declared.Taken.{Taken}
-use Rattle.batch.specs.Steps.{Stepped, quiet, reader, drained}
+use Rattle.batch.specs.Steps.{Stepped, quiet, drained}
 
 -- so many bytes taken and nothing printed
 abbrev pub took : Progress → ℕ → Taken
@@ -23,11 +23,11 @@ pub record Does (st : Stepped) (r : Taken) (d e : List ℕ) : Type 0 where
   pub counted : r .printed ≡ length (st .text)
   pub written : e ≡ over (st .text) d
 
--- the steps that are taken at once, their text in the buffer and nothing after it touched
+-- the steps that are taken at once: how far they lead, what they leave of the bytes at hand, and their text in the buffer, nothing after it touched
 pub record Drains (p : Progress) (s : List ℕ) (r : Taken) (d e : List ℕ) : Type 0 where
-  pub text : List ℕ
-  pub is : drained p s (length d) ≡ reader (r .progress) (drop (r .bytes) s) text
+  pub reached : r .progress ≡ drained p s (length d) .progress
+  pub left : drop (r .bytes) s ≡ drained p s (length d) .held
   pub inside : r .bytes ≤ length s
-  pub room : length text ≤ length d
-  pub counted : r .printed ≡ length text
-  pub written : e ≡ over text d
+  pub room : length (drained p s (length d) .printed) ≤ length d
+  pub counted : r .printed ≡ length (drained p s (length d) .printed)
+  pub written : e ≡ over (drained p s (length d) .printed) d
