@@ -232,8 +232,8 @@ pub fn finish(progress: Progress, out: &mut [u8]) -> usize
 {
     match progress {
         Progress::Head => lines::write_line(answers::refused(75, 0), out),
-        Progress::Entries(left, sums) => {
-            if left == 0 {
+        Progress::Entries(missing, sums) => {
+            if missing == 0 {
                 return lines::write_total(
                     sums.accepted,
                     sums.refused,
