@@ -47,6 +47,6 @@ case-spec =
     (λ c κs. search needs)
     (λ c. search needs)
     (λ c. search needs)
-    (λ c. search needs)
+    (λ c. (search needs, search needs, search needs, search needs))
     (λ c κs. search needs)
     (λ c. search needs))
