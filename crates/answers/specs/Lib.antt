@@ -1,3 +1,4 @@
 pub mod Answers
 pub mod Parsing
 pub mod ParsingLaws
+pub mod MarkLaws

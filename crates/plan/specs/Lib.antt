@@ -12,7 +12,6 @@ pub mod GroupLaws
 pub mod RestLaws
 pub mod WaitLaws
 pub mod RowLaws
-pub mod MarkLaws
 pub mod MemberLaws
 pub mod FailingLaws
 pub mod RangeLaws

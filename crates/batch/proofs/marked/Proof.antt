@@ -1,7 +1,7 @@
 use borrow.Author.Needs.{needs}
 use mathlib.Core.Path.{sym, _∙_}
 use native.Mathlib.Omega.{arith}
-use Rattle.plan.specs.MarkLaws.{mark-there, mark-missing}
+use Rattle.answers.specs.MarkLaws.{mark-there, mark-missing}
 use Rattle.batch.specs.Batch.{batchMark}
 use Rattle.batch.proofs.marked.Statement.{statement}
 use Rattle.batch.proofs.marked.Tie as tie

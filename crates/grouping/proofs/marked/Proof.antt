@@ -2,7 +2,7 @@ use borrow.Author.Needs.{needs}
 use mathlib.Core.Path.{sym, _∙_}
 use native.Mathlib.Omega.{arith}
 use Rattle.plan.specs.PlanFile.{mark}
-use Rattle.plan.specs.MarkLaws.{mark-there, mark-missing}
+use Rattle.answers.specs.MarkLaws.{mark-there, mark-missing}
 use Rattle.grouping.proofs.marked.Statement.{statement}
 use Rattle.grouping.proofs.marked.Tie as tie
 
