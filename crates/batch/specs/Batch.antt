@@ -27,10 +27,11 @@ headed b = leb headBytes (length b) && same (take 5 b) batchMark
 abbrev pub entriesCounted : List ℕ → ℕ
 entriesCounted b = numberAt 2 b 5
 
--- "a two-byte length with its rule", and so for its plan: a part is a length with so many bytes. One is whole at the start of s
+-- "a two-byte length with its rule", and so for its plan: a part is a length with so many bytes
 abbrev pub partSize : List ℕ → ℕ
 partSize s = 2 + numberAt 2 s 0
 
+-- one is whole at the start of s
 unfoldable pub hasPart : List ℕ → Bool
 hasPart s = leb 2 (length s) && leb (partSize s) (length s)
 

@@ -7,7 +7,7 @@ use Rattle.batch.specs.declared.Progress.{Progress}
 use Rattle.batch.specs.declared.Taken.{Taken}
 use Rattle.batch.specs.declared.Progress.the-variants.{Head, Entries, Stopped}
 
--- n entries more, and these sums, are of a batch
+-- with n entries to come, these sums are no larger than a batch's
 abbrev pub Sized : ℕ → Sums → Type 0
 Sized n t = (n + t .accepted + t .refused ≤ 65535) × (t .before ≤ 10240 * t .accepted) × (t .after ≤ 10240 * t .accepted)
 
@@ -15,7 +15,7 @@ Sized n t = (n + t .accepted + t .refused ≤ 65535) × (t .before ≤ 10240 * t
 abbrev pub Costs : Answer → Type 0
 Costs a = a .number ≡ 0 → (a .before ≤ 10240) × (a .after ≤ 10240)
 
--- so far as the report is, its sums are of a batch
+-- so far as the report is, its sums are no larger than a batch's
 abbrev pub Within : Progress → Type 0
 Within Head = Unit {0}
 Within (Entries n t) = Sized n t
@@ -25,7 +25,7 @@ Within Stopped = Unit {0}
 abbrev pub mostHeld : ℕ
 mostHeld = 131074
 
--- more than all the bytes that a report can still want, one for every entry: so a program that reads on comes to an end
+-- all the bytes that a report can still take, and one more for the head and for each entry: so a program that reads on comes to an end
 abbrev pub mostWanted : Progress → ℕ
 mostWanted Head = 8 + 65535 * 131075
 mostWanted (Entries n t) = n * 131075

@@ -17,18 +17,18 @@ pub record Stepped : Type 0 where
   pub taken : ℕ
   pub text : List ℕ
 
--- a step that prints nothing: nothing changes, or the progress alone
+-- a step that leads to p, takes n bytes and prints nothing
 abbrev pub quiet : Progress → ℕ → Stepped
 quiet p n = record { progress = p; taken = n; text = [] }
 
--- past the head: nothing before it is whole, then the count, or 75 where it is no head
+-- past the head: nothing until its bytes are at hand; then the count, or the report stops where it is no head
 unfoldable pub headStep : List ℕ → Stepped
 headStep s =
     cond (leb headBytes (length s))
     (cond (same (take 5 s) batchMark) (quiet (Entries (entriesCounted s) noSums) headBytes) (quiet Stopped 0))
     (quiet Head 0)
 
--- past one entry: nothing before it is whole, then its line
+-- past one entry: nothing until it is whole, then its line; where none is to come, a byte more stops the report
 unfoldable pub entryStep : ℕ → Sums → List ℕ → Stepped
 entryStep zero t [] = quiet (Entries 0 t) 0
 entryStep zero t (b ∷ s) = quiet Stopped 0
@@ -93,7 +93,7 @@ unfoldable pub emptiedTimes : ℕ → ℕ → Reader → Reader
 emptiedTimes zero room r = r
 emptiedTimes (suc n) room r = emptiedTimes n room (emptied room r)
 
--- a piece more, and that until no byte is taken: each time but the last one is
+-- a piece more, and that so often that no byte is taken any more: each time takes one, or nothing changes from then on
 unfoldable pub feed : ℕ → Reader → List ℕ → Reader
 feed room r piece = emptiedTimes (length (r .held ++ piece) + 1) room (reader (r .progress) (r .held ++ piece) (r .printed))
 

@@ -1,5 +1,5 @@
 // Reads a stream of cases on standard input, each a batch to be fed in pieces, and prints the report of each and an empty line.
-// A case is a two-byte size of its pieces (0 for the largest), a four-byte length and so many bytes. The file `stdout` has what
+// A case is a two-byte size of its pieces (0 for 65,536), a four-byte length and so many bytes. The file `stdout` has what
 // the implementation in compare/ printed, which was not written from this code.
 use batch::Progress;
 use libc::STDIN_FILENO;

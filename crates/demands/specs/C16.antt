@@ -1,8 +1,8 @@
 -- Document 02, C-16, "What a month saved": its sentences, each quoted above its theorems. b is any bytes as a batch, e an entry (a rule and a plan), es the entries of a batch.
-use Prim.Native.Nat.{ℕ, _*_, _≤_, _<_}
+use Prim.Native.Nat.{ℕ, _-_, _≤_, _<_}
 use native.Mathlib.Omega.{arith}
 use mathlib.Core.Path.{_≡_, sym, ap, _∙_}
-use mathlib.Core.List.{List, _++_, map, flatten}
+use mathlib.Core.List.{List, _∷_, _++_, map, flatten}
 use mathlib.Core.Logic.{_⊎_}
 use lib.ListN.{length}
 use Rattle.words.specs.Numbers.{Bytes}
@@ -10,10 +10,12 @@ use Rattle.answers.specs.Answers.{refusal}
 use Rattle.circuit.specs.Whole.{ruleAnswer}
 use Rattle.fused.specs.Answers.{writeAnswer}
 use Rattle.fused.specs.AnswerLaws as answers
-use Rattle.lines.specs.Line.{lineOf}
+use Rattle.lines.specs.Line.{decimal, lineOf}
+use Rattle.lines.specs.Total.{spacedLess}
+use Rattle.lines.specs.TotalLaws as totals
 use Rattle.batch.specs.declared.Progress.the-variants.{Stopped}
 use Rattle.batch.specs.Batch.{reportOf}
-use Rattle.batch.specs.Packed.{Entry, AllFit, batchOf, answerTo, linesOf, accepts, among, costOf, totalIn, Found, whole, printedFor}
+use Rattle.batch.specs.Packed.{Entry, AllFit, batchOf, answerTo, linesOf, accepts, among, costOf, totalIn, Found, printedFor}
 use Rattle.batch.specs.Steps.{mostLine, feedAll, start, fed}
 use Rattle.batch.specs.FoundLaws as found
 use Rattle.batch.specs.FeedLaws as feeding
@@ -22,9 +24,16 @@ use Rattle.batch.specs.BoundLaws as bounds
 use Rattle.demands.specs.BatchLaws as limits
 
 -- "A batch .. is 42 41 54 ("BAT"), 00 01, a two-byte count, and for each entry a two-byte length with its rule and a two-byte length with its plan. A second program ..
--- prints document 01's line for each entry, then `total`, the entries accepted and refused, the accepted ones' cost before and after, and before less after":
+-- prints document 01's line for each entry, then `total`, the entries accepted and refused, the accepted ones' cost before and after, and before less after, ..":
 pub whole-report : (es : List Entry) → AllFit es → length es < 65536 → reportOf (batchOf es) ≡ linesOf es ++ totalIn es
 whole-report = found.whole-report
+
+-- "which may be negative": the last number of the total has a sign then, and none else.
+pub saved : (before after : ℕ) → after ≤ before → spacedLess before after ≡ 32 ∷ decimal (before - after)
+saved = totals.less-saved
+
+pub lost : (before after : ℕ) → before < after → spacedLess before after ≡ 32 ∷ 45 ∷ decimal (after - before)
+lost = totals.less-negative
 
 -- "75 when the mark or version is wrong, the batch ends before its header and all the entries it counts are whole, or bytes are left": any bytes are a batch or one of these,
 pub batch-sorts : (b : List ℕ) → Bytes b → Found b
@@ -34,11 +43,13 @@ batch-sorts = found.every-found
 pub sort-report : (b : List ℕ) → Bytes b → (f : Found b) → reportOf b ≡ printedFor f
 sort-report = found.found-report
 
--- "writes no circuit": an entry's line is the one that the first program prints, which writes the circuit to a buffer of 16,384 bytes.
+-- "document 01's line for each entry": the one that the first program prints, which writes the circuit to a buffer of 16,384 bytes. ("writes no circuit": `writing::count`
+-- is lent no buffer.)
 pub entry-line : (e : Entry) → lineOf (answerTo e) ≡ lineOf (writeAnswer (e .rule) (e .plan) 16384)
 entry-line e = ap lineOf (sym (answers.room-enough (e .rule) (e .plan)))
 
--- "A rule or plan over its limit gets its refusal and is skipped": the refusal; it is skipped in `linesOf`. (A refused rule goes before its plan, whatever that is.)
+-- "A rule or plan over its limit gets its refusal and is skipped": the refusal; `whole-report`, where a rule or plan may have 65,535 bytes, has the next entry's line behind
+-- it. (A refused rule goes before its plan, whatever that is.)
 pub rule-over : (e : Entry) → 4096 < length (e .rule) → answerTo e ≡ refusal 1 0
 rule-over = limits.rule-over
 

@@ -40,7 +40,7 @@ module _ (s p : List ℕ) where
   unfolding fusedAnswer fusedCounts
   answer-bytes h = rw (eq-eqb _ _ h)
 
-  -- no gate costs more than 40, so neither cost is above 10,240
+  -- neither cost is above 10,240: no gate costs more than 40, and fused they come to no more (`plan-most`)
   pub costs-bound : fusedAnswer s p .number ≡ 0 → (fusedAnswer s p .before ≤ 10240) × (fusedAnswer s p .after ≤ 10240)
   unfolding fusedAnswer fusedCounts
   costs-bound z =

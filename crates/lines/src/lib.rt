@@ -1,4 +1,4 @@
-// The line that a program prints for an answer.
+// The line that a program prints for an answer, and the last line of a report.
 use answers::Answer;
 ghost use mathlib.Core.Path.{_≡_};
 ghost use mathlib.Core.List.{_++_};

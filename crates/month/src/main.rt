@@ -8,7 +8,7 @@ ghost use mathlib.Core.Path.{_≡_};
 ghost use lib.ListN.{length};
 ghost use Rattle.batch.specs.Bounds.{Within};
 
-// The bytes at hand: the longest entry has 131,074, so there is always as much room again to read into.
+// The bytes at hand. The longest entry has 131,074, and fewer are at hand when more is read (`few-held` of the demands), so there is always room.
 const WINDOW: usize = 262144;
 
 // What is printed at once: hundreds of lines.
@@ -74,7 +74,7 @@ fn wipe(w: Watch) {
     }
 }
 
-// How many entries are done, and how many the batch counts: 0 and 0 before its head is read.
+// How many entries are done, and how many the batch counts; nothing is shown before that is read.
 fn tell(w: Watch, progress: Progress) -> Watch
     requires { ⌜ Within progress ⌝ }
 {
@@ -83,7 +83,7 @@ fn tell(w: Watch, progress: Progress) -> Watch
             let done = sums.accepted + sums.refused;
             tick(w, done, done + left)
         }
-        _ => tick(w, 0, 0),
+        _ => w,
     }
 }
 

@@ -18,6 +18,5 @@ tell-spec =
     add-done
     add-tick
     (λ c κs. search needs)
-    (λ c κs. search needs)
     (λ c. search needs)
     (λ c. search needs))
