@@ -1,4 +1,6 @@
--- Document 02, C-16, "What a month saved": how large the sums of a report can become. No entry costs more than 10,240, and a batch counts at most 65,535.
+-- Document 02, C-16, "What a month saved": how large the sums of a report can become, and how many bytes are held for it. No entry costs more than 10,240, and a batch counts at most
+-- 65,535.
+use mathlib.Core.Logic.{_⊎_}
 use mathlib.Core.Path.{_≡_}
 use Prim.Native.Nat.{ℕ, _+_, _*_, _≤_, _<_}
 use Rattle.answers.specs.declared.Answer.{Answer}
@@ -34,3 +36,7 @@ mostWanted Stopped = 0
 -- what a step or a run of steps took is no longer wanted: r is never further from its end than p was, and nearer where a byte was taken
 abbrev pub Nears : Progress → Taken → Type 0
 Nears p r = (mostWanted (r .progress) + r .bytes ≤ mostWanted p) × ((r .bytes ≡ 0 → ⊥) → mostWanted (r .progress) + r .bytes < mostWanted p)
+
+-- where no byte of n was taken, the report has stopped, or fewer are at hand than the longest entry has: so there is room for more in a window that holds it
+abbrev pub Few : Taken → ℕ → Type 0
+Few r n = r .bytes ≡ 0 → (r .progress ≡ Stopped) ⊎ (n < mostHeld)

@@ -1,5 +1,6 @@
 -- Laws for the code of a run of steps: what it has done so far, and one step more.
 use mathlib.Core.List.{List, [], _∷_, _++_, append-nil}
+use mathlib.Core.Logic.{inl, inr, ⊎-elim}
 use mathlib.Core.Path.{_≡_, refl, sym, ap, _∙_}
 use Prim.Native.Nat.{ℕ, zero, suc, _+_, _-_, _≤_, _<_}
 use native.Mathlib.Nat.{add-zero}
@@ -12,7 +13,7 @@ use Rattle.words.specs.BufferLaws.{over-nil, length-over, room-rest, over-rest}
 use Rattle.batch.specs.declared.Progress.{Progress}
 use Rattle.batch.specs.declared.Taken.{Taken}
 use Rattle.batch.specs.Steps.{Stepped, step, Reader, reader, mostLine, next, drain, drained}
-use Rattle.batch.specs.Bounds.{Within, Nears}
+use Rattle.batch.specs.Bounds.{Within, Nears, Few}
 use Rattle.batch.specs.Promised.{Does, Drains}
 use Rattle.batch.specs.StepLaws.{step-orderly}
 use Rattle.batch.specs.FeedLaws.{drain-no-room, drain-last, drain-on}
@@ -28,6 +29,7 @@ pub record Draining (p : Progress) (s d : List ℕ) (reached : Progress) (bytes 
   pub room : length text ≤ length d
   pub counted : printed ≡ length text
   pub written : e ≡ over text d
+  pub fresh : bytes ≡ 0 → printed ≡ 0
   pub within : Within reached
   pub nears : Nears p (record { progress = reached; bytes = bytes; printed = printed })
 
@@ -55,6 +57,7 @@ drain-start p s d w =
       room = omega arith;
       counted = refl;
       written = sym (over-nil d);
+      fresh = λ z. refl;
       within = w;
       nears = (omega arith, λ z. absurd (z refl));
     }
@@ -72,6 +75,10 @@ module _ (p : Progress) (s d : List ℕ) (reached : Progress) (bytes printed : �
       drains p s d e (i .text) _
       (i .is ∙ drain-no-room (i .fuel) (length d) (reader reached (drop bytes s) (i .text)) (omega (arith, drain-length, i .counted)))
       (i .inside) (i .room) (i .counted) (i .written)
+
+  -- which was there at first, if a line fits
+  pub full-few : length e - printed < 93 → 93 ≤ length d → Few (record { progress = reached; bytes = bytes; printed = printed }) (length s)
+  full-few h enough z = absurd (omega (arith, drain-length, i .fresh z))
 
   -- one step more, on the bytes and the buffer that are left
   module _ (r : Taken) (ys : List ℕ) (does : Does (step reached (take (length s - bytes) (drop bytes s))) r (take (length e - printed) (drop printed e)) ys)
@@ -134,6 +141,7 @@ module _ (p : Progress) (s d : List ℕ) (reached : Progress) (bytes printed : �
           room = omega (arith, both, fits);
           counted = omega (arith, both, i .counted, done .counted);
           written = held;
+          fresh = λ z. absurd (omega (arith, z, some-one some));
           within = within;
           nears = (omega (arith, i .nears .0, nears .0), λ z. omega (arith, i .nears .0, nears .1 some));
         }
@@ -163,3 +171,6 @@ module _ (p : Progress) (s d : List ℕ) (reached : Progress) (bytes printed : �
 
       pub rest-length : length (putMid printed (length e - printed) e ys) ≡ length d
       rest-length = ap (λ (o : List ℕ). length o) (held ∙ ap (λ (x : List ℕ). over x d) unchanged) ∙ length-over (i .text) d (i .room)
+
+      pub rest-few : Few r (length (take (length s - bytes) (drop bytes s))) → Few (record { progress = r .progress; bytes = bytes; printed = printed }) (length s)
+      rest-few few z = ⊎-elim inl (λ l. inr (omega (arith, l, z, ap (λ (x : List ℕ). length x) (rest-lent s bytes) ∙ length-drop bytes s))) (few none)

@@ -3,14 +3,14 @@ use answers::Answer;
 use answers::Step;
 ghost use mathlib.Core.Path.{_≡_};
 ghost use mathlib.Core.Bool.{true, cond};
-ghost use Prim.Native.Nat.{_+_, _-_, _≤_};
+ghost use Prim.Native.Nat.{_+_, _-_, _≤_, _<_};
 ghost use lib.ListN.{length, take, drop};
 ghost use Rattle.words.specs.Lists.{same};
 ghost use Rattle.words.specs.Buffers.{over};
 ghost use Rattle.lines.specs.Line.{putOver, putCount};
 ghost use Rattle.batch.specs.Batch.{batchMark, hasPart, partSize, hasEntry, entrySize, entryAnswer, plus};
 ghost use Rattle.batch.specs.Steps.{headStep, entryStep, step, hasStopped, ending};
-ghost use Rattle.batch.specs.Bounds.{Sized, Costs, Within, Nears};
+ghost use Rattle.batch.specs.Bounds.{Sized, Costs, Within, mostHeld, Nears, Few};
 ghost use Rattle.batch.specs.declared.Progress.the-variants.{Head, Entries};
 ghost use Rattle.batch.specs.Promised.{took, Quiet, Does, Drains};
 
@@ -67,6 +67,7 @@ fn marked(s: &[u8]) -> bool
 fn take_head(s: &[u8]) -> Taken
     ensures done { λ r. ⌜ Quiet (headStep (now (s .entry))) r ⌝ }
     ensures kept { λ r. ⌜ Within (r .progress) × Nears Head r ⌝ }
+    ensures few { λ r. ⌜ Few r (length (now (s .entry))) ⌝ }
 {
     if s.len() < HEAD {
         return quiet(Progress::Head, 0);
@@ -90,6 +91,7 @@ fn take_head(s: &[u8]) -> Taken
 fn part_size(s: &[u8]) -> usize
     ensures size { λ r. ⌜ r ≡ cond (hasPart (now (s .entry))) (partSize (now (s .entry))) 0 ⌝ }
     ensures small { λ r. ⌜ r ≤ 65537 ⌝ }
+    ensures short { λ r. ⌜ (r ≡ 0 → length (now (s .entry)) < 65537) ⌝ }
 {
     if s.len() < 2 {
         return 0;
@@ -105,6 +107,7 @@ fn part_size(s: &[u8]) -> usize
 fn entry_size(s: &[u8]) -> usize
     ensures size { λ r. ⌜ r ≡ cond (hasEntry (now (s .entry))) (entrySize (now (s .entry))) 0 ⌝ }
     ensures small { λ r. ⌜ r ≤ 131074 ⌝ }
+    ensures short { λ r. ⌜ (r ≡ 0 → length (now (s .entry)) < mostHeld) ⌝ }
 {
     let rule = part_size(s);
     if rule == 0 {
@@ -153,6 +156,7 @@ fn take_entry(left: usize, sums: Sums, s: &[u8], out: &mut [u8]) -> Taken
     requires { ⌜ (Sized left sums × (1 ≤ left)) × (93 ≤ length (now out)) ⌝ }
     ensures done { λ r. ⌜ Does (entryStep left sums (now (s .entry))) r (now (out .entry)) (now (out .exit)) ⌝ }
     ensures kept { λ r. ⌜ Within (r .progress) × Nears (Entries left sums) r ⌝ }
+    ensures few { λ r. ⌜ Few r (length (now (s .entry))) ⌝ }
 {
     let size = entry_size(s);
     if size == 0 {
@@ -172,6 +176,7 @@ fn take_end(sums: Sums, s: &[u8]) -> Taken
     requires { ⌜ Sized 0 sums ⌝ }
     ensures done { λ r. ⌜ Quiet (entryStep 0 sums (now (s .entry))) r ⌝ }
     ensures kept { λ r. ⌜ Within (r .progress) × Nears (Entries 0 sums) r ⌝ }
+    ensures few { λ r. ⌜ Few r (length (now (s .entry))) ⌝ }
 {
     if s.len() == 0 {
         return quiet(Progress::Entries(0, sums), 0);
@@ -184,6 +189,7 @@ fn step(progress: Progress, s: &[u8], out: &mut [u8]) -> Taken
     requires { ⌜ Within progress × (93 ≤ length (now out)) ⌝ }
     ensures done { λ r. ⌜ Does (step progress (now (s .entry))) r (now (out .entry)) (now (out .exit)) ⌝ }
     ensures kept { λ r. ⌜ Within (r .progress) × Nears progress r ⌝ }
+    ensures few { λ r. ⌜ Few r (length (now (s .entry))) ⌝ }
 {
     match progress {
         Progress::Head => take_head(s),
@@ -202,6 +208,7 @@ pub fn take_entries(progress: Progress, s: &[u8], out: &mut [u8]) -> Taken
     requires { ⌜ Within progress ⌝ }
     ensures done { λ r. ⌜ Drains progress (now (s .entry)) r (now (out .entry)) (now (out .exit)) ⌝ }
     ensures kept { λ r. ⌜ Within (r .progress) × Nears progress r ⌝ }
+    ensures few { λ r. ⌜ (93 ≤ length (now (out .entry)) → Few r (length (now (s .entry)))) ⌝ }
 {
     let mut reached = progress;
     let mut bytes: usize = 0;

@@ -3,12 +3,12 @@ use batch::Progress;
 use libc::STDERR_FILENO;
 use libc::STDIN_FILENO;
 use libc::STDOUT_FILENO;
-ghost use Prim.Native.Nat.{_≤_};
+ghost use Prim.Native.Nat.{_≤_, _<_};
 ghost use mathlib.Core.Path.{_≡_};
 ghost use lib.ListN.{length};
 ghost use Rattle.batch.specs.Bounds.{Within};
 
-// The bytes at hand. The longest entry has 131,074, and fewer are at hand when more is read (`few-held` of the demands), so there is always room.
+// The bytes at hand. The longest entry has 131,074, and fewer are at hand when more is read, so there is always room.
 const WINDOW: usize = 262144;
 
 // What is printed at once: hundreds of lines.
@@ -109,9 +109,9 @@ fn finish(w: Watch, progress: Progress) {
 }
 
 // Reads behind the bytes at hand, and answers how many there are then: as many as before at the end of the input, more than there is room for
-// where it cannot be read.
+// where it cannot be read. There is room, or a full window would be taken for the end.
 fn read_behind(window: &mut [u8], to: usize) -> usize
-    requires { ⌜ (to ≤ length (now window)) × (length (now window) ≡ 262144) ⌝ }
+    requires { ⌜ (to < length (now window)) × (length (now window) ≡ 262144) ⌝ }
     ensures { λ r. ⌜ (to ≤ r) × (r ≤ 262145) ⌝ }
 {
     let got = libc::read(STDIN_FILENO, &mut window[to..]);

@@ -40,10 +40,10 @@ part-count-end : tie.Need-part-count-end
 part-count-end c = omega (arith, both c)
 
 add-count : tie.Need-add-count
-add-count c = record { fits = omega (arith, c .before .before .before .part-size .ensures .1) }
+add-count c = record { fits = omega (arith, c .before .before .before .part-size .ensures .1 .0) }
 
 add-count-2 : tie.Need-add-count-2
-add-count-2 c = record { fits = omega (arith, c .before .before .before .part-size .ensures .1, c .before .part-size2 .ensures .1) }
+add-count-2 c = record { fits = omega (arith, c .before .before .before .part-size .ensures .1 .0, c .before .part-size2 .ensures .1 .0) }
 
 sub-count-2 : tie.Need-sub-count-2
 sub-count-2 c = omega (arith, both (c .before))

@@ -5,7 +5,7 @@ use mathlib.Core.Path.{_≡_, refl, ap, _∙_}
 use Prim.Native.Nat.{ℕ, _-_}
 use native.Mathlib.Omega.{arith}
 use denote.Ref.{now}
-use lib.ListN.{length, take, drop}
+use lib.ListN.{length, take, drop, length-drop}
 use Rattle.batch.specs.Batch.{partSize, hasPart, pastPart}
 use Rattle.batch.specs.PartLaws.{part-fits}
 use Rattle.batch.specs.TakenLaws.{size-none, size-some, rest-lent, rule-missing, plan-missing, both-whole}
@@ -13,7 +13,7 @@ use Rattle.batch.proofs.entry_size.Statement.{statement}
 use Rattle.batch.proofs.entry_size.Tie as tie
 
 returns : tie.Need-returns
-returns c = (rw (rule-missing _ (size-none _ _ (c .before .part-size .ensures .0) (c .if1 .taken))) refl, omega arith)
+returns c = (rw (rule-missing _ (size-none _ _ (c .before .part-size .ensures .0) (c .if1 .taken))) refl, (omega arith, λ z. omega (arith, c .before .part-size .ensures .1 .1 (c .if1 .taken))))
 
 -- the rule's part is whole, and so lies in the bytes
 sub-part-size : tie.Need-sub-part-size
@@ -29,6 +29,9 @@ part-part-size-start c =
     omega (arith, e, part-fits s t)
 
 -- what is behind it, as the code has it
+rest-length : (s : List ℕ) (r : ℕ) → length (take (length s - r) (drop r s)) ≡ length s - r
+rest-length s r = ap (λ (t : List ℕ). length t) (rest-lent s r) ∙ length-drop r s
+
 behind : (s : List ℕ) (r k : ℕ) → r ≡ partSize s → k ≡ cond (hasPart (take (length s - r) (drop r s))) (partSize (take (length s - r) (drop r s))) 0
     → k ≡ cond (hasPart (pastPart s)) (partSize (pastPart s)) 0
 behind s r k e h = h ∙ ap (λ (t : List ℕ). cond (hasPart t) (partSize t) 0) (rest-lent s r ∙ ap (λ (n : ℕ). drop n s) e)
@@ -38,18 +41,20 @@ returns-2 c =
     let y = c .before .before .before in
     let s = now (y .before .before .before .args .s) in
     let (t, e) = size-some s _ (y .before .part-size .ensures .0) (y .if1 .left) in
-    (rw (plan-missing s t (size-none (pastPart s) _ (behind s _ _ e (c .before .part-size2 .ensures .0)) (c .if2 .taken))) refl, omega arith)
+    (rw (plan-missing s t (size-none (pastPart s) _ (behind s _ _ e (c .before .part-size2 .ensures .0)) (c .if2 .taken))) refl, (omega arith, λ z. omega (arith, rest-length s (y .before .part-size .result), e, c .before .part-size2 .ensures .1 .1 (c .if2 .taken), y .before .part-size .ensures .1 .0)))
 
 add-result : tie.Need-add-result
-add-result c = record { fits = omega (arith, c .before .part-size2 .ensures .1, c .before .before .before .before .part-size .ensures .1) }
+add-result c = record { fits = omega (arith, c .before .part-size2 .ensures .1 .0, c .before .before .before .before .part-size .ensures .1 .0) }
 
 returns-3 : tie.Need-returns-3
 returns-3 c =
     let y = c .before .before .before in
     let s = now (y .before .before .before .args .s) in
     let (t, e) = size-some s _ (y .before .part-size .ensures .0) (y .if1 .left) in
-    let (u, f) = size-some (pastPart s) _ (behind s _ _ e (c .before .part-size2 .ensures .0)) (c .if2 .left) in
-    (rw (both-whole s t u, e, f) refl, omega (arith, c .before .part-size2 .ensures .1, y .before .part-size .ensures .1))
+    let (u, f) = size-some (pastPart s) _ (behind s _ _ e (c .before .part-size2 .ensures .0)) (c .if2 .left) in (
+      rw (both-whole s t u, e, f) refl,
+      (omega (arith, c .before .part-size2 .ensures .1 .0, y .before .part-size .ensures .1 .0), λ z. absurd (c .if2 .left (omega (arith, z)))),
+    )
 
 pub entry-size-spec : {M : Type 1} → statement M
 entry-size-spec =

@@ -9,19 +9,19 @@ use Rattle.batch.proofs.part_size.Statement.{statement}
 use Rattle.batch.proofs.part_size.Tie as tie
 
 returns : tie.Need-returns
-returns c = (rw (unmeasured _ (c .if1 .taken)) refl, omega arith)
+returns c = (rw (unmeasured _ (c .if1 .taken)) refl, (omega arith, λ z. omega (arith, c .if1 .taken)))
 
 returns-2 : tie.Need-returns-2
 returns-2 c =
     let s = now (c .before .before .before .before .before .args .s) in
-    (rw (cut-short s (c .before .before .before .if1 .left) (omega (arith, c .if2 .taken, c .before .wide16 .ensures .0, c .before .before .read16 .ensures))) refl, omega arith)
+    (rw (cut-short s (c .before .before .before .if1 .left) (omega (arith, c .if2 .taken, c .before .wide16 .ensures .0, c .before .before .read16 .ensures))) refl, (omega arith, λ z. omega (arith, c .if2 .taken, c .before .wide16 .ensures .1)))
 
 returns-3 : tie.Need-returns-3
 returns-3 c =
     let s = now (c .before .before .before .before .before .args .s) in
     let e = c .before .wide16 .ensures .0 ∙ c .before .before .read16 .ensures in (
       rw (part-whole s (c .before .before .before .if1 .left) (omega (arith, c .if2 .left, e))) (ap (λ (n : ℕ). 2 + n) e),
-      omega (arith, c .before .wide16 .ensures .1),
+      (omega (arith, c .before .wide16 .ensures .1), λ z. absurd (omega (arith, z))),
     )
 
 pub part-size-spec : {M : Type 1} → statement M

@@ -1,6 +1,8 @@
 use borrow.Author.Needs.{needs}
-use mathlib.Core.Path.{refl}
+use mathlib.Core.Logic.{inl}
+use mathlib.Core.Path.{refl, ap}
 use native.Mathlib.Omega.{arith}
+use Rattle.batch.specs.declared.Taken.{Taken}
 use Rattle.batch.specs.declared.Progress.the-variants.{Stopped}
 use Rattle.batch.specs.TakenLaws.{quiet-does, quiet-took, same-nears}
 use Rattle.batch.proofs.step.Statement.{statement}
@@ -27,7 +29,7 @@ returns-4 : tie.Need-returns-4
 returns-4 c =
     let e = c .before .enum-told2 .given .1 in
     let q = rw e at (c .quiet .ensures) in
-    rw e (quiet-does _ _ _ (quiet-took _ Stopped 0 _ refl q), (rw q tt, same-nears Stopped _ q))
+    rw e (quiet-does _ _ _ (quiet-took _ Stopped 0 _ refl q), ((rw q tt, same-nears Stopped _ q), λ z. inl (ap (λ (r : Taken). r .progress) q)))
 
 pub step-spec : {M : Type 1} → statement M
 step-spec =

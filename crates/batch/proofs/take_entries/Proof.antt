@@ -3,7 +3,7 @@ use Prim.Native.Nat.{_-_}
 use native.Mathlib.Omega.{arith}
 use lib.ListN.{length}
 use Rattle.words.specs.BufferLaws.{room-rest}
-use Rattle.batch.specs.DrainLaws.{Draining, drain-start, drain-length, drain-room, drain-full, drain-more, drain-took, drain-less, drain-rests, rest-nears, rest-length}
+use Rattle.batch.specs.DrainLaws.{Draining, drain-start, drain-length, drain-room, drain-full, drain-more, drain-took, drain-less, drain-rests, rest-nears, rest-length, rest-few, full-few}
 use Rattle.batch.proofs.take_entries.Statement.{statement}
 use Rattle.batch.proofs.take_entries.Tie as tie
 
@@ -35,31 +35,59 @@ step-requires : tie.Need-step-requires Inv-loop μ-loop
 step-requires c κs = (c .before .before .before .loop .inv .within, rw (room-rest _ _) (c .before .before .loop-test .left))
 
 add-bytes : tie.Need-add-bytes Inv-loop μ-loop
-add-bytes c = record { fits = omega (arith, drain-took _ _ _ _ _ _ _ (c .before .before .before .before .before .before .before .before .before .loop .inv) _ _ (c .before .before .before .before .before .step .ensures .0) (c .before .before .before .before .before .step .ensures .1 .0) (c .before .before .before .before .before .step .ensures .1 .1) (c .before .before .before .before .before .before .before .before .loop-test .left) .0, c .before .before .before .before .before .before .before .before .before .before .before .before .good) }
+add-bytes c =
+    let i = c .before .before .before .before .before .before .before .before .before .loop .inv in
+    let done = c .before .before .before .before .before .step .ensures in
+    let line = c .before .before .before .before .before .before .before .before .loop-test .left in
+    record { fits = omega (arith, drain-took _ _ _ _ _ _ _ i _ _ (done .0) (done .1 .0 .0) (done .1 .0 .1) line .0, c .before .before .before .before .before .before .before .before .before .before .before .before .good) }
 
 add-printed : tie.Need-add-printed Inv-loop μ-loop
-add-printed c = record { fits = omega (arith, drain-took _ _ _ _ _ _ _ (c .before .before .before .before .before .before .before .before .before .before .loop .inv) _ _ (c .before .before .before .before .before .before .step .ensures .0) (c .before .before .before .before .before .before .step .ensures .1 .0) (c .before .before .before .before .before .before .step .ensures .1 .1) (c .before .before .before .before .before .before .before .before .before .loop-test .left) .1, c .before .before .before .before .before .before .before .before .before .before .before .before .before .good) }
+add-printed c =
+    let i = c .before .before .before .before .before .before .before .before .before .before .loop .inv in
+    let done = c .before .before .before .before .before .before .step .ensures in
+    let line = c .before .before .before .before .before .before .before .before .before .loop-test .left in
+    record { fits = omega (arith, drain-took _ _ _ _ _ _ _ i _ _ (done .0) (done .1 .0 .0) (done .1 .0 .1) line .1, c .before .before .before .before .before .before .before .before .before .before .before .before .before .good) }
 
 loop-less : tie.Need-loop-less Inv-loop μ-loop
-loop-less c = drain-less _ _ _ _ _ _ _ (c .before .before .before .before .before .before .before .before .before .before .loop .inv) _ _ (c .before .before .before .before .before .before .step .ensures .0) (c .before .before .before .before .before .before .step .ensures .1 .0) (c .before .before .before .before .before .before .step .ensures .1 .1) (c .before .before .before .before .before .before .before .before .before .loop-test .left) (c .before .before .if1 .left)
+loop-less c =
+    let i = c .before .before .before .before .before .before .before .before .before .before .loop .inv in
+    let done = c .before .before .before .before .before .before .step .ensures in
+    let line = c .before .before .before .before .before .before .before .before .before .loop-test .left in
+    drain-less _ _ _ _ _ _ _ i _ _ (done .0) (done .1 .0 .0) (done .1 .0 .1) line (c .before .before .if1 .left)
 
 loop-again : tie.Need-loop-again Inv-loop μ-loop
-loop-again c = drain-more _ _ _ _ _ _ _ (c .before .before .before .before .before .before .before .before .before .before .loop .inv) _ _ (c .before .before .before .before .before .before .step .ensures .0) (c .before .before .before .before .before .before .step .ensures .1 .0) (c .before .before .before .before .before .before .step .ensures .1 .1) (c .before .before .before .before .before .before .before .before .before .loop-test .left) (c .before .before .if1 .left)
+loop-again c =
+    let i = c .before .before .before .before .before .before .before .before .before .before .loop .inv in
+    let done = c .before .before .before .before .before .before .step .ensures in
+    let line = c .before .before .before .before .before .before .before .before .before .loop-test .left in
+    drain-more _ _ _ _ _ _ _ i _ _ (done .0) (done .1 .0 .0) (done .1 .0 .1) line (c .before .before .if1 .left)
 
 same-length : tie.Need-same-length Inv-loop μ-loop
 same-length c = drain-length _ _ _ _ _ _ _ (c .before .loop .inv)
 
 returns : tie.Need-returns Inv-loop μ-loop
-returns c = let i = c .before .loop .inv in (drain-full _ _ _ _ _ _ _ i (c .loop-test .taken), (i .within, i .nears))
+returns c =
+    let i = c .before .loop .inv in
+    (drain-full _ _ _ _ _ _ _ i (c .loop-test .taken), ((i .within, i .nears), full-few _ _ _ _ _ _ _ i (c .loop-test .taken)))
 
 same-length-2 : tie.Need-same-length-2 Inv-loop μ-loop
-same-length-2 c = rest-length _ _ _ _ _ _ _ (c .before .before .before .before .before .before .before .before .loop .inv) _ _ (c .before .before .before .before .step .ensures .0) (c .before .before .before .before .step .ensures .1 .0) (c .before .before .before .before .step .ensures .1 .1) (c .before .before .before .before .before .before .before .loop-test .left) (c .if1 .taken)
+same-length-2 c =
+    let i = c .before .before .before .before .before .before .before .before .loop .inv in
+    let done = c .before .before .before .before .step .ensures in
+    let line = c .before .before .before .before .before .before .before .loop-test .left in
+    rest-length _ _ _ _ _ _ _ i _ _ (done .0) (done .1 .0 .0) (done .1 .0 .1) line (c .if1 .taken)
 
 returns-2 : tie.Need-returns-2 Inv-loop μ-loop
-returns-2 c = (
-  drain-rests _ _ _ _ _ _ _ (c .before .before .before .before .before .before .before .before .loop .inv) _ _ (c .before .before .before .before .step .ensures .0) (c .before .before .before .before .step .ensures .1 .0) (c .before .before .before .before .step .ensures .1 .1) (c .before .before .before .before .before .before .before .loop-test .left) (c .if1 .taken),
-  (c .before .before .before .before .step .ensures .1 .0, rest-nears _ _ _ _ _ _ _ (c .before .before .before .before .before .before .before .before .loop .inv) _ _ (c .before .before .before .before .step .ensures .0) (c .before .before .before .before .step .ensures .1 .0) (c .before .before .before .before .step .ensures .1 .1) (c .before .before .before .before .before .before .before .loop-test .left) (c .if1 .taken)),
-)
+returns-2 c =
+    let i = c .before .before .before .before .before .before .before .before .loop .inv in
+    let done = c .before .before .before .before .step .ensures in
+    let line = c .before .before .before .before .before .before .before .loop-test .left in (
+      drain-rests _ _ _ _ _ _ _ i _ _ (done .0) (done .1 .0 .0) (done .1 .0 .1) line (c .if1 .taken),
+      (
+        (done .1 .0 .0, rest-nears _ _ _ _ _ _ _ i _ _ (done .0) (done .1 .0 .0) (done .1 .0 .1) line (c .if1 .taken)),
+        λ enough. rest-few _ _ _ _ _ _ _ i _ _ (done .0) (done .1 .0 .0) (done .1 .0 .1) line (c .if1 .taken) (done .1 .1),
+      ),
+    )
 
 pub take-entries-spec : {M : Type 1} → statement M
 take-entries-spec =

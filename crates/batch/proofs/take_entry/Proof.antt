@@ -1,4 +1,5 @@
 use borrow.Author.Needs.{needs}
+use mathlib.Core.Logic.{inr}
 use mathlib.Core.Path.{sym, subst}
 use Prim.Native.Nat.{_≤_}
 use native.Mathlib.Omega.{arith}
@@ -17,7 +18,7 @@ returns c =
     let d = c .before .before .before .before .before in
     let none = whole-none _ _ (c .before .before .entry-size .ensures .0) (c .before .if1 .taken) in (
       quiet-does _ _ _ (quiet-took _ _ _ _ (entry-waits _ _ _ (d .pre .0 .1) none) (c .quiet .ensures)),
-      (rw (c .quiet .ensures) (d .pre .0 .0), same-nears _ _ (c .quiet .ensures)),
+      ((rw (c .quiet .ensures) (d .pre .0 .0), same-nears _ _ (c .quiet .ensures)), λ z. inr (c .before .before .entry-size .ensures .1 .1 (c .before .if1 .taken))),
     )
 
 answer-entry-requires : tie.Need-answer-entry-requires
@@ -44,7 +45,7 @@ returns-2 c =
     let y = c .before .before .before .before .before .before in
     let (whole, size) = whole-some _ _ (y .before .entry-size .ensures .0) (y .if1 .left) in (
       entry-does _ _ _ _ _ _ _ (d .pre .0 .1) whole size (c .before .before .before .before .before .answer-entry .ensures) _ _ (c .add .ensures) (room c) (c .before .before .before .write-line .ensures),
-      entry-kept _ _ _ _ _ _ (c .before .before .before .write-line .result) (d .pre .0 .1) whole size (c .before .before .before .before .before .answer-entry .ensures) (d .pre .0 .0) (c .add .ensures) (y .before .entry-size .ensures .1),
+      (entry-kept _ _ _ _ _ _ (c .before .before .before .write-line .result) (d .pre .0 .1) whole size (c .before .before .before .before .before .answer-entry .ensures) (d .pre .0 .0) (c .add .ensures) (y .before .entry-size .ensures .1 .0), λ z. absurd (y .if1 .left z)),
     )
 
 pub take-entry-spec : {M : Type 1} → statement M

@@ -18,7 +18,7 @@ loop-holds c = (length-replicate {A = ℕ} 262144 0, length-replicate {A = ℕ} 
 
 loop-less : tie.Need-loop-less Inv-loop μ-loop
 loop-less c =
-    let z = c .before .before .before .before .before .before .before .take-entries .ensures .1 .1 .1 (c .before .before .before .if1 .taken) in
+    let z = c .before .before .before .before .before .before .before .take-entries .ensures .1 .0 .1 .1 (c .before .before .before .if1 .taken) in
     search needs
 
 pub case-spec : {M : Type 1} → statement M
