@@ -22,7 +22,7 @@ use Rattle.batch.specs.Batch.{batchMark, headBytes, entriesCounted, part
 use Rattle.batch.specs.Packed.{Entry, Fits, AllFit, partBytes, entryBytes, headOf, batchOf, answerTo, linesOf, accepts, refuses, among, costOf, totalIn, NoEntry, Found, whole, left, missing, short, other, printedFor}
 use Rattle.batch.specs.PartLaws.{part-fits, entry-parts, past-both}
 use Rattle.batch.specs.BoundLaws.{plus-accepted, plus-refused}
-use Rattle.batch.specs.PackedLaws.{entry-there, sumsFrom, whole-batch, bytes-left, entries-missing, head-cut, head-other}
+use Rattle.batch.specs.PackedLaws.{entry-there, entry-cut, sumsFrom, whole-batch, bytes-left, entries-missing, head-cut, head-other}
 
 -- a part that is whole, and what comes after it, are the bytes that it stands in
 module _ (s : List ℕ) (b : Bytes s) (h : hasPart s ≡ true) where
@@ -63,6 +63,10 @@ none-found x h e y f q = true≢false (sym (entry-there e y f) ∙ ap hasEntry (
 
 pub none-there : (x : List ℕ) → Bytes x → NoEntry x → hasEntry x ≡ false
 none-there x b none = split (hasEntry x) (λ t. absurd (none (entryOf x) (pastEntry x) (entry-small x b t) (entry-back x b t))) (λ t. t)
+
+-- so none is where an entry is cut
+pub cut-entry : (e : Entry) → Fits e → (k : ℕ) → k < length (entryBytes e) → NoEntry (take k (entryBytes e))
+cut-entry e f k l = none-found (take k (entryBytes e)) (entry-cut e k f l)
 
 -- of n entries to come, those that are whole, and what comes behind them
 pub record Entries (n : ℕ) (s : List ℕ) : Type 0 where

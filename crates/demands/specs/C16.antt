@@ -4,7 +4,7 @@ use native.Mathlib.Omega.{arith}
 use mathlib.Core.Path.{_≡_, sym, ap, _∙_}
 use mathlib.Core.List.{List, _∷_, _++_, map, flatten}
 use mathlib.Core.Logic.{_⊎_}
-use lib.ListN.{length}
+use lib.ListN.{length, take}
 use Rattle.words.specs.Numbers.{Bytes}
 use Rattle.answers.specs.Answers.{refusal}
 use Rattle.circuit.specs.Whole.{ruleAnswer}
@@ -15,7 +15,7 @@ use Rattle.lines.specs.Total.{spacedLess}
 use Rattle.lines.specs.TotalLaws as totals
 use Rattle.batch.specs.declared.Progress.the-variants.{Stopped}
 use Rattle.batch.specs.Batch.{reportOf}
-use Rattle.batch.specs.Packed.{Entry, AllFit, batchOf, answerTo, linesOf, accepts, among, costOf, totalIn, Found, printedFor}
+use Rattle.batch.specs.Packed.{Entry, Fits, AllFit, entryBytes, batchOf, answerTo, linesOf, accepts, among, costOf, totalIn, NoEntry, Found, printedFor}
 use Rattle.batch.specs.Steps.{mostLine, feedAll, start, fed}
 use Rattle.batch.specs.FoundLaws as found
 use Rattle.batch.specs.FeedLaws as feeding
@@ -42,6 +42,10 @@ batch-sorts = found.every-found
 -- "the lines of the entries that are whole before that are printed, then `refused 75` and no total": what is printed of each sort is the report.
 pub sort-report : (b : List ℕ) → Bytes b → (f : Found b) → reportOf b ≡ printedFor f
 sort-report = found.found-report
+
+-- (An entry that is cut, wherever that is, is no whole one.)
+pub cut-entry : (e : Entry) → Fits e → (k : ℕ) → k < length (entryBytes e) → NoEntry (take k (entryBytes e))
+cut-entry = found.cut-entry
 
 -- "document 01's line for each entry": the one that the first program prints, which writes the circuit to a buffer of 16,384 bytes. ("writes no circuit": `writing::count`
 -- is lent no buffer.)
