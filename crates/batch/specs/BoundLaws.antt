@@ -14,7 +14,7 @@ use Rattle.fused.specs.AnswerLaws.{costs-bound}
 use Rattle.batch.specs.declared.Sums.{Sums}
 use Rattle.batch.specs.Batch.{partOf, pastPart, entryAnswer, plus}
 use Rattle.batch.specs.Packed.{Entry, answerTo, accepts, among, costOf}
-use Rattle.batch.specs.Bounds.{Sized, Costs}
+use Rattle.batch.specs.Bounds.{mostCost, Sized, Costs}
 
 -- one answer more
 pub plus-accepted : (t : Sums) (a : Answer) → a .number ≡ 0
@@ -38,15 +38,15 @@ unfolding entryAnswer
 entry-costs s = costs-bound (partOf s) (partOf (pastPart s))
 
 -- all the accepted ones of a list
-module _ (cost : Answer → ℕ) (small : (e : Entry) → answerTo e .number ≡ 0 → cost (answerTo e) ≤ 10240) where
-  costs-small : (es : List Entry) → costOf cost (among accepts (map answerTo es)) ≤ 10240 * length es
+module _ (cost : Answer → ℕ) (small : (e : Entry) → answerTo e .number ≡ 0 → cost (answerTo e) ≤ mostCost) where
+  costs-small : (es : List Entry) → costOf cost (among accepts (map answerTo es)) ≤ mostCost * length es
   costs-small [] = omega arith
   costs-small (e ∷ es) =
       split (accepts (answerTo e))
       (λ z. rw z (omega (arith, small e (eqb-true _ _ z), costs-small es))) (λ z. rw z (omega (arith, costs-small es)))
 
-pub before-small : (es : List Entry) → costOf (λ a. a .before) (among accepts (map answerTo es)) ≤ 10240 * length es
+pub before-small : (es : List Entry) → costOf (λ a. a .before) (among accepts (map answerTo es)) ≤ mostCost * length es
 before-small es = costs-small (λ a. a .before) (λ e z. costs-bound (e .rule) (e .plan) z .0) es
 
-pub after-small : (es : List Entry) → costOf (λ a. a .after) (among accepts (map answerTo es)) ≤ 10240 * length es
+pub after-small : (es : List Entry) → costOf (λ a. a .after) (among accepts (map answerTo es)) ≤ mostCost * length es
 after-small es = costs-small (λ a. a .after) (λ e z. costs-bound (e .rule) (e .plan) z .1) es

@@ -70,19 +70,19 @@ module _ (p : Progress) (s d : List ℕ) (reached : Progress) (bytes printed : �
   drain-room = omega (arith, drain-length, i .counted, i .room)
 
   -- no room for a line
-  pub drain-full : length e - printed < 93 → Drains p s (record { progress = reached; bytes = bytes; printed = printed }) d e
+  pub drain-full : length e - printed < mostLine → Drains p s (record { progress = reached; bytes = bytes; printed = printed }) d e
   drain-full h =
       drains p s d e (i .text) _
       (i .is ∙ drain-no-room (i .fuel) (length d) (reader reached (drop bytes s) (i .text)) (omega (arith, drain-length, i .counted)))
       (i .inside) (i .room) (i .counted) (i .written)
 
   -- which was there at first, if a line fits
-  pub full-few : length e - printed < 93 → 93 ≤ length d → Few (record { progress = reached; bytes = bytes; printed = printed }) (length s)
+  pub full-few : length e - printed < mostLine → mostLine ≤ length d → Few (record { progress = reached; bytes = bytes; printed = printed }) (length s)
   full-few h enough z = absurd (omega (arith, drain-length, i .fresh z))
 
   -- one step more, on the bytes and the buffer that are left
   module _ (r : Taken) (ys : List ℕ) (does : Does (step reached (take (length s - bytes) (drop bytes s))) r (take (length e - printed) (drop printed e)) ys)
-      (within : Within (r .progress)) (nears : Nears reached r) (line : 93 ≤ length e - printed) where
+      (within : Within (r .progress)) (nears : Nears reached r) (line : mostLine ≤ length e - printed) where
     abbrev st : Stepped
     st = step reached (drop bytes s)
 

@@ -18,13 +18,13 @@ use Rattle.batch.specs.declared.Progress.{Progress}
 use Rattle.batch.specs.declared.Progress.the-variants.{Head, Entries, Stopped}
 use Rattle.batch.specs.Batch.{batchMark, headBytes, partSize, hasPart, pastPart, hasEntry, entrySize}
 use Rattle.batch.specs.Steps.{Stepped, quiet, headStep, entryStep, step, Reader, reader, next, mostLine, drain, emptied, emptiedTimes, feed, feedAll, start}
-use Rattle.batch.specs.Bounds.{mostHeld}
+use Rattle.batch.specs.Bounds.{mostPart, mostHeld}
 use Rattle.batch.specs.PartLaws.{part-whole, part-fits}
 use Rattle.batch.specs.StepLaws.{head-wrong, head-past}
 use Rattle.batch.specs.FeedLaws.{fed-rest}
 
 -- where a part is not whole, fewer bytes are there than the longest has
-part-short : (s : List ℕ) → Bytes s → hasPart s ≡ false → length s < 65537
+part-short : (s : List ℕ) → Bytes s → hasPart s ≡ false → length s < mostPart
 part-short s b h =
     split (leb 2 (length s))
     (λ l. split (leb (partSize s) (length s))

@@ -23,7 +23,7 @@ use Rattle.batch.specs.declared.Progress.the-variants.{Entries, Stopped}
 use Rattle.batch.specs.declared.Taken.{Taken}
 use Rattle.batch.specs.Batch.{partSize, hasPart, partOf, pastPart, hasEntry, entryAnswer, entrySize, plus, refused75, totalOf}
 use Rattle.batch.specs.Steps.{Stepped, quiet, entryStep, ending}
-use Rattle.batch.specs.Bounds.{Sized, Within, Nears}
+use Rattle.batch.specs.Bounds.{Sized, Within, Nears, mostHeld}
 use Rattle.batch.specs.Promised.{took, Quiet, Does}
 use Rattle.batch.specs.PartLaws.{entry-parts, entry-fits}
 use Rattle.batch.specs.StepLaws.{entry-past, entry-none}
@@ -154,7 +154,7 @@ module _ (n : ℕ) (t u : Sums) (s : List ℕ) (a : Answer) (k printed : ℕ) (s
         written = w .1 ∙ p .1;
       })
 
-  pub entry-kept : Sized n t → u ≡ plus t a → k ≤ 131074
+  pub entry-kept : Sized n t → u ≡ plus t a → k ≤ mostHeld
       → Within (Entries (n - 1) u) × Nears (Entries n t) (record { progress = Entries (n - 1) u; bytes = k; printed = printed })
   entry-kept w summed small = (
     rw (summed, answered) (plus-sized (n - 1) t (entryAnswer s) (omega (arith, w .0), w .1, w .2) (entry-costs s)),

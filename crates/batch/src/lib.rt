@@ -9,8 +9,8 @@ ghost use Rattle.words.specs.Lists.{same};
 ghost use Rattle.words.specs.Buffers.{over};
 ghost use Rattle.lines.specs.Line.{putOver, putCount};
 ghost use Rattle.batch.specs.Batch.{batchMark, hasPart, partSize, hasEntry, entrySize, entryAnswer, plus};
-ghost use Rattle.batch.specs.Steps.{headStep, entryStep, step, hasStopped, ending};
-ghost use Rattle.batch.specs.Bounds.{Sized, Costs, Within, mostHeld, Nears, Few};
+ghost use Rattle.batch.specs.Steps.{headStep, entryStep, step, hasStopped, ending, mostLine};
+ghost use Rattle.batch.specs.Bounds.{Sized, Costs, Within, mostPart, mostHeld, Nears, Few};
 ghost use Rattle.batch.specs.declared.Progress.the-variants.{Head, Entries};
 ghost use Rattle.batch.specs.Promised.{took, Quiet, Does, Drains};
 
@@ -90,8 +90,8 @@ fn take_head(s: &[u8]) -> Taken
 // The bytes of the part at the start, or 0 where it is not whole.
 fn part_size(s: &[u8]) -> usize
     ensures size { λ r. ⌜ r ≡ cond (hasPart (now (s .entry))) (partSize (now (s .entry))) 0 ⌝ }
-    ensures small { λ r. ⌜ r ≤ 65537 ⌝ }
-    ensures short { λ r. ⌜ (r ≡ 0 → length (now (s .entry)) < 65537) ⌝ }
+    ensures small { λ r. ⌜ r ≤ mostPart ⌝ }
+    ensures short { λ r. ⌜ (r ≡ 0 → length (now (s .entry)) < mostPart) ⌝ }
 {
     if s.len() < 2 {
         return 0;
@@ -106,7 +106,7 @@ fn part_size(s: &[u8]) -> usize
 // The bytes of the entry at the start, or 0 where it is not whole.
 fn entry_size(s: &[u8]) -> usize
     ensures size { λ r. ⌜ r ≡ cond (hasEntry (now (s .entry))) (entrySize (now (s .entry))) 0 ⌝ }
-    ensures small { λ r. ⌜ r ≤ 131074 ⌝ }
+    ensures small { λ r. ⌜ r ≤ mostHeld ⌝ }
     ensures short { λ r. ⌜ (r ≡ 0 → length (now (s .entry)) < mostHeld) ⌝ }
 {
     let rule = part_size(s);
@@ -153,7 +153,7 @@ fn add(sums: Sums, answer: Answer) -> Sums
 
 // One of the entries to come, if it is whole, and its line.
 fn take_entry(left: usize, sums: Sums, s: &[u8], out: &mut [u8]) -> Taken
-    requires { ⌜ (Sized left sums × (1 ≤ left)) × (93 ≤ length (now out)) ⌝ }
+    requires { ⌜ (Sized left sums × (1 ≤ left)) × (mostLine ≤ length (now out)) ⌝ }
     ensures done { λ r. ⌜ Does (entryStep left sums (now (s .entry))) r (now (out .entry)) (now (out .exit)) ⌝ }
     ensures kept { λ r. ⌜ Within (r .progress) × Nears (Entries left sums) r ⌝ }
     ensures few { λ r. ⌜ Few r (length (now (s .entry))) ⌝ }
@@ -186,7 +186,7 @@ fn take_end(sums: Sums, s: &[u8]) -> Taken
 
 // One step with the bytes at hand.
 fn step(progress: Progress, s: &[u8], out: &mut [u8]) -> Taken
-    requires { ⌜ Within progress × (93 ≤ length (now out)) ⌝ }
+    requires { ⌜ Within progress × (mostLine ≤ length (now out)) ⌝ }
     ensures done { λ r. ⌜ Does (step progress (now (s .entry))) r (now (out .entry)) (now (out .exit)) ⌝ }
     ensures kept { λ r. ⌜ Within (r .progress) × Nears progress r ⌝ }
     ensures few { λ r. ⌜ Few r (length (now (s .entry))) ⌝ }
@@ -208,7 +208,7 @@ pub fn take_entries(progress: Progress, s: &[u8], out: &mut [u8]) -> Taken
     requires { ⌜ Within progress ⌝ }
     ensures done { λ r. ⌜ Drains progress (now (s .entry)) r (now (out .entry)) (now (out .exit)) ⌝ }
     ensures kept { λ r. ⌜ Within (r .progress) × Nears progress r ⌝ }
-    ensures few { λ r. ⌜ (93 ≤ length (now (out .entry)) → Few r (length (now (s .entry)))) ⌝ }
+    ensures few { λ r. ⌜ (mostLine ≤ length (now (out .entry)) → Few r (length (now (s .entry)))) ⌝ }
 {
     let mut reached = progress;
     let mut bytes: usize = 0;
