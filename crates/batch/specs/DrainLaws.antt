@@ -123,11 +123,8 @@ module _ (p : Progress) (s d : List ℕ) (reached : Progress) (bytes printed : �
     taken-is = ap (λ (x : Stepped). x .taken) (done .is)
 
     -- it took some bytes
-    some-one : (r .bytes ≡ 0 → ⊥) → 1 ≤ r .bytes
-    some-one some = omega (arith, some)
-
     fuel-left : (r .bytes ≡ 0 → ⊥) → i .fuel ≡ suc (i .fuel - 1)
-    fuel-left some = omega (arith, i .enough, took, some-one some)
+    fuel-left some = omega (arith, i .enough, took, some)
 
     pub drain-more : (r .bytes ≡ 0 → ⊥) → Draining p s d (r .progress) (bytes + r .bytes) (printed + r .printed) (putMid printed (length e - printed) e ys)
     drain-more some =
@@ -136,12 +133,12 @@ module _ (p : Progress) (s d : List ℕ) (reached : Progress) (bytes printed : �
           text = i .text ++ st .text;
           is = i .is ∙ drain-on (i .fuel) (length d) (reader reached (drop bytes s) (i .text)) space (λ z. some (sym taken-is ∙ z)) ∙ ap (drain (i .fuel) (length d)) led
               ∙ ap (λ (n : ℕ). drain n (length d) (reader (r .progress) (drop (bytes + r .bytes) s) (i .text ++ st .text))) (fuel-left some);
-          enough = omega (arith, i .enough, took, some-one some);
+          enough = omega (arith, i .enough, took, some);
           inside = omega (arith, took, i .inside);
           room = omega (arith, both, fits);
           counted = omega (arith, both, i .counted, done .counted);
           written = held;
-          fresh = λ z. absurd (omega (arith, z, some-one some));
+          fresh = λ z. absurd (omega (arith, z, some));
           within = within;
           nears = (omega (arith, i .nears .0, nears .0), λ z. omega (arith, i .nears .0, nears .1 some));
         }
@@ -173,4 +170,4 @@ module _ (p : Progress) (s d : List ℕ) (reached : Progress) (bytes printed : �
       rest-length = ap (λ (o : List ℕ). length o) (held ∙ ap (λ (x : List ℕ). over x d) unchanged) ∙ length-over (i .text) d (i .room)
 
       pub rest-few : Few r (length (take (length s - bytes) (drop bytes s))) → Few (record { progress = r .progress; bytes = bytes; printed = printed }) (length s)
-      rest-few few z = ⊎-elim inl (λ l. inr (omega (arith, l, z, ap (λ (x : List ℕ). length x) (rest-lent s bytes) ∙ length-drop bytes s))) (few none)
+      rest-few few z = ⊎-elim inl (λ l. inr (omega (arith, l, z, room-rest s bytes))) (few none)

@@ -29,46 +29,46 @@ module _ (n room : ℕ) (r : Reader) where
   drain-on h z = rw (le-leb _ _ h, ne-eqb _ _ z)
 
 -- what a reader has printed and what it will print, when x comes and nothing more
-abbrev pub whole : Reader → List ℕ → List ℕ
-whole r x = r .printed ++ report (r .progress) (r .held ++ x)
+abbrev inAll : Reader → List ℕ → List ℕ
+inAll r x = r .printed ++ report (r .progress) (r .held ++ x)
 
 -- no step changes that
 module _ (x : List ℕ) where
-  next-whole : (r : Reader) → whole (next r) x ≡ whole r x
-  next-whole r =
+  next-same : (r : Reader) → inAll (next r) x ≡ inAll r x
+  next-same r =
       append-assoc (r .printed) (step (r .progress) (r .held) .text) _
       ∙ ap (λ (t : List ℕ). r .printed ++ t) (sym (step-tells x (r .progress) (r .held)))
 
-  drain-whole : (n room : ℕ) (r : Reader) → whole (drain n room r) x ≡ whole r x
+  drain-same : (n room : ℕ) (r : Reader) → inAll (drain n room r) x ≡ inAll r x
   unfolding drain
-  drain-whole zero room r = refl
-  drain-whole (suc n) room r =
+  drain-same zero room r = refl
+  drain-same (suc n) room r =
       split (leb (length (r .printed) + mostLine) room)
       (λ h. split (eqb (step (r .progress) (r .held) .taken) 0)
-      (λ z. rw (h, z) (next-whole r)) (λ z. rw (h, z) (drain-whole n room (next r) ∙ next-whole r)))
+      (λ z. rw (h, z) (next-same r)) (λ z. rw (h, z) (drain-same n room (next r) ∙ next-same r)))
       (λ h. rw h)
 
-  emptied-whole : (room : ℕ) (r : Reader) → whole (emptied room r) x ≡ whole r x
-  emptied-whole room r =
+  emptied-same : (room : ℕ) (r : Reader) → inAll (emptied room r) x ≡ inAll r x
+  emptied-same room r =
       append-assoc (r .printed) (drained (r .progress) (r .held) room .printed) _
-      ∙ ap (λ (t : List ℕ). r .printed ++ t) (drain-whole (suc (length (r .held))) room (reader (r .progress) (r .held) []))
+      ∙ ap (λ (t : List ℕ). r .printed ++ t) (drain-same (suc (length (r .held))) room (reader (r .progress) (r .held) []))
 
-  times-whole : (n room : ℕ) (r : Reader) → whole (emptiedTimes n room r) x ≡ whole r x
+  times-same : (n room : ℕ) (r : Reader) → inAll (emptiedTimes n room r) x ≡ inAll r x
   unfolding emptiedTimes
-  times-whole zero room r = refl
-  times-whole (suc n) room r = times-whole n room (emptied room r) ∙ emptied-whole room r
+  times-same zero room r = refl
+  times-same (suc n) room r = times-same n room (emptied room r) ∙ emptied-same room r
 
-  feed-whole : (room : ℕ) (r : Reader) (piece : List ℕ) → whole (feed room r piece) x ≡ whole r (piece ++ x)
+  feed-same : (room : ℕ) (r : Reader) (piece : List ℕ) → inAll (feed room r piece) x ≡ inAll r (piece ++ x)
   unfolding feed
-  feed-whole room r piece =
-      times-whole (length (r .held ++ piece) + 1) room (reader (r .progress) (r .held ++ piece) (r .printed))
+  feed-same room r piece =
+      times-same (length (r .held ++ piece) + 1) room (reader (r .progress) (r .held ++ piece) (r .printed))
       ∙ ap (λ (t : List ℕ). r .printed ++ report (r .progress) t) (append-assoc (r .held) piece x)
 
-pub all-whole : (room : ℕ) (r : Reader) (pieces : List (List ℕ)) (x : List ℕ) → whole (feedAll room r pieces) x ≡ whole r (flatten pieces ++ x)
+all-same : (room : ℕ) (r : Reader) (pieces : List (List ℕ)) (x : List ℕ) → inAll (feedAll room r pieces) x ≡ inAll r (flatten pieces ++ x)
 unfolding feedAll flatten
-all-whole room r [] x = refl
-all-whole room r (piece ∷ pieces) x =
-    all-whole room (feed room r piece) pieces x ∙ feed-whole (flatten pieces ++ x) room r piece ∙ ap (whole r) (sym (append-assoc piece (flatten pieces) x))
+all-same room r [] x = refl
+all-same room r (piece ∷ pieces) x =
+    all-same room (feed room r piece) pieces x ∙ feed-same (flatten pieces ++ x) room r piece ∙ ap (inAll r) (sym (append-assoc piece (flatten pieces) x))
 
 -- it has taken every step that it can
 abbrev pub Rested : Reader → Type 0
@@ -136,10 +136,10 @@ module _ (room : ℕ) (enough : mostLine ≤ room) where
   fed-report pieces =
       let r = feedAll room start pieces in
       ap (λ (t : List ℕ). r .printed ++ t) (sym (rest-tells (r .progress) (r .held) (fed-rest pieces)) ∙ ap (report (r .progress)) (sym (append-nil (r .held))))
-      ∙ all-whole room start pieces [] ∙ ap reportOf (append-nil (flatten pieces))
+      ∙ all-same room start pieces [] ∙ ap reportOf (append-nil (flatten pieces))
 
 -- once a report has stopped, nothing that comes changes it
 pub fed-stopped : (room : ℕ) (pieces : List (List ℕ)) → feedAll room start pieces .progress ≡ Stopped → (x : List ℕ)
     → reportOf (flatten pieces ++ x) ≡ fed room pieces
 fed-stopped room pieces h x =
-    sym (all-whole room start pieces x) ∙ rw h refl
+    sym (all-same room start pieces x) ∙ rw h refl

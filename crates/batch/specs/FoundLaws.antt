@@ -69,14 +69,14 @@ pub cut-entry : (e : Entry) → Fits e → (k : ℕ) → k < length (entryBytes 
 cut-entry e f k l = none-found (take k (entryBytes e)) (entry-cut e k f l)
 
 -- of n entries to come, those that are whole, and what comes behind them
-pub record Entries (n : ℕ) (s : List ℕ) : Type 0 where
+pub record Leading (n : ℕ) (s : List ℕ) : Type 0 where
   pub entries : List Entry
   pub rest : List ℕ
   pub fit : AllFit entries
   pub are : s ≡ flatMap entryBytes entries ++ rest
   pub all : (length entries ≡ n) ⊎ ((length entries < n) × NoEntry rest)
 
-pub entries-found : (n : ℕ) (s : List ℕ) → Bytes s → Entries n s
+pub entries-found : (n : ℕ) (s : List ℕ) → Bytes s → Leading n s
 unfolding flatMap
 entries-found zero s b = record { entries = []; rest = s; fit = tt; are = refl; all = inl refl }
 entries-found (suc n) s b =
@@ -100,7 +100,7 @@ head-back b bytes h m =
     ∙ sym (append-assoc batchMark (bytesOf 2 (entriesCounted b)) (drop headBytes b))
 
 -- a head that counts n entries, and the entries behind it
-counted-found : (n : ℕ) (s : List ℕ) → n < 65536 → Entries n s → Found (headOf n ++ s)
+counted-found : (n : ℕ) (s : List ℕ) → n < 65536 → Leading n s → Found (headOf n ++ s)
 counted-found n s small found =
     ⊎-elim
     (λ e. subst Found (ap (λ (x : List ℕ). headOf n ++ x) (sym (found .are)))

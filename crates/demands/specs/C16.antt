@@ -10,7 +10,7 @@ use Rattle.answers.specs.Answers.{refusal}
 use Rattle.circuit.specs.Whole.{ruleAnswer}
 use Rattle.fused.specs.Answers.{writeAnswer}
 use Rattle.fused.specs.AnswerLaws as answers
-use Rattle.lines.specs.Line.{decimal, lineOf}
+use Rattle.lines.specs.Line.{decimal, spaced, lineOf}
 use Rattle.lines.specs.Total.{spacedLess}
 use Rattle.lines.specs.TotalLaws as totals
 use Rattle.batch.specs.declared.Progress.the-variants.{Stopped}
@@ -28,9 +28,9 @@ use Rattle.demands.specs.BatchLaws as limits
 pub whole-report : (es : List Entry) → AllFit es → length es < 65536 → reportOf (batchOf es) ≡ linesOf es ++ totalIn es
 whole-report = found.whole-report
 
--- "which may be negative": the last number of the total has a sign then, and none else.
-pub saved : (before after : ℕ) → after ≤ before → spacedLess before after ≡ 32 ∷ decimal (before - after)
-saved = totals.less-saved
+-- "which may be negative": the last number of the total, behind its space, has a sign then, and none else.
+pub saved : (before after : ℕ) → after ≤ before → spacedLess before after ≡ spaced (before - after)
+saved = totals.less-positive
 
 pub lost : (before after : ℕ) → before < after → spacedLess before after ≡ 32 ∷ 45 ∷ decimal (after - before)
 lost = totals.less-negative

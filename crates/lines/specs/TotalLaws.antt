@@ -22,10 +22,6 @@ pub less-positive : (before after : ℕ) → after ≤ before → spacedLess bef
 unfolding spacedLess
 less-positive before after h = rw (le-leb after before h)
 
-pub less-saved : (before after : ℕ) → after ≤ before → spacedLess before after ≡ 32 ∷ decimal (before - after)
-unfolding spaced
-less-saved before after h = less-positive before after h
-
 pub less-negative : (before after : ℕ) → before < after → spacedLess before after ≡ 32 ∷ 45 ∷ decimal (after - before)
 unfolding spacedLess
 less-negative before after h = rw (lt-leb after before h)

@@ -5,7 +5,8 @@ use mathlib.Core.Path.{_≡_, refl, ap, _∙_}
 use Prim.Native.Nat.{ℕ, _-_}
 use native.Mathlib.Omega.{arith}
 use denote.Ref.{now}
-use lib.ListN.{length, take, drop, length-drop}
+use lib.ListN.{length, take, drop}
+use Rattle.words.specs.BufferLaws.{room-rest}
 use Rattle.batch.specs.Batch.{partSize, hasPart, pastPart}
 use Rattle.batch.specs.PartLaws.{part-fits}
 use Rattle.batch.specs.TakenLaws.{size-none, size-some, rest-lent, rule-missing, plan-missing, both-whole}
@@ -29,9 +30,6 @@ part-part-size-start c =
     omega (arith, e, part-fits s t)
 
 -- what is behind it, as the code has it
-rest-length : (s : List ℕ) (r : ℕ) → length (take (length s - r) (drop r s)) ≡ length s - r
-rest-length s r = ap (λ (t : List ℕ). length t) (rest-lent s r) ∙ length-drop r s
-
 behind : (s : List ℕ) (r k : ℕ) → r ≡ partSize s → k ≡ cond (hasPart (take (length s - r) (drop r s))) (partSize (take (length s - r) (drop r s))) 0
     → k ≡ cond (hasPart (pastPart s)) (partSize (pastPart s)) 0
 behind s r k e h = h ∙ ap (λ (t : List ℕ). cond (hasPart t) (partSize t) 0) (rest-lent s r ∙ ap (λ (n : ℕ). drop n s) e)
@@ -41,7 +39,7 @@ returns-2 c =
     let y = c .before .before .before in
     let s = now (y .before .before .before .args .s) in
     let (t, e) = size-some s _ (y .before .part-size .ensures .0) (y .if1 .left) in
-    (rw (plan-missing s t (size-none (pastPart s) _ (behind s _ _ e (c .before .part-size2 .ensures .0)) (c .if2 .taken))) refl, (omega arith, λ z. omega (arith, rest-length s (y .before .part-size .result), e, c .before .part-size2 .ensures .1 .1 (c .if2 .taken), y .before .part-size .ensures .1 .0)))
+    (rw (plan-missing s t (size-none (pastPart s) _ (behind s _ _ e (c .before .part-size2 .ensures .0)) (c .if2 .taken))) refl, (omega arith, λ z. omega (arith, room-rest s (y .before .part-size .result), e, c .before .part-size2 .ensures .1 .1 (c .if2 .taken), y .before .part-size .ensures .1 .0)))
 
 add-result : tie.Need-add-result
 add-result c = record { fits = omega (arith, c .before .part-size2 .ensures .1 .0, c .before .before .before .before .part-size .ensures .1 .0) }
