@@ -5,7 +5,8 @@ use mathlib.Core.List.{List, [], _∷_, map}
 use native.Mathlib.Omega.{arith}
 use lib.ListN.{getD, set}
 use Rattle.words.specs.Numbers.{number, bytesOf}
-use Rattle.settings.specs.Sets.{collect, restsOn, rests}
+use Rattle.bitsets.specs.Bits.{collect}
+use Rattle.settings.specs.Sets.{restsOn, rests}
 use Rattle.settings.specs.Numbers.{numbers}
 use Rattle.settings.specs.Guards.{spread, tableOver, table}
 use Rattle.codes.specs.Codes.{operationOf, codeOf}

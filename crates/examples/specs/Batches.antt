@@ -4,7 +4,8 @@ use mathlib.Core.Path.{_≡_, refl}
 use mathlib.Core.List.{List, [], _∷_, _++_, map, flatMap}
 use lib.ListN.{take}
 use Rattle.words.specs.Numbers.{number, bytesOf}
-use Rattle.settings.specs.Sets.{collect, restsOn, rests}
+use Rattle.bitsets.specs.Bits.{collect}
+use Rattle.settings.specs.Sets.{restsOn, rests}
 use Rattle.settings.specs.Numbers.{numbers}
 use Rattle.settings.specs.Guards.{spread, tableOver, table}
 use Rattle.codes.specs.Codes.{operationOf, codeOf}

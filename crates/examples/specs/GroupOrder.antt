@@ -4,7 +4,8 @@ use mathlib.Core.Path.{_≡_, refl}
 use mathlib.Core.List.{List, [], _∷_, _++_, map}
 use lib.ListN.{take, drop}
 use Rattle.words.specs.Numbers.{number}
-use Rattle.settings.specs.Sets.{collect, restsOn, rests}
+use Rattle.bitsets.specs.Bits.{collect}
+use Rattle.settings.specs.Sets.{restsOn, rests}
 use Rattle.settings.specs.Numbers.{numbers}
 use Rattle.codes.specs.Codes.{operationOf, codeOf}
 use Rattle.answers.specs.Answers.{success, refusal}

@@ -2,7 +2,8 @@
 use mathlib.Core.Path.{refl, ap}
 use Rattle.words.specs.Numbers.{number, bytesOf}
 use Rattle.words.specs.Buffers.{over}
-use Rattle.settings.specs.Sets.{collect, restsOn, rests}
+use Rattle.bitsets.specs.Bits.{collect}
+use Rattle.settings.specs.Sets.{restsOn, rests}
 use Rattle.settings.specs.Numbers.{numbers}
 use Rattle.codes.specs.Codes.{operationOf, codeOf}
 use Rattle.codes.specs.Results.{resultOf}

@@ -6,7 +6,8 @@ use mathlib.Core.Bool.{true, false}
 use lib.ListN.{getD}
 use Rattle.words.specs.Numbers.{number, bytesOf}
 use Rattle.words.specs.Buffers.{over}
-use Rattle.settings.specs.Sets.{collect, restsOn, rests}
+use Rattle.bitsets.specs.Bits.{collect}
+use Rattle.settings.specs.Sets.{restsOn, rests}
 use Rattle.settings.specs.Numbers.{numbers}
 use Rattle.settings.specs.Guards.{spread, tableOver, table}
 use Rattle.codes.specs.Codes.{operationOf, codeOf}

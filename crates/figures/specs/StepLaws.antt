@@ -10,7 +10,8 @@ use lib.Pow.{pow-mono}
 use borrow.Author.Tests.{eq-eqb, ne-eqb}
 use Rattle.words.specs.Numbers.{numberAt, sumOf}
 use Rattle.words.specs.Lists.{Inside}
-use Rattle.settings.specs.Settings.{bitOf, numberOf}
+use Rattle.bitsets.specs.Bits.{bitOf}
+use Rattle.settings.specs.Settings.{numberOf}
 use Rattle.settings.specs.SettingLaws.{numberOf-below}
 use Rattle.settings.specs.Sets.{has}
 use Rattle.codes.specs.Results.{isOne}

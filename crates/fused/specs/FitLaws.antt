@@ -14,7 +14,7 @@ use Rattle.words.specs.Lists.{from, upto}
 use Rattle.words.specs.ListLaws.{length-from, length-keep}
 use Rattle.settings.specs.Sets.{has, restsOn, rests}
 use Rattle.settings.specs.Guards.{spread, tableOver, table}
-use Rattle.settings.specs.BitLaws.{collect-below}
+use Rattle.bitsets.specs.BitLaws.{collect-below}
 use Rattle.codes.specs.Codes.{entryOf}
 use Rattle.codes.specs.declared.Kind.{Kind}
 use Rattle.codes.specs.declared.Operation.{Operation}

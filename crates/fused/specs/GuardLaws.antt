@@ -8,7 +8,8 @@ use lib.ListN.{length, getD}
 use Rattle.words.specs.Lists.{_∈_}
 use Rattle.words.specs.MemberLaws.{keep-in}
 use Rattle.words.specs.TestLaws.{split}
-use Rattle.settings.specs.Settings.{Setting, bitOf, numberOf, preRestsOn}
+use Rattle.bitsets.specs.Bits.{bitOf}
+use Rattle.settings.specs.Settings.{Setting, numberOf, preRestsOn}
 use Rattle.settings.specs.Sets.{has}
 use Rattle.settings.specs.Guards.{table}
 use Rattle.settings.specs.Holding.{Holds}

@@ -9,7 +9,7 @@ use native.Mathlib.Omega.{arith}
 use lib.ListN.{length, getD, length-append}
 use Rattle.words.specs.Lists.{_∈_, from, upto}
 use Rattle.words.specs.TestLaws.{same?}
-use Rattle.settings.specs.Settings.{bitOf}
+use Rattle.bitsets.specs.Bits.{bitOf}
 use Rattle.codes.specs.declared.Operation.{Operation}
 use Rattle.codes.specs.Results.{isOne, resultOn}
 use Rattle.records.specs.Records.{Record, operation, pick, pickFigure, recordFigure}

@@ -11,7 +11,7 @@ use Rattle.words.specs.Buffers.{padded}
 use Rattle.words.specs.BufferLaws.{padded-at, padded-length}
 use Rattle.words.specs.ListLaws.{length-from}
 use Rattle.settings.specs.Sets.{has}
-use Rattle.settings.specs.BitLaws.{bit-or, bit-none}
+use Rattle.bitsets.specs.BitLaws.{bit-or, bit-none}
 use Rattle.answers.specs.Parsing.{parsed, IsRead}
 use Rattle.answers.specs.ParsingLaws.{read-is, is-read, same-what, same-next}
 use Rattle.reading.specs.Limits.{nested}

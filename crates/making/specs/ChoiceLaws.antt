@@ -12,9 +12,9 @@ use lib.Seq.{getD-set-same, getD-set-other}
 use Rattle.words.specs.ListLaws.{getD-zeros, getD-from, upto-more}
 use Rattle.words.specs.Lists.{keep, from, upto}
 use Rattle.words.specs.TestLaws.{split, same?}
-use Rattle.settings.specs.Settings.{bit}
+use Rattle.bitsets.specs.Bits.{bit}
 use Rattle.settings.specs.Sets.{has}
-use Rattle.settings.specs.BitLaws.{bit-zero, bit-suc, bit-none}
+use Rattle.bitsets.specs.BitLaws.{bit-zero, bit-suc, bit-none}
 use Rattle.codes.specs.Codes.{startCode}
 use Rattle.reading.specs.Header.{variables, kindAt}
 use Rattle.gates.specs.Gates.{Gate, start, choice, Gates}

@@ -11,7 +11,7 @@ use Rattle.words.specs.Lists.{keep, upto}
 use Rattle.words.specs.ListLaws.{keep-same}
 use Rattle.words.specs.MemberLaws.{from-below}
 use Rattle.settings.specs.Sets.{has}
-use Rattle.settings.specs.BitLaws.{bit-or, bit-none}
+use Rattle.bitsets.specs.BitLaws.{bit-or, bit-none}
 use Rattle.codes.specs.Codes.{codeOf}
 use Rattle.codes.specs.declared.Kind.{Kind}
 use Rattle.codes.specs.declared.Kind.the-variants as kind

@@ -16,7 +16,8 @@ use Rattle.reading.specs.Examples.{r1}
 use Rattle.gates.specs.Gates.{conditions}
 use Rattle.gates.specs.PlainCircuit.{applyGate, makeExpr, assignsIn, assigns, choices, makeStatement, makeBlock, plainCircuit, gatesOf}
 use Rattle.gates.specs.Examples.{r2, r7, r8}
-use Rattle.settings.specs.Sets.{collect, excludes}
+use Rattle.bitsets.specs.Bits.{collect}
+use Rattle.settings.specs.Sets.{excludes}
 use Rattle.settings.specs.Numbers.{numbers}
 use Rattle.needed.specs.Pass.{preconditions, preconditionSets, rulePreconditions}
 

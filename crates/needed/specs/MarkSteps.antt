@@ -13,7 +13,7 @@ use Rattle.words.specs.Lists.{elem, upto}
 use Rattle.words.specs.ListLaws.{keep-same, inside-list, getD-zeros}
 use Rattle.words.specs.MemberLaws.{elem-more}
 use Rattle.words.specs.TestLaws.{same?}
-use Rattle.settings.specs.Settings.{bitOf}
+use Rattle.bitsets.specs.Bits.{bitOf}
 use Rattle.codes.specs.Codes.{codeOf}
 use Rattle.codes.specs.declared.Form.{Form}
 use Rattle.codes.specs.declared.Form.the-variants.{End, Assign, Skip, Branch, Variable, Word, Bit, Apply, Unknown}

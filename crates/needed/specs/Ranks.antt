@@ -6,7 +6,7 @@ use mathlib.Core.Bool.{not, cond}
 use lib.ListN.{length, getD}
 use lib.Dec.{eqb}
 use Rattle.words.specs.Lists.{elem, keep, upto}
-use Rattle.settings.specs.Settings.{bitOf}
+use Rattle.bitsets.specs.Bits.{bitOf}
 use Rattle.gates.specs.Gates.{Gates, heads, conditions}
 
 -- one more, but nothing stays nothing

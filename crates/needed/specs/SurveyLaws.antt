@@ -13,7 +13,7 @@ use Rattle.words.specs.Lists.{elem, keep, from, upto}
 use Rattle.words.specs.ListLaws.{keep-same, getD-zeros}
 use Rattle.words.specs.MemberLaws.{from-below}
 use Rattle.words.specs.TestLaws.{split, same?}
-use Rattle.settings.specs.Settings.{bitOf}
+use Rattle.bitsets.specs.Bits.{bitOf}
 use Rattle.settings.specs.ListLaws.{keep-none}
 use Rattle.gates.specs.Gates.{Earlier, costs, heads, conditions}
 use Rattle.needed.specs.Held.{choiceCode, gatesIn, codeAt, firstAt, codeCost}

@@ -8,7 +8,7 @@ use lib.Dec.{ltb}
 use lib.Pow.{shr-shr}
 use borrow.Author.Tests.{eq-eqb, ltb-true, ltb-false}
 use Rattle.words.specs.TestLaws.{split}
-use Rattle.settings.specs.Settings.{bit}
+use Rattle.bitsets.specs.Bits.{bit}
 
 -- the word x has a number from n on; y is what it has behind n
 pub record Rising (x n y : ℕ) : Type 0 where

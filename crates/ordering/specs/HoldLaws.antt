@@ -12,13 +12,13 @@ use lib.ListN.{length, getD, set, replicate, length-set}
 use lib.Seq.{getD-set-same, getD-set-other}
 use borrow.Author.Tests.{eq-eqb, ne-eqb, eqb-true, ltb-true, ltb-false, lt-ltb, le-ltb}
 use Rattle.words.specs.TestLaws.{split, same?}
-use Rattle.settings.specs.Settings.{bit}
+use Rattle.bitsets.specs.Bits.{bit}
 use Rattle.settings.specs.Sets.{excludes}
-use Rattle.settings.specs.BitLaws.{bit-and, bit-none}
-use Rattle.waiting.specs.Tables.{bitIn, strikeBit}
+use Rattle.bitsets.specs.BitLaws.{bit-and, bit-none}
+use Rattle.bitsets.specs.Words.{bitIn, strikeBit}
 use Rattle.ordering.specs.SeenLaws.{seen-start, seen-put, seen-struck}
 use Rattle.ordering.specs.Search.{freeFrom, readyIn, searchFrom, nextReady, lowered, HeldUp, Clear, Holding}
-use Rattle.waiting.specs.TableLaws.{bit-at, at-word, strike-bit}
+use Rattle.bitsets.specs.WordLaws.{bit-at, at-word, strike-bit}
 
 both-true : (a b : Bool) → (a && b) ≡ true → (a ≡ true) × (b ≡ true)
 both-true true true e = (refl, refl)

@@ -22,11 +22,11 @@ use Rattle.plan.specs.Order.{allIn, firstReady, schedule}
 use Rattle.plan.specs.CircleLaws.{allIn-each, allIn-back}
 use Rattle.plan.specs.OrderLaws.{found, none-left, stays, turn}
 use Rattle.plan.specs.CountLaws.{once-length, groups-once, groups-most}
-use Rattle.waiting.specs.Tables.{bitIn, strikeBit}
+use Rattle.bitsets.specs.Words.{bitIn, strikeBit}
 use Rattle.ordering.specs.Search.{nextReady, asNext, placeOf, Holding}
 use Rattle.ordering.specs.declared.Next.{Next}
 use Rattle.ordering.specs.declared.Next.the-variants.{Group, Circle}
-use Rattle.waiting.specs.TableLaws.{strike-words, strike-bit}
+use Rattle.bitsets.specs.WordLaws.{strike-words, strike-bit}
 use Rattle.ordering.specs.HoldLaws.{holding-start, holding-search, holding-struck, SameElse}
 use Rattle.ordering.specs.SearchLaws.{as-none, as-some}
 use Rattle.ordering.specs.ReadyLaws.{Tabled, next-right}

@@ -11,15 +11,15 @@ use borrow.Author.Tests.{eqb-true, eqb-false}
 use Rattle.words.specs.Lists.{_∈_, elem, keep, from, upto}
 use Rattle.words.specs.MemberLaws.{elem→∈, ∈→elem, keep-in, keep-from, from-in}
 use Rattle.words.specs.TestLaws.{split, same-test}
-use Rattle.settings.specs.Settings.{bit}
+use Rattle.bitsets.specs.Bits.{bit}
 use Rattle.settings.specs.Sets.{excludes}
 use Rattle.settings.specs.SetLaws.{excludes-right}
 use Rattle.plan.specs.Groups.{groups}
 use Rattle.plan.specs.GroupLaws.{group-of}
 use Rattle.plan.specs.Order.{allIn, ready, firstReady}
 use Rattle.plan.specs.CircleLaws.{allIn-each, allIn-back}
-use Rattle.waiting.specs.Tables.{HasWords, bitIn}
-use Rattle.waiting.specs.TableLaws.{bit-at}
+use Rattle.bitsets.specs.Words.{HasWords, bitIn}
+use Rattle.bitsets.specs.WordLaws.{bit-at}
 use Rattle.ordering.specs.Search.{freeFrom, readyIn, searchFrom, nextReady, asNext}
 
 -- the tables hold the waits W of the groups of n gates, and which of them are left after those of done

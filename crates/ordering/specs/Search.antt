@@ -7,7 +7,7 @@ use mathlib.Core.Option.{Option, none, some}
 use lib.Dec.{ltb}
 use lib.ListN.{length, getD, set}
 use Rattle.settings.specs.Sets.{excludes}
-use Rattle.waiting.specs.Tables.{bitIn}
+use Rattle.bitsets.specs.Words.{bitIn}
 use Rattle.ordering.specs.declared.Next.{Next}
 use Rattle.ordering.specs.declared.Next.the-variants.{Group, Circle}
 

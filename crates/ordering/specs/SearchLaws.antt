@@ -8,9 +8,9 @@ use native.Mathlib.Omega.{arith}
 use lib.Bits.{bitAnd}
 use borrow.Author.Tests.{eq-eqb, ne-eqb}
 use lib.ListN.{length, getD, set}
-use Rattle.settings.specs.Settings.{bit}
+use Rattle.bitsets.specs.Bits.{bit}
 use Rattle.gates.specs.declared.GateId.{GateId}
-use Rattle.waiting.specs.Tables.{bitIn}
+use Rattle.bitsets.specs.Words.{bitIn}
 use Rattle.ordering.specs.Search.{freeFrom, readyIn, searchFrom, nextReady, asNext, lowered, Clear, Holding}
 use Rattle.ordering.specs.SeenLaws.{clear-next, clear-free}
 use Rattle.ordering.specs.HoldLaws.{holding-pass, holding-more}

@@ -11,11 +11,11 @@ use lib.Seq.{getD-set-same, getD-set-other}
 use borrow.Author.Tests.{ne-eqb}
 use Rattle.words.specs.TestLaws.{same?}
 use Rattle.words.specs.ListLaws.{getD-zeros}
-use Rattle.settings.specs.Settings.{bit}
+use Rattle.bitsets.specs.Bits.{bit}
 use Rattle.settings.specs.Sets.{excludes}
 use Rattle.settings.specs.SetLaws.{excludes-right}
-use Rattle.waiting.specs.Tables.{bitIn, strikeBit}
-use Rattle.waiting.specs.TableLaws.{at-word, strike-bit}
+use Rattle.bitsets.specs.Words.{bitIn, strikeBit}
+use Rattle.bitsets.specs.WordLaws.{at-word, strike-bit}
 use Rattle.ordering.specs.Search.{freeFrom, Clear, Seen}
 
 module _ (waits left : List ℕ) where

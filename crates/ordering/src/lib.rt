@@ -7,7 +7,7 @@ ghost use mathlib.Core.List.{reverse};
 ghost use Prim.Native.Nat.{_*_, _<_, _≤_};
 ghost use lib.ListN.{length, getD, replicate};
 ghost use Rattle.words.specs.Buffers.{over};
-ghost use Rattle.settings.specs.Settings.{bit};
+ghost use Rattle.bitsets.specs.Bits.{bit};
 ghost use Rattle.needed.specs.Held.{gatesIn};
 ghost use Rattle.plan.specs.Order as plan;
 ghost use Rattle.waiting.specs.Reads.{Orderable};

@@ -15,7 +15,8 @@ use Rattle.reading.specs.Examples.{r1}
 use Rattle.gates.specs.Gates.{conditions, costs}
 use Rattle.gates.specs.PlainCircuit.{applyGate, makeExpr, assignsIn, assigns, choices, makeStatement, makeBlock, plainCircuit}
 use Rattle.gates.specs.Examples.{r2, r7, r8}
-use Rattle.settings.specs.Sets.{collect, restsOn, rests}
+use Rattle.bitsets.specs.Bits.{collect}
+use Rattle.settings.specs.Sets.{restsOn, rests}
 use Rattle.settings.specs.Numbers.{numbers}
 use Rattle.needed.specs.Pass.{preconditions, preconditionSets}
 use Rattle.circuit.specs.Whole.{wholeWithin, ruleAnswer}

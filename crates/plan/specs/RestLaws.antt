@@ -10,7 +10,8 @@ use Rattle.words.specs.Lists.{_∈_, upto}
 use Rattle.words.specs.ListLaws.{length-from, map-same, inside-list, length-keep}
 use Rattle.words.specs.MemberLaws.{keep-in, keep-from, from-below, map-in, getD-in}
 use Rattle.words.specs.TestLaws.{split, same?}
-use Rattle.settings.specs.Settings.{Setting, settingOf, flip, unlike, moves, preRestsOn, preRests}
+use Rattle.bitsets.specs.Bits.{unlike}
+use Rattle.settings.specs.Settings.{Setting, settingOf, flip, moves, preRestsOn, preRests}
 use Rattle.settings.specs.Sets.{restsOn, rests}
 use Rattle.settings.specs.ListLaws.{anyBelow-some}
 use Rattle.settings.specs.SettingLaws.{put-same, put-other}

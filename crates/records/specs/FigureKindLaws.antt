@@ -12,7 +12,8 @@ use Rattle.words.specs.Lists.{_∈_}
 use Rattle.words.specs.ListLaws.{inside-list}
 use Rattle.words.specs.RunLaws.{runAt-past}
 use Rattle.words.specs.TestLaws.{split}
-use Rattle.settings.specs.Settings.{bitOf, numberOf}
+use Rattle.bitsets.specs.Bits.{bitOf}
+use Rattle.settings.specs.Settings.{numberOf}
 use Rattle.settings.specs.Sets.{has}
 use Rattle.codes.specs.Codes.{Fits}
 use Rattle.codes.specs.Results.{isOne}

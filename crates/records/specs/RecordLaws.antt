@@ -9,7 +9,7 @@ use lib.ListN.{length}
 use Rattle.words.specs.Lists.{_∈_}
 use Rattle.words.specs.ListLaws.{map-same}
 use Rattle.words.specs.RunLaws.{run-right}
-use Rattle.settings.specs.Settings.{bitOf}
+use Rattle.bitsets.specs.Bits.{bitOf}
 use Rattle.settings.specs.Sets.{has}
 use Rattle.settings.specs.SettingLaws.{numberOf-agree}
 use Rattle.codes.specs.declared.Kind.{Kind}

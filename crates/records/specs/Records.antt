@@ -4,7 +4,8 @@ use mathlib.Core.List.{List, [], _∷_, map}
 use mathlib.Core.Bool.{cond}
 use lib.ListN.{length, getD}
 use Rattle.words.specs.Lists.{_∈_}
-use Rattle.settings.specs.Settings.{bitOf, numberOf}
+use Rattle.bitsets.specs.Bits.{bitOf}
+use Rattle.settings.specs.Settings.{numberOf}
 use Rattle.settings.specs.Sets.{has}
 use Rattle.codes.specs.Codes.{entryOf, choiceCost}
 use Rattle.codes.specs.declared.Kind.{Kind}

@@ -1,7 +1,7 @@
 -- Inner, for document 01, "The fused circuit file": how many guards of a pick are 1: "A pick (31) gives the value whose guard is 1, else 0."
 use Prim.Native.Nat.{ℕ, _+_}
 use mathlib.Core.List.{List, [], _∷_}
-use Rattle.settings.specs.Settings.{bitOf}
+use Rattle.bitsets.specs.Bits.{bitOf}
 use Rattle.codes.specs.Results.{isOne}
 use Rattle.records.specs.Records.{Pair}
 

@@ -15,12 +15,13 @@ use Rattle.words.specs.Lists.{keep, upto}
 use Rattle.words.specs.ListLaws.{length-from, length-keep}
 use Rattle.words.specs.Buffers.{padded}
 use Rattle.words.specs.BufferLaws.{padded-more}
-use Rattle.settings.specs.Sets.{has, collect, restsOn, rests}
+use Rattle.bitsets.specs.Bits.{collect}
+use Rattle.settings.specs.Sets.{has, restsOn, rests}
 use Rattle.settings.specs.Guards.{spread, chosen, tableOver, table}
 use Rattle.settings.specs.GuardLaws.{spread-below, chosen-rests}
 use Rattle.settings.specs.PlaceLaws.{few-rests}
 use lib.Pow.{pow-mono}
-use Rattle.settings.specs.BitLaws.{collect-below}
+use Rattle.bitsets.specs.BitLaws.{collect-below}
 use Rattle.words.specs.ListLaws.{keep-yes, keep-no}
 
 -- a bit above all others is put in by "or"

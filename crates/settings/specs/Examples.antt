@@ -3,7 +3,8 @@ use mathlib.Core.Path.{_≡_, refl}
 use mathlib.Core.Bool.{true, false}
 use mathlib.Core.List.{[], _∷_}
 use Rattle.settings.specs.Settings.{settingOf, preRestsOn, preRests}
-use Rattle.settings.specs.Sets.{collect, whole, giving, lacking, given, without, excludes, restsOn, rests}
+use Rattle.bitsets.specs.Bits.{collect}
+use Rattle.settings.specs.Sets.{whole, giving, lacking, given, without, excludes, restsOn, rests}
 use Rattle.settings.specs.Guards.{preTable, spread, tableOver, table}
 
 -- example 1: over six conditions, the settings that give condition 0 the bit 1, and those that give it 0

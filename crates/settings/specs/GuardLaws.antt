@@ -8,11 +8,12 @@ use lib.ListN.{length, getD}
 use Rattle.words.specs.Lists.{upto}
 use Rattle.words.specs.ListLaws.{length-from, keep-same}
 use Rattle.words.specs.MemberLaws.{keep-in, from-below}
-use Rattle.settings.specs.Settings.{Setting, Over, bit, settingOf, numberOf, Agree, preRestsOn, preRests}
-use Rattle.settings.specs.Sets.{has, collect, restsOn, rests}
+use Rattle.bitsets.specs.Bits.{bit, collect}
+use Rattle.settings.specs.Settings.{Setting, Over, settingOf, numberOf, Agree, preRestsOn, preRests}
+use Rattle.settings.specs.Sets.{has, restsOn, rests}
 use Rattle.settings.specs.Guards.{preGuard, spread, tableOver, table, chosen}
 use Rattle.settings.specs.Holding.{Holds, test}
-use Rattle.settings.specs.BitLaws.{collect-has, collect-above}
+use Rattle.bitsets.specs.BitLaws.{collect-has, collect-above}
 use Rattle.settings.specs.SettingLaws.{numberOf-map, numberOf-below, numberOf-agree, numberOf-settingOf, numberOf-bit, settingOf-numberOf}
 use Rattle.settings.specs.RestLaws.{pre-rests-right}
 use Rattle.settings.specs.HoldLaws.{rests-places, holds-number}

@@ -5,8 +5,9 @@ use mathlib.Core.List.{List}
 use Prim.Native.Nat.{ℕ, _^_}
 use lib.ListN.{length}
 use Rattle.words.specs.Lists.{keep, upto}
-use Rattle.settings.specs.Settings.{Setting, bit, settingOf, numberOf, preRests}
-use Rattle.settings.specs.Sets.{has, collect, rests}
+use Rattle.bitsets.specs.Bits.{bit, collect}
+use Rattle.settings.specs.Settings.{Setting, settingOf, numberOf, preRests}
+use Rattle.settings.specs.Sets.{has, rests}
 
 -- table bit j of the test P: P at a setting that gives the conditions rested on, in that order, the bits of j
 abbrev pub preTable : (Setting → Bool) → List ℕ → ℕ → Bool

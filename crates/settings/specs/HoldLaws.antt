@@ -11,13 +11,15 @@ use Rattle.words.specs.Lists.{upto, keep, from}
 use Rattle.words.specs.ListLaws.{length-from}
 use Rattle.words.specs.MemberLaws.{from-below}
 use Rattle.words.specs.TestLaws.{split, same-test}
-use Rattle.settings.specs.Settings.{Setting, odd, settingOf, numberOf, Agree, Over, flip, unlike, moves, anyBelow, preRestsOn, preRests}
-use Rattle.settings.specs.Sets.{has, flipBit, restsOn, rests}
+use Rattle.bitsets.specs.Bits.{odd, unlike, flipBit}
+use Rattle.settings.specs.Settings.{Setting, settingOf, numberOf, Agree, Over, flip, moves, anyBelow, preRestsOn, preRests}
+use Rattle.settings.specs.Sets.{has, restsOn, rests}
 use Rattle.settings.specs.Holding.{Holds}
-use Rattle.settings.specs.BitLaws.{half, odd-bit}
+use Rattle.bitsets.specs.BitLaws.{half, odd-bit}
 use Rattle.settings.specs.ListLaws.{getD-upto, anyBelow-same, anyBelow-some, anyBelow-has, keep-none}
 use Rattle.settings.specs.SettingLaws.{place, settingOf-at, bit-numberOf, put-agree, numberOf-below, settingOf-numberOf}
-use Rattle.settings.specs.FlipLaws.{flip-suc, flip-below, settingOf-flip}
+use Rattle.bitsets.specs.FlipLaws.{flip-suc, flip-below}
+use Rattle.settings.specs.FlipLaws.{settingOf-flip}
 use Rattle.settings.specs.SetLaws.{restsOn-right}
 
 -- whether P rests on c is the same over more settings than cs has: bits of j beyond the conditions say nothing

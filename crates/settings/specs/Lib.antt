@@ -3,7 +3,6 @@ pub mod Sets
 pub mod Guards
 pub mod Holding
 pub mod Interface
-pub mod BitLaws
 pub mod ListLaws
 pub mod SettingLaws
 pub mod FlipLaws

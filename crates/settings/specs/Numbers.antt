@@ -5,10 +5,11 @@ use mathlib.Core.List.{List}
 use Prim.Native.Nat.{ℕ, _<_}
 use lib.Bits.{bitAnd}
 use lib.ListN.{length, getD}
-use Rattle.settings.specs.Settings.{Setting, bit, settingOf, Once}
-use Rattle.settings.specs.Sets.{has, empty, collect, whole, union, given, without}
+use Rattle.bitsets.specs.Bits.{bit, collect}
+use Rattle.settings.specs.Settings.{Setting, settingOf, Once}
+use Rattle.settings.specs.Sets.{has, empty, whole, union, given, without}
 use Rattle.settings.specs.Interface.{SetsOf}
-use Rattle.settings.specs.BitLaws.{collect-same}
+use Rattle.bitsets.specs.BitLaws.{collect-same}
 use Rattle.settings.specs.SettingLaws.{settingOf-at}
 use Rattle.settings.specs.SetLaws.{has-empty, has-whole, has-union, has-those}
 

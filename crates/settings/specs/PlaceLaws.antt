@@ -15,10 +15,11 @@ use Rattle.words.specs.MemberLaws.{from-below, keep-from, getD-in}
 use Rattle.words.specs.TestLaws.{split}
 use Rattle.words.specs.Buffers.{padded}
 use Rattle.words.specs.BufferLaws.{padded-at}
-use Rattle.settings.specs.Settings.{Setting, bit, Once, preRestsOn, preRests}
+use Rattle.bitsets.specs.Bits.{bit}
+use Rattle.settings.specs.Settings.{Setting, Once, preRestsOn, preRests}
 use Rattle.settings.specs.Sets.{has, restsOn, rests}
 use Rattle.settings.specs.Holding.{Holds, test}
-use Rattle.settings.specs.BitLaws.{bit-mod}
+use Rattle.bitsets.specs.BitLaws.{bit-mod}
 use Rattle.settings.specs.ListLaws.{getD-upto, from-once, keep-once}
 use Rattle.settings.specs.SettingLaws.{numberOf-agree, numberOf-settingOf, numberOf-bit}
 use Rattle.settings.specs.RestLaws.{pre-rests-right}

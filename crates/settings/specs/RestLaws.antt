@@ -7,7 +7,8 @@ use Prim.Native.Nat.{ℕ, _^_}
 use lib.ListN.{length}
 use Rattle.words.specs.Lists.{_∈_}
 use Rattle.words.specs.TestLaws.{split, same?}
-use Rattle.settings.specs.Settings.{Setting, settingOf, numberOf, Agree, Over, put, flip, unlike, moves, preRestsOn}
+use Rattle.bitsets.specs.Bits.{unlike}
+use Rattle.settings.specs.Settings.{Setting, settingOf, numberOf, Agree, Over, put, flip, moves, preRestsOn}
 use Rattle.settings.specs.ListLaws.{anyBelow-none}
 use Rattle.settings.specs.SettingLaws.{put-same, put-other, put-agree, put-idle, numberOf-below, settingOf-numberOf}
 

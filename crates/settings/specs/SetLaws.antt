@@ -9,10 +9,10 @@ use lib.Dec.{eqb}
 use lib.Bits.{bitAnd, bitXor, and-le-l, and-le-r, or-lt, xor-lt}
 use borrow.Author.Tests.{eqb-true, eqb-false, ne-eqb, not-true}
 use Rattle.words.specs.TestLaws.{split, same-test, both}
-use Rattle.settings.specs.Settings.{bit, unlike}
-use Rattle.settings.specs.Sets.{has, empty, collect, whole, union, given, without, Disjoint, excludes, flipBit, MovedBy, restsOn, movers}
-use Rattle.settings.specs.BitLaws.{bit-and, bit-or, bit-xor, bit-none, bit-shift, some-bit, same-bits, collect-below, collect-has}
-use Rattle.settings.specs.FlipLaws.{flip-below, flip-flip, flip-add, bit-flip}
+use Rattle.bitsets.specs.Bits.{bit, unlike, collect, flipBit}
+use Rattle.settings.specs.Sets.{has, empty, whole, union, given, without, Disjoint, excludes, MovedBy, restsOn, movers}
+use Rattle.bitsets.specs.BitLaws.{bit-and, bit-or, bit-xor, bit-none, bit-shift, some-bit, same-bits, collect-below, collect-has}
+use Rattle.bitsets.specs.FlipLaws.{flip-below, flip-flip, flip-add, bit-flip}
 use Rattle.settings.specs.ListLaws.{anyBelow-some, anyBelow-has}
 
 -- which settings are in the empty set, in the whole one, in a union

@@ -6,7 +6,8 @@ use Prim.Native.Nat.{ℕ, zero, suc, _+_, _*_, _/_, _^_, _<_}
 use lib.Dec.{eqb}
 use lib.Bits.{bitAnd, bitOr, bitXor}
 use Rattle.words.specs.Lists.{keep, upto}
-use Rattle.settings.specs.Settings.{bit, bitOf, unlike, anyBelow}
+use Rattle.bitsets.specs.Bits.{bit, unlike, flipBit, collect}
+use Rattle.settings.specs.Settings.{anyBelow}
 
 -- is setting j in the set s?
 abbrev pub has : ℕ → ℕ → Bool
@@ -15,11 +16,6 @@ has s j = bit s j
 -- no setting
 abbrev pub empty : ℕ
 empty = 0
-
--- those of the first N settings that pass the test
-unfoldable pub collect : ℕ → (ℕ → Bool) → ℕ
-collect zero p = 0
-collect (suc N) p = collect N p + bitOf (p N) * 2 ^ N
 
 -- the first N settings
 abbrev pub whole : ℕ → ℕ
@@ -50,10 +46,6 @@ Disjoint N s t = (j : ℕ) → j < N → has s j ≡ true → has t j ≡ true �
 -- the same as a test
 abbrev pub excludes : ℕ → ℕ → Bool
 excludes s t = eqb (bitAnd s t) 0
-
--- setting j with bit t alone changed
-abbrev pub flipBit : ℕ → ℕ → ℕ
-flipBit t j = bitXor j (2 ^ t)
 
 -- a set of settings of n conditions rests on condition t: changing bit t alone moves some setting in or out
 abbrev pub MovedBy : ℕ → ℕ → ℕ → Type 0

@@ -11,8 +11,9 @@ use Rattle.words.specs.Lists.{_∈_, upto}
 use Rattle.words.specs.ListLaws.{length-from}
 use Rattle.words.specs.MemberLaws.{getD-in}
 use Rattle.words.specs.TestLaws.{same?}
-use Rattle.settings.specs.Settings.{Setting, bitOf, bit, settingOf, numberOf, Agree, Once, put}
-use Rattle.settings.specs.BitLaws.{half, odd-bit, bit-zero, bit-suc, same-bits}
+use Rattle.bitsets.specs.Bits.{bitOf, bit}
+use Rattle.settings.specs.Settings.{Setting, settingOf, numberOf, Agree, Once, put}
+use Rattle.bitsets.specs.BitLaws.{half, odd-bit, bit-zero, bit-suc, same-bits}
 use Rattle.settings.specs.ListLaws.{getD-upto}
 
 -- a changed setting gives its condition the new bit, and every other what it gave

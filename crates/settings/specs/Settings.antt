@@ -1,30 +1,18 @@
 -- Document 01, "Needed gates (000 Def. 4)": what a setting is, how settings are numbered, and what a test of settings rests on.
 use mathlib.Core.Path.{_≡_}
-use mathlib.Core.Bool.{Bool, true, false, not, cond, Bool·beq}
+use mathlib.Core.Bool.{Bool, true, false, not, cond}
 use mathlib.Core.List.{List, [], _∷_}
 use Prim.Native.Nat.{ℕ, zero, suc, _+_, _*_, _/_, _%_, _^_}
 use lib.Dec.{eqb}
 use lib.ListN.{length}
 use Rattle.words.specs.Lists.{_∈_, keep}
+use Rattle.bitsets.specs.Bits.{odd, bitOf, unlike}
 
 -- a setting gives each condition a bit, freely; a condition is named by a number: its gate's, or its place among the conditions
 abbrev pub Setting : Type 0
 Setting = ℕ → Bool
 
--- is the lowest bit 1?
-abbrev pub odd : ℕ → Bool
-odd j = eqb (j % 2) 1
-
--- the number of a bit
-abbrev pub bitOf : Bool → ℕ
-bitOf true = 1
-bitOf false = 0
-
--- setting j gives condition t the bit t of j; so `bit j` is setting j over conditions named by their places
-abbrev pub bit : ℕ → Setting
-bit j t = odd (j / 2 ^ t)
-
--- setting j over the conditions cs: the condition at place t gets the bit t of j, whatever is no condition gets 0
+-- setting j gives condition t the bit t of j, so `bit j` is setting j over conditions named by their places; over the conditions cs the condition at place t gets the bit t of j, whatever is no condition gets 0
 abbrev pub settingOf : List ℕ → ℕ → Setting
 settingOf [] j d = false
 settingOf (c ∷ cs) j d = cond (eqb d c) (odd j) (settingOf cs (j / 2) d)
@@ -54,10 +42,6 @@ put σ c b = λ d. cond (eqb d c) b (σ d)
 -- the setting σ with condition c alone changed
 abbrev pub flip : Setting → ℕ → Setting
 flip σ c = put σ c (not (σ c))
-
--- are the two bits unlike?
-abbrev pub unlike : Bool → Bool → Bool
-unlike a b = not (Bool·beq a b)
 
 -- does some number below n pass the test?
 abbrev pub anyBelow : (ℕ → Bool) → ℕ → Bool

@@ -4,6 +4,7 @@ ghost use Prim.Native.Nat.{_+_, _-_, _<_, _≤_, _^_};
 ghost use lib.ListN.{length};
 ghost use lib.Bits.{bitAnd};
 ghost use Rattle.words.specs.Buffers.{padded};
+ghost use Rattle.bitsets.specs.Bits.{collect};
 ghost use Rattle.settings.specs.Sets as sets;
 ghost use Rattle.settings.specs.Guards as guards;
 
@@ -131,7 +132,7 @@ pub struct ConditionList {
 pub fn rested(s: u64) -> ConditionList
     ensures counted { λ r. ⌜ r .count ≡ length (sets.rests 6 s) ⌝ }
     ensures listed { λ r. ⌜ r .at ≡ padded 6 (sets.rests 6 s) ⌝ }
-    ensures chosen { λ r. ⌜ r .on ≡ sets.collect 6 (sets.restsOn 6 s) ⌝ }
+    ensures chosen { λ r. ⌜ r .on ≡ collect 6 (sets.restsOn 6 s) ⌝ }
 {
     let mut at = [0u8; 6];
     let mut on: u8 = 0;
@@ -171,7 +172,7 @@ fn next_setting(on: u8, setting: u8) -> u8
 
 // The guard's table of s: over the conditions that s rests on, which r lists. Bit j says whether the setting that gives them the bits of j is in s.
 pub fn table(s: u64, r: ConditionList) -> u64
-    requires { ⌜ (r .count ≡ length (sets.rests 6 s)) × (r .on ≡ sets.collect 6 (sets.restsOn 6 s)) ⌝ }
+    requires { ⌜ (r .count ≡ length (sets.rests 6 s)) × (r .on ≡ collect 6 (sets.restsOn 6 s)) ⌝ }
     ensures { λ r. ⌜ r ≡ guards.table 6 s ⌝ }
 {
     let on = r.on;

@@ -19,10 +19,10 @@ use Rattle.needed.specs.HeldLaws.{gates-length, gates-at}
 use Rattle.plan.specs.Groups.{members, restsOf, readsOf}
 use Rattle.plan.specs.RestLaws.{rests-inside, rests-held}
 use Rattle.plan.specs.ReadsLaws.{waits-read, reads-inside}
-use Rattle.waiting.specs.Tables.{HasWords, bitIn, putEach}
+use Rattle.bitsets.specs.Words.{HasWords, bitIn, putEach}
 use Rattle.waiting.specs.Reads.{argumentsAt, Into, Orderable}
 use Rattle.waiting.specs.Gathering.{Waiting}
-use Rattle.waiting.specs.TableLaws.{clear-words, clear-bit, puts-words, puts-bit, puts-append}
+use Rattle.bitsets.specs.WordLaws.{clear-words, clear-bit, puts-words, puts-bit, puts-append}
 use Rattle.waiting.specs.ReadLaws.{arguments-at, elem-joined, flat-last}
 
 -- the groups that p waits for on account of the gates below i

@@ -6,7 +6,7 @@ use lib.ListN.{length, getD}
 use Rattle.words.specs.Lists.{elem}
 use Rattle.gates.specs.Gates.{Gates}
 use Rattle.plan.specs.Groups.{groups, waitsFor}
-use Rattle.waiting.specs.Tables.{HasWords, bitIn}
+use Rattle.bitsets.specs.Words.{HasWords, bitIn}
 
 -- the table of waits: p's set holds the groups that p waits for
 pub record Waiting (C : Gates) (sets : List ℕ) (group : ℕ → ℕ) (waits : List ℕ) : Type 0 where

@@ -1,7 +1,5 @@
-pub mod Tables
 pub mod Reads
 pub mod Gathering
-pub mod TableLaws
 pub mod ReadLaws
 pub mod ArgumentLaws
 pub mod LeftLaws

@@ -1,34 +1,26 @@
 // Document 01, "The plan file and its check": which group waits for which, as sets of groups.
-// A set of groups is four words: group q is bit q % 64 of word q / 64. The waits are one such set for each group p, from word 4 * p on.
+// A set of groups is four words, as `bitsets` keeps them. The waits are one such set for each group p, from word 4 * p on.
 use gates::GateId;
 ghost use mathlib.Core.Path.{_≡_};
 ghost use mathlib.Core.List.{map};
-ghost use Prim.Native.Nat.{_+_, _*_, _%_, _^_, _<_, _≤_};
+ghost use Prim.Native.Nat.{_+_, _*_, _<_, _≤_};
 ghost use lib.ListN.{length, getD, replicate};
 ghost use Rattle.settings.specs.Sets.{rests};
 ghost use Rattle.needed.specs.Held.{gatesIn};
 ghost use Rattle.plan.specs.Groups.{groups};
-ghost use Rattle.waiting.specs.Tables.{bitIn, putBit, putEach, strikeBit};
+ghost use Rattle.bitsets.specs.Words.{bitIn, putBit, putEach, strikeBit};
 ghost use Rattle.waiting.specs.Reads.{arityOf, argumentsAt, Into, Orderable};
 ghost use Rattle.waiting.specs.Gathering.{Waiting, Left};
 
 // A choice has three arguments.
 const CHOICE_ARITY: usize = 3;
 
-// The bit of group q in its word.
-fn mark(q: GateId) -> u64
-    ensures { λ r. ⌜ r ≡ 2 ^ (q .0 % 64) ⌝ }
-{
-    1 << (q.0 % 64)
-}
-
 // Is group q in the set from word `base` on?
 pub fn has(words: &[u64], base: usize, q: GateId) -> bool
     requires { ⌜ (base + 4 ≤ length (now words)) × (q .0 < 256) ⌝ }
     ensures { λ r. ⌜ r ≡ bitIn base (now (words .entry)) (q .0) ⌝ }
 {
-    let i = base + (q.0 / 64) as usize;
-    settings::has(words[i], (q.0 % 64) as u8)
+    bitsets::has(words, base, q.0)
 }
 
 // Group q is put in the set from word `base` on.
@@ -36,8 +28,7 @@ fn put(words: &mut [u64], base: usize, q: GateId)
     requires { ⌜ (base + 4 ≤ length (now words)) × (q .0 < 256) ⌝ }
     ensures { λ r. ⌜ now (words .exit) ≡ putBit base (q .0) (now (words .entry)) ⌝ }
 {
-    let i = base + (q.0 / 64) as usize;
-    words[i] = settings::union(words[i], mark(q));
+    bitsets::put(words, base, q.0);
 }
 
 // Group q, which is in the set, is struck from it.
@@ -45,8 +36,7 @@ pub fn strike(words: &mut [u64], q: GateId)
     requires { ⌜ (4 ≤ length (now words)) × (q .0 < 256) ⌝ }
     ensures { λ r. ⌜ now (words .exit) ≡ strikeBit (q .0) (now (words .entry)) ⌝ }
 {
-    let i = (q.0 / 64) as usize;
-    words[i] = words[i] ^ mark(q);
+    bitsets::strike(words, q.0);
 }
 
 // How many arguments a gate of this code has; a number that is no byte is no code.

@@ -2,7 +2,7 @@ use denote.Ref.{now}
 use mathlib.Core.Path.{sym, ap}
 use borrow.Author.Needs.{needs}
 use Rattle.figures.specs.StepLaws.{table-bit}
-use Rattle.settings.specs.Settings.{bitOf}
+use Rattle.bitsets.specs.Bits.{bitOf}
 use Rattle.figures.proofs.guard_figure.Statement.{statement}
 use Rattle.figures.proofs.guard_figure.Tie as tie
 

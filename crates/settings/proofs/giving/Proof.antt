@@ -1,7 +1,8 @@
 use mathlib.Core.Path.{_≡_, refl, sym, ap, _∙_}
 use Prim.Native.Nat.{ℕ}
 use native.Mathlib.Omega.{arith}
-use Rattle.settings.specs.Sets.{collect, giving}
+use Rattle.bitsets.specs.Bits.{collect}
+use Rattle.settings.specs.Sets.{giving}
 use Rattle.settings.proofs.giving.Statement.{statement}
 use Rattle.settings.proofs.giving.Tie as tie
 

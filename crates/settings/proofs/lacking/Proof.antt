@@ -1,7 +1,7 @@
 use native.Mathlib.Omega.{arith}
 use borrow.Author.Needs.{needs}
-use Rattle.settings.specs.Settings.{bit}
-use Rattle.settings.specs.BitLaws.{collect-not}
+use Rattle.bitsets.specs.Bits.{bit}
+use Rattle.bitsets.specs.BitLaws.{collect-not}
 use Rattle.settings.proofs.lacking.Statement.{statement}
 use Rattle.settings.proofs.lacking.Tie as tie
 

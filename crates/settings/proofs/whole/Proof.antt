@@ -1,5 +1,5 @@
 use mathlib.Core.Path.{refl}
-use Rattle.settings.specs.Sets.{collect}
+use Rattle.bitsets.specs.Bits.{collect}
 use Rattle.settings.proofs.whole.Statement.{statement}
 use Rattle.settings.proofs.whole.Tie as tie
 

@@ -3,7 +3,7 @@ use mathlib.Core.Path.{sym, _∙_}
 use borrow.Author.Needs.{needs}
 use native.Mathlib.Omega.{arith}
 use Prim.Native.Nat.{_-_}
-use Rattle.waiting.specs.TableLaws.{clear-words}
+use Rattle.bitsets.specs.WordLaws.{clear-words}
 use Rattle.waiting.specs.LeftLaws.{Listing, listing-start, listing-yes, listing-no, listing-end}
 use Rattle.waiting.proofs.find_left.Statement.{statement}
 use Rattle.waiting.proofs.find_left.Tie as tie

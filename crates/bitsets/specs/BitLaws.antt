@@ -1,4 +1,4 @@
--- Laws for document 01, "Needed gates (000 Def. 4)": the bits of a number and of a collected set, for any number of bits.
+-- Laws of the bits of a number and of a collected set, for any number of bits. Assumes nothing.
 use mathlib.Core.Path.{_≡_, refl, sym, ap, ap₂, _∙_}
 use mathlib.Core.Bool.{Bool, true, false, not, _&&_, _||_}
 use Prim.Native.Nat.{ℕ, zero, suc, _+_, _-_, _*_, _/_, _%_, _^_, _≤_, _<_, min, max}
@@ -10,8 +10,7 @@ use lib.Bits.{bitAnd, bitOr, bitXor, differ, and-step, or-step, xor-step, and-sh
 use lib.Pow.{shr-shr, pow-pos, pow-mono, field, mod-mod-pow}
 use borrow.Author.Tests.{eqb-true, eqb-false, eq-eqb, ne-eqb}
 use Rattle.words.specs.TestLaws.{split}
-use Rattle.settings.specs.Settings.{odd, bitOf, bit, unlike}
-use Rattle.settings.specs.Sets.{collect}
+use Rattle.bitsets.specs.Bits.{odd, bitOf, bit, unlike, collect}
 
 -- a number by its lowest bit and the rest
 pub half : (b : Bool) (n : ℕ) → (bitOf b + 2 * n) / 2 ≡ n
@@ -109,7 +108,7 @@ same-bits (suc k) a b h l f =
     let high : a / 2 ≡ b / 2 = same-bits k (a / 2) (b / 2) (omega arith) (omega arith) (λ j i. sym (bit-suc a j) ∙ f (suc j) (omega arith) ∙ bit-suc b j) in
     omega arith
 
--- a collected set of N settings: its size, its members, its first member apart
+-- what is collected of the numbers below N: its size, its members, its first member apart
 pub collect-below : (N : ℕ) (p : ℕ → Bool) → collect N p < 2 ^ N
 unfolding collect
 collect-below zero p = omega arith

@@ -4,11 +4,11 @@ use native.Mathlib.Omega.{arith}
 use Prim.Native.Nat.{_%_}
 use lib.Pow.{shl-exact}
 use borrow.Author.Needs.{needs}
-use Rattle.waiting.proofs.mark.Statement.{statement}
-use Rattle.waiting.proofs.mark.Tie as tie
+use Rattle.bitsets.proofs.mark.Statement.{statement}
+use Rattle.bitsets.proofs.mark.Tie as tie
 
 returns : tie.Need-returns
-returns c = shl-exact {a = 1} 1 (c .before .args .q .0 % 64) 64 (omega arith) (omega arith) ∙ one-mul _
+returns c = shl-exact {a = 1} 1 (c .args .q % 64) 64 (omega arith) (omega arith) ∙ one-mul _
 
 pub mark-spec : {M : Type 1} → statement M
 mark-spec = tie.close (tie.spec (λ c. search needs) (λ c. search needs) returns)

@@ -3,15 +3,15 @@ use lib.ListN.{set, getD}
 use Prim.Native.Nat.{ℕ, _/_}
 use mathlib.Core.Path.{ap}
 use borrow.Author.Needs.{needs}
-use Rattle.waiting.specs.Tables.{strikeBit}
-use Rattle.waiting.proofs.strike.Statement.{statement}
-use Rattle.waiting.proofs.strike.Tie as tie
+use Rattle.bitsets.specs.Words.{strikeBit}
+use Rattle.bitsets.proofs.strike.Statement.{statement}
+use Rattle.bitsets.proofs.strike.Tie as tie
 
 returns : tie.Need-returns
 unfolding strikeBit
 returns c =
-    let c4 = c .before .before .before .before in
-    ap (λ (x : ℕ). set (c4 .args .words .now) (c4 .args .q .0 / 64) (bitXor (getD (c4 .args .words .now) (c4 .args .q .0 / 64) 0) x)) (c .mark .ensures)
+    let c4 = c .before .before .before in
+    ap (λ (x : ℕ). set (c4 .args .words .now) (c4 .args .q / 64) (bitXor (getD (c4 .args .words .now) (c4 .args .q / 64) 0) x)) (c .mark .ensures)
 
 pub strike-spec : {M : Type 1} → statement M
 strike-spec =

@@ -1,4 +1,4 @@
--- Laws of sets of groups held as bits of words: what a put and a strike change, and that all else stays. Assumes nothing.
+-- Laws of sets of numbers held as bits of words: what a put and a strike change, and that all else stays. Assumes nothing.
 use Prim.Native.Nat.{ℕ, zero, suc, _+_, _*_, _/_, _%_, _^_, _≤_, _<_}
 use mathlib.Core.Path.{_≡_, refl, sym, ap, ap₂, _∙_}
 use mathlib.Core.Bool.{Bool, true, false, cond, _||_, or-true, or-false}
@@ -14,14 +14,13 @@ use borrow.Author.Tests.{eq-eqb, ne-eqb}
 use Rattle.words.specs.Lists.{_∈_, elem}
 use Rattle.words.specs.TestLaws.{split, same?}
 use Rattle.words.specs.ListLaws.{getD-zeros, inside-list}
-use Rattle.settings.specs.Settings.{bit, unlike}
-use Rattle.settings.specs.Sets.{union, flipBit}
-use Rattle.settings.specs.BitLaws.{bit-zero, bit-suc, bit-pow, bit-none, bit-or, bit-xor}
-use Rattle.settings.specs.SetLaws.{union-below}
-use Rattle.settings.specs.FlipLaws.{flip-below}
-use Rattle.waiting.specs.Tables.{bitIn, putBit, putEach, strikeBit, HasWords}
+use lib.Bits.{bitOr, or-lt}
+use Rattle.bitsets.specs.Bits.{bit, unlike, flipBit}
+use Rattle.bitsets.specs.BitLaws.{bit-zero, bit-suc, bit-pow, bit-none, bit-or, bit-xor}
+use Rattle.bitsets.specs.FlipLaws.{flip-below}
+use Rattle.bitsets.specs.Words.{bitIn, putBit, putEach, strikeBit, HasWords}
 
--- a group's bit by its word and place
+-- a number's bit by its word and place
 pub bit-at : (base : ℕ) (w : List ℕ) (q : ℕ) → bitIn base w q ≡ bit (getD w (base + q / 64) 0) (q % 64)
 unfolding bitIn
 bit-at base w q = refl
@@ -66,8 +65,8 @@ set-words n i x w h l = record { size = length-set w i x ∙ h .size; fits = λ 
 pub put-words : (n base q : ℕ) (w : List ℕ) → HasWords n w → HasWords n (putBit base q w)
 unfolding putBit
 put-words n base q w h =
-    set-words n (base + q / 64) (union (getD w (base + q / 64) 0) (2 ^ (q % 64))) w h
-    (union-below 64 (getD w (base + q / 64) 0) (2 ^ (q % 64)) (h .fits (base + q / 64)) (pow-lt {i = q % 64} {j = 64} (omega arith)))
+    set-words n (base + q / 64) (bitOr (getD w (base + q / 64) 0) (2 ^ (q % 64))) w h
+    (or-lt 64 (getD w (base + q / 64) 0) (2 ^ (q % 64)) (h .fits (base + q / 64)) (pow-lt {i = q % 64} {j = 64} (omega arith)))
 
 pub strike-words : (n q : ℕ) (w : List ℕ) → HasWords n w → HasWords n (strikeBit q w)
 unfolding strikeBit
@@ -78,7 +77,7 @@ strike-words n q w h =
 apart : (p p′ q q′ : ℕ) → q < 256 → q′ < 256 → 4 * p′ + q′ / 64 ≡ 4 * p + q / 64 → (p′ ≡ p) × (q′ / 64 ≡ q / 64)
 apart p p′ q q′ h h′ e = (omega arith, omega arith)
 
--- what a store in group q's word does to q's bit and to the others
+-- what a store in number q's word does to q's bit and to the others
 module _ (n p : ℕ) (w : List ℕ) (size : length w ≡ n) (room : 4 * p + 4 ≤ n) (q : ℕ) (l : q < 256) (x : ℕ) where
   stored-other : (p′ q′ : ℕ) → q′ < 256 → (p′ ≡ p → q′ / 64 ≡ q / 64 → ⊥) → bitIn (4 * p′) (set w (4 * p + q / 64) x) q′ ≡ bitIn (4 * p′) w q′
   unfolding bitIn
@@ -93,7 +92,7 @@ module _ (n p : ℕ) (w : List ℕ) (size : length w ≡ n) (room : 4 * p + 4 �
 same-place : (q q′ : ℕ) → q′ / 64 ≡ q / 64 → q′ % 64 ≡ q % 64 → q′ ≡ q
 same-place q q′ e f = omega arith
 
--- a put puts one group in one set
+-- a put puts one number in one set
 pub put-bit : (n p : ℕ) (w : List ℕ) → length w ≡ n → 4 * p + 4 ≤ n → (q : ℕ) → q < 256 → (p′ q′ : ℕ) → q′ < 256
     → bitIn (4 * p′) (putBit (4 * p) q w) q′ ≡ cond (eqb p′ p) (cond (eqb q′ q) true (bitIn (4 * p′) w q′)) (bitIn (4 * p′) w q′)
 unfolding putBit
@@ -105,15 +104,15 @@ put-bit n p w size room q l p′ q′ l′ = go (same? p′ p) (same? (q′ / 64
     was : q′ / 64 ≡ q / 64 → bitIn (4 * p) w q′ ≡ bit old (q′ % 64)
     was f = unfold bitIn in rw f
 
-    both : q′ / 64 ≡ q / 64 → bitIn (4 * p) (set w (4 * p + q / 64) (union old (2 ^ (q % 64)))) q′ ≡ (bit old (q′ % 64) || bit (2 ^ (q % 64)) (q′ % 64))
-    both f = stored-same n p w size room q l (union old (2 ^ (q % 64))) q′ f ∙ bit-or old (2 ^ (q % 64)) (q′ % 64)
+    both : q′ / 64 ≡ q / 64 → bitIn (4 * p) (set w (4 * p + q / 64) (bitOr old (2 ^ (q % 64)))) q′ ≡ (bit old (q′ % 64) || bit (2 ^ (q % 64)) (q′ % 64))
+    both f = stored-same n p w size room q l (bitOr old (2 ^ (q % 64))) q′ f ∙ bit-or old (2 ^ (q % 64)) (q′ % 64)
 
     go : (p′ ≡ p) ⊎ (p′ ≡ p → ⊥) → (q′ / 64 ≡ q / 64) ⊎ (q′ / 64 ≡ q / 64 → ⊥) → (q′ ≡ q) ⊎ (q′ ≡ q → ⊥)
-        → bitIn (4 * p′) (set w (4 * p + q / 64) (union old (2 ^ (q % 64)))) q′ ≡ cond (eqb p′ p) (cond (eqb q′ q) true (bitIn (4 * p′) w q′)) (bitIn (4 * p′) w q′)
-    go (inr e) f g = rw (ne-eqb p′ p e) (stored-other n p w size room q l (union old (2 ^ (q % 64))) p′ q′ l′ (λ a b. e a))
+        → bitIn (4 * p′) (set w (4 * p + q / 64) (bitOr old (2 ^ (q % 64)))) q′ ≡ cond (eqb p′ p) (cond (eqb q′ q) true (bitIn (4 * p′) w q′)) (bitIn (4 * p′) w q′)
+    go (inr e) f g = rw (ne-eqb p′ p e) (stored-other n p w size room q l (bitOr old (2 ^ (q % 64))) p′ q′ l′ (λ a b. e a))
     go (inl e) (inr f) g =
         let d : q′ ≡ q → ⊥ = λ z. f (ap (λ (y : ℕ). y / 64) z) in
-        rw (eq-eqb p′ p e, ne-eqb q′ q d) (stored-other n p w size room q l (union old (2 ^ (q % 64))) p′ q′ l′ (λ a b. f b))
+        rw (eq-eqb p′ p e, ne-eqb q′ q d) (stored-other n p w size room q l (bitOr old (2 ^ (q % 64))) p′ q′ l′ (λ a b. f b))
     go (inl e) (inl f) (inl g) =
         rw (eq-eqb p′ p e, eq-eqb q′ q g, e)
         (both f ∙ ap (λ (b : Bool). bit old (q′ % 64) || b) (ap (λ (y : ℕ). bit (2 ^ (q % 64)) (y % 64)) g ∙ bit-pow (q % 64)) ∙ or-true (bit old (q′ % 64)))
@@ -122,7 +121,7 @@ put-bit n p w size room q l p′ q′ l′ = go (same? p′ p) (same? (q′ / 64
         (both f ∙ ap (λ (b : Bool). bit old (q′ % 64) || b) (bit-pow-other (q % 64) (q′ % 64) (λ z. g (same-place q q′ f z))) ∙ or-false (bit old (q′ % 64)) ∙ sym
         (was f))
 
--- a strike strikes one group
+-- a strike strikes one number
 pub strike-bit : (w : List ℕ) → length w ≡ 4 → (q : ℕ) → q < 256 → bitIn 0 w q ≡ true → (q′ : ℕ) → q′ < 256
     → bitIn 0 (strikeBit q w) q′ ≡ cond (eqb q′ q) false (bitIn 0 w q′)
 unfolding strikeBit

@@ -1,0 +1,13 @@
+use mathlib.Core.Path.{refl}
+use borrow.Author.Needs.{needs}
+use Rattle.bitsets.specs.Words.{bitIn}
+use Rattle.bitsets.proofs.has.Statement.{statement}
+use Rattle.bitsets.proofs.has.Tie as tie
+
+returns : tie.Need-returns
+unfolding bitIn
+returns c = refl
+
+pub has-spec : {M : Type 1} → statement M
+has-spec =
+    tie.close (tie.spec (λ c. search needs) (λ c. search needs) (λ c. search needs) (λ c. search needs) (λ c. search needs) (λ c. search needs) returns)

@@ -1,0 +1,5 @@
+pub mod Bits
+pub mod Words
+pub mod BitLaws
+pub mod FlipLaws
+pub mod WordLaws
