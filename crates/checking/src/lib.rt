@@ -1,11 +1,15 @@
 // Checking a plan for a rule, rows 20 to 26, 32 and 27 to 30 after the rule's own, and what the layers above need of an accepted plan.
 use answers::Answer;
+use gates::MOST_CONDITIONS;
+use needed::NEED_WORDS;
 use ordering::Order;
 ghost use mathlib.Core.Path.{_≡_};
 ghost use lib.ListN.{replicate};
 ghost use Rattle.answers.specs.Answers.{refusal};
 ghost use Rattle.plan.specs.Rows.{planAnswer};
 ghost use Rattle.checking.specs.Handed.{Handed};
+ghost use Rattle.gates.specs.Limits.{mostConditions, mostGates};
+ghost use Rattle.settings.specs.Held.{setsIn};
 
 // A plan checked: its answer, and how many groups it has, none where it is refused.
 pub struct Checked {
@@ -33,17 +37,17 @@ pub fn check(
     rule: &[u8],
     plan: &[u8],
     quads: &mut [u32; 1024],
-    needs: &mut [u64; 256],
+    needs: &mut [u64; NEED_WORDS],
     outputs: &mut [u16; 32],
-    conditions: &mut [u16; 6],
+    conditions: &mut [u16; MOST_CONDITIONS],
     group: &mut [u16; 256],
     places: &mut [u16; 256],
     order: &mut [u16; 256],
 ) -> Checked
-    requires { ⌜ ((now quads ≡ replicate 1024 0) × ((now needs ≡ replicate 256 0) × ((now outputs ≡ replicate 32 0) × (now conditions ≡ replicate 6 0))))
+    requires { ⌜ ((now quads ≡ replicate 1024 0) × ((setsIn (now needs) ≡ replicate mostGates 0) × ((now outputs ≡ replicate 32 0) × (now conditions ≡ replicate mostConditions 0))))
         × ((now group ≡ replicate 256 0) × ((now places ≡ replicate 256 0) × (now order ≡ replicate 256 0))) ⌝ }
     ensures answer { λ r. ⌜ r .answer ≡ planAnswer (now (rule .entry)) (now (plan .entry)) ⌝ }
-    ensures handed { λ r. ⌜ Handed (now (rule .entry)) (now (plan .entry)) (now (quads .exit)) (now (needs .exit)) (now (outputs .exit)) (now (conditions .exit))
+    ensures handed { λ r. ⌜ Handed (now (rule .entry)) (now (plan .entry)) (now (quads .exit)) (setsIn (now (needs .exit))) (now (outputs .exit)) (now (conditions .exit))
         (now (group .exit)) (now (places .exit)) (now (order .exit)) (r .groups) ⌝ }
 {
     let read = circuit::build(rule, quads, needs, outputs, conditions);
@@ -83,9 +87,9 @@ pub fn check_plan(rule: &[u8], plan: &[u8]) -> Answer
     ensures { λ r. ⌜ r ≡ planAnswer (now (rule .entry)) (now (plan .entry)) ⌝ }
 {
     let mut quads = [0u32; 1024];
-    let mut needs = [0u64; 256];
+    let mut needs = [0u64; NEED_WORDS];
     let mut outputs = [0u16; 32];
-    let mut conditions = [0u16; 6];
+    let mut conditions = [0u16; MOST_CONDITIONS];
     let mut group = [0u16; 256];
     let mut places = [0u16; 256];
     let mut order = [0u16; 256];

@@ -46,7 +46,7 @@ accepted-builds s h l = rw (eq-eqb (ruleAnswer s .number) 0 h)
 
 -- so arrays that are clear are what is built of a refused one
 pub built-nothing : (s : List ℕ) (a : Answer) (quads needs outputs conds : List ℕ) → a ≡ ruleAnswer s → (a .number ≡ 0 → ⊥)
-    → (quads ≡ replicate 1024 0) × ((needs ≡ replicate 256 0) × ((outputs ≡ replicate 32 0) × (conds ≡ replicate 6 0)))
+    → (quads ≡ replicate 1024 0) × ((needs ≡ replicate 256 0) × ((outputs ≡ replicate 32 0) × (conds ≡ replicate mostConditions 0)))
     → (a ≡ ruleAnswer s) × ((quads ≡ builtQuads s) × ((needs ≡ builtNeeds s) × ((outputs ≡ builtOutputs s) × (conds ≡ builtConditions s))))
 built-nothing s a quads needs outputs conds e h r =
     let n = refused-shows s (λ z. h (ap (λ (b : Answer). b .number) e ∙ z)) in

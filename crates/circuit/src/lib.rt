@@ -1,5 +1,7 @@
 // Reading a rule as its caller sees it, rows 1 to 11, and building its plain circuit.
 use answers::Answer;
+use gates::MOST_CONDITIONS;
+use needed::NEED_WORDS;
 ghost use mathlib.Core.Path.{_≡_};
 ghost use mathlib.Core.List.{_++_};
 ghost use Prim.Native.Nat.{_-_, _≤_};
@@ -17,9 +19,7 @@ ghost use Rattle.needed.specs.Passing.{Passable};
 ghost use Rattle.circuit.specs.Whole.{ruleAnswer};
 ghost use Rattle.circuit.specs.Built.{builtQuads, builtNeeds, builtOutputs, builtConditions};
 ghost use Rattle.circuit.specs.Making.{wholeIn};
-
-// The conditions of a plain circuit, at most.
-const MOST_CONDITIONS: u16 = 6;
+ghost use Rattle.settings.specs.Held.{setsIn};
 
 // Rows 10 and 11, and the counts, of the gates that lie in `quads`; the conditions are marked in `ranks`, which are lent clear.
 fn whole(size: usize, quads: &[u32; 1024], count: u16, ranks: &mut [u16; 256]) -> Answer
@@ -31,7 +31,7 @@ fn whole(size: usize, quads: &[u32; 1024], count: u16, ranks: &mut [u16; 256]) -
     }
     let n = count as usize;
     let found = needed::survey(quads, n, ranks);
-    if MOST_CONDITIONS < found.conditions {
+    if MOST_CONDITIONS < found.conditions as usize {
         return answers::refused(11, size);
     }
     Answer {
@@ -88,11 +88,11 @@ fn rule_needs(
     count: usize,
     ranks: &[u16; 256],
     outputs: &[u16; 32],
-    needs: &mut [u64; 256],
+    needs: &mut [u64; NEED_WORDS],
 )
     requires { ⌜ ((HasKinds (now rule) × (variables (now rule) ≤ mostVariables)) × (Passable (now quads) (now ranks) count × Inside count (wantedAmong (now rule) (now outputs))))
-        × (now needs ≡ replicate 256 0) ⌝ }
-    ensures { λ r. ⌜ now (needs .exit) ≡ preconditionSets mostConditions (gatesIn (now (quads .entry)) count) (wantedAmong (now (rule .entry)) (now (outputs .entry))) ++ replicate (mostGates - count) 0 ⌝ }
+        × (setsIn (now needs) ≡ replicate mostGates 0) ⌝ }
+    ensures { λ r. ⌜ setsIn (now (needs .exit)) ≡ preconditionSets mostConditions (gatesIn (now (quads .entry)) count) (wantedAmong (now (rule .entry)) (now (outputs .entry))) ++ replicate (mostGates - count) 0 ⌝ }
 {
     let mut wanted = [0u16; 32];
     let k = list_wanted(rule, outputs, &mut wanted);
@@ -104,14 +104,14 @@ fn rule_needs(
 pub fn build(
     rule: &[u8],
     quads: &mut [u32; 1024],
-    needs: &mut [u64; 256],
+    needs: &mut [u64; NEED_WORDS],
     outputs: &mut [u16; 32],
-    conditions: &mut [u16; 6],
+    conditions: &mut [u16; MOST_CONDITIONS],
 ) -> Answer
-    requires { ⌜ (now quads ≡ replicate 1024 0) × ((now needs ≡ replicate 256 0) × ((now outputs ≡ replicate 32 0) × (now conditions ≡ replicate 6 0))) ⌝ }
+    requires { ⌜ (now quads ≡ replicate 1024 0) × ((setsIn (now needs) ≡ replicate mostGates 0) × ((now outputs ≡ replicate 32 0) × (now conditions ≡ replicate mostConditions 0))) ⌝ }
     ensures answer { λ r. ⌜ r ≡ ruleAnswer (now (rule .entry)) ⌝ }
     ensures quads { λ _. ⌜ now (quads .exit) ≡ builtQuads (now (rule .entry)) ⌝ }
-    ensures needs { λ _. ⌜ now (needs .exit) ≡ builtNeeds (now (rule .entry)) ⌝ }
+    ensures needs { λ _. ⌜ setsIn (now (needs .exit)) ≡ builtNeeds (now (rule .entry)) ⌝ }
     ensures outputs { λ _. ⌜ now (outputs .exit) ≡ builtOutputs (now (rule .entry)) ⌝ }
     ensures conditions { λ _. ⌜ now (conditions .exit) ≡ builtConditions (now (rule .entry)) ⌝ }
 {

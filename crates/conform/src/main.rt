@@ -1,8 +1,10 @@
 // Reads a conformance stream on standard input and prints one line a case (shared/CONFORMANCE.md).
 // Operations 01 to 09; any other ends the stream with `refused`.
 use answers::Answer;
+use gates::MOST_CONDITIONS;
 use libc::STDIN_FILENO;
 use libc::STDOUT_FILENO;
+use needed::NEED_WORDS;
 ghost use Prim.Native.Nat.{_*_, _≤_, _<_};
 ghost use lib.ListN.{length};
 
@@ -136,8 +138,19 @@ fn print_hex(n: u64, width: usize)
     print(&text[0..width]);
 }
 
+// Set g of lent words, the highest word first.
+fn print_set(needs: &[u64; NEED_WORDS], g: usize)
+    requires { ⌜ g < 256 ⌝ }
+{
+    let mut left = settings::WORDS;
+    while 0 < left {
+        left -= 1;
+        print_hex(needs[settings::WORDS * g + left], 16);
+    }
+}
+
 // A gate: CODE.A.B.C.NEEDS.
-fn print_gate(quads: &[u32; 1024], needs: &[u64; 256], g: usize)
+fn print_gate(quads: &[u32; 1024], needs: &[u64; NEED_WORDS], g: usize)
     requires { ⌜ g < 256 ⌝ }
 {
     print(b" ");
@@ -149,10 +162,10 @@ fn print_gate(quads: &[u32; 1024], needs: &[u64; 256], g: usize)
     print(b".");
     number(wide(quads[4 * g + 3]));
     print(b".");
-    print_hex(needs[g], 16);
+    print_set(needs, g);
 }
 
-fn print_gates(quads: &[u32; 1024], needs: &[u64; 256], count: usize) {
+fn print_gates(quads: &[u32; 1024], needs: &[u64; NEED_WORDS], count: usize) {
     print(b" |");
     let mut g: usize = 0;
     while g < 256 {
@@ -240,9 +253,9 @@ fn write_line(rule: &[u8], plan: &[u8], out: &mut [u8]) {
 
 fn circuit_line(rule: &[u8]) {
     let mut quads = [0u32; 1024];
-    let mut needs = [0u64; 256];
+    let mut needs = [0u64; NEED_WORDS];
     let mut outputs = [0u16; 32];
-    let mut conditions = [0u16; 6];
+    let mut conditions = [0u16; MOST_CONDITIONS];
     let a = circuit::build(rule, &mut quads, &mut needs, &mut outputs, &mut conditions);
     print_answer(a);
     print_gates(&quads, &needs, a.gates);

@@ -128,7 +128,7 @@ fn guard_figure(file: &[u8], at: usize, count: u8, figures: &[u32; 640]) -> u32
 {
     let j = guard_number(file, at, count, figures);
     let table = words::read64(file, at + 2 * words::wide8(count));
-    if settings::has(table, j) { 1 } else { 0 }
+    if bitsets::bit_of(table, j) { 1 } else { 0 }
 }
 
 // The figure of the record at a place, by its first byte; `bit`: whether its wire is a bit, for a pick.

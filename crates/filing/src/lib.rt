@@ -1,7 +1,9 @@
 // Document 01, "The fused circuit file": the whole file put together from lent arrays, its head, the records of the groups in the order of writing, each group's
 // behind the last record written, and the outputs; and what the records come to, before they are written.
 use gates::GateId;
+use gates::MOST_CONDITIONS;
 use measuring::Size;
+use needed::NEED_WORDS;
 use records::WireId;
 ghost use mathlib.Core.Path.{_≡_};
 ghost use mathlib.Core.List.{List, _∷_, _++_, map};
@@ -18,14 +20,21 @@ ghost use Rattle.joining.specs.Joined.{emitIn};
 ghost use Rattle.measuring.specs.Sizes.{Measured};
 ghost use Rattle.filing.specs.Staged.{membersOf, stage, Turnable};
 ghost use Rattle.filing.specs.Turns.{wiresOf, Measurable, Puttable, Measures, Sum, OutputsPlaced, outputIn, fileIn};
+ghost use Rattle.settings.specs.Held.{setsIn};
 
 // The bytes before the first record.
 pub const HEAD: usize = 8;
 
 // The size of group q, listed at the place `at` of the plan, or alone where the place is 0.
-fn size_group(plan: &[u8], at: usize, quads: &[u32; 1024], needs: &[u64; 256], q: GateId) -> Size
+fn size_group(
+    plan: &[u8],
+    at: usize,
+    quads: &[u32; 1024],
+    needs: &[u64; NEED_WORDS],
+    q: GateId,
+) -> Size
     requires { ⌜ Measurable (now quads) (now plan) at (q .0) ⌝ }
-    ensures { λ r. ⌜ Measured (now (quads .entry)) (now (needs .entry)) (membersOf (now (plan .entry)) at (q .0)) (r .wires) (r .bytes) (r .cost) ⌝ }
+    ensures { λ r. ⌜ Measured (now (quads .entry)) (setsIn (now (needs .entry))) (membersOf (now (plan .entry)) at (q .0)) (r .wires) (r .bytes) (r .cost) ⌝ }
 {
     if at == 0 {
         return measuring::size_alone(quads, q);
@@ -37,15 +46,15 @@ fn size_group(plan: &[u8], at: usize, quads: &[u32; 1024], needs: &[u64; 256], q
 pub fn measure(
     plan: &[u8],
     quads: &[u32; 1024],
-    needs: &[u64; 256],
+    needs: &[u64; NEED_WORDS],
     places: &[u16; 256],
     order: &[u16; 256],
     groups: usize,
 ) -> Size
-    requires { ⌜ Measures (now plan) (now quads) (now needs) (now places) (now order) groups ⌝ }
+    requires { ⌜ Measures (now plan) (now quads) (setsIn (now needs)) (now places) (now order) groups ⌝ }
     ensures { λ r. ⌜ ((count : ℕ) (group conds : List ℕ)
-        → Turnable (now (plan .entry)) (now (quads .entry)) count (now (needs .entry)) group (now (places .entry)) conds (now (order .entry)) groups
-        → Sum (now (plan .entry)) (now (quads .entry)) count (now (needs .entry)) group (now (places .entry)) (now (order .entry)) groups (r .wires) (r .bytes) (r .cost)) ⌝ }
+        → Turnable (now (plan .entry)) (now (quads .entry)) count (setsIn (now (needs .entry))) group (now (places .entry)) conds (now (order .entry)) groups
+        → Sum (now (plan .entry)) (now (quads .entry)) count (setsIn (now (needs .entry))) group (now (places .entry)) (now (order .entry)) groups (r .wires) (r .bytes) (r .cost)) ⌝ }
 {
     let mut wires: usize = 0;
     let mut bytes: usize = 0;
@@ -83,15 +92,15 @@ fn put_group(
     first: WireId,
     quads: &[u32; 1024],
     count: usize,
-    needs: &[u64; 256],
-    conditions: &[u16; 6],
+    needs: &[u64; NEED_WORDS],
+    conditions: &[u16; MOST_CONDITIONS],
     group: &[u16; 256],
     wires: &[u16; 256],
 ) -> usize
-    requires { ⌜ (length (recordsBytes (emitIn (now quads) count (now needs) (wireIn (now group) (now wires)) (first .0) (membersOf (now plan) at (q .0)))) ≤ length (now out))
+    requires { ⌜ (length (recordsBytes (emitIn (now quads) count (setsIn (now needs)) (wireIn (now group) (now wires)) (first .0) (membersOf (now plan) at (q .0)))) ≤ length (now out))
         × Puttable (now quads) (now plan) (now conditions) (now group) count at (q .0) (first .0) ⌝ }
-    ensures counted { λ r. ⌜ r ≡ length (recordsBytes (emitIn (now (quads .entry)) count (now (needs .entry)) (wireIn (now (group .entry)) (now (wires .entry))) (first .0) (membersOf (now (plan .entry)) at (q .0)))) ⌝ }
-    ensures written { λ r. ⌜ now (out .exit) ≡ over (recordsBytes (emitIn (now (quads .entry)) count (now (needs .entry)) (wireIn (now (group .entry)) (now (wires .entry))) (first .0) (membersOf (now (plan .entry)) at (q .0)))) (now (out .entry)) ⌝ }
+    ensures counted { λ r. ⌜ r ≡ length (recordsBytes (emitIn (now (quads .entry)) count (setsIn (now (needs .entry))) (wireIn (now (group .entry)) (now (wires .entry))) (first .0) (membersOf (now (plan .entry)) at (q .0)))) ⌝ }
+    ensures written { λ r. ⌜ now (out .exit) ≡ over (recordsBytes (emitIn (now (quads .entry)) count (setsIn (now (needs .entry))) (wireIn (now (group .entry)) (now (wires .entry))) (first .0) (membersOf (now (plan .entry)) at (q .0)))) (now (out .entry)) ⌝ }
 {
     if at == 0 {
         return emitting::put_alone(out, quads, group, wires, q);
@@ -117,19 +126,19 @@ fn put_records(
     plan: &[u8],
     quads: &[u32; 1024],
     count: usize,
-    needs: &[u64; 256],
-    conditions: &[u16; 6],
+    needs: &[u64; NEED_WORDS],
+    conditions: &[u16; MOST_CONDITIONS],
     group: &[u16; 256],
     places: &[u16; 256],
     order: &[u16; 256],
     groups: usize,
     wires: &mut [u16; 256],
 ) -> usize
-    requires { ⌜ (length (recordsBytes (stage (now plan) (now quads) count (now needs) (now group) (now places) (now order) groups .records)) ≤ length (now out))
-        × (Turnable (now plan) (now quads) count (now needs) (now group) (now places) (now conditions) (now order) groups × (now wires ≡ replicate mostGates 0)) ⌝ }
-    ensures counted { λ r. ⌜ r ≡ length (recordsBytes (stage (now (plan .entry)) (now (quads .entry)) count (now (needs .entry)) (now (group .entry)) (now (places .entry)) (now (order .entry)) groups .records)) ⌝ }
-    ensures written { λ r. ⌜ now (out .exit) ≡ over (recordsBytes (stage (now (plan .entry)) (now (quads .entry)) count (now (needs .entry)) (now (group .entry)) (now (places .entry)) (now (order .entry)) groups .records)) (now (out .entry)) ⌝ }
-    ensures wired { λ r. ⌜ now (wires .exit) ≡ stage (now (plan .entry)) (now (quads .entry)) count (now (needs .entry)) (now (group .entry)) (now (places .entry)) (now (order .entry)) groups .wires ⌝ }
+    requires { ⌜ (length (recordsBytes (stage (now plan) (now quads) count (setsIn (now needs)) (now group) (now places) (now order) groups .records)) ≤ length (now out))
+        × (Turnable (now plan) (now quads) count (setsIn (now needs)) (now group) (now places) (now conditions) (now order) groups × (now wires ≡ replicate mostGates 0)) ⌝ }
+    ensures counted { λ r. ⌜ r ≡ length (recordsBytes (stage (now (plan .entry)) (now (quads .entry)) count (setsIn (now (needs .entry))) (now (group .entry)) (now (places .entry)) (now (order .entry)) groups .records)) ⌝ }
+    ensures written { λ r. ⌜ now (out .exit) ≡ over (recordsBytes (stage (now (plan .entry)) (now (quads .entry)) count (setsIn (now (needs .entry))) (now (group .entry)) (now (places .entry)) (now (order .entry)) groups .records)) (now (out .entry)) ⌝ }
+    ensures wired { λ r. ⌜ now (wires .exit) ≡ stage (now (plan .entry)) (now (quads .entry)) count (setsIn (now (needs .entry))) (now (group .entry)) (now (places .entry)) (now (order .entry)) groups .wires ⌝ }
 {
     let mut at: usize = 0;
     let mut first = WireId(0);
@@ -218,19 +227,19 @@ pub fn put_file(
     plan: &[u8],
     quads: &[u32; 1024],
     count: usize,
-    needs: &[u64; 256],
-    conditions: &[u16; 6],
+    needs: &[u64; NEED_WORDS],
+    conditions: &[u16; MOST_CONDITIONS],
     outputs: &[u16; 32],
     group: &[u16; 256],
     places: &[u16; 256],
     order: &[u16; 256],
     groups: usize,
 )
-    requires { ⌜ (length (fileIn (now rule) (now plan) (now quads) count (now needs) (now group) (now places) (now order) groups (now outputs)) ≤ length (now out))
-        × (Turnable (now plan) (now quads) count (now needs) (now group) (now places) (now conditions) (now order) groups
-        × ((wired ≡ length (stage (now plan) (now quads) count (now needs) (now group) (now places) (now order) groups .records))
+    requires { ⌜ (length (fileIn (now rule) (now plan) (now quads) count (setsIn (now needs)) (now group) (now places) (now order) groups (now outputs)) ≤ length (now out))
+        × (Turnable (now plan) (now quads) count (setsIn (now needs)) (now group) (now places) (now conditions) (now order) groups
+        × ((wired ≡ length (stage (now plan) (now quads) count (setsIn (now needs)) (now group) (now places) (now order) groups .records))
         × (HasKinds (now rule) × OutputsPlaced (now outputs) (variables (now rule)) (now group)))) ⌝ }
-    ensures { λ r. ⌜ now (out .exit) ≡ over (fileIn (now (rule .entry)) (now (plan .entry)) (now (quads .entry)) count (now (needs .entry)) (now (group .entry)) (now (places .entry)) (now (order .entry)) groups (now (outputs .entry))) (now (out .entry)) ⌝ }
+    ensures { λ r. ⌜ now (out .exit) ≡ over (fileIn (now (rule .entry)) (now (plan .entry)) (now (quads .entry)) count (setsIn (now (needs .entry))) (now (group .entry)) (now (places .entry)) (now (order .entry)) groups (now (outputs .entry))) (now (out .entry)) ⌝ }
 {
     put_head(out, rule[5], wired);
     let mut wires = [0u16; 256];

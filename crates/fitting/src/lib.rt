@@ -1,6 +1,7 @@
 // Document 01, "The plan file and its check" and "Refusals by place", with document 02's C-15: rows 32 and 27 to 29 of a plan, whether its groups stand in
 // order and the members of each fit together. Each row is a pass over the whole file; the groups are known to lie in the file.
 use gates::GateId;
+use needed::NEED_WORDS;
 ghost use mathlib.Core.Path.{_≡_};
 ghost use Prim.Native.Nat.{ℕ, _<_};
 ghost use lib.Dec.{ltb};
@@ -10,6 +11,7 @@ ghost use Rattle.plan.specs.PlanFile as file;
 ghost use Rattle.plan.specs.Rows as checks;
 ghost use Rattle.grouping.specs.Tests.{memberTest, membersTest, joinTest, rowTest, operationCode};
 ghost use Rattle.grouping.specs.Walks.{ReadableGroup, Readable};
+ghost use Rattle.settings.specs.Held.{setsIn};
 
 // The rows, by what they ask: of the groups together, then of each.
 const ORDER: u8 = 32;
@@ -108,9 +110,9 @@ fn members_hold(row: u8, plan: &[u8], at: usize, quads: &[u32; 1024], count: usi
 }
 
 // 29 of the group that begins at a place: numbers rise, so a member met later is another one.
-fn members_part(plan: &[u8], at: usize, count: usize, needs: &[u64; 256]) -> bool
+fn members_part(plan: &[u8], at: usize, count: usize, needs: &[u64; NEED_WORDS]) -> bool
     requires { ⌜ ReadableGroup count (now plan) at ⌝ }
-    ensures { λ r. ⌜ r ≡ checks.parted (now (needs .entry)) (file.groupAt (now (plan .entry)) at) ⌝ }
+    ensures { λ r. ⌜ r ≡ checks.parted (setsIn (now (needs .entry))) (file.groupAt (now (plan .entry)) at) ⌝ }
 {
     let size = grouping::size_at(plan, at);
     let mut seen = settings::empty();
@@ -118,7 +120,7 @@ fn members_part(plan: &[u8], at: usize, count: usize, needs: &[u64; 256]) -> boo
     while k < size {
         let g = plan::member(plan, at, k);
         let i = g.0 as usize;
-        let s = needs[i];
+        let s = settings::load(needs, i);
         if !settings::excludes(seen, s) {
             return false;
         }
@@ -135,10 +137,10 @@ fn join_holds(
     at: usize,
     quads: &[u32; 1024],
     count: usize,
-    needs: &[u64; 256],
+    needs: &[u64; NEED_WORDS],
 ) -> bool
     requires { ⌜ ReadableGroup count (now plan) at ⌝ }
-    ensures { λ r. ⌜ r ≡ joinTest (gatesIn (now (quads .entry)) count) (now (needs .entry)) row (file.groupAt (now (plan .entry)) at) ⌝ }
+    ensures { λ r. ⌜ r ≡ joinTest (gatesIn (now (quads .entry)) count) (setsIn (now (needs .entry))) row (file.groupAt (now (plan .entry)) at) ⌝ }
 {
     if row == PARTED {
         members_part(plan, at, count, needs)
@@ -148,9 +150,15 @@ fn join_holds(
 }
 
 // 27, 28 or 29 of every group.
-fn every_join(row: u8, plan: &[u8], quads: &[u32; 1024], count: usize, needs: &[u64; 256]) -> bool
+fn every_join(
+    row: u8,
+    plan: &[u8],
+    quads: &[u32; 1024],
+    count: usize,
+    needs: &[u64; NEED_WORDS],
+) -> bool
     requires { ⌜ Readable count (now plan) ⌝ }
-    ensures { λ r. ⌜ r ≡ checks.everyGroup (joinTest (gatesIn (now (quads .entry)) count) (now (needs .entry)) row) (file.groupsIn (now (plan .entry))) ⌝ }
+    ensures { λ r. ⌜ r ≡ checks.everyGroup (joinTest (gatesIn (now (quads .entry)) count) (setsIn (now (needs .entry))) row) (file.groupsIn (now (plan .entry))) ⌝ }
 {
     let mut unchecked = grouping::groups_counted(plan);
     let mut at = grouping::LEAST_BYTES;
@@ -165,9 +173,15 @@ fn every_join(row: u8, plan: &[u8], quads: &[u32; 1024], count: usize, needs: &[
 }
 
 // 32, 27, 28 or 29 of the plan.
-fn row_holds(row: u8, plan: &[u8], quads: &[u32; 1024], count: usize, needs: &[u64; 256]) -> bool
+fn row_holds(
+    row: u8,
+    plan: &[u8],
+    quads: &[u32; 1024],
+    count: usize,
+    needs: &[u64; NEED_WORDS],
+) -> bool
     requires { ⌜ Readable count (now plan) ⌝ }
-    ensures { λ r. ⌜ r ≡ rowTest (gatesIn (now (quads .entry)) count) (now (needs .entry)) row (file.groupsIn (now (plan .entry))) ⌝ }
+    ensures { λ r. ⌜ r ≡ rowTest (gatesIn (now (quads .entry)) count) (setsIn (now (needs .entry))) row (file.groupsIn (now (plan .entry))) ⌝ }
 {
     if row == ORDER {
         groups_rise(plan)
@@ -178,9 +192,9 @@ fn row_holds(row: u8, plan: &[u8], quads: &[u32; 1024], count: usize, needs: &[u
 
 // Rows 32 and 27 to 29 of a plan that the rows before do not refuse, for the gates that lie in `quads` and their preconditions: the first that refuses it,
 // or 0.
-pub fn check_groups(plan: &[u8], quads: &[u32; 1024], count: usize, needs: &[u64; 256]) -> u8
+pub fn check_groups(plan: &[u8], quads: &[u32; 1024], count: usize, needs: &[u64; NEED_WORDS]) -> u8
     requires { ⌜ Readable count (now plan) ⌝ }
-    ensures { λ r. ⌜ r ≡ checks.firstFailing (checks.joinRows (gatesIn (now (quads .entry)) count) (now (needs .entry)) (now (plan .entry))) ⌝ }
+    ensures { λ r. ⌜ r ≡ checks.firstFailing (checks.joinRows (gatesIn (now (quads .entry)) count) (setsIn (now (needs .entry))) (now (plan .entry))) ⌝ }
 {
     if !row_holds(ORDER, plan, quads, count, needs) {
         return ORDER;

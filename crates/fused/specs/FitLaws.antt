@@ -40,7 +40,7 @@ table-below n s = collect-below (2 ^ length (rests n s)) (λ j. has s (spread n 
 pub table-small : (s : ℕ) → table mostConditions s < 256 ^ 8
 unfolding rests
 table-small s =
-    let few : length (rests mostConditions s) ≤ 6 = rw (length-from 0 mostConditions) at (length-keep (restsOn mostConditions s) (upto mostConditions)) in
+    let few : length (rests mostConditions s) ≤ mostConditions = rw (length-from 0 mostConditions) at (length-keep (restsOn mostConditions s) (upto mostConditions)) in
     lt-of-lt-of-le (table-below mostConditions s) (pow-mono (pow-mono few))
 
 -- a gate alone

@@ -1,10 +1,14 @@
--- Document 01, "The plain circuit": its limits, both in this place.
-use Prim.Native.Nat.{ℕ}
+-- Document 01, "The plain circuit": its limits, all in this place.
+use Prim.Native.Nat.{ℕ, _^_}
 
 -- at most 256 gates
 abbrev pub mostGates : ℕ
 mostGates = 256
 
--- at most 6 conditions, so 2 ^ 6 settings
+-- at most 6 conditions
 abbrev pub mostConditions : ℕ
 mostConditions = 6
+
+-- and so many settings
+abbrev pub mostSettings : ℕ
+mostSettings = 2 ^ mostConditions

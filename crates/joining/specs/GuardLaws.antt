@@ -9,6 +9,7 @@ use Rattle.words.specs.Numbers.{bytesOf}
 use Rattle.words.specs.NumberLaws.{length-bytes}
 use Rattle.words.specs.Buffers.{over}
 use Rattle.words.specs.BufferLaws.{length-over, room-rest}
+use Rattle.settings.specs.Limits.{setBytes}
 use Rattle.settings.specs.Sets.{rests}
 use Rattle.settings.specs.Guards.{table}
 use Rattle.gates.specs.Limits.{mostConditions}
@@ -18,37 +19,37 @@ use Rattle.records.specs.SizeLaws.{wires-size, pick-size}
 use Rattle.joining.specs.Joined.{guardIn}
 use Rattle.emitting.specs.ByteLaws.{behind}
 
-module _ (conds : List ℕ) (wire : ℕ → ℕ) (s : ℕ) where
-  pub rest-wires : length (wiresBytes (map (λ t. wire (getD conds t 0)) (rests mostConditions s))) ≡ 2 * length (rests mostConditions s)
-  rest-wires = wires-size (map (λ t. wire (getD conds t 0)) (rests mostConditions s)) ∙ ap (λ (k : ℕ). 2 * k)
-      (length-map (rests mostConditions s) (λ t. wire (getD conds t 0)))
+-- the wires of conditions have two bytes each
+pub rest-wires : (conds : List ℕ) (wire : ℕ → ℕ) (ts : List ℕ) → length (wiresBytes (map (λ t. wire (getD conds t 0)) ts)) ≡ 2 * length ts
+rest-wires conds wire ts = wires-size (map (λ t. wire (getD conds t 0)) ts) ∙ ap (λ (k : ℕ). 2 * k) (length-map ts (λ t. wire (getD conds t 0)))
 
-  pub guard-size : length (recordBytes (guardIn conds wire s)) ≡ 10 + 2 * length (rests mostConditions s)
+module _ (conds : List ℕ) (wire : ℕ → ℕ) (s : ℕ) where
+  pub guard-size : length (recordBytes (guardIn conds wire s)) ≡ 2 + setBytes + 2 * length (rests mostConditions s)
   guard-size =
       let W : List ℕ = wiresBytes (map (λ t. wire (getD conds t 0)) (rests mostConditions s)) in
-      let e : length (W ++ bytesOf 8 (table mostConditions s)) ≡ 2 * length (rests mostConditions s) + 8 =
-      length-append W (bytesOf 8 (table mostConditions s)) ∙ rw (rest-wires, length-bytes 8 (table mostConditions s)) in
-      let z : suc (suc (length (W ++ bytesOf 8 (table mostConditions s)))) ≡ 10 + 2 * length (rests mostConditions s) = omega (arith, e) in
+      let e : length (W ++ bytesOf setBytes (table mostConditions s)) ≡ 2 * length (rests mostConditions s) + setBytes =
+      length-append W (bytesOf setBytes (table mostConditions s)) ∙ rw (rest-wires conds wire (rests mostConditions s), length-bytes setBytes (table mostConditions s)) in
+      let z : suc (suc (length (W ++ bytesOf setBytes (table mostConditions s)))) ≡ 2 + setBytes + 2 * length (rests mostConditions s) = omega (arith, e) in
       z
 
   -- the head, the wires, the table
   pub guard-put : (k n t : ℕ) (d e ys zs : List ℕ) → k ≡ length (rests mostConditions s) → n ≡ 2 + 2 * k → t ≡ table mostConditions s
       → length (recordBytes (guardIn conds wire s)) ≤ length d → e ≡ over (0x32 ∷ k ∷ []) d
       → ys ≡ over (wiresBytes (map (λ t. wire (getD conds t 0)) (rests mostConditions s))) (take (length e - 2) (drop 2 e))
-      → zs ≡ over (bytesOf 8 t) (take (length (putMid 2 (length e - 2) e ys) - n) (drop n (putMid 2 (length e - 2) e ys)))
-      → (n + 8 ≡ length (recordBytes (guardIn conds wire s))) ×
+      → zs ≡ over (bytesOf setBytes t) (take (length (putMid 2 (length e - 2) e ys) - n) (drop n (putMid 2 (length e - 2) e ys)))
+      → (n + setBytes ≡ length (recordBytes (guardIn conds wire s))) ×
       (putMid n (length (putMid 2 (length e - 2) e ys) - n) (putMid 2 (length e - 2) e ys) zs ≡ over (recordBytes (guardIn conds wire s)) d)
   guard-put k n t d e ys zs kk nn tt room p q r =
       let W : List ℕ = wiresBytes (map (λ t. wire (getD conds t 0)) (rests mostConditions s)) in
-      let ww : length W ≡ 2 * k = rest-wires ∙ ap (λ (j : ℕ). 2 * j) (sym kk) in
-      let z : length (recordBytes (guardIn conds wire s)) ≡ 10 + 2 * k = guard-size ∙ ap (λ (j : ℕ). 10 + 2 * j) (sym kk) in
+      let ww : length W ≡ 2 * k = rest-wires conds wire (rests mostConditions s) ∙ ap (λ (j : ℕ). 2 * j) (sym kk) in
+      let z : length (recordBytes (guardIn conds wire s)) ≡ 2 + setBytes + 2 * k = guard-size ∙ ap (λ (j : ℕ). 2 + setBytes + 2 * j) (sym kk) in
       let a : putMid 2 (length e - 2) e ys ≡ over (0x32 ∷ k ∷ W) d =
       behind (0x32 ∷ k ∷ []) W (0x32 ∷ k ∷ W) d e ys 2 refl refl (let y : suc (suc (length W)) ≤ length d = omega (arith, ww, z, room) in y) p q in
       let m : length (map (λ t. wire (getD conds t 0)) (rests mostConditions s)) ≡ k = length-map (rests mostConditions s) (λ t. wire (getD conds t 0)) ∙ sym kk in
-      let j : recordBytes (guardIn conds wire s) ≡ (0x32 ∷ k ∷ W) ++ bytesOf 8 t =
-      ap (λ (i : ℕ). 0x32 ∷ i ∷ (W ++ bytesOf 8 (table mostConditions s))) m ∙ ap (λ (i : ℕ). 0x32 ∷ k ∷ (W ++ bytesOf 8 i)) (sym tt) in
+      let j : recordBytes (guardIn conds wire s) ≡ (0x32 ∷ k ∷ W) ++ bytesOf setBytes t =
+      ap (λ (i : ℕ). 0x32 ∷ i ∷ (W ++ bytesOf setBytes (table mostConditions s))) m ∙ ap (λ (i : ℕ). 0x32 ∷ k ∷ (W ++ bytesOf setBytes i)) (sym tt) in
       let l : n ≡ suc (suc (length W)) = omega (arith, nn, ww) in
-      (omega (arith, z, nn), behind (0x32 ∷ k ∷ W) (bytesOf 8 t) (recordBytes (guardIn conds wire s)) d _ zs n l j room a r)
+      (omega (arith, z, nn), behind (0x32 ∷ k ∷ W) (bytesOf setBytes t) (recordBytes (guardIn conds wire s)) d _ zs n l j room a r)
 
   -- the room for the wires behind the head, and for the table behind them
   pub guard-room : (k : ℕ) (d e : List ℕ) → length (recordBytes (guardIn conds wire s)) ≤ length d → e ≡ over (0x32 ∷ k ∷ []) d
@@ -59,11 +60,11 @@ module _ (conds : List ℕ) (wire : ℕ → ℕ) (s : ℕ) where
 
   pub guard-fits : (k : ℕ) (d e ys : List ℕ) → k ≡ length (rests mostConditions s) → length (recordBytes (guardIn conds wire s)) ≤ length d → e ≡ over (0x32 ∷ k ∷ []) d
       → ys ≡ over (wiresBytes (map (λ t. wire (getD conds t 0)) (rests mostConditions s))) (take (length e - 2) (drop 2 e))
-      → 2 + 2 * k + 8 ≤ length (putMid 2 (length e - 2) e ys)
+      → 2 + 2 * k + setBytes ≤ length (putMid 2 (length e - 2) e ys)
   guard-fits k d e ys kk room p q =
       let W : List ℕ = wiresBytes (map (λ t. wire (getD conds t 0)) (rests mostConditions s)) in
-      let ww : length W ≡ 2 * k = rest-wires ∙ ap (λ (j : ℕ). 2 * j) (sym kk) in
-      let z : length (recordBytes (guardIn conds wire s)) ≡ 10 + 2 * k = guard-size ∙ ap (λ (j : ℕ). 10 + 2 * j) (sym kk) in
+      let ww : length W ≡ 2 * k = rest-wires conds wire (rests mostConditions s) ∙ ap (λ (j : ℕ). 2 * j) (sym kk) in
+      let z : length (recordBytes (guardIn conds wire s)) ≡ 2 + setBytes + 2 * k = guard-size ∙ ap (λ (j : ℕ). 2 + setBytes + 2 * j) (sym kk) in
       let y : suc (suc (length W)) ≤ length d = omega (arith, ww, z, room) in
       let a : putMid 2 (length e - 2) e ys ≡ over (0x32 ∷ k ∷ W) d = behind (0x32 ∷ k ∷ []) W (0x32 ∷ k ∷ W) d e ys 2 refl refl y p q in
       let l : length (putMid 2 (length e - 2) e ys) ≡ length d = ap (λ (x : List ℕ). length x) a ∙ length-over (0x32 ∷ k ∷ W) d y in
@@ -71,7 +72,7 @@ module _ (conds : List ℕ) (wire : ℕ → ℕ) (s : ℕ) where
 
   pub guard-last : (k : ℕ) (d e ys : List ℕ) → k ≡ length (rests mostConditions s) → length (recordBytes (guardIn conds wire s)) ≤ length d → e ≡ over (0x32 ∷ k ∷ []) d
       → ys ≡ over (wiresBytes (map (λ t. wire (getD conds t 0)) (rests mostConditions s))) (take (length e - 2) (drop 2 e))
-      → 8 ≤ length (take (length (putMid 2 (length e - 2) e ys) - (2 + 2 * k)) (drop (2 + 2 * k) (putMid 2 (length e - 2) e ys)))
+      → setBytes ≤ length (take (length (putMid 2 (length e - 2) e ys) - (2 + 2 * k)) (drop (2 + 2 * k) (putMid 2 (length e - 2) e ys)))
   guard-last k d e ys kk room p q = rw (room-rest (putMid 2 (length e - 2) e ys) (2 + 2 * k)) (omega (arith, guard-fits k d e ys kk room p q))
 
 -- Picks.

@@ -9,7 +9,7 @@ use Rattle.words.specs.Numbers.{bytesOf}
 use Rattle.words.specs.NumberLaws.{length-bytes}
 use Rattle.words.specs.Buffers.{over}
 use Rattle.settings.specs.Sets.{rests}
-use Rattle.gates.specs.Limits.{mostGates, mostConditions}
+use Rattle.gates.specs.Limits.{mostGates}
 use Rattle.plan.specs.PlanFile.{groupAt}
 use Rattle.records.specs.Records.{pairWires}
 use Rattle.records.specs.CircuitFile.{wiresBytes, recordBytes, recordsBytes}
@@ -22,43 +22,43 @@ use Rattle.joining.specs.PieceLaws.{wire-pieces, record-pieces, pair-pie
 use Rattle.joining.specs.GuardLaws.{rest-wires}
 use Rattle.fused.specs.SizeJoined.{length-pairs}
 
--- The wires of a guard: piece i is that of condition i of those that s rests on.
+-- The wires of a guard: piece i is that of condition i of a list.
 
-unfoldable pub restPiece : List ℕ → (ℕ → ℕ) → ℕ → ℕ → List ℕ
-restPiece conds wire s i = bytesOf 2 (wire (getD conds (getD (rests mostConditions s) i 0) 0))
+unfoldable pub restPiece : List ℕ → (ℕ → ℕ) → List ℕ → ℕ → List ℕ
+restPiece conds wire ts i = bytesOf 2 (wire (getD conds (getD ts i 0) 0))
 
-module _ (conds : List ℕ) (wire : ℕ → ℕ) (s k : ℕ) where
-  rest-pieces : k ≡ length (rests mostConditions s) → pieces (restPiece conds wire s) k ≡ wiresBytes (map (λ t. wire (getD conds t 0)) (rests mostConditions s))
+module _ (conds : List ℕ) (wire : ℕ → ℕ) (ts : List ℕ) (k : ℕ) where
+  rest-pieces : k ≡ length ts → pieces (restPiece conds wire ts) k ≡ wiresBytes (map (λ t. wire (getD conds t 0)) ts)
   unfolding restPiece
-  rest-pieces e = rw e (wire-pieces (λ t. wire (getD conds t 0)) (rests mostConditions s))
+  rest-pieces e = rw e (wire-pieces (λ t. wire (getD conds t 0)) ts)
 
-  pub rests-start : (out : List ℕ) → k ≡ length (rests mostConditions s) → 2 * length (rests mostConditions s) ≤ length out → Filling (restPiece conds wire s) out out k 0 0
-  rests-start out e h = filling-start (restPiece conds wire s) out k (rw (rest-pieces e, rest-wires conds wire s) h)
+  pub rests-start : (out : List ℕ) → k ≡ length ts → 2 * length ts ≤ length out → Filling (restPiece conds wire ts) out out k 0 0
+  rests-start out e h = filling-start (restPiece conds wire ts) out k (rw (rest-pieces e, rest-wires conds wire ts) h)
 
-  module _ (out out₀ : List ℕ) (at i : ℕ) (l : Filling (restPiece conds wire s) out out₀ k at i) (h : i < k) where
-    size : length (restPiece conds wire s i) ≡ 2
+  module _ (out out₀ : List ℕ) (at i : ℕ) (l : Filling (restPiece conds wire ts) out out₀ k at i) (h : i < k) where
+    size : length (restPiece conds wire ts i) ≡ 2
     unfolding restPiece
-    size = length-bytes 2 (wire (getD conds (getD (rests mostConditions s) i 0) 0))
+    size = length-bytes 2 (wire (getD conds (getD ts i 0) 0))
 
     pub rests-fits : (at + 2 ≤ length out) × (length out ≡ length out₀)
     rests-fits = (
-      omega (arith, filling-fits (restPiece conds wire s) out out₀ k at i l h, size),
-      filling-length (restPiece conds wire s) out out₀ k at i l h,
+      omega (arith, filling-fits (restPiece conds wire ts) out out₀ k at i l h, size),
+      filling-length (restPiece conds wire ts) out out₀ k at i l h,
     )
 
     pub rests-room : 2 ≤ length (take (length out - at) (drop at out))
-    rests-room = omega (arith, filling-room (restPiece conds wire s) out out₀ k at i l h, size)
+    rests-room = omega (arith, filling-room (restPiece conds wire ts) out out₀ k at i l h, size)
 
-    pub rests-step : (t w : ℕ) (ys : List ℕ) → t ≡ getD (rests mostConditions s) i 0 → w ≡ wire (getD conds t 0)
-        → ys ≡ over (bytesOf 2 w) (take (length out - at) (drop at out)) → Filling (restPiece conds wire s) (putMid at (length out - at) out ys) out₀ k (at + 2) (i + 1)
+    pub rests-step : (t w : ℕ) (ys : List ℕ) → t ≡ getD ts i 0 → w ≡ wire (getD conds t 0)
+        → ys ≡ over (bytesOf 2 w) (take (length out - at) (drop at out)) → Filling (restPiece conds wire ts) (putMid at (length out - at) out ys) out₀ k (at + 2) (i + 1)
     unfolding restPiece
     rests-step t w ys e q p =
-        let v : w ≡ wire (getD conds (getD (rests mostConditions s) i 0) 0) = rw e at q in
-        filling-step (restPiece conds wire s) out out₀ k at i l h 2 ys (sym size) (rw v at p)
+        let v : w ≡ wire (getD conds (getD ts i 0) 0) = rw e at q in
+        filling-step (restPiece conds wire ts) out out₀ k at i l h 2 ys (sym size) (rw v at p)
 
-  pub rests-end : (out out₀ : List ℕ) (at i : ℕ) → Filling (restPiece conds wire s) out out₀ k at i → k ≤ i → k ≡ length (rests mostConditions s)
-      → out ≡ over (wiresBytes (map (λ t. wire (getD conds t 0)) (rests mostConditions s))) out₀
-  rests-end out out₀ at i l h e = filling-end (restPiece conds wire s) out out₀ k at i l h .1 ∙ ap (λ (b : List ℕ). over b out₀) (rest-pieces e)
+  pub rests-end : (out out₀ : List ℕ) (at i : ℕ) → Filling (restPiece conds wire ts) out out₀ k at i → k ≤ i → k ≡ length ts
+      → out ≡ over (wiresBytes (map (λ t. wire (getD conds t 0)) ts)) out₀
+  rests-end out out₀ at i l h e = filling-end (restPiece conds wire ts) out out₀ k at i l h .1 ∙ ap (λ (b : List ℕ). over b out₀) (rest-pieces e)
 
 -- The members of a group.
 

@@ -1,45 +1,46 @@
 // Document 01, "The fused circuit file": the records of a joined group, written at the start of a lent buffer: a guard for each member, a pick for each argument place,
 // the operation.
 use gates::GateId;
+use gates::MOST_CONDITIONS;
+use needed::NEED_WORDS;
 use records::WireId;
 use settings::ConditionList;
+use settings::Set;
 ghost use mathlib.Core.Path.{_≡_};
 ghost use mathlib.Core.List.{_∷_, [], map};
 ghost use Prim.Native.Nat.{_+_, _*_, _<_, _≤_};
 ghost use lib.ListN.{length, getD};
-ghost use Rattle.words.specs.Buffers.{over, padded};
-ghost use Rattle.settings.specs.Sets.{rests};
-ghost use Rattle.gates.specs.Limits.{mostConditions};
+ghost use Rattle.words.specs.Buffers.{over};
+ghost use Rattle.settings.specs.Listed.{conditionsIn, Lists};
 ghost use Rattle.plan.specs.PlanFile.{groupAt};
 ghost use Rattle.records.specs.Records.{pick, pairWires};
 ghost use Rattle.records.specs.CircuitFile.{wiresBytes, recordBytes, recordsBytes};
 ghost use Rattle.emitting.specs.Emitted.{wireIn};
 ghost use Rattle.joining.specs.Joined.{emitIn, guardIn, guardsIn, pairsIn, Lies, Guarded, Paired, JoinWritable};
 ghost use Rattle.joining.specs.JoinLaws.{Fusing, picksBytes, fusedBytes};
+ghost use Rattle.settings.specs.Held.{setsIn, setOf};
 
 // The codes of the records that stand for no gate.
 const PICK: u8 = 0x31;
 
 const GUARD: u8 = 0x32;
 
-// The wires of the conditions that s rests on, which r lists, rising.
+// The wires of the conditions of a list.
 fn put_rested(
     out: &mut [u8],
-    s: u64,
-    r: ConditionList,
-    conditions: &[u16; 6],
+    list: ConditionList,
+    conditions: &[u16; MOST_CONDITIONS],
     group: &[u16; 256],
     wires: &[u16; 256],
 )
-    requires { ⌜ ((2 * length (rests mostConditions s) ≤ length (now out)) × Guarded (now conditions) (now group))
-        × ((r .count ≡ length (rests mostConditions s)) × (r .at ≡ padded mostConditions (rests mostConditions s))) ⌝ }
-    ensures { λ r. ⌜ now (out .exit) ≡ over (wiresBytes (map (λ t. wireIn (now (group .entry)) (now (wires .entry)) (getD (now (conditions .entry)) t 0)) (rests mostConditions s))) (now (out .entry)) ⌝ }
+    requires { ⌜ ((2 * length (conditionsIn list) ≤ length (now out)) × Guarded (now conditions) (now group)) × Lists list ⌝ }
+    ensures { λ _. ⌜ now (out .exit) ≡ over (wiresBytes (map (λ t. wireIn (now (group .entry)) (now (wires .entry)) (getD (now (conditions .entry)) t 0)) (conditionsIn list))) (now (out .entry)) ⌝ }
 {
-    let count = r.count as usize;
+    let count = list.count as usize;
     let mut n: usize = 0;
     let mut i: usize = 0;
     while i < count {
-        let t = r.at[i] as usize;
+        let t = list.at[i] as usize;
         let w = emitting::wire_of(group, wires, GateId(conditions[t]));
         words::put16(&mut out[n..], w.0);
         n = n + 2;
@@ -50,22 +51,22 @@ fn put_rested(
 // The guard of a member with the precondition s; gives its bytes.
 fn put_guard(
     out: &mut [u8],
-    s: u64,
-    conditions: &[u16; 6],
+    s: Set,
+    conditions: &[u16; MOST_CONDITIONS],
     group: &[u16; 256],
     wires: &[u16; 256],
 ) -> usize
-    requires { ⌜ (length (recordBytes (guardIn (now conditions) (wireIn (now group) (now wires)) s)) ≤ length (now out)) × Guarded (now conditions) (now group) ⌝ }
-    ensures counted { λ r. ⌜ r ≡ length (recordBytes (guardIn (now (conditions .entry)) (wireIn (now (group .entry)) (now (wires .entry))) s)) ⌝ }
-    ensures written { λ r. ⌜ now (out .exit) ≡ over (recordBytes (guardIn (now (conditions .entry)) (wireIn (now (group .entry)) (now (wires .entry))) s)) (now (out .entry)) ⌝ }
+    requires { ⌜ (length (recordBytes (guardIn (now conditions) (wireIn (now group) (now wires)) (setOf s))) ≤ length (now out)) × Guarded (now conditions) (now group) ⌝ }
+    ensures counted { λ r. ⌜ r ≡ length (recordBytes (guardIn (now (conditions .entry)) (wireIn (now (group .entry)) (now (wires .entry))) (setOf s))) ⌝ }
+    ensures written { λ r. ⌜ now (out .exit) ≡ over (recordBytes (guardIn (now (conditions .entry)) (wireIn (now (group .entry)) (now (wires .entry))) (setOf s))) (now (out .entry)) ⌝ }
 {
     let r = settings::rested(s);
     let d = r.count;
     emitting::put_short(out, GUARD, d);
-    put_rested(&mut out[2..], s, r, conditions, group, wires);
+    put_rested(&mut out[2..], r, conditions, group, wires);
     let n = 2 + 2 * (d as usize);
-    words::put64(&mut out[n..], settings::table(s, r));
-    n + 8
+    settings::put_bytes(&mut out[n..], settings::table(s, r));
+    n + settings::BYTES
 }
 
 // The guards of a group, members rising; gives their bytes.
@@ -73,15 +74,15 @@ fn put_guards(
     out: &mut [u8],
     plan: &[u8],
     at: usize,
-    needs: &[u64; 256],
-    conditions: &[u16; 6],
+    needs: &[u64; NEED_WORDS],
+    conditions: &[u16; MOST_CONDITIONS],
     group: &[u16; 256],
     wires: &[u16; 256],
 ) -> usize
-    requires { ⌜ (length (recordsBytes (guardsIn (now conditions) (wireIn (now group) (now wires)) (now needs) (groupAt (now plan) at))) ≤ length (now out))
+    requires { ⌜ (length (recordsBytes (guardsIn (now conditions) (wireIn (now group) (now wires)) (setsIn (now needs)) (groupAt (now plan) at))) ≤ length (now out))
         × (Lies (now plan) at × Guarded (now conditions) (now group)) ⌝ }
-    ensures counted { λ r. ⌜ r ≡ length (recordsBytes (guardsIn (now (conditions .entry)) (wireIn (now (group .entry)) (now (wires .entry))) (now (needs .entry)) (groupAt (now (plan .entry)) at))) ⌝ }
-    ensures written { λ r. ⌜ now (out .exit) ≡ over (recordsBytes (guardsIn (now (conditions .entry)) (wireIn (now (group .entry)) (now (wires .entry))) (now (needs .entry)) (groupAt (now (plan .entry)) at))) (now (out .entry)) ⌝ }
+    ensures counted { λ r. ⌜ r ≡ length (recordsBytes (guardsIn (now (conditions .entry)) (wireIn (now (group .entry)) (now (wires .entry))) (setsIn (now (needs .entry))) (groupAt (now (plan .entry)) at))) ⌝ }
+    ensures written { λ r. ⌜ now (out .exit) ≡ over (recordsBytes (guardsIn (now (conditions .entry)) (wireIn (now (group .entry)) (now (wires .entry))) (setsIn (now (needs .entry))) (groupAt (now (plan .entry)) at))) (now (out .entry)) ⌝ }
 {
     let size = plan[at] as usize;
     let mut n: usize = 0;
@@ -89,7 +90,13 @@ fn put_guards(
     while i < size {
         let m = plan::member(plan, at, i);
         let g = m.0 as usize;
-        let k = put_guard(&mut out[n..], needs[g], conditions, group, wires);
+        let k = put_guard(
+            &mut out[n..],
+            settings::load(needs, g),
+            conditions,
+            group,
+            wires,
+        );
         n = n + k;
         i = i + 1;
     }
@@ -206,15 +213,15 @@ pub fn put_joined(
     first: WireId,
     quads: &[u32; 1024],
     count: usize,
-    needs: &[u64; 256],
-    conditions: &[u16; 6],
+    needs: &[u64; NEED_WORDS],
+    conditions: &[u16; MOST_CONDITIONS],
     group: &[u16; 256],
     wires: &[u16; 256],
 ) -> usize
-    requires { ⌜ (length (recordsBytes (emitIn (now quads) count (now needs) (wireIn (now group) (now wires)) (first .0) (groupAt (now plan) at))) ≤ length (now out))
+    requires { ⌜ (length (recordsBytes (emitIn (now quads) count (setsIn (now needs)) (wireIn (now group) (now wires)) (first .0) (groupAt (now plan) at))) ≤ length (now out))
         × (JoinWritable (now quads) (now plan) (now conditions) (now group) count at × (first .0 + getD (now plan) at 0 + 1 < 65536)) ⌝ }
-    ensures counted { λ r. ⌜ r ≡ length (recordsBytes (emitIn (now (quads .entry)) count (now (needs .entry)) (wireIn (now (group .entry)) (now (wires .entry))) (first .0) (groupAt (now (plan .entry)) at))) ⌝ }
-    ensures written { λ r. ⌜ now (out .exit) ≡ over (recordsBytes (emitIn (now (quads .entry)) count (now (needs .entry)) (wireIn (now (group .entry)) (now (wires .entry))) (first .0) (groupAt (now (plan .entry)) at))) (now (out .entry)) ⌝ }
+    ensures counted { λ r. ⌜ r ≡ length (recordsBytes (emitIn (now (quads .entry)) count (setsIn (now (needs .entry))) (wireIn (now (group .entry)) (now (wires .entry))) (first .0) (groupAt (now (plan .entry)) at))) ⌝ }
+    ensures written { λ r. ⌜ now (out .exit) ≡ over (recordsBytes (emitIn (now (quads .entry)) count (setsIn (now (needs .entry))) (wireIn (now (group .entry)) (now (wires .entry))) (first .0) (groupAt (now (plan .entry)) at))) (now (out .entry)) ⌝ }
 {
     let n = put_guards(out, plan, at, needs, conditions, group, wires);
     n + put_fused(&mut out[n..], plan, at, first, quads, group, wires)

@@ -1,8 +1,11 @@
 // The tool as C and Rust call it: each operation passed on, with the promise that it has.
 use answers::Answer;
 use foreign::Part;
+use gates::MOST_CONDITIONS;
+use needed::NEED_WORDS;
 ghost use mathlib.Core.Path.{_≡_};
 ghost use lib.ListN.{length, take, drop};
+ghost use Rattle.settings.specs.Held.{setsIn};
 ghost use Rattle.circuit.specs.Whole.{ruleAnswer};
 ghost use Rattle.circuit.specs.Built.{builtQuads, builtNeeds};
 ghost use Rattle.plan.specs.Rows.{planAnswer};
@@ -33,7 +36,7 @@ pub extern "C" fn linnet_run_rule(rule: &[u8], inputs: &[u32], results: &mut [u3
 pub struct Shown {
     pub answer: Answer,
     pub rows: [u32; 1024],
-    pub needs: [u64; 256],
+    pub needs: [u64; NEED_WORDS],
 }
 
 // Shows the plain circuit of a rule: the answer of reading it, four numbers a gate, and each gate's precondition; zeros after the gates.
@@ -41,17 +44,17 @@ pub struct Shown {
 pub extern "C" fn linnet_show_plain(rule: &[u8]) -> Shown
     ensures answer { λ r. ⌜ r .answer ≡ ruleAnswer (now (rule .entry)) ⌝ }
     ensures rows { λ r. ⌜ r .rows ≡ builtQuads (now (rule .entry)) ⌝ }
-    ensures needs { λ r. ⌜ r .needs ≡ builtNeeds (now (rule .entry)) ⌝ }
+    ensures needs { λ r. ⌜ setsIn (r .needs) ≡ builtNeeds (now (rule .entry)) ⌝ }
 {
     let mut shown = Shown {
         answer: answers::refused(0, 0),
         rows: [0u32; 1024],
-        needs: [0u64; 256],
+        needs: [0u64; NEED_WORDS],
     };
     // One call cannot be lent two fields of a struct to fill: the smaller is copied in.
-    let mut needs = [0u64; 256];
+    let mut needs = [0u64; NEED_WORDS];
     let mut outputs = [0u16; 32];
-    let mut conditions = [0u16; 6];
+    let mut conditions = [0u16; MOST_CONDITIONS];
     shown.answer = circuit::build(
         rule,
         &mut shown.rows,

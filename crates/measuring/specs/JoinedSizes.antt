@@ -5,6 +5,7 @@ use mathlib.Core.List.{List, [], _∷_, map}
 use native.Mathlib.Omega.{arith}
 use lib.ListN.{length, getD, length-append, length-map}
 use Rattle.words.specs.Lists.{_∈_, Inside}
+use Rattle.settings.specs.Limits.{setBytes}
 use Rattle.settings.specs.Sets.{rests}
 use Rattle.settings.specs.PlaceLaws.{few-rests}
 use Rattle.codes.specs.Codes.{entryOf, operationOf, codeOf}
@@ -27,13 +28,13 @@ use Rattle.joining.specs.JoinedLaws.{fused-long}
 
 -- Its size.
 
-guards-long : (conds : List ℕ) (wire : ℕ → ℕ) (sets ms : List ℕ) → length (recordsBytes (guardsIn conds wire sets ms)) ≡ 10 * length ms + 2 * restedBy sets ms
+guards-long : (conds : List ℕ) (wire : ℕ → ℕ) (sets ms : List ℕ) → length (recordsBytes (guardsIn conds wire sets ms)) ≡ (2 + setBytes) * length ms + 2 * restedBy sets ms
 guards-long conds wire sets [] = omega arith
 guards-long conds wire sets (m ∷ ms) =
     length-append (recordBytes (guardIn conds wire (getD sets m 0))) (recordsBytes (guardsIn conds wire sets ms))
-    ∙ (let a : length (recordBytes (guardIn conds wire (getD sets m 0))) ≡ 10 + 2 * length (rests mostConditions (getD sets m 0)) = guard-size conds wire (getD sets m 0) in
-    let b : length (recordsBytes (guardsIn conds wire sets ms)) ≡ 10 * length ms + 2 * restedBy sets ms = guards-long conds wire sets ms in
-    let z : length (recordBytes (guardIn conds wire (getD sets m 0))) + length (recordsBytes (guardsIn conds wire sets ms)) ≡ 10 * suc (length ms) + 2 *
+    ∙ (let a : length (recordBytes (guardIn conds wire (getD sets m 0))) ≡ 2 + setBytes + 2 * length (rests mostConditions (getD sets m 0)) = guard-size conds wire (getD sets m 0) in
+    let b : length (recordsBytes (guardsIn conds wire sets ms)) ≡ (2 + setBytes) * length ms + 2 * restedBy sets ms = guards-long conds wire sets ms in
+    let z : length (recordBytes (guardIn conds wire (getD sets m 0))) + length (recordsBytes (guardsIn conds wire sets ms)) ≡ (2 + setBytes) * suc (length ms) + 2 *
     (length (rests mostConditions (getD sets m 0)) + restedBy sets ms) = omega (arith, a, b) in
     z)
 
@@ -56,7 +57,7 @@ module _ (quads : List ℕ) (count : ℕ) (sets conds : List ℕ) (wire : ℕ �
 -- the size of a joined group
 pub joined-sized : (quads sets p : List ℕ) (at g k : ℕ) (means : Code) → Joinable quads p at → k ≡ restedBy sets (groupAt p at) → g ≡ getD (groupAt p at) 0 0
     → means ≡ codeOf (codeAt quads g)
-    → Measured quads sets (groupAt p at) (getD p at 0 + 3) (18 * getD p at 0 + 2 * k + 9) (5 * getD p at 0 + means .cost)
+    → Measured quads sets (groupAt p at) (getD p at 0 + 3) ((10 + setBytes) * getD p at 0 + 2 * k + 9) (5 * getD p at 0 + means .cost)
 joined-sized quads sets p at g k means j kk gg rr =
     record {
       wired = λ count wire n below. sym
@@ -79,7 +80,7 @@ joined-sized quads sets p at g k means j kk gg rr =
     same count wire n below = emit-joined quads count sets (conditions (gatesIn quads count)) wire n (groupAt p at) many below (j .two) (λ t l. refl)
 
     bytes : (count : ℕ) (wire : ℕ → ℕ) (n : ℕ) → length
-        (recordsBytes (joinedIn quads count sets (conditions (gatesIn quads count)) wire n (groupAt p at))) ≡ 18 * getD p at 0 + 2 * k + 9
+        (recordsBytes (joinedIn quads count sets (conditions (gatesIn quads count)) wire n (groupAt p at))) ≡ (10 + setBytes) * getD p at 0 + 2 * k + 9
     bytes count wire n =
         let G : List ℕ = recordsBytes (guardsIn (conditions (gatesIn quads count)) wire sets (groupAt p at)) in
         ap (λ (b : List ℕ). length b) (joined-bytes quads count sets (conditions (gatesIn quads count)) wire n (groupAt p at) code)
@@ -107,11 +108,11 @@ joined-first quads p at g j e =
     let a = two-applies quads (getD (groupAt p at) 0 0) (j .two (getD (groupAt p at) 0 0) i) in
     rw e (j .lies .inside (getD (groupAt p at) 0 0) i, omega (arith, a .1))
 
-rested-most : (sets ms : List ℕ) → restedBy sets ms ≤ 6 * length ms
+rested-most : (sets ms : List ℕ) → restedBy sets ms ≤ mostConditions * length ms
 rested-most sets [] = omega arith
 rested-most sets (m ∷ ms) =
-    let z : length (rests mostConditions (getD sets m 0)) + restedBy sets ms ≤ 6 * suc (length ms) = omega (arith, few-rests 6 (getD sets m 0), rested-most sets ms) in
+    let z : length (rests mostConditions (getD sets m 0)) + restedBy sets ms ≤ mostConditions * suc (length ms) = omega (arith, few-rests mostConditions (getD sets m 0), rested-most sets ms) in
     z
 
-pub rested-few : (sets p : List ℕ) (at : ℕ) → restedBy sets (groupAt p at) ≤ 6 * getD p at 0
+pub rested-few : (sets p : List ℕ) (at : ℕ) → restedBy sets (groupAt p at) ≤ mostConditions * getD p at 0
 rested-few sets p at = omega (arith, rested-most sets (groupAt p at), length-group p at)

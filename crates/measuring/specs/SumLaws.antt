@@ -20,7 +20,7 @@ rest-sum sets (m ∷ ms) =
 -- the sum over the first i members
 pub record Summing (sets ms : List ℕ) (n i : ℕ) : Type 0 where
   pub below : i ≤ length ms
-  pub few : n ≤ 6 * i
+  pub few : n ≤ mostConditions * i
   pub summed : n ≡ length (pieces (λ k. rests mostConditions (getD sets (getD ms k 0) 0)) i)
 
 pub summing-start : (sets ms : List ℕ) → Summing sets ms 0 0

@@ -1,5 +1,6 @@
 // Document 01, "The fused circuit file": what the records of one group come to, before they are written.
 use gates::GateId;
+use needed::NEED_WORDS;
 ghost use mathlib.Core.Path.{_≡_};
 ghost use mathlib.Core.List.{List, _∷_, []};
 ghost use Prim.Native.Nat.{ℕ};
@@ -7,6 +8,7 @@ ghost use Rattle.plan.specs.PlanFile.{groupAt};
 ghost use Rattle.measuring.specs.Sizes.{restedBy, Measured};
 ghost use Rattle.emitting.specs.Emitted.{Coded};
 ghost use Rattle.joining.specs.Joined.{Lies, Joinable};
+ghost use Rattle.settings.specs.Held.{setsIn};
 
 // What the records of a group come to.
 pub struct Size {
@@ -52,9 +54,9 @@ pub fn size_alone(quads: &[u32; 1024], g: GateId) -> Size
 }
 
 // How many wires the guards of a group read.
-fn rested_by(plan: &[u8], at: usize, needs: &[u64; 256]) -> usize
+fn rested_by(plan: &[u8], at: usize, needs: &[u64; NEED_WORDS]) -> usize
     requires { ⌜ Lies (now plan) at ⌝ }
-    ensures { λ r. ⌜ r ≡ restedBy (now (needs .entry)) (groupAt (now (plan .entry)) at) ⌝ }
+    ensures { λ r. ⌜ r ≡ restedBy (setsIn (now (needs .entry))) (groupAt (now (plan .entry)) at) ⌝ }
 {
     let size = plan[at] as usize;
     let mut n: usize = 0;
@@ -62,16 +64,19 @@ fn rested_by(plan: &[u8], at: usize, needs: &[u64; 256]) -> usize
     while i < size {
         let m = plan::member(plan, at, i);
         let g = m.0 as usize;
-        n = n + (settings::rested(needs[g]).count as usize);
+        n = n + (settings::rested(settings::load(needs, g)).count as usize);
         i = i + 1;
     }
     n
 }
 
-// The size of the joined group at the place `at` of the plan: a guard of 10 bytes and its wires for each member, two picks, the operation.
-pub fn size_joined(plan: &[u8], at: usize, quads: &[u32; 1024], needs: &[u64; 256]) -> Size
+// What a member adds to the bytes of its group, but for the wires of its guard: the guard's head and table, and a pair of each of two picks.
+const MEMBER_BYTES: usize = 10 + settings::BYTES;
+
+// The size of the joined group at the place `at` of the plan: a guard, its wires and its table for each member, two picks, the operation.
+pub fn size_joined(plan: &[u8], at: usize, quads: &[u32; 1024], needs: &[u64; NEED_WORDS]) -> Size
     requires { ⌜ Joinable (now quads) (now plan) at ⌝ }
-    ensures { λ r. ⌜ Measured (now (quads .entry)) (now (needs .entry)) (groupAt (now (plan .entry)) at) (r .wires) (r .bytes) (r .cost) ⌝ }
+    ensures { λ r. ⌜ Measured (now (quads .entry)) (setsIn (now (needs .entry))) (groupAt (now (plan .entry)) at) (r .wires) (r .bytes) (r .cost) ⌝ }
 {
     let size = plan[at] as usize;
     let n = rested_by(plan, at, needs);
@@ -80,7 +85,7 @@ pub fn size_joined(plan: &[u8], at: usize, quads: &[u32; 1024], needs: &[u64; 25
     let means = codes::code_of(quads[4 * i] as u8);
     Size {
         wires: size + 3,
-        bytes: 18 * size + 2 * n + 9,
+        bytes: MEMBER_BYTES * size + 2 * n + 9,
         cost: 5 * size + (means.cost as usize),
     }
 }

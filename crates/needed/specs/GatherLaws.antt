@@ -72,7 +72,7 @@ more : (k : ℕ) → k + 1 ≡ suc k
 more k = omega arith
 
 -- a numbered gate finds a place
-pub gathering-fits : (ranks gates : List ℕ) (count g t : ℕ) → GatheringConditions ranks gates count g t → g < count → (getD ranks g 0 ≡ 0 → ⊥) → t < 6
+pub gathering-fits : (ranks gates : List ℕ) (count g t : ℕ) → GatheringConditions ranks gates count g t → g < count → (getD ranks g 0 ≡ 0 → ⊥) → t < mostConditions
 gathering-fits ranks gates count g t i l h =
     let e : (count - suc g) + suc g ≡ count = omega arith in
     let m : length (markedIn ranks (suc g)) ≤ length (markedIn ranks count) = rw e at (marked-more ranks (suc g) (count - suc g)) in

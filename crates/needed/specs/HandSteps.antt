@@ -23,6 +23,7 @@ use Rattle.needed.specs.RankLaws.{Found, rank-found, rank-at}
 use Rattle.needed.specs.Passing.{addNumber, addNumbers, oneOrTwo, handGate, Passable}
 use Rattle.needed.specs.PassingLaws.{add-all}
 use Rattle.needed.specs.QuadLaws.{KindIn, chooses, is-word, is-bit, applies, starts, choice-in, word-in, bit-in, applied-in, kind-in}
+use Rattle.gates.specs.Limits.{mostConditions, mostSettings}
 
 -- A choice.
 
@@ -42,7 +43,7 @@ module _ (quads ranks : List ℕ) (count i : ℕ) (p : Passable quads ranks coun
       ap (λ (k : List ℕ). getD k (firstAt quads i) 0) (p .placed) ∙ rank-at (gatesIn quads count) 256 (firstAt quads i) (choice-inside (firstAt quads i) (inl refl))
       ∙ condition-found .rank
 
-  pub choice-known : ((firstAt quads i < 256) × ((0 < getD ranks (firstAt quads i) 0) × (getD ranks (firstAt quads i) 0 ≤ 6)))
+  pub choice-known : ((firstAt quads i < 256) × ((0 < getD ranks (firstAt quads i) 0) × (getD ranks (firstAt quads i) 0 ≤ mostConditions)))
       × ((secondAt quads i < 256) × (thirdAt quads i < 256))
   choice-known = (
     (choice-inside _ (inl refl), (rw condition-place (omega arith), rw condition-place (omega (arith, condition-found .inside, p .few)))),
@@ -50,13 +51,13 @@ module _ (quads ranks : List ℕ) (count i : ℕ) (p : Passable quads ranks coun
   )
 
   pub choice-hands : (M N : List ℕ)
-      → N ≡ addNumber (thirdAt quads i) (without 64 (getD ranks (firstAt quads i) 0 - 1) (getD M i 0))
-      (addNumber (secondAt quads i) (given 64 (getD ranks (firstAt quads i) 0 - 1) (getD M i 0)) (addNumber (firstAt quads i) (getD M i 0) M))
+      → N ≡ addNumber (thirdAt quads i) (without mostSettings (getD ranks (firstAt quads i) 0 - 1) (getD M i 0))
+      (addNumber (secondAt quads i) (given mostSettings (getD ranks (firstAt quads i) 0 - 1) (getD M i 0)) (addNumber (firstAt quads i) (getD M i 0) M))
       → N ≡ handGate (gatesIn quads count) i M
   unfolding handGate
   choice-hands M N n =
       let k : getD ranks (firstAt quads i) 0 - 1 ≡ condition-found .at = omega (arith, condition-place) in
-      let u = hand-choice 64 (conditions (gatesIn quads count)) (conditions-once (gatesIn quads count)) (condition-found .at) (condition-found .inside)
+      let u = hand-choice mostSettings (conditions (gatesIn quads count)) (conditions-once (gatesIn quads count)) (condition-found .at) (condition-found .inside)
       (secondAt quads i) (thirdAt quads i) (getD M i 0) M in
       n ∙ rw (choice-at, k) (sym (rw (condition-found .same) at u))
 
@@ -105,7 +106,7 @@ module _ (quads ranks : List ℕ) (count i : ℕ) (p : Passable quads ranks coun
       → N ≡ addNumbers (argumentsOf (entryOf (operationOf (codeAt quads i))) (firstAt quads i) (secondAt quads i)) (getD M i 0) M
       → N ≡ handGate (gatesIn quads count) i M
   unfolding handGate
-  operation-hands M N n = n ∙ rw operation-at (sym (add-all 64 (conditions (gatesIn quads count)) _ (getD M i 0) M))
+  operation-hands M N n = n ∙ rw operation-at (sym (add-all mostSettings (conditions (gatesIn quads count)) _ (getD M i 0) M))
 
 -- Neither: a starting value or a constant.
 pub none-hands : (quads : List ℕ) (count i : ℕ) → i < count → (codeAt quads i ≡ choiceCode → ⊥) → (Applies (codeAt quads i) → ⊥) → (M : List ℕ)

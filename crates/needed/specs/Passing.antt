@@ -1,11 +1,11 @@
--- The backward pass over sets of 64 settings held as numbers, in the form that the code goes: every step a union, a given or a without.
+-- The backward pass over sets of mostSettings settings held as numbers, in the form that the code goes: every step a union, a given or a without.
 use Prim.Native.Nat.{ℕ, _≤_}
 use mathlib.Core.Path.{_≡_}
 use mathlib.Core.List.{List, [], _∷_}
 use mathlib.Core.Bool.{Bool, true, false}
 use lib.ListN.{length, getD, set}
 use Rattle.gates.specs.Gates.{Gates, gateAt, Earlier, conditions}
-use Rattle.gates.specs.Limits.{mostGates, mostConditions}
+use Rattle.gates.specs.Limits.{mostGates, mostConditions, mostSettings}
 use Rattle.settings.specs.Sets.{union}
 use Rattle.settings.specs.Numbers.{numbers}
 use Rattle.needed.specs.Held.{gatesIn}
@@ -29,19 +29,19 @@ oneOrTwo false a b = a ∷ []
 
 -- gate i hands its set on
 unfoldable pub handGate : Gates → ℕ → List ℕ → List ℕ
-handGate C i M = hand (numbers 64 (conditions C)) (gateAt C i) (getD M i 0) M
+handGate C i M = hand (numbers mostSettings (conditions C)) (gateAt C i) (getD M i 0) M
 
 -- the pass over the gates below k, downwards
 unfoldable pub passGates : Gates → ℕ → List ℕ → List ℕ
-passGates C k M = passSets (numbers 64 (conditions C)) C k M
+passGates C k M = passSets (numbers mostSettings (conditions C)) C k M
 
 -- the list at the gate that the pass reaches
 abbrev pub ReachingGates : Gates → ℕ → List ℕ → ℕ → List ℕ → Type 0
-ReachingGates C n M₀ k M = Reaching (numbers 64 (conditions C)) C n M₀ k M
+ReachingGates C n M₀ k M = Reaching (numbers mostSettings (conditions C)) C n M₀ k M
 
 -- the gates below k, downwards, each handing on the set that the list F has for it
 unfoldable pub handGatesFrom : Gates → List ℕ → ℕ → List ℕ → List ℕ
-handGatesFrom C F k M = handFrom (numbers 64 (conditions C)) C F k M
+handGatesFrom C F k M = handFrom (numbers mostSettings (conditions C)) C F k M
 
 -- what the pass is given: gates in quads, at most 256, arguments before their gates, at most six conditions, and their numbers
 pub record Passable (quads ranks : List ℕ) (count : ℕ) : Type 0 where

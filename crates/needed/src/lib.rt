@@ -1,6 +1,7 @@
 // Document 01, "The plain circuit", over lent arrays: a gate is four numbers of `quads`, `count` gates at most 256; what gates cost, and which are conditions.
 // The lent arrays hold plain numbers; a gate's number in hand is a `GateId`.
 use gates::GateId;
+use gates::MOST_CONDITIONS;
 ghost use mathlib.Core.Path.{_≡_};
 ghost use Prim.Native.Nat.{_<_, _≤_};
 ghost use lib.ListN.{length, getD, replicate};
@@ -105,6 +106,9 @@ pub fn survey(quads: &[u32; 1024], count: usize, ranks: &mut [u16; 256]) -> Surv
     }
 }
 
+// The words of every gate's set of settings in a lent array.
+pub const NEED_WORDS: usize = settings::WORDS * 256;
+
 // Numbers the marked gates from 1, rising.
 pub fn number_marked(count: usize, ranks: &mut [u16; 256])
     requires { ⌜ (count ≤ mostGates) × (length (now ranks) ≡ 256) ⌝ }
@@ -122,7 +126,7 @@ pub fn number_marked(count: usize, ranks: &mut [u16; 256])
 }
 
 // The gates that have a number, in rising order, in an array that is lent clear: of ranks that number the conditions, condition t is element t.
-pub fn condition_gates(ranks: &[u16; 256], count: usize, gates: &mut [u16; 6])
+pub fn condition_gates(ranks: &[u16; 256], count: usize, gates: &mut [u16; MOST_CONDITIONS])
     requires { ⌜ ((count ≤ mostGates) × (length (markedIn (now ranks) count) ≤ mostConditions)) × (now gates ≡ replicate mostConditions 0) ⌝ }
     ensures { λ r. ⌜ now (gates .exit) ≡ over (markedIn (now (ranks .entry)) count) (replicate mostConditions 0) ⌝ }
 {

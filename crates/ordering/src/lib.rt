@@ -1,6 +1,8 @@
 // Document 01, "The fused circuit file", Order, and row 30 of "Refusals by place": the next ready group, again and again.
 // Sets of groups and the table of waits lie as `waiting` keeps them.
 use gates::GateId;
+use gates::MOST_CONDITIONS;
+use needed::NEED_WORDS;
 ghost use mathlib.Core.Path.{_≡_};
 ghost use mathlib.Core.Bool.{true};
 ghost use mathlib.Core.List.{reverse};
@@ -13,6 +15,7 @@ ghost use Rattle.plan.specs.Order as plan;
 ghost use Rattle.waiting.specs.Reads.{Orderable};
 ghost use Rattle.ordering.specs.Row.{orderOf, orderRow};
 ghost use Rattle.ordering.specs.Search.{nextReady, placeOf, lowered, Holding};
+ghost use Rattle.settings.specs.Held.{setsIn};
 
 // The words of a set of groups.
 const WORDS: usize = 4;
@@ -122,16 +125,16 @@ fn wide(x: u8) -> u16
 fn order_in(
     quads: &[u32; 1024],
     count: usize,
-    needs: &[u64; 256],
-    conditions: &[u16; 6],
+    needs: &[u64; NEED_WORDS],
+    conditions: &[u16; MOST_CONDITIONS],
     group: &[u16; 256],
     places: &[u16; 256],
     waits: &mut [u64],
     order: &mut [u16; 256],
 ) -> Order
     requires { ⌜ Orderable (now quads) count (now conditions) (now group) (now places) × ((length (now order) ≡ 256) × ((now waits ≡ replicate (length (now waits)) 0) × (4 * count ≤ length (now waits)))) ⌝ }
-    ensures answer { λ r. ⌜ r ≡ orderOf (gatesIn (now (quads .entry)) count) (now (needs .entry)) (λ x. getD (now (group .entry)) x 0) ⌝ }
-    ensures written { λ r. ⌜ now (order .exit) ≡ over (reverse (plan.order (gatesIn (now (quads .entry)) count) (now (needs .entry)) (λ x. getD (now (group .entry)) x 0))) (now (order .entry)) ⌝ }
+    ensures answer { λ r. ⌜ r ≡ orderOf (gatesIn (now (quads .entry)) count) (setsIn (now (needs .entry))) (λ x. getD (now (group .entry)) x 0) ⌝ }
+    ensures written { λ r. ⌜ now (order .exit) ≡ over (reverse (plan.order (gatesIn (now (quads .entry)) count) (setsIn (now (needs .entry))) (λ x. getD (now (group .entry)) x 0))) (now (order .entry)) ⌝ }
 {
     waiting::find_waits(quads, count, needs, conditions, group, places, waits);
     let mut left = [0u64; 4];
@@ -167,15 +170,15 @@ fn order_in(
 pub fn order_groups(
     quads: &[u32; 1024],
     count: usize,
-    needs: &[u64; 256],
-    conditions: &[u16; 6],
+    needs: &[u64; NEED_WORDS],
+    conditions: &[u16; MOST_CONDITIONS],
     group: &[u16; 256],
     places: &[u16; 256],
     order: &mut [u16; 256],
 ) -> Order
     requires { ⌜ Orderable (now quads) count (now conditions) (now group) (now places) × (length (now order) ≡ 256) ⌝ }
-    ensures answer { λ r. ⌜ r ≡ orderOf (gatesIn (now (quads .entry)) count) (now (needs .entry)) (λ x. getD (now (group .entry)) x 0) ⌝ }
-    ensures written { λ r. ⌜ now (order .exit) ≡ over (reverse (plan.order (gatesIn (now (quads .entry)) count) (now (needs .entry)) (λ x. getD (now (group .entry)) x 0))) (now (order .entry)) ⌝ }
+    ensures answer { λ r. ⌜ r ≡ orderOf (gatesIn (now (quads .entry)) count) (setsIn (now (needs .entry))) (λ x. getD (now (group .entry)) x 0) ⌝ }
+    ensures written { λ r. ⌜ now (order .exit) ≡ over (reverse (plan.order (gatesIn (now (quads .entry)) count) (setsIn (now (needs .entry))) (λ x. getD (now (group .entry)) x 0))) (now (order .entry)) ⌝ }
 {
     if count <= FEW {
         let mut few = [0u64; 128];

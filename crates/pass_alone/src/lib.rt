@@ -1,4 +1,5 @@
 // The backward pass alone, exported so that it can be measured; nothing of the product calls it.
+use needed::NEED_WORDS;
 ghost use mathlib.Core.Path.{_≡_};
 ghost use mathlib.Core.List.{_++_};
 ghost use Prim.Native.Nat.{_-_};
@@ -8,6 +9,7 @@ ghost use Rattle.gates.specs.Limits.{mostGates, mostConditions};
 ghost use Rattle.needed.specs.Held.{gatesIn};
 ghost use Rattle.needed.specs.Pass.{preconditionSets};
 ghost use Rattle.needed.specs.Passing.{Passable};
+ghost use Rattle.settings.specs.Held.{setsIn};
 
 // Every gate's precondition, in sets that are lent clear. Whoever calls it lends what `passing::find_needed` asks for.
 #[no_mangle]
@@ -16,10 +18,10 @@ pub extern "C" fn linnet_pass(
     count: usize,
     ranks: &[u16; 256],
     wanted: &[u16],
-    sets: &mut [u64; 256],
+    sets: &mut [u64; NEED_WORDS],
 )
-    requires { ⌜ (Passable (now quads) (now ranks) count × Inside count (now wanted)) × (now sets ≡ replicate 256 0) ⌝ }
-    ensures { λ r. ⌜ now (sets .exit) ≡ preconditionSets mostConditions (gatesIn (now (quads .entry)) count) (now (wanted .entry)) ++ replicate (mostGates - count) 0 ⌝ }
+    requires { ⌜ (Passable (now quads) (now ranks) count × Inside count (now wanted)) × (setsIn (now sets) ≡ replicate mostGates 0) ⌝ }
+    ensures { λ r. ⌜ setsIn (now (sets .exit)) ≡ preconditionSets mostConditions (gatesIn (now (quads .entry)) count) (now (wanted .entry)) ++ replicate (mostGates - count) 0 ⌝ }
 {
     passing::find_needed(quads, count, ranks, wanted, sets)
 }

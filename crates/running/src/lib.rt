@@ -1,5 +1,7 @@
 // Runs the fused circuit of a rule and a plan: writes it, then works its figures out from its own bytes.
 use answers::Answer;
+use gates::MOST_CONDITIONS;
+use needed::NEED_WORDS;
 use writing::Prepared;
 ghost use mathlib.Core.Path.{_≡_};
 ghost use lib.ListN.{length};
@@ -11,6 +13,7 @@ ghost use Rattle.records.specs.FileFigures.{fileFigures};
 ghost use Rattle.fused.specs.Answers.{fusedAnswer};
 ghost use Rattle.writing.specs.Ready.{Ready};
 ghost use Rattle.running.specs.FusedRun.{fusedResults};
+ghost use Rattle.settings.specs.Held.{setsIn};
 
 // The bytes that suffice for every fused circuit; and those that a small one is given, so that less is cleared for it.
 const MOST_BYTES: usize = 8904;
@@ -23,9 +26,9 @@ fn run_prepared(
     plan: &[u8],
     prepared: Prepared,
     quads: &[u32; 1024],
-    needs: &[u64; 256],
+    needs: &[u64; NEED_WORDS],
     outputs: &[u16; 32],
-    conditions: &[u16; 6],
+    conditions: &[u16; MOST_CONDITIONS],
     group: &[u16; 256],
     places: &[u16; 256],
     order: &[u16; 256],
@@ -33,7 +36,7 @@ fn run_prepared(
     results: &mut [u32],
 )
     requires { ⌜ ((prepared .answer .number ≡ 0) × (inputRow (now rule) (now inputs) (length (now results)) ≡ 0))
-        × Ready (now rule) (now plan) prepared (now quads) (now needs) (now outputs) (now conditions) (now group) (now places) (now order) ⌝ }
+        × Ready (now rule) (now plan) prepared (now quads) (setsIn (now needs)) (now outputs) (now conditions) (now group) (now places) (now order) ⌝ }
     ensures { λ _. ⌜ now (results .exit) ≡ over (fileFigures (fusedFile (now (rule .entry)) (now (plan .entry))) (now (inputs .entry))) (now (results .entry)) ⌝ }
 {
     let answer = prepared.answer;
@@ -80,9 +83,9 @@ pub fn run(rule: &[u8], plan: &[u8], inputs: &[u32], results: &mut [u32]) -> Ans
     ensures results { λ _. ⌜ now (results .exit) ≡ fusedResults (now (rule .entry)) (now (plan .entry)) (now (inputs .entry)) (now (results .entry)) ⌝ }
 {
     let mut quads = [0u32; 1024];
-    let mut needs = [0u64; 256];
+    let mut needs = [0u64; NEED_WORDS];
     let mut outputs = [0u16; 32];
-    let mut conditions = [0u16; 6];
+    let mut conditions = [0u16; MOST_CONDITIONS];
     let mut group = [0u16; 256];
     let mut places = [0u16; 256];
     let mut order = [0u16; 256];

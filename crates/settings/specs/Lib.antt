@@ -1,6 +1,8 @@
+pub mod Limits
 pub mod Settings
 pub mod Sets
 pub mod Guards
+pub mod Held
 pub mod Holding
 pub mod Interface
 pub mod ListLaws
@@ -8,6 +10,9 @@ pub mod SettingLaws
 pub mod FlipLaws
 pub mod RestLaws
 pub mod SetLaws
+pub mod Listed
+pub mod ListedLaws
+pub mod HeldLaws
 pub mod HoldLaws
 pub mod PlaceLaws
 pub mod GuardLaws

@@ -9,12 +9,10 @@ use lib.Dec.{ltb}
 use lib.ListN.{length, getD}
 use lib.Pow.{pow-mono, pow-pos}
 use borrow.Author.Tests.{ltb-true, ltb-false}
-use Rattle.words.specs.Lists.{_∈_, keep, upto}
+use Rattle.words.specs.Lists.{Inside, _∈_, keep, upto}
 use Rattle.words.specs.ListLaws.{length-from, length-keep, keep-same}
-use Rattle.words.specs.MemberLaws.{from-below, keep-from, getD-in}
+use Rattle.words.specs.MemberLaws.{from-below, keep-from}
 use Rattle.words.specs.TestLaws.{split}
-use Rattle.words.specs.Buffers.{padded}
-use Rattle.words.specs.BufferLaws.{padded-at}
 use Rattle.bitsets.specs.Bits.{bit}
 use Rattle.settings.specs.Settings.{Setting, Once, preRestsOn, preRests}
 use Rattle.settings.specs.Sets.{has, restsOn, rests}
@@ -62,18 +60,9 @@ module _ (n s : ℕ) where
   unfolding rests
   few-rests = omega (arith, length-keep (restsOn n s) (upto n), length-from 0 n)
 
-  rests-below : (i : ℕ) → i < length (rests n s) → getD (rests n s) i 0 < n
+  pub rests-inside : Inside n (rests n s)
   unfolding rests
-  rests-below i h =
-      let l : List ℕ = keep (restsOn n s) (upto n) in
-      omega (arith, from-below 0 n (getD l i 0) (keep-from (restsOn n s) (upto n) (getD l i 0) (getD-in l i h) .0))
-
-  -- condition i of them, listed in an array
-  pub rested-at : (at : List ℕ) (k i : ℕ) → k ≡ length (rests n s) → at ≡ padded n (rests n s) → i < k
-      → (getD at i 0 ≡ getD (rests n s) i 0) × (getD at i 0 < n)
-  rested-at at k i h g l =
-      let e : getD at i 0 ≡ getD (rests n s) i 0 = rw g (padded-at n (rests n s) i) in
-      (e, rw e (rests-below i (omega (arith, h))))
+  rests-inside t m = omega (arith, from-below 0 n t (keep-from (restsOn n s) (upto n) t m .0))
 
   -- a set that rests on none but the first m conditions repeats the pattern of its first 2 ^ m settings
   pub repeats : (m : ℕ) → m ≤ n → ((t : ℕ) → m ≤ t → t < n → restsOn n s t ≡ false) → (j : ℕ) → j < 2 ^ n → has s j ≡ has s (j % 2 ^ m)

@@ -7,9 +7,9 @@ use native.Mathlib.Omega.{arith}
 use lib.ListN.{length, getD, take, length-set, length-map}
 use lib.Seq.{take-suc, take-all}
 use Rattle.words.specs.MemberLaws.{getD-in}
-use Rattle.words.specs.Buffers.{padded}
-use Rattle.settings.specs.Sets.{rests}
-use Rattle.settings.specs.PlaceLaws.{rested-at}
+use Rattle.settings.specs.Listed.{conditionsIn, Lists}
+use Rattle.settings.specs.ListedLaws.{list-at}
+use Rattle.settings.specs.declared.ConditionList.{ConditionList}
 use Rattle.gates.specs.FigureLaws.{map-at}
 use Rattle.needed.specs.Held.{codeAt}
 use Rattle.bitsets.specs.Words.{putBit, putEach}
@@ -71,11 +71,11 @@ argument-of quads i k n e h = (
   (omega (arith, arguments-length quads i), sym (argument-at quads i k (omega arith))),
 )
 
--- the gate of condition i of those that s rests on, k of them, listed in an array
-pub rested-gate : (conds : List ℕ) (s : ℕ) (at : List ℕ) (k i : ℕ) → k ≡ length (rests 6 s) → at ≡ padded 6 (rests 6 s) → i < k
-    → (i < length (map (λ t. getD conds t 0) (rests 6 s))) × (getD conds (getD at i 0) 0 ≡ getD (map (λ t. getD conds t 0) (rests 6 s)) i 0)
-rested-gate conds s at k i h g l =
-    let n : i < length (rests 6 s) = omega (arith, h) in (
-      rw (length-map (rests 6 s) (λ t. getD conds t 0)) n,
-      ap (λ (t : ℕ). getD conds t 0) (rested-at 6 s at k i h g l .0) ∙ sym (map-at (λ t. getD conds t 0) (rests 6 s) i n),
+-- the gate of condition i of a list in hand
+pub listed-gate : (conds : List ℕ) (r : ConditionList) → Lists r → (i : ℕ) → i < r .count
+    → (i < length (map (λ t. getD conds t 0) (conditionsIn r))) × (getD conds (getD (r .at) i 0) 0 ≡ getD (map (λ t. getD conds t 0) (conditionsIn r)) i 0)
+listed-gate conds r z i h =
+    let n : i < length (conditionsIn r) = omega (arith, h, z .counted) in (
+      rw (length-map (conditionsIn r) (λ t. getD conds t 0)) n,
+      ap (λ (t : ℕ). getD conds t 0) (list-at r z i h .0) ∙ sym (map-at (λ t. getD conds t 0) (conditionsIn r) i n),
     )

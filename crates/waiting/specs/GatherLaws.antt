@@ -24,6 +24,7 @@ use Rattle.waiting.specs.Reads.{argumentsAt, Into, Orderable}
 use Rattle.waiting.specs.Gathering.{Waiting}
 use Rattle.bitsets.specs.WordLaws.{clear-words, clear-bit, puts-words, puts-bit, puts-append}
 use Rattle.waiting.specs.ReadLaws.{arguments-at, elem-joined, flat-last}
+use Rattle.gates.specs.Limits.{mostConditions}
 
 -- the groups that p waits for on account of the gates below i
 unfoldable pub waitsBelow : Gates → List ℕ → (ℕ → ℕ) → ℕ → ℕ → List ℕ
@@ -88,10 +89,10 @@ module _ (quads : List ℕ) (count : ℕ) (needs conds group places : List ℕ) 
         let k : a < i = s .orderable .earlier i a (rw arguments-here m) in
         (omega (arith, s .orderable .room), group-low a (omega arith))
 
-    rests-here : restsOf C needs i ≡ map (λ t. getD conds t 0) (rests 6 (getD needs i 0))
+    rests-here : restsOf C needs i ≡ map (λ t. getD conds t 0) (rests mostConditions (getD needs i 0))
     rests-here = rests-held C needs conds (s .orderable .listed) i
 
-    pub gathering-conditions : (n : ℕ) → n ≡ getD needs i 0 → Into group (map (λ t. getD conds t 0) (rests 6 n))
+    pub gathering-conditions : (n : ℕ) → n ≡ getD needs i 0 → Into group (map (λ t. getD conds t 0) (rests mostConditions n))
     gathering-conditions n e a m =
         let k : a < length C = rests-inside C needs i a (omega (arith, inside)) (rw rests-here (rw e at m)) in
         let h : a < count = rw (gates-length quads count) at k in
@@ -151,15 +152,15 @@ module _ (quads : List ℕ) (count : ℕ) (needs conds group places : List ℕ) 
     -- a member of a larger group
     pub gathering-joined : (mid new : List ℕ) (p n : ℕ) → p ≡ getD group i 0 → (getD places i 0 ≡ 0 → ⊥) → n ≡ getD needs i 0
         → mid ≡ putEach (4 * p) (map (λ a. getD group a 0) (argumentsAt quads i)) waits
-        → new ≡ putEach (4 * p) (map (λ a. getD group a 0) (map (λ t. getD conds t 0) (rests 6 n))) mid
+        → new ≡ putEach (4 * p) (map (λ a. getD group a 0) (map (λ t. getD conds t 0) (rests mostConditions n))) mid
         → GatheringWaits quads count needs conds group places new size (i + 1)
     gathering-joined mid new p n e z f h k =
         step new
-        (k ∙ rw (h, f, e) (puts-append (4 * g i) (map g (argumentsAt quads i)) (map g (map (λ t. getD conds t 0) (rests 6 (getD needs i 0)))) waits
+        (k ∙ rw (h, f, e) (puts-append (4 * g i) (map g (argumentsAt quads i)) (map g (map (λ t. getD conds t 0) (rests mostConditions (getD needs i 0)))) waits
         ∙ ap (λ (r : List ℕ). putEach (4 * g i) r waits)
-        (sym (map-append g (argumentsAt quads i) (map (λ t. getD conds t 0) (rests 6 (getD needs i 0)))) ∙ ap (map g) reads)))
+        (sym (map-append g (argumentsAt quads i) (map (λ t. getD conds t 0) (rests mostConditions (getD needs i 0)))) ∙ ap (map g) reads)))
       where
-        reads : argumentsAt quads i ++ map (λ t. getD conds t 0) (rests 6 (getD needs i 0)) ≡ readsOf C needs (members (length C) g (g i)) i
+        reads : argumentsAt quads i ++ map (λ t. getD conds t 0) (rests mostConditions (getD needs i 0)) ≡ readsOf C needs (members (length C) g (g i)) i
         reads = rw (gates-length quads count, s .orderable .many i l, ne-eqb (getD places i 0) 0 z, ← rests-here, arguments-here)
 
   pub gathering-end : (waits : List ℕ) (size i : ℕ) → GatheringWaits quads count needs conds group places waits size i → count ≤ i → Waiting C needs g waits

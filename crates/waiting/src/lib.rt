@@ -1,16 +1,20 @@
 // Document 01, "The plan file and its check": which group waits for which, as sets of groups.
 // A set of groups is four words, as `bitsets` keeps them. The waits are one such set for each group p, from word 4 * p on.
 use gates::GateId;
+use gates::MOST_CONDITIONS;
+use needed::NEED_WORDS;
+use settings::ConditionList;
 ghost use mathlib.Core.Path.{_≡_};
 ghost use mathlib.Core.List.{map};
 ghost use Prim.Native.Nat.{_+_, _*_, _<_, _≤_};
 ghost use lib.ListN.{length, getD, replicate};
-ghost use Rattle.settings.specs.Sets.{rests};
+ghost use Rattle.settings.specs.Listed.{conditionsIn, Lists};
 ghost use Rattle.needed.specs.Held.{gatesIn};
 ghost use Rattle.plan.specs.Groups.{groups};
 ghost use Rattle.bitsets.specs.Words.{bitIn, putBit, putEach, strikeBit};
 ghost use Rattle.waiting.specs.Reads.{arityOf, argumentsAt, Into, Orderable};
 ghost use Rattle.waiting.specs.Gathering.{Waiting, Left};
+ghost use Rattle.settings.specs.Held.{setsIn};
 
 // A choice has three arguments.
 const CHOICE_ARITY: usize = 3;
@@ -85,16 +89,21 @@ fn wait_arguments(quads: &[u32; 1024], group: &[u16; 256], m: GateId, p: GateId,
     }
 }
 
-// Group p waits for the groups of the conditions that a joined member rests on, its own too; s: when the member is needed.
-fn wait_conditions(conditions: &[u16; 6], group: &[u16; 256], s: u64, p: GateId, waits: &mut [u64])
-    requires { ⌜ (4 * p .0 + 4 ≤ length (now waits)) × Into (now group) (map (λ t. getD (now conditions) t 0) (rests 6 s)) ⌝ }
-    ensures { λ r. ⌜ now (waits .exit) ≡ putEach (4 * p .0) (map (λ a. getD (now (group .entry)) a 0) (map (λ t. getD (now (conditions .entry)) t 0) (rests 6 s))) (now (waits .entry)) ⌝ }
+// Group p waits for the groups of the conditions that a list has, its own too.
+fn wait_conditions(
+    conditions: &[u16; MOST_CONDITIONS],
+    group: &[u16; 256],
+    list: ConditionList,
+    p: GateId,
+    waits: &mut [u64],
+)
+    requires { ⌜ (4 * p .0 + 4 ≤ length (now waits)) × (Lists list × Into (now group) (map (λ t. getD (now conditions) t 0) (conditionsIn list))) ⌝ }
+    ensures { λ _. ⌜ now (waits .exit) ≡ putEach (4 * p .0) (map (λ a. getD (now (group .entry)) a 0) (map (λ t. getD (now (conditions .entry)) t 0) (conditionsIn list))) (now (waits .entry)) ⌝ }
 {
-    let r = settings::rested(s);
-    let n = r.count as usize;
+    let n = list.count as usize;
     let mut i: usize = 0;
     while i < n {
-        let t = r.at[i] as usize;
+        let t = list.at[i] as usize;
         let c = GateId(conditions[t]);
         wait_for(waits, p, group_of(group, c));
         i = i + 1;
@@ -105,14 +114,14 @@ fn wait_conditions(conditions: &[u16; 6], group: &[u16; 256], s: u64, p: GateId,
 pub fn find_waits(
     quads: &[u32; 1024],
     count: usize,
-    needs: &[u64; 256],
-    conditions: &[u16; 6],
+    needs: &[u64; NEED_WORDS],
+    conditions: &[u16; MOST_CONDITIONS],
     group: &[u16; 256],
     places: &[u16; 256],
     waits: &mut [u64],
 )
     requires { ⌜ Orderable (now quads) count (now conditions) (now group) (now places) × ((now waits ≡ replicate (length (now waits)) 0) × (4 * count ≤ length (now waits))) ⌝ }
-    ensures { λ r. ⌜ Waiting (gatesIn (now (quads .entry)) count) (now (needs .entry)) (λ x. getD (now (group .entry)) x 0) (now (waits .exit)) ⌝ }
+    ensures { λ r. ⌜ Waiting (gatesIn (now (quads .entry)) count) (setsIn (now (needs .entry))) (λ x. getD (now (group .entry)) x 0) (now (waits .exit)) ⌝ }
 {
     let mut i: usize = 0;
     while i < count {
@@ -120,7 +129,9 @@ pub fn find_waits(
         let p = group_of(group, m);
         wait_arguments(quads, group, m, p, waits);
         if places[i] != 0 {
-            wait_conditions(conditions, group, needs[i], p, waits);
+            // A joined member is written behind the conditions that it rests on.
+            let r = settings::rested(settings::load(needs, i));
+            wait_conditions(conditions, group, r, p, waits);
         }
         i = i + 1;
     }

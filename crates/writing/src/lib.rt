@@ -1,7 +1,9 @@
 // Writes the fused circuit of a rule and a plan: the plan is checked, the file measured, and then written where there is room for it.
 use answers::Answer;
 use filing::HEAD;
+use gates::MOST_CONDITIONS;
 use measuring::Size;
+use needed::NEED_WORDS;
 ghost use mathlib.Core.Path.{_≡_};
 ghost use Prim.Native.Nat.{_≤_};
 ghost use lib.ListN.{length, replicate};
@@ -10,6 +12,8 @@ ghost use Rattle.answers.specs.Answers.{success};
 ghost use Rattle.fused.specs.FusedCircuit.{fusedFile};
 ghost use Rattle.fused.specs.Answers.{fusedAnswer, writeAnswer, writtenOver};
 ghost use Rattle.writing.specs.Ready.{Ready};
+ghost use Rattle.gates.specs.Limits.{mostConditions, mostGates};
+ghost use Rattle.settings.specs.Held.{setsIn};
 
 // The answer of a circuit that is written: the rule's counts, and those that were measured.
 fn counted(read: Answer, size: Size, bytes: usize) -> Answer
@@ -37,16 +41,16 @@ pub fn prepare(
     rule: &[u8],
     plan: &[u8],
     quads: &mut [u32; 1024],
-    needs: &mut [u64; 256],
+    needs: &mut [u64; NEED_WORDS],
     outputs: &mut [u16; 32],
-    conditions: &mut [u16; 6],
+    conditions: &mut [u16; MOST_CONDITIONS],
     group: &mut [u16; 256],
     places: &mut [u16; 256],
     order: &mut [u16; 256],
 ) -> Prepared
-    requires { ⌜ ((now quads ≡ replicate 1024 0) × ((now needs ≡ replicate 256 0) × ((now outputs ≡ replicate 32 0) × (now conditions ≡ replicate 6 0))))
+    requires { ⌜ ((now quads ≡ replicate 1024 0) × ((setsIn (now needs) ≡ replicate mostGates 0) × ((now outputs ≡ replicate 32 0) × (now conditions ≡ replicate mostConditions 0))))
         × ((now group ≡ replicate 256 0) × ((now places ≡ replicate 256 0) × (now order ≡ replicate 256 0))) ⌝ }
-    ensures { λ r. ⌜ Ready (now (rule .entry)) (now (plan .entry)) r (now (quads .exit)) (now (needs .exit)) (now (outputs .exit)) (now (conditions .exit))
+    ensures { λ r. ⌜ Ready (now (rule .entry)) (now (plan .entry)) r (now (quads .exit)) (setsIn (now (needs .exit))) (now (outputs .exit)) (now (conditions .exit))
         (now (group .exit)) (now (places .exit)) (now (order .exit)) ⌝ }
 {
     let checked = checking::check(
@@ -81,15 +85,15 @@ pub fn put(
     plan: &[u8],
     prepared: Prepared,
     quads: &[u32; 1024],
-    needs: &[u64; 256],
+    needs: &[u64; NEED_WORDS],
     outputs: &[u16; 32],
-    conditions: &[u16; 6],
+    conditions: &[u16; MOST_CONDITIONS],
     group: &[u16; 256],
     places: &[u16; 256],
     order: &[u16; 256],
 )
     requires { ⌜ ((prepared .answer .number ≡ 0) × (prepared .answer .bytes ≤ length (now out)))
-        × Ready (now rule) (now plan) prepared (now quads) (now needs) (now outputs) (now conditions) (now group) (now places) (now order) ⌝ }
+        × Ready (now rule) (now plan) prepared (now quads) (setsIn (now needs)) (now outputs) (now conditions) (now group) (now places) (now order) ⌝ }
     ensures { λ _. ⌜ now (out .exit) ≡ over (fusedFile (now (rule .entry)) (now (plan .entry))) (now (out .entry)) ⌝ }
 {
     let answer = prepared.answer;
@@ -115,9 +119,9 @@ pub fn count(rule: &[u8], plan: &[u8]) -> Answer
     ensures { λ r. ⌜ r ≡ fusedAnswer (now (rule .entry)) (now (plan .entry)) ⌝ }
 {
     let mut quads = [0u32; 1024];
-    let mut needs = [0u64; 256];
+    let mut needs = [0u64; NEED_WORDS];
     let mut outputs = [0u16; 32];
-    let mut conditions = [0u16; 6];
+    let mut conditions = [0u16; MOST_CONDITIONS];
     let mut group = [0u16; 256];
     let mut places = [0u16; 256];
     let mut order = [0u16; 256];
@@ -142,9 +146,9 @@ pub fn write(rule: &[u8], plan: &[u8], out: &mut [u8]) -> Answer
     ensures file { λ _. ⌜ now (out .exit) ≡ writtenOver (now (rule .entry)) (now (plan .entry)) (now (out .entry)) ⌝ }
 {
     let mut quads = [0u32; 1024];
-    let mut needs = [0u64; 256];
+    let mut needs = [0u64; NEED_WORDS];
     let mut outputs = [0u16; 32];
-    let mut conditions = [0u16; 6];
+    let mut conditions = [0u16; MOST_CONDITIONS];
     let mut group = [0u16; 256];
     let mut places = [0u16; 256];
     let mut order = [0u16; 256];

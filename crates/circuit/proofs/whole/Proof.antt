@@ -32,6 +32,7 @@ whole-spec =
     (λ c κs. search needs)
     returns
     survey-requires
+    (λ c. search needs)
     (λ c κs. search needs)
     returns-2
     returns-3)

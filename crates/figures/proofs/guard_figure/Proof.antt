@@ -10,13 +10,13 @@ returns : tie.Need-returns
 returns c =
     let d = c .before .before .before .before .before .before in
     table-bit (now (d .args .file)) (now (d .args .figures)) _ (d .args .count) _ _ _ _ (c .before .before .before .before .guard-number .ensures .0)
-    (c .before .before .before .wide8 .ensures .0) (c .before .before .read64 .ensures) (c .before .has .ensures) 1 (sym (ap bitOf (c .if1 .taken)))
+    (c .before .before .before .wide8 .ensures .0) (c .before .before .read64 .ensures) (c .before .bit-of .ensures) 1 (sym (ap bitOf (c .if1 .taken)))
 
 returns-2 : tie.Need-returns-2
 returns-2 c =
     let d = c .before .before .before .before .before .before in
     table-bit (now (d .args .file)) (now (d .args .figures)) _ (d .args .count) _ _ _ _ (c .before .before .before .before .guard-number .ensures .0)
-    (c .before .before .before .wide8 .ensures .0) (c .before .before .read64 .ensures) (c .before .has .ensures) 0 (sym (ap bitOf (c .if1 .left)))
+    (c .before .before .before .wide8 .ensures .0) (c .before .before .read64 .ensures) (c .before .bit-of .ensures) 0 (sym (ap bitOf (c .if1 .left)))
 
 pub guard-figure-spec : {M : Type 1} → statement M
 guard-figure-spec =

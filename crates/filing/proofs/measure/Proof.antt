@@ -1,3 +1,4 @@
+use Rattle.settings.specs.Held.{setsIn}
 use Rattle.filing.specs.LoopLaws.{Measuring, measuring-start, measuring-inside, measuring-group, measuring-small, measuring-step, measuring-end}
 use Prim.Native.Nat.{_-_}
 use native.Mathlib.Omega.{arith}
@@ -6,7 +7,7 @@ use Rattle.filing.proofs.measure.Statement.{statement}
 use Rattle.filing.proofs.measure.Tie as tie
 
 abbrev Inv-loop : tie.InvT-loop
-Inv-loop plan quads needs places order groups wires₀ bytes₀ cost₀ i₀ wires bytes cost i = Measuring plan quads needs places order groups wires bytes cost i
+Inv-loop plan quads needs places order groups wires₀ bytes₀ cost₀ i₀ wires bytes cost i = Measuring plan quads (setsIn needs) places order groups wires bytes cost i
 
 abbrev μ-loop : tie.MeasureT-loop
 μ-loop plan quads needs places order groups wires₀ bytes₀ cost₀ i₀ wires bytes cost i = groups - i

@@ -9,6 +9,7 @@ use Prim.Native.Nat.{ℕ, _≤_, _+_, _-_}
 use borrow.Rule.Slice.PartMut.{putMid}
 use native.Mathlib.Omega.{arith}
 use borrow.Author.Needs.{needs}
+use Rattle.settings.specs.Held.{setsIn}
 use Rattle.filing.proofs.put_file.Statement.{statement}
 use Rattle.filing.proofs.put_file.Tie as tie
 
@@ -19,14 +20,14 @@ put-head-requires : tie.Need-put-head-requires
 put-head-requires c κs =
     let c5 = c .before .before .before .before .before in
     let a = c5 .args in
-    let S = stage (a .plan .now) (a .quads .now) (a .count) (a .needs .now) (a .group .now) (a .places .now) (a .order .now) (a .groups) in
+    let S = stage (a .plan .now) (a .quads .now) (a .count) (setsIn (a .needs .now)) (a .group .now) (a .places .now) (a .order .now) (a .groups) in
     file-start (variables (a .rule .now)) (S .records) (outputsIn (a .rule .now) (a .outputs .now) (a .group .now) (S .wires)) (a .out .now) (c5 .pre .0)
 
 sub-put-records : tie.Need-sub-put-records
 sub-put-records c =
     let c8 = c .before .before .before .before .before .before .before .before in
     let a = c8 .args in
-    let S = stage (a .plan .now) (a .quads .now) (a .count) (a .needs .now) (a .group .now) (a .places .now) (a .order .now) (a .groups) in
+    let S = stage (a .plan .now) (a .quads .now) (a .count) (setsIn (a .needs .now)) (a .group .now) (a .places .now) (a .order .now) (a .groups) in
     records-room (variables (a .rule .now)) (S .records) (outputsIn (a .rule .now) (a .outputs .now) (a .group .now) (S .wires)) (a .out .now) (c8 .pre .0) _ (c8 .pre .1 .1 .0) _
     (c .before .before .put-head .ensures) .0
 
@@ -34,7 +35,7 @@ part-put-records-start : tie.Need-part-put-records-start
 part-put-records-start c =
     let c8 = c .before .before .before .before .before .before .before .before in
     let a = c8 .args in
-    let S = stage (a .plan .now) (a .quads .now) (a .count) (a .needs .now) (a .group .now) (a .places .now) (a .order .now) (a .groups) in
+    let S = stage (a .plan .now) (a .quads .now) (a .count) (setsIn (a .needs .now)) (a .group .now) (a .places .now) (a .order .now) (a .groups) in
     let z : 8 ≤ length (c .before .before .put-head .last .0) = records-room (variables (a .rule .now)) (S .records) (outputsIn (a .rule .now) (a .outputs .now) (a .group .now) (S .wires))
     (a .out .now) (c8 .pre .0) _ (c8 .pre .1 .1 .0) _ (c .before .before .put-head .ensures) .0 in
     search needs
@@ -43,7 +44,7 @@ put-records-requires : tie.Need-put-records-requires
 put-records-requires c κs =
     let c10 = c .before .before .before .before .before .before .before .before .before .before in
     let a = c10 .args in
-    let S = stage (a .plan .now) (a .quads .now) (a .count) (a .needs .now) (a .group .now) (a .places .now) (a .order .now) (a .groups) in (
+    let S = stage (a .plan .now) (a .quads .now) (a .count) (setsIn (a .needs .now)) (a .group .now) (a .places .now) (a .order .now) (a .groups) in (
       records-room (variables (a .rule .now)) (S .records) (outputsIn (a .rule .now) (a .outputs .now) (a .group .now) (S .wires)) (a .out .now) (c10 .pre .0) _ (c10 .pre .1 .1 .0) _
           (c .before .before .before .before .put-head .ensures) .1,
       (c10 .pre .1 .0, refl),
@@ -54,7 +55,7 @@ add-put-outputs c =
     let c7 = c .before .before .before .before .before .before .before in
     let c13 = c7 .before .before .before .before .before .before in
     let a = c13 .args in
-    let S = stage (a .plan .now) (a .quads .now) (a .count) (a .needs .now) (a .group .now) (a .places .now) (a .order .now) (a .groups) in
+    let S = stage (a .plan .now) (a .quads .now) (a .count) (setsIn (a .needs .now)) (a .group .now) (a .places .now) (a .order .now) (a .groups) in
     let z : 8 + c .before .before .put-records .result ≤ length (a .out .now) = ends-room (variables (a .rule .now)) (S .records)
     (outputsIn (a .rule .now) (a .outputs .now) (a .group .now) (S .wires)) (a .out .now) (c13 .pre .0) _ (c13 .pre .1 .1 .0) _ (c7 .put-head .ensures) _ _
     (c .before .before .put-records .ensures .0) (c .before .before .put-records .ensures .1 .0)
@@ -66,7 +67,7 @@ sub-put-outputs c =
     let c7 = c .before .before .before .before .before .before .before in
     let c13 = c7 .before .before .before .before .before .before in
     let a = c13 .args in
-    let S = stage (a .plan .now) (a .quads .now) (a .count) (a .needs .now) (a .group .now) (a .places .now) (a .order .now) (a .groups) in
+    let S = stage (a .plan .now) (a .quads .now) (a .count) (setsIn (a .needs .now)) (a .group .now) (a .places .now) (a .order .now) (a .groups) in
     ends-room (variables (a .rule .now)) (S .records) (outputsIn (a .rule .now) (a .outputs .now) (a .group .now) (S .wires)) (a .out .now) (c13 .pre .0) _ (c13 .pre .1 .1 .0) _
     (c7 .put-head .ensures) _ _ (c .before .before .put-records .ensures .0) (c .before .before .put-records .ensures .1 .0)
     (outputs-count (outputIn (a .rule .now) (a .outputs .now) (a .group .now) (S .wires)) (variables (a .rule .now))) .1
@@ -76,7 +77,7 @@ part-put-outputs-start c =
     let c7 = c .before .before .before .before .before .before .before in
     let c13 = c7 .before .before .before .before .before .before in
     let a = c13 .args in
-    let S = stage (a .plan .now) (a .quads .now) (a .count) (a .needs .now) (a .group .now) (a .places .now) (a .order .now) (a .groups) in
+    let S = stage (a .plan .now) (a .quads .now) (a .count) (setsIn (a .needs .now)) (a .group .now) (a .places .now) (a .order .now) (a .groups) in
     let e = c7 .put-head .last .0 in
     let z : 8 + c .before .before .put-records .result ≤ length (putMid 8 (length e - 8) e (c .before .before .put-records .last .0)) = ends-room (variables (a .rule .now)) (S .records)
     (outputsIn (a .rule .now) (a .outputs .now) (a .group .now) (S .wires)) (a .out .now) (c13 .pre .0) _ (c13 .pre .1 .1 .0) _ (c7 .put-head .ensures) _ _
@@ -90,7 +91,7 @@ put-outputs-requires c κs =
     let c9 = c4 .before .before .before .before .before in
     let c15 = c9 .before .before .before .before .before .before in
     let a = c15 .args in
-    let S = stage (a .plan .now) (a .quads .now) (a .count) (a .needs .now) (a .group .now) (a .places .now) (a .order .now) (a .groups) in (
+    let S = stage (a .plan .now) (a .quads .now) (a .count) (setsIn (a .needs .now)) (a .group .now) (a .places .now) (a .order .now) (a .groups) in (
       c15 .pre .1 .1 .1,
       ends-room (variables (a .rule .now)) (S .records) (outputsIn (a .rule .now) (a .outputs .now) (a .group .now) (S .wires)) (a .out .now) (c15 .pre .0) _
           (c15 .pre .1 .1 .0) _ (c9 .put-head .ensures) _ _ (c4 .put-records .ensures .0) (c4 .put-records .ensures .1 .0)
@@ -103,7 +104,7 @@ returns c =
     let c12 = c7 .before .before .before .before .before in
     let c18 = c12 .before .before .before .before .before .before in
     let a = c18 .args in
-    let S = stage (a .plan .now) (a .quads .now) (a .count) (a .needs .now) (a .group .now) (a .places .now) (a .order .now) (a .groups) in
+    let S = stage (a .plan .now) (a .quads .now) (a .count) (setsIn (a .needs .now)) (a .group .now) (a .places .now) (a .order .now) (a .groups) in
     file-put (variables (a .rule .now)) (S .records) (outputsIn (a .rule .now) (a .outputs .now) (a .group .now) (S .wires)) (a .out .now) (c18 .pre .0) _ (c18 .pre .1 .1 .0) _
     (c12 .put-head .ensures) _ _ (c7 .put-records .ensures .0) (c7 .put-records .ensures .1 .0) _ _
     (ap (λ (w : List ℕ). outputsIn (a .rule .now) (a .outputs .now) (a .group .now) w) (c7 .put-records .ensures .1 .1)) (c .before .before .put-outputs .ensures)

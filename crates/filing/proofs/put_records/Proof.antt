@@ -1,3 +1,4 @@
+use Rattle.settings.specs.Held.{setsIn}
 use Rattle.filing.specs.LoopLaws.{PuttingGroups, putting-start, putting-fits, putting-room, putting-step, putting-same, putting-end}
 use Rattle.filing.specs.TurnLaws.{turn-listed, turn-fits, turn-puttable}
 use lib.ListN.{length}
@@ -8,7 +9,7 @@ use Rattle.filing.proofs.put_records.Statement.{statement}
 use Rattle.filing.proofs.put_records.Tie as tie
 
 abbrev Inv-loop : tie.InvT-loop
-Inv-loop out₀ plan quads count needs conditions group places order groups wires₀ at₀ first₀ i₀ out wires at first i = PuttingGroups plan quads count needs group places
+Inv-loop out₀ plan quads count needs conditions group places order groups wires₀ at₀ first₀ i₀ out wires at first i = PuttingGroups plan quads count (setsIn needs) group places
     order groups out out₀ wires at (first .0) i
 
 abbrev μ-loop : tie.MeasureT-loop

@@ -1,5 +1,6 @@
 use borrow.Author.Needs.{needs}
 use borrow.Author.Tests.{not-true, not-false}
+use Rattle.settings.specs.Held.{setsIn}
 use Rattle.needed.specs.Held.{gatesIn}
 use Rattle.grouping.specs.Tests.{joinTest}
 use Rattle.grouping.specs.Walks.{Ahead}
@@ -9,7 +10,7 @@ use Rattle.fitting.proofs.every_join.Tie as tie
 
 abbrev Inv-loop : tie.InvT-loop
 Inv-loop row plan quads count needs unchecked₀ at₀ unchecked at = Ahead count plan unchecked at × TestingGroups
-    (joinTest (gatesIn quads count) needs row) plan unchecked at
+    (joinTest (gatesIn quads count) (setsIn needs) row) plan unchecked at
 
 abbrev μ-loop : tie.MeasureT-loop
 μ-loop row plan quads count needs unchecked₀ at₀ unchecked at = unchecked

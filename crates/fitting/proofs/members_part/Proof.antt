@@ -2,13 +2,14 @@ use borrow.Author.Needs.{needs}
 use native.Mathlib.Omega.{arith}
 use borrow.Author.Tests.{not-true, not-false}
 use Prim.Native.Nat.{_-_}
+use Rattle.settings.specs.Held.{setOf, setsIn}
 use Rattle.grouping.specs.MemberLaws.{walk-byte}
 use Rattle.grouping.specs.WalkLaws.{Parting, parting-start, parting-fails, parting-step, parting-end}
 use Rattle.fitting.proofs.members_part.Statement.{statement}
 use Rattle.fitting.proofs.members_part.Tie as tie
 
 abbrev Inv-loop : tie.InvT-loop
-Inv-loop plan at count needs size seen₀ k₀ seen k = Parting needs count plan at seen k
+Inv-loop plan at count needs size seen₀ k₀ seen k = Parting (setsIn needs) count plan at (setOf seen) k
 
 abbrev μ-loop : tie.MeasureT-loop
 μ-loop plan at count needs size seen₀ k₀ seen k = size - k
@@ -23,25 +24,19 @@ member-requires : tie.Need-member-requires Inv-loop μ-loop
 member-requires c κs =
     omega (arith, c .before .loop .inv .walk .fits .lies, c .before .loop .inv .walk .fits .short, c .loop-test .taken, c .before .before .before .size-at .ensures)
 
-element-copy-out-s : tie.Need-element-copy-out-s Inv-loop μ-loop
-element-copy-out-s c =
-    walk-byte _ _ _ _ _ (c .before .before .before .loop .inv .walk)
-    (omega (arith, c .before .before .loop-test .taken, c .before .before .before .before .before .size-at .ensures)) (c .before .member .ensures)
+load-requires : tie.Need-load-requires Inv-loop μ-loop
+load-requires c κs =
+    omega (arith, walk-byte _ _ _ _ _ (c .before .before .before .before .loop .inv .walk) (omega (arith, c .before .before .before .loop-test .taken, c .before .before .before .before .before .before .size-at .ensures)) (c .before .before .member .ensures), c .before .before .before .before .before .before .before .before .good)
 
 returns : tie.Need-returns Inv-loop μ-loop
 returns c =
-    let c6 = c .before .before .before .before .before .before in
-    let c8 = c6 .before .before in
-    parting-fails _ _ _ _ _ _ _ _ (c6 .loop .inv) (omega (arith, c .before .before .before .before .before .loop-test .taken, c8 .size-at .ensures))
-    (c .before .before .before .before .member .ensures) (c .before .excludes .ensures) (not-true _ (c .if1 .taken))
+    parting-fails _ _ _ _ _ _ _ _ (c .before .before .before .before .before .before .before .loop .inv) (omega (arith, c .before .before .before .before .before .before .loop-test .taken, c .before .before .before .before .before .before .before .before .before .size-at .ensures))
+    (c .before .before .before .before .before .member .ensures) (rw (c .before .before .load .ensures) at (c .before .excludes .ensures)) (not-true _ (c .if1 .taken))
 
 loop-again : tie.Need-loop-again Inv-loop μ-loop
 loop-again c =
-    let c6 = c .before .before .before .before .before .before in
-    let c7 = c6 .before in
-    let c9 = c7 .before .before in
-    parting-step _ _ _ _ _ _ _ _ (c7 .loop .inv) (omega (arith, c6 .loop-test .taken, c9 .size-at .ensures)) (c .before .before .before .before .before .member .ensures)
-    (c .before .before .excludes .ensures) _ (not-false _ (c .before .if1 .left)) (c .union .ensures)
+    parting-step _ _ _ _ _ _ _ _ (c .before .before .before .before .before .before .before .before .loop .inv) (omega (arith, c .before .before .before .before .before .before .before .loop-test .taken, c .before .before .before .before .before .before .before .before .before .before .size-at .ensures)) (c .before .before .before .before .before .before .member .ensures)
+    (rw (c .before .before .before .load .ensures) at (c .before .before .excludes .ensures)) _ (not-false _ (c .before .if1 .left)) (rw (c .before .before .before .load .ensures) at (c .union .ensures))
 
 returns-2 : tie.Need-returns-2 Inv-loop μ-loop
 returns-2 c = parting-end _ _ _ _ _ _ (c .before .loop .inv) (omega (arith, c .loop-test .left, c .before .before .before .size-at .ensures))
@@ -57,8 +52,7 @@ members-part-spec =
     loop-holds
     member-requires
     (λ c. search needs)
-    (λ c. search needs)
-    element-copy-out-s
+    load-requires
     (λ c κs. search needs)
     returns
     (λ c κs. search needs)

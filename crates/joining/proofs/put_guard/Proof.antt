@@ -1,6 +1,8 @@
 use Prim.Native.Nat.{_-_, _+_, _*_, _≤_}
 use lib.ListN.{length}
 use borrow.Rule.Slice.PartMut.{putMid}
+use Rattle.settings.specs.Held.{setOf}
+use Rattle.settings.specs.ListedLaws.{rested-are, rested-lists}
 use Rattle.joining.specs.GuardLaws.{guard-put, guard-room, guard-fits, guard-last}
 use Rattle.emitting.specs.Emitted.{wireIn}
 use mathlib.Core.Path.{refl}
@@ -13,29 +15,30 @@ put-rested-requires : tie.Need-put-rested-requires
 put-rested-requires c κs =
     let start = c .before .before .before .before .before .before .before in
     let a = start .args in
-    let r = c .before .before .before .before .before .rested .ensures in (
+    let r = c .before .before .before .before .before .rested .ensures in
+    let e = rested-are (setOf (a .s)) (c .before .before .before .before .before .rested .result) (r .0) (r .1 .0) in (
       (
-        guard-room (a .conditions .now) (wireIn (a .group .now) (a .wires .now)) (a .s) _ _ _ (start .pre .0) (c .before .before .before .put-short .ensures),
+        rw e (guard-room (a .conditions .now) (wireIn (a .group .now) (a .wires .now)) (setOf (a .s)) _ _ _ (start .pre .0) (c .before .before .before .put-short .ensures)),
         start .pre .1,
       ),
-      (r .0, r .1 .0),
+      rested-lists _ _ (r .0) (r .1 .0),
     )
 
-sub-put64 : tie.Need-sub-put64
-sub-put64 c = let a = c .before .before .before .before .before .before .before .before .before .before .args in
-    let f = guard-fits (a .conditions .now) (wireIn (a .group .now) (a .wires .now)) (a .s) _ _ _ _
+sub-put-bytes : tie.Need-sub-put-bytes
+sub-put-bytes c = let a = c .before .before .before .before .before .before .before .before .before .before .args in
+    let f = guard-fits (a .conditions .now) (wireIn (a .group .now) (a .wires .now)) (setOf (a .s)) _ _ _ _
     (c .before .before .before .before .before .before .before .before .rested .ensures .0)
     (c .before .before .before .before .before .before .before .before .before .before .pre .0)
-    (c .before .before .before .before .before .before .put-short .ensures) (c .before .before .put-rested .ensures) in
+    (c .before .before .before .before .before .before .put-short .ensures) (rw (rested-are (setOf (a .s)) (c .before .before .before .before .before .before .before .before .rested .result) (c .before .before .before .before .before .before .before .before .rested .ensures .0) (c .before .before .before .before .before .before .before .before .rested .ensures .1 .0)) at (c .before .before .put-rested .ensures)) in
     omega (arith, f)
 
-part-put64-start : tie.Need-part-put64-start
-part-put64-start c = let a = c .before .before .before .before .before .before .before .before .before .before .args in
+part-put-bytes-start : tie.Need-part-put-bytes-start
+part-put-bytes-start c = let a = c .before .before .before .before .before .before .before .before .before .before .args in
     let e = c .before .before .before .before .before .before .put-short .last .0 in
-    let f = guard-fits (a .conditions .now) (wireIn (a .group .now) (a .wires .now)) (a .s) _ _ _ _
+    let f = guard-fits (a .conditions .now) (wireIn (a .group .now) (a .wires .now)) (setOf (a .s)) _ _ _ _
     (c .before .before .before .before .before .before .before .before .rested .ensures .0)
     (c .before .before .before .before .before .before .before .before .before .before .pre .0)
-    (c .before .before .before .before .before .before .put-short .ensures) (c .before .before .put-rested .ensures) in
+    (c .before .before .before .before .before .before .put-short .ensures) (rw (rested-are (setOf (a .s)) (c .before .before .before .before .before .before .before .before .rested .result) (c .before .before .before .before .before .before .before .before .rested .ensures .0) (c .before .before .before .before .before .before .before .before .rested .ensures .1 .0)) at (c .before .before .put-rested .ensures)) in
     let z : 2 + 2 * c .before .before .before .before .before .before .before .before .rested .result .count ≤ length
     (putMid 2 (length e - 2) e (c .before .before .put-rested .last .0)) = omega (arith, f) in
     search needs
@@ -43,21 +46,21 @@ part-put64-start c = let a = c .before .before .before .before .before .before .
 table-requires : tie.Need-table-requires
 table-requires c κs = let r = c .before .before .before .before .before .before .before .before .before .rested .ensures in (r .0, r .1 .1)
 
-put64-requires : tie.Need-put64-requires
-put64-requires c κs = let a = c .before .before .before .before .before .before .before .before .before .before .before .before .args in
-    guard-last (a .conditions .now) (wireIn (a .group .now) (a .wires .now)) (a .s) _ _ _ _
+put-bytes-requires : tie.Need-put-bytes-requires
+put-bytes-requires c κs = let a = c .before .before .before .before .before .before .before .before .before .before .before .before .args in
+    guard-last (a .conditions .now) (wireIn (a .group .now) (a .wires .now)) (setOf (a .s)) _ _ _ _
     (c .before .before .before .before .before .before .before .before .before .before .rested .ensures .0)
     (c .before .before .before .before .before .before .before .before .before .before .before .before .pre .0)
-    (c .before .before .before .before .before .before .before .before .put-short .ensures) (c .before .before .before .before .put-rested .ensures)
+    (c .before .before .before .before .before .before .before .before .put-short .ensures) (rw (rested-are (setOf (a .s)) (c .before .before .before .before .before .before .before .before .before .before .rested .result) (c .before .before .before .before .before .before .before .before .before .before .rested .ensures .0) (c .before .before .before .before .before .before .before .before .before .before .rested .ensures .1 .0)) at (c .before .before .before .before .put-rested .ensures))
 
 returns : tie.Need-returns
 returns c = let a = c .before .before .before .before .before .before .before .before .before .before .before .before .before .before .before .args in
-    guard-put (a .conditions .now) (wireIn (a .group .now) (a .wires .now)) (a .s) _ _ _ _ _ _ _
+    guard-put (a .conditions .now) (wireIn (a .group .now) (a .wires .now)) (setOf (a .s)) _ _ _ _ _ _ _
     (c .before .before .before .before .before .before .before .before .before .before .before .before .before .rested .ensures .0) refl
     (c .before .before .before .table .ensures)
     (c .before .before .before .before .before .before .before .before .before .before .before .before .before .before .before .pre .0)
     (c .before .before .before .before .before .before .before .before .before .before .before .put-short .ensures)
-    (c .before .before .before .before .before .before .before .put-rested .ensures) (c .before .before .put64 .ensures)
+    (rw (rested-are (setOf (a .s)) (c .before .before .before .before .before .before .before .before .before .before .before .before .before .rested .result) (c .before .before .before .before .before .before .before .before .before .before .before .before .before .rested .ensures .0) (c .before .before .before .before .before .before .before .before .before .before .before .before .before .rested .ensures .1 .0)) at (c .before .before .before .before .before .before .before .put-rested .ensures)) (c .before .before .put-bytes .ensures)
 
 pub put-guard-spec : {M : Type 1} → statement M
 put-guard-spec =
@@ -72,11 +75,11 @@ put-guard-spec =
     (λ c. search needs)
     (λ c. search needs)
     (λ c. search needs)
-    sub-put64
-    part-put64-start
+    sub-put-bytes
+    part-put-bytes-start
     (λ c. search needs)
     table-requires
-    put64-requires
+    put-bytes-requires
     (λ c. search needs)
     (λ c. search needs)
     returns)

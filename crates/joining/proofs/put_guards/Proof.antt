@@ -1,6 +1,7 @@
 use lib.ListN.{length}
 use Prim.Native.Nat.{_≤_, _+_, _-_}
 use borrow.Author.Needs.{needs}
+use Rattle.settings.specs.Held.{setsIn}
 use Rattle.joining.specs.LoopLaws.{GuardFilling, member-inside, guards-start, guards-fits, guards-room, guards-step, guards-end}
 use Rattle.emitting.specs.FillLaws.{filling-same}
 use Rattle.emitting.specs.Emitted.{wireIn}
@@ -9,7 +10,7 @@ use Rattle.joining.proofs.put_guards.Statement.{statement}
 use Rattle.joining.proofs.put_guards.Tie as tie
 
 abbrev Inv-loop : tie.InvT-loop
-Inv-loop out₀ plan at needs conditions group wires size n₀ i₀ out n i = GuardFilling conditions (wireIn group wires) needs plan at out out₀ n i
+Inv-loop out₀ plan at needs conditions group wires size n₀ i₀ out n i = GuardFilling conditions (wireIn group wires) (setsIn needs) plan at out out₀ n i
 
 abbrev μ-loop : tie.MeasureT-loop
 μ-loop out₀ plan at needs conditions group wires size n₀ i₀ out n i = size - i
@@ -33,39 +34,25 @@ part-put-guard-start c =
     (arith, guards-fits _ _ _ _ _ _ _ _ _ _ (c .before .before .before .loop .inv) (c .before .before .loop-test .taken) (c .before .member .ensures) .0) in
     search needs
 
-mul-put-guard : tie.Need-mul-put-guard Inv-loop μ-loop
-mul-put-guard c = record {
-  fits = omega (
-    arith,
-    member-inside _ _ _ _ (c .before .before .before .before .before .before .before .before .pre .1 .0) (c .before .before .member .ensures)
-        (c .before .before .before .loop-test .taken),
-  );
-}
-
-element-copy-out-put-guard : tie.Need-element-copy-out-put-guard Inv-loop μ-loop
-element-copy-out-put-guard c = member-inside _ _ _ _ (c .before .before .before .before .before .before .before .before .pre .1 .0) (c .before .before .member .ensures)
-    (c .before .before .before .loop-test .taken)
+load-requires : tie.Need-load-requires Inv-loop μ-loop
+load-requires c κs = omega (arith, member-inside _ _ _ _ (c .before .before .before .before .before .before .before .before .before .pre .1 .0) (c .before .before .before .member .ensures) (c .before .before .before .before .loop-test .taken), c .before .before .before .before .before .before .before .before .before .good)
 
 put-guard-requires : tie.Need-put-guard-requires Inv-loop μ-loop
 put-guard-requires c κs = (
-  guards-room _ _ _ _ _ _ _ _ _ _ (c .before .before .before .before .before .loop .inv) (c .before .before .before .before .loop-test .taken)
-      (c .before .before .before .member .ensures),
-  c .before .before .before .before .before .before .before .before .before .pre .1 .1,
+  rw (c .load .ensures) (guards-room _ _ _ _ _ _ _ _ _ _ (c .before .before .before .before .before .before .loop .inv) (c .before .before .before .before .before .loop-test .taken) (c .before .before .before .before .member .ensures)),
+  c .before .before .before .before .before .before .before .before .before .before .pre .1 .1,
 )
 
 add-n : tie.Need-add-n Inv-loop μ-loop
 add-n c =
-    let f = guards-fits _ _ _ _ _ _ _ _ _ _ (c .before .before .before .before .before .before .before .before .loop .inv)
-    (c .before .before .before .before .before .before .before .loop-test .taken) (c .before .before .before .before .before .before .member .ensures) in
-    let z : c .before .before .before .before .before .before .before .before .loop .n + c .before .before .put-guard .result ≤ length
-    (c .before .before .before .before .before .before .before .before .before .before .before .before .args .out .now) = omega
-    (arith, c .before .before .put-guard .ensures .0, f .0, f .1) in
+    let f = guards-fits _ _ _ _ _ _ _ _ _ _ (c .before .before .before .before .before .before .before .before .before .loop .inv) (c .before .before .before .before .before .before .before .before .loop-test .taken) (c .before .before .before .before .before .before .before .member .ensures) in
+    let z : c .before .before .before .before .before .before .before .before .before .loop .n + c .before .before .put-guard .result ≤ length (c .before .before .before .before .before .before .before .before .before .before .before .before .before .args .out .now) = omega
+    (arith, rw (c .before .before .before .load .ensures) at (c .before .before .put-guard .ensures .0), f .0, f .1) in
     search needs
 
 loop-again : tie.Need-loop-again Inv-loop μ-loop
-loop-again c = guards-step _ _ _ _ _ _ _ _ _ _ (c .before .before .before .before .before .before .before .before .loop .inv)
-    (c .before .before .before .before .before .before .before .loop-test .taken) (c .before .before .before .before .before .before .member .ensures) _ _
-    (c .before .before .put-guard .ensures .0) (c .before .before .put-guard .ensures .1)
+loop-again c = guards-step _ _ _ _ _ _ _ _ _ _ (c .before .before .before .before .before .before .before .before .before .loop .inv) (c .before .before .before .before .before .before .before .before .loop-test .taken) (c .before .before .before .before .before .before .before .member .ensures) _ _
+    (rw (c .before .before .before .load .ensures) at (c .before .before .put-guard .ensures .0)) (rw (c .before .before .before .load .ensures) at (c .before .before .put-guard .ensures .1))
 
 same-length : tie.Need-same-length Inv-loop μ-loop
 same-length c = filling-same _ _ _ _ _ _ (c .before .loop .inv .filling) (c .loop-test .left)
@@ -87,8 +74,7 @@ put-guards-spec =
     sub-put-guard
     part-put-guard-start
     (λ c. search needs)
-    mul-put-guard
-    element-copy-out-put-guard
+    load-requires
     put-guard-requires
     add-n
     (λ c. search needs)

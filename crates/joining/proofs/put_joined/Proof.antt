@@ -4,24 +4,25 @@ use lib.ListN.{length}
 use Prim.Native.Nat.{_≤_, _+_}
 use native.Mathlib.Omega.{arith}
 use borrow.Author.Needs.{needs}
+use Rattle.settings.specs.Held.{setsIn}
 use Rattle.joining.proofs.put_joined.Statement.{statement}
 use Rattle.joining.proofs.put_joined.Tie as tie
 
 put-guards-requires : tie.Need-put-guards-requires
 put-guards-requires c κs = let a = c .before .before .before .args in
-    let r = joined-room (a .quads .now) (a .count) (a .needs .now) (a .conditions .now) (a .group .now) (wireIn (a .group .now) (a .wires .now)) (a .first .0)
+    let r = joined-room (a .quads .now) (a .count) (setsIn (a .needs .now)) (a .conditions .now) (a .group .now) (wireIn (a .group .now) (a .wires .now)) (a .first .0)
     (a .plan .now) (a .at) _ (c .before .before .before .pre .1 .0) (c .before .before .before .pre .0) in
     (omega (arith, r), (c .before .before .before .pre .1 .0 .joinable .lies, c .before .before .before .pre .1 .0 .guarded))
 
 sub-put-fused : tie.Need-sub-put-fused
 sub-put-fused c = let a = c .before .before .before .before .before .before .args in
-    fused-room (a .quads .now) (a .count) (a .needs .now) (a .conditions .now) (a .group .now) (wireIn (a .group .now) (a .wires .now)) (a .first .0) (a .plan .now)
+    fused-room (a .quads .now) (a .count) (setsIn (a .needs .now)) (a .conditions .now) (a .group .now) (wireIn (a .group .now) (a .wires .now)) (a .first .0) (a .plan .now)
     (a .at) _ _ _ (c .before .before .before .before .before .before .pre .1 .0) (c .before .before .before .before .before .before .pre .0)
     (c .before .before .put-guards .ensures .0) (c .before .before .put-guards .ensures .1) .0
 
 part-put-fused-start : tie.Need-part-put-fused-start
 part-put-fused-start c = let a = c .before .before .before .before .before .before .args in
-    let z : c .before .before .put-guards .result ≤ length (c .before .before .put-guards .last .0) = fused-room (a .quads .now) (a .count) (a .needs .now)
+    let z : c .before .before .put-guards .result ≤ length (c .before .before .put-guards .last .0) = fused-room (a .quads .now) (a .count) (setsIn (a .needs .now))
     (a .conditions .now) (a .group .now) (wireIn (a .group .now) (a .wires .now)) (a .first .0) (a .plan .now) (a .at) _ _ _
     (c .before .before .before .before .before .before .pre .1 .0) (c .before .before .before .before .before .before .pre .0)
     (c .before .before .put-guards .ensures .0) (c .before .before .put-guards .ensures .1) .0 in
@@ -29,7 +30,7 @@ part-put-fused-start c = let a = c .before .before .before .before .before .befo
 
 put-fused-requires : tie.Need-put-fused-requires
 put-fused-requires c κs = let a = c .before .before .before .before .before .before .before .args in (
-  fused-room (a .quads .now) (a .count) (a .needs .now) (a .conditions .now) (a .group .now) (wireIn (a .group .now) (a .wires .now)) (a .first .0) (a .plan .now)
+  fused-room (a .quads .now) (a .count) (setsIn (a .needs .now)) (a .conditions .now) (a .group .now) (wireIn (a .group .now) (a .wires .now)) (a .first .0) (a .plan .now)
       (a .at) _ _ _ (c .before .before .before .before .before .before .before .pre .1 .0) (c .before .before .before .before .before .before .before .pre .0)
       (c .before .before .before .put-guards .ensures .0) (c .before .before .before .put-guards .ensures .1) .1,
   (fusing _ _ _ _ _ _ (c .before .before .before .before .before .before .before .pre .1 .0), c .before .before .before .before .before .before .before .pre .1 .1),
@@ -37,7 +38,7 @@ put-fused-requires c κs = let a = c .before .before .before .before .before .be
 
 add-result : tie.Need-add-result
 add-result c = let a = c .before .before .before .before .before .before .before .before .before .before .args in
-    let r = joined-room (a .quads .now) (a .count) (a .needs .now) (a .conditions .now) (a .group .now) (wireIn (a .group .now) (a .wires .now)) (a .first .0)
+    let r = joined-room (a .quads .now) (a .count) (setsIn (a .needs .now)) (a .conditions .now) (a .group .now) (wireIn (a .group .now) (a .wires .now)) (a .first .0)
     (a .plan .now) (a .at) _ (c .before .before .before .before .before .before .before .before .before .before .pre .1 .0)
     (c .before .before .before .before .before .before .before .before .before .before .pre .0) in
     let z : c .before .before .before .before .before .before .put-guards .result + c .before .before .put-fused .result ≤ length (a .out .now) = omega
@@ -46,7 +47,7 @@ add-result c = let a = c .before .before .before .before .before .before .before
 
 returns : tie.Need-returns
 returns c = let a = c .before .before .before .before .before .before .before .before .before .before .args in
-    joined-put (a .quads .now) (a .count) (a .needs .now) (a .conditions .now) (a .group .now) (wireIn (a .group .now) (a .wires .now)) (a .first .0) (a .plan .now)
+    joined-put (a .quads .now) (a .count) (setsIn (a .needs .now)) (a .conditions .now) (a .group .now) (wireIn (a .group .now) (a .wires .now)) (a .first .0) (a .plan .now)
     (a .at) _ _ _ _ _ (c .before .before .before .before .before .before .before .before .before .before .pre .1 .0)
     (c .before .before .before .before .before .before .before .before .before .before .pre .0)
     (c .before .before .before .before .before .before .put-guards .ensures .0) (c .before .before .put-fused .ensures .0)

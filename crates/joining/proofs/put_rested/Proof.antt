@@ -1,7 +1,8 @@
 use lib.ListN.{length}
 use Prim.Native.Nat.{_≤_, _+_, _-_}
 use borrow.Author.Needs.{needs}
-use Rattle.settings.specs.PlaceLaws.{few-rests, rested-at}
+use Rattle.settings.specs.Listed.{conditionsIn}
+use Rattle.settings.specs.ListedLaws.{list-at}
 use Rattle.joining.specs.LoopLaws.{restPiece, rests-start, rests-fits, rests-room, rests-step, rests-end}
 use Rattle.emitting.specs.FillLaws.{filling-same, Filling}
 use Rattle.emitting.specs.Emitted.{wireIn}
@@ -10,27 +11,27 @@ use Rattle.joining.proofs.put_rested.Statement.{statement}
 use Rattle.joining.proofs.put_rested.Tie as tie
 
 abbrev Inv-loop : tie.InvT-loop
-Inv-loop out₀ s conditions group wires r count n₀ i₀ out n i = Filling (restPiece conditions (wireIn group wires) s) out out₀ count n i
+Inv-loop out₀ conditions group wires list count n₀ i₀ out n i = Filling (restPiece conditions (wireIn group wires) (conditionsIn list)) out out₀ count n i
 
 abbrev μ-loop : tie.MeasureT-loop
-μ-loop out₀ s conditions group wires r count n₀ i₀ out n i = count - i
+μ-loop out₀ conditions group wires list count n₀ i₀ out n i = count - i
 
 loop-holds : tie.Need-loop-holds Inv-loop μ-loop
-loop-holds c = rests-start _ _ _ _ _ (c .before .pre .1 .0) (c .before .pre .0 .0)
+loop-holds c = rests-start _ _ _ _ _ (c .before .pre .1 .counted) (c .before .pre .0 .0)
 
 element-copy-out-t : tie.Need-element-copy-out-t Inv-loop μ-loop
-element-copy-out-t c = omega (arith, c .loop-test .taken, c .before .before .before .pre .1 .0, few-rests 6 (c .before .before .before .args .s))
+element-copy-out-t c = omega (arith, c .loop-test .taken, c .before .before .before .pre .1 .few)
 
-element-copy-out-t21 : tie.Need-element-copy-out-t21 Inv-loop μ-loop
-element-copy-out-t21 c = rested-at 6 _ _ _ _ (c .before .before .before .before .pre .1 .0) (c .before .before .before .before .pre .1 .1) (c .before .loop-test .taken) .1
+element-copy-out-t20 : tie.Need-element-copy-out-t20 Inv-loop μ-loop
+element-copy-out-t20 c = list-at _ (c .before .before .before .before .pre .1) _ (c .before .loop-test .taken) .1
 
-mul-t18 : tie.Need-mul-t18 Inv-loop μ-loop
-mul-t18 c = record { fits = omega (arith, element-copy-out-t21 c) }
+mul-t17 : tie.Need-mul-t17 Inv-loop μ-loop
+mul-t17 c = record { fits = omega (arith, element-copy-out-t20 c) }
 
 wire-of-requires : tie.Need-wire-of-requires Inv-loop μ-loop
 wire-of-requires c κs =
     c .before .before .before .before .before .pre .0 .1 .guarded _
-    (rested-at 6 _ _ _ _ (c .before .before .before .before .before .pre .1 .0) (c .before .before .before .before .before .pre .1 .1) (c .before .before .loop-test .taken) .1)
+    (list-at _ (c .before .before .before .before .before .pre .1) _ (c .before .before .loop-test .taken) .1)
 
 sub-put16 : tie.Need-sub-put16 Inv-loop μ-loop
 sub-put16 c =
@@ -61,14 +62,14 @@ loop-again : tie.Need-loop-again Inv-loop μ-loop
 loop-again c =
     let c7 = c .before .before .before .before .before .before .before in
     let c8 = c7 .before in
-    rests-step _ _ _ _ _ _ _ _ (c8 .loop .inv) (c7 .loop-test .taken) _ _ _ (rested-at 6 _ _ _ _ (c8 .before .before .pre .1 .0) (c8 .before .before .pre .1 .1) (c7 .loop-test .taken) .0)
+    rests-step _ _ _ _ _ _ _ _ (c8 .loop .inv) (c7 .loop-test .taken) _ _ _ (list-at _ (c8 .before .before .pre .1) _ (c7 .loop-test .taken) .0)
     (c .before .before .before .before .wire-of .ensures) (c .before .before .put16 .ensures)
 
 same-length : tie.Need-same-length Inv-loop μ-loop
 same-length c = filling-same _ _ _ _ _ _ (c .before .loop .inv) (c .loop-test .left)
 
 returns : tie.Need-returns Inv-loop μ-loop
-returns c = rests-end _ _ _ _ _ _ _ _ (c .before .loop .inv) (c .loop-test .left) (c .before .before .before .pre .1 .0)
+returns c = rests-end _ _ _ _ _ _ _ _ (c .before .loop .inv) (c .loop-test .left) (c .before .before .before .pre .1 .counted)
 
 pub put-rested-spec : {M : Type 1} → statement M
 put-rested-spec =
@@ -80,8 +81,8 @@ put-rested-spec =
     loop-holds
     element-copy-out-t
     (λ c. search needs)
-    mul-t18
-    element-copy-out-t21
+    mul-t17
+    element-copy-out-t20
     wire-of-requires
     sub-put16
     part-put16-start

@@ -1,4 +1,3 @@
-use lib.ListN.{getD}
 use Rattle.settings.specs.PlaceLaws.{few-rests}
 use Rattle.joining.specs.LoopLaws.{member-inside}
 use Rattle.measuring.specs.SumLaws.{Summing, summing-start, summing-step, summing-end}
@@ -8,10 +7,12 @@ use native.Mathlib.Omega.{arith}
 use Prim.Native.Nat.{_-_}
 use borrow.Author.Needs.{needs}
 use Rattle.measuring.proofs.rested_by.Statement.{statement}
+use Rattle.settings.specs.Held.{setOf, setsIn}
 use Rattle.measuring.proofs.rested_by.Tie as tie
+use Rattle.gates.specs.Limits.{mostConditions}
 
 abbrev Inv-loop : tie.InvT-loop
-Inv-loop plan at needs size n₀ i₀ n i = Summing needs (groupAt plan at) n i
+Inv-loop plan at needs size n₀ i₀ n i = Summing (setsIn needs) (groupAt plan at) n i
 
 abbrev μ-loop : tie.MeasureT-loop
 μ-loop plan at needs size n₀ i₀ n i = size - i
@@ -25,41 +26,25 @@ loop-holds c = summing-start _ _
 member-requires : tie.Need-member-requires Inv-loop μ-loop
 member-requires c κs = (c .before .before .before .before .pre .within, c .loop-test .taken)
 
-mul-rested : tie.Need-mul-rested Inv-loop μ-loop
-mul-rested c = record {
-  fits = omega (
-    arith,
-    member-inside _ _ _ _ (c .before .before .before .before .before .before .pre) (c .before .member .ensures)
-        (c .before .before .loop-test .taken),
-  );
-}
-
-element-copy-out-rested : tie.Need-element-copy-out-rested Inv-loop μ-loop
-element-copy-out-rested c = member-inside _ _ _ _ (c .before .before .before .before .before .before .pre) (c .before .member .ensures)
-    (c .before .before .loop-test .taken)
+load-requires : tie.Need-load-requires Inv-loop μ-loop
+load-requires c κs = omega (arith, member-inside _ _ _ _ (c .before .before .before .before .before .before .before .pre) (c .before .before .member .ensures) (c .before .before .before .loop-test .taken), c .before .before .before .before .before .before .before .good)
 
 add-n : tie.Need-add-n Inv-loop μ-loop
 add-n c = record {
   fits = omega (
     arith,
-    c .before .before .before .before .before .before .loop .inv .few,
-    c .before .before .before .before .before .loop-test .taken,
+    c .before .before .before .before .before .before .before .loop .inv .few,
+    c .before .before .before .before .before .before .loop-test .taken,
     c .before .rested .ensures .0,
-    few-rests 6
-        (getD (c .before .before .before .before .before .before .before .before .before .args .needs .now) (c .before .before .before .before .member .result .0) 0),
-    c .before .before .before .before .before .before .before .shared-slice-known2 .given (c .before .before .before .before .before .before .before .before .before .args .at),
+    few-rests mostConditions (setOf (c .before .before .load .result)),
+    c .before .before .before .before .before .before .before .before .shared-slice-known2 .given (c .before .before .before .before .before .before .before .before .before .before .args .at),
   );
 }
 
 loop-again : tie.Need-loop-again Inv-loop μ-loop
-loop-again c = summing-step _ _ _ _ _ _ (c .before .before .before .before .before .before .loop .inv)
-    (omega (
-      arith,
-      length-group (c .before .before .before .before .before .before .before .before .before .args .plan .now)
-          (c .before .before .before .before .before .before .before .before .before .args .at),
-      c .before .before .before .before .before .loop-test .taken,
-    ))
-    (c .before .before .before .before .member .ensures) (c .before .rested .ensures .0)
+loop-again c = summing-step _ _ _ _ _ _ (c .before .before .before .before .before .before .before .loop .inv)
+    (omega (arith, length-group (c .before .before .before .before .before .before .before .before .before .before .args .plan .now) (c .before .before .before .before .before .before .before .before .before .before .args .at), c .before .before .before .before .before .before .loop-test .taken))
+    (c .before .before .before .before .before .member .ensures) (rw (c .before .before .load .ensures) at (c .before .rested .ensures .0))
 
 returns : tie.Need-returns Inv-loop μ-loop
 returns c = summing-end _ _ _ _ (c .before .loop .inv)
@@ -76,8 +61,7 @@ rested-by-spec =
     loop-holds
     member-requires
     (λ c. search needs)
-    mul-rested
-    element-copy-out-rested
+    load-requires
     (λ c κs. search needs)
     (λ c. search needs)
     add-n

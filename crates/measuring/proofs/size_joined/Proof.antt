@@ -3,6 +3,7 @@ use Prim.Native.Nat.{_<_}
 use Rattle.measuring.specs.JoinedSizes.{joined-first, rested-few, joined-sized}
 use native.Mathlib.Omega.{arith}
 use borrow.Author.Needs.{needs}
+use Rattle.settings.specs.Held.{setsIn}
 use Rattle.measuring.proofs.size_joined.Statement.{statement}
 use Rattle.measuring.proofs.size_joined.Tie as tie
 
@@ -23,7 +24,7 @@ mul-t17 c = record {
   fits = omega (
     arith,
     c .before .before .before .before .rested-by .ensures,
-    rested-few (c .before .before .before .before .before .before .before .args .needs .now)
+    rested-few (setsIn (c .before .before .before .before .before .before .before .args .needs .now))
         (c .before .before .before .before .before .before .before .args .plan .now)
         (c .before .before .before .before .before .before .before .args .at),
     c .before .before .before .before .before .shared-slice-known2 .given
@@ -36,7 +37,7 @@ add-t18 c = record {
   fits = omega (
     arith,
     c .before .before .before .before .rested-by .ensures,
-    rested-few (c .before .before .before .before .before .before .before .args .needs .now)
+    rested-few (setsIn (c .before .before .before .before .before .before .before .args .needs .now))
         (c .before .before .before .before .before .before .before .args .plan .now)
         (c .before .before .before .before .before .before .before .args .at),
     c .before .before .before .before .before .shared-slice-known2 .given
@@ -49,7 +50,7 @@ add-t19 c = record {
   fits = omega (
     arith,
     c .before .before .before .before .rested-by .ensures,
-    rested-few (c .before .before .before .before .before .before .before .args .needs .now)
+    rested-few (setsIn (c .before .before .before .before .before .before .before .args .needs .now))
         (c .before .before .before .before .before .before .before .args .plan .now)
         (c .before .before .before .before .before .before .before .args .at),
     c .before .before .before .before .before .shared-slice-known2 .given

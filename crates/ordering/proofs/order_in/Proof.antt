@@ -8,12 +8,13 @@ use Rattle.plan.specs.Groups.{groups}
 use Rattle.ordering.specs.HoldLaws.{same-all, same-else}
 use Rattle.ordering.specs.PlacingLaws.{placing-room, placing-on}
 use Rattle.ordering.specs.OrderingLaws.{PlacingIn, ordering-start, ordering-circle, ordering-end}
+use Rattle.settings.specs.Held.{setsIn}
 use Rattle.ordering.proofs.order_in.Statement.{statement}
 use Rattle.ordering.proofs.order_in.Tie as tie
 
 abbrev Inv-loop : tie.InvT-loop
 Inv-loop quads count needs conditions group places waits order₀ left₀ n watch₀ seen₀ from₀ k₀ order left watch seen from k = (n ≡ length (groups count (λ x. getD group x 0)))
-    × ((done : List ℕ) × PlacingIn quads count needs group waits order₀ order left watch seen k from done)
+    × ((done : List ℕ) × PlacingIn quads count (setsIn needs) group waits order₀ order left watch seen k from done)
 
 abbrev μ-loop : tie.MeasureT-loop
 μ-loop quads count needs conditions group places waits order₀ left₀ n watch₀ seen₀ from₀ k₀ order left watch seen from k = n - k

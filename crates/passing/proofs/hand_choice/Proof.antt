@@ -3,10 +3,12 @@ use mathlib.Core.Path.{ap, _∙_}
 use Prim.Native.Nat.{ℕ, _-_}
 use lib.ListN.{getD}
 use Rattle.settings.specs.Sets.{given, without}
+use Rattle.settings.specs.Held.{setOf, setsIn}
 use Rattle.needed.specs.PassingLaws.{choice-sets}
 use borrow.Author.Needs.{needs}
 use Rattle.passing.proofs.hand_choice.Statement.{statement}
 use Rattle.passing.proofs.hand_choice.Tie as tie
+use Rattle.gates.specs.Limits.{mostSettings}
 
 part-requires : tie.Need-part-requires
 part-requires c κs = let d = c .before in omega (arith, c .rank-of .ensures, d .pre .0 .1 .0, d .pre .0 .1 .1)
@@ -17,8 +19,8 @@ returns c =
     let x = d .args in
     let p = c .before .before .before .before .before .before .part .ensures in
     let t = c .before .before .before .before .before .before .before .rank-of .ensures in
-    choice-sets (getD (x .ranks .now) (x .x) 0 - 1) (x .x) (x .y) (x .z) (x .s) _ _ (x .sets .now) _ _ _ (c .before .before .before .before .add .ensures)
-    (p .0 ∙ ap (λ (k : ℕ). given 64 k (x .s)) t) (c .before .before .add2 .ensures) (p .1 ∙ ap (λ (k : ℕ). without 64 k (x .s)) t) (c .add3 .ensures)
+    choice-sets (getD (x .ranks .now) (x .x) 0 - 1) (x .x) (x .y) (x .z) (setOf (x .s)) _ _ (setsIn (x .sets .now)) _ _ _ (c .before .before .before .before .add .ensures)
+    (p .0 ∙ ap (λ (k : ℕ). given mostSettings k (setOf (x .s))) t) (c .before .before .add2 .ensures) (p .1 ∙ ap (λ (k : ℕ). without mostSettings k (setOf (x .s))) t) (c .add3 .ensures)
 
 pub hand-choice-spec : {M : Type 1} → statement M
 hand-choice-spec =

@@ -1,4 +1,5 @@
 use native.Mathlib.Omega.{arith}
+use Rattle.settings.specs.Held.{setOf}
 use Rattle.needed.specs.HandSteps.{first-inside, second-inside, one-handed, two-handed}
 use Rattle.passing.proofs.hand_some.Statement.{statement}
 use Rattle.passing.proofs.hand_some.Tie as tie
@@ -25,13 +26,13 @@ returns : tie.Need-returns
 returns c =
     let d = c .before .before .before .before .before in
     let x = d .args in
-    two-handed (x .x) (x .y) (x .two) (c .before .before .if1 .taken) (x .s) _ _ _ (c .before .before .before .add .ensures) (c .add2 .ensures)
+    two-handed (x .x) (x .y) (x .two) (c .before .before .if1 .taken) (setOf (x .s)) _ _ _ (c .before .before .before .add .ensures) (c .add2 .ensures)
 
 returns-2 : tie.Need-returns-2
 returns-2 c =
     let d = c .before .before .before in
     let x = d .args in
-    one-handed (x .x) (x .y) (x .two) (c .if1 .left) (x .s) _ _ (c .before .add .ensures)
+    one-handed (x .x) (x .y) (x .two) (c .if1 .left) (setOf (x .s)) _ _ (c .before .add .ensures)
 
 pub hand-some-spec : {M : Type 1} → statement M
 hand-some-spec = tie.close (tie.spec cast-x add-requires cast-y add-requires-2 returns returns-2)

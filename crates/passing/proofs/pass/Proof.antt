@@ -1,11 +1,12 @@
 use borrow.Author.Needs.{needs}
 use native.Mathlib.Omega.{arith}
+use Rattle.settings.specs.Held.{setsIn}
 use Rattle.needed.specs.PassingLaws.{WalkingBack, walking-start, walking-final, walking-step, walking-end}
 use Rattle.passing.proofs.pass.Statement.{statement}
 use Rattle.passing.proofs.pass.Tie as tie
 
 abbrev Inv-loop : tie.InvT-loop
-Inv-loop quads count ranks sets₀ i₀ sets i = WalkingBack quads ranks sets₀ sets count i
+Inv-loop quads count ranks sets₀ i₀ sets i = WalkingBack quads ranks (setsIn sets₀) (setsIn sets) count i
 
 abbrev μ-loop : tie.MeasureT-loop
 μ-loop quads count ranks sets₀ i₀ sets i = i

@@ -2,12 +2,13 @@ use borrow.Author.Needs.{needs}
 use mathlib.Core.Path.{refl}
 use Prim.Native.Nat.{_-_}
 use lib.ListN.{length}
+use Rattle.settings.specs.Held.{setsIn}
 use Rattle.needed.specs.PassingLaws.{Wanting, wanting-start, wanting-inside, wanting-step, wanting-end}
 use Rattle.passing.proofs.want_all.Statement.{statement}
 use Rattle.passing.proofs.want_all.Tie as tie
 
 abbrev Inv-loop : tie.InvT-loop
-Inv-loop wanted sets₀ x₀ sets x = Wanting wanted sets₀ sets x
+Inv-loop wanted sets₀ x₀ sets x = Wanting wanted (setsIn sets₀) (setsIn sets) x
 
 abbrev μ-loop : tie.MeasureT-loop
 μ-loop wanted sets₀ x₀ sets x = length wanted - x

@@ -1,11 +1,13 @@
 use borrow.Author.Needs.{needs}
 use mathlib.Core.Path.{refl, sym, _∙_}
 use Rattle.running.specs.StepLaws.{refused-run, kinds-there, inputs-refused, run-done}
+use Rattle.settings.specs.HeldLaws.{sets-clear}
+use Rattle.gates.specs.Limits.{mostGates}
 use Rattle.running.proofs.run.Statement.{statement}
 use Rattle.running.proofs.run.Tie as tie
 
 prepare-requires : tie.Need-prepare-requires
-prepare-requires c κs = ((refl, (refl, (refl, refl))), (refl, (refl, refl)))
+prepare-requires c κs = ((refl, (sets-clear mostGates, (refl, refl))), (refl, (refl, refl)))
 
 returns : tie.Need-returns
 returns c = refused-run _ _ _ (c .before .before .before .prepare .ensures .answered) (c .if1 .taken) _ _

@@ -2,12 +2,13 @@ use mathlib.Core.Path.{sym, ap, _∙_}
 use mathlib.Core.Logic.{⊎-elim}
 use Prim.Native.Nat.{ℕ, _-_, _^_}
 use borrow.Author.Needs.{needs}
+use Rattle.settings.specs.Held.{setOf}
 use Rattle.settings.proofs.Laws.{Tabling, tabling-start, tabling-low, tabling-in, tabling-out, tabling-end, rested-few}
 use Rattle.settings.proofs.table.Statement.{statement}
 use Rattle.settings.proofs.table.Tie as tie
 
 abbrev Inv-loop : tie.InvT-loop
-Inv-loop s on n bits₀ setting₀ j₀ bits setting j = Tabling s on n j bits setting
+Inv-loop s on n bits₀ setting₀ j₀ bits setting j = Tabling (setOf s) on n j bits setting
 
 abbrev μ-loop : tie.MeasureT-loop
 μ-loop s on n bits₀ setting₀ j₀ bits setting j = n - j
@@ -38,6 +39,7 @@ loop-again c =
     (c .before .if1 .came)
 
 returns : tie.Need-returns Inv-loop μ-loop
+unfolding setOf
 returns c =
     let pre = c .before .before .before .pre in
     tabling-end _ _ _ _ _ _ (c .before .loop .inv) (c .loop-test .left) (c .before .before .size .ensures ∙ ap (λ (k : ℕ). 2 ^ k) (pre .0)) (pre .1)

@@ -1,10 +1,11 @@
 use mathlib.Core.Path.{refl}
 use Rattle.bitsets.specs.Bits.{collect}
+use Rattle.settings.specs.Held.{setOf}
 use Rattle.settings.proofs.whole.Statement.{statement}
 use Rattle.settings.proofs.whole.Tie as tie
 
 returns : tie.Need-returns
-unfolding collect
+unfolding setOf collect
 returns c = refl
 
 pub whole-spec : {M : Type 1} → statement M

@@ -1,15 +1,17 @@
 use mathlib.Core.Logic.{⊎-elim}
-use mathlib.Core.Path.{_∙_, refl}
+use mathlib.Core.Path.{_∙_}
 use borrow.Author.Needs.{needs}
 use native.Mathlib.Omega.{arith}
 use Prim.Native.Nat.{_-_}
 use lib.ListN.{length}
+use Rattle.settings.specs.Held.{setOf, setsIn}
+use Rattle.settings.specs.ListedLaws.{rested-are, rested-lists}
 use Rattle.waiting.specs.GatherLaws.{GatheringWaits, gathering-start, gathering-group, gathering-size, gathering-arguments, gathering-conditions, gathering-alone, gathering-joined, gathering-end}
 use Rattle.waiting.proofs.find_waits.Statement.{statement}
 use Rattle.waiting.proofs.find_waits.Tie as tie
 
 abbrev Inv-loop : tie.InvT-loop
-Inv-loop quads count needs conditions group places waits₀ i₀ waits i = GatheringWaits quads count needs conditions group places waits (length waits₀) i
+Inv-loop quads count needs conditions group places waits₀ i₀ waits i = GatheringWaits quads count (setsIn needs) conditions group places waits (length waits₀) i
 
 abbrev μ-loop : tie.MeasureT-loop
 μ-loop quads count needs conditions group places waits₀ i₀ waits i = count - i
@@ -40,29 +42,16 @@ element-copy-out-if1 : tie.Need-element-copy-out-if1 Inv-loop μ-loop
 element-copy-out-if1 c = omega
     (arith, c .before .before .before .before .before .before .loop .inv .orderable .room, c .before .before .before .before .before .loop-test .taken)
 
-mul-wait-conditions : tie.Need-mul-wait-conditions Inv-loop μ-loop
-mul-wait-conditions c =
-    let c7 = c .before .before .before .before .before .before .before in
-    let c8 = c7 .before in
-    record { fits = omega (arith, c8 .loop .inv .orderable .room, c7 .loop-test .taken) }
-
-element-copy-out-wait-conditions : tie.Need-element-copy-out-wait-conditions Inv-loop μ-loop
-element-copy-out-wait-conditions c =
-    let c7 = c .before .before .before .before .before .before .before in
-    let c8 = c7 .before in
-    omega (arith, c8 .loop .inv .orderable .room, c7 .loop-test .taken)
+load-requires : tie.Need-load-requires Inv-loop μ-loop
+load-requires c κs = omega (arith, c .before .before .before .before .before .before .before .before .before .loop .inv .orderable .room, c .before .before .before .before .before .before .before .before .loop-test .taken, c .before .before .before .before .before .before .before .before .before .before .before .good)
 
 wait-conditions-requires : tie.Need-wait-conditions-requires Inv-loop μ-loop
 wait-conditions-requires c κs =
-    let i = c .before .before .before .before .before .before .before .before .before .before .loop .inv in
-    let t = c .before .before .before .before .before .before .before .before .before .loop-test .taken in (
-      omega (
-        arith,
-        c .before .before .before .before .before .before .before .before .group-of .ensures,
-        gathering-group _ _ _ _ _ _ _ _ _ i t .1,
-        gathering-size _ _ _ _ _ _ _ _ _ i t _ _ _ (c .before .before .before .before .before .before .wait-arguments .ensures),
-      ),
-      gathering-conditions _ _ _ _ _ _ _ _ _ i t _ refl,
+    let i = c .before .before .before .before .before .before .before .before .before .before .before .before .loop .inv in
+    let t = c .before .before .before .before .before .before .before .before .before .before .before .loop-test .taken in
+    let e = c .before .rested .ensures in (
+      omega (arith, c .before .before .before .before .before .before .before .before .before .before .group-of .ensures, gathering-group _ _ _ _ _ _ _ _ _ i t .1, gathering-size _ _ _ _ _ _ _ _ _ i t _ _ _ (c .before .before .before .before .before .before .before .before .wait-arguments .ensures)),
+      (rested-lists _ _ (e .0) (e .1 .0), rw (rested-are (setOf (c .before .before .load .result)) (c .before .rested .result) (e .0) (e .1 .0)) (gathering-conditions _ _ _ _ _ _ _ _ _ i t _ (c .before .before .load .ensures))),
     )
 
 loop-again : tie.Need-loop-again Inv-loop μ-loop
@@ -74,7 +63,7 @@ loop-again c =
     let i = c8 .loop .inv in
     let t = c7 .loop-test .taken in
     ⊎-elim
-    (λ w. gathering-joined _ _ _ _ _ _ _ _ _ i t _ _ _ _ (c6 .group-of .ensures) (w .0 .taken) refl (c4 .wait-arguments .ensures) (w .6 ∙ w .3 .ensures))
+    (λ w. gathering-joined _ _ _ _ _ _ _ _ _ i t _ _ _ _ (c6 .group-of .ensures) (w .0 .taken) (w .2 .ensures) (c4 .wait-arguments .ensures) (w .8 ∙ rw (rested-are (setOf (w .2 .result)) (w .3 .result) (w .3 .ensures .0) (w .3 .ensures .1 .0)) at (w .5 .ensures)))
     (λ w. gathering-alone _ _ _ _ _ _ _ _ _ i t _ _ (c6 .group-of .ensures) (w .0 .left) (w .1 ∙ c4 .wait-arguments .ensures))
     (c .if1 .came)
 
@@ -96,8 +85,8 @@ find-waits-spec =
     wait-arguments-requires
     mul-if1
     element-copy-out-if1
-    mul-wait-conditions
-    element-copy-out-wait-conditions
+    load-requires
+    (λ c κs. search needs)
     wait-conditions-requires
     (λ c. search needs)
     (λ c. search needs)

@@ -1,9 +1,11 @@
 use mathlib.Core.Path.{refl}
+use Rattle.settings.specs.HeldLaws.{sets-clear}
+use Rattle.gates.specs.Limits.{mostGates}
 use Rattle.writing.proofs.count.Statement.{statement}
 use Rattle.writing.proofs.count.Tie as tie
 
 prepare-requires : tie.Need-prepare-requires
-prepare-requires c κs = ((refl, (refl, (refl, refl))), (refl, (refl, refl)))
+prepare-requires c κs = ((refl, (sets-clear mostGates, (refl, refl))), (refl, (refl, refl)))
 
 returns : tie.Need-returns
 returns c = c .before .prepare .ensures .answered

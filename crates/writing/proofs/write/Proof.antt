@@ -1,11 +1,13 @@
 use borrow.Author.Needs.{needs}
 use mathlib.Core.Path.{refl, _∙_}
 use Rattle.writing.specs.WriteLaws.{refused-writes, short-writes, file-writes}
+use Rattle.settings.specs.HeldLaws.{sets-clear}
+use Rattle.gates.specs.Limits.{mostGates}
 use Rattle.writing.proofs.write.Statement.{statement}
 use Rattle.writing.proofs.write.Tie as tie
 
 prepare-requires : tie.Need-prepare-requires
-prepare-requires c κs = ((refl, (refl, (refl, refl))), (refl, (refl, refl)))
+prepare-requires c κs = ((refl, (sets-clear mostGates, (refl, refl))), (refl, (refl, refl)))
 
 returns : tie.Need-returns
 returns c = refused-writes _ _ _ (c .before .before .before .prepare .ensures .answered) _ (c .if1 .taken)

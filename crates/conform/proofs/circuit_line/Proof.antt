@@ -1,0 +1,12 @@
+use mathlib.Core.Path.{refl}
+use borrow.Author.Needs.{needs}
+use Rattle.settings.specs.HeldLaws.{sets-clear}
+use Rattle.gates.specs.Limits.{mostGates}
+use Rattle.conform.proofs.circuit_line.Statement.{statement}
+use Rattle.conform.proofs.circuit_line.Tie as tie
+
+build-requires : tie.Need-build-requires
+build-requires c κs = (refl, (sets-clear mostGates, (refl, refl)))
+
+pub circuit-line-spec : {M : Type 1} → statement M
+circuit-line-spec = tie.close (tie.spec build-requires (λ c κs. search needs) (λ c κs. search needs) (λ c. search needs))
