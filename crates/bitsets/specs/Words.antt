@@ -40,6 +40,11 @@ wordwise f [] (y ∷ m) = []
 wordwise f (x ∷ l) [] = []
 wordwise f (x ∷ l) (y ∷ m) = f x y ∷ wordwise f l m
 
+-- the words of a list put together, one after another
+abbrev pub folded : (ℕ → ℕ → ℕ) → ℕ → List ℕ → ℕ
+folded f w [] = w
+folded f w (v ∷ l) = folded f (f w v) l
+
 -- so many words
 pub record HasWords (n : ℕ) (words : List ℕ) : Type 0 where
   pub size : length words ≡ n
