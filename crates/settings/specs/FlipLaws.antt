@@ -1,19 +1,17 @@
 -- Laws for document 01, "Needed gates (000 Def. 4)": changing bit t alone of a setting's number changes condition t alone.
-use mathlib.Core.Path.{_≡_, refl, sym, ap, ap₂, _∙_}
-use mathlib.Core.Bool.{Bool, true, false, not, Bool·not-not}
+use mathlib.Core.Path.{_≡_, refl, sym, ap, _∙_}
+use mathlib.Core.Bool.{not}
 use mathlib.Core.List.{List, [], _∷_}
 use mathlib.Core.Logic.{_⊎_, inl, inr}
 use Prim.Native.Nat.{ℕ, zero, suc, _+_, _*_, _/_, _%_, _^_, _<_}
 use native.Mathlib.Omega.{arith}
 use lib.Dec.{eqb}
-use lib.Bits.{bitXor, differ, xor-step, xor-zero-r, xor-lt}
-use lib.Pow.{pow-lt}
 use borrow.Author.Tests.{eq-eqb, ne-eqb}
 use lib.ListN.{length, getD}
 use Rattle.words.specs.Lists.{_∈_}
 use Rattle.words.specs.MemberLaws.{getD-in}
 use Rattle.words.specs.TestLaws.{split, same?}
-use Rattle.bitsets.specs.Bits.{odd, bitOf, bit, unlike, flipBit}
+use Rattle.bitsets.specs.Bits.{odd, bitOf, bit, flipBit}
 use Rattle.settings.specs.Settings.{settingOf, Agree, Once, flip}
 use Rattle.bitsets.specs.BitLaws.{half, odd-bit}
 use Rattle.bitsets.specs.FlipLaws.{flip-zero, flip-suc}

@@ -1,6 +1,9 @@
+pub mod Limits
 pub mod Settings
 pub mod Sets
 pub mod Guards
+pub mod Held
+pub mod HeldLaws
 pub mod Holding
 pub mod Interface
 pub mod ListLaws
@@ -8,8 +11,10 @@ pub mod SettingLaws
 pub mod FlipLaws
 pub mod RestLaws
 pub mod SetLaws
+pub mod MoverLaws
 pub mod HoldLaws
 pub mod PlaceLaws
 pub mod GuardLaws
+pub mod SpreadLaws
 pub mod Numbers
 pub mod Examples

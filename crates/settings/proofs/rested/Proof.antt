@@ -3,19 +3,21 @@ use mathlib.Core.Logic.{⊎-elim}
 use Prim.Native.Nat.{_-_}
 use native.Mathlib.Omega.{arith}
 use borrow.Author.Needs.{needs}
+use Rattle.settings.specs.Limits.{setConditions}
 use Rattle.settings.specs.Sets.{restsOn}
+use Rattle.settings.specs.Held.{setOf}
 use Rattle.settings.proofs.Laws.{Listing, listing-start, listing-room, listing-in, listing-out, listing-end}
 use Rattle.settings.proofs.rested.Statement.{statement}
 use Rattle.settings.proofs.rested.Tie as tie
 
 abbrev Inv-loop : tie.InvT-loop
-Inv-loop s at₀ on₀ k₀ t₀ at on k t = Listing 6 (restsOn 6 s) at on k t
+Inv-loop s at₀ on₀ k₀ t₀ at on k t = Listing setConditions (restsOn setConditions (setOf s)) at on k t
 
 abbrev μ-loop : tie.MeasureT-loop
-μ-loop s at₀ on₀ k₀ t₀ at on k t = 6 - t
+μ-loop s at₀ on₀ k₀ t₀ at on k t = setConditions - t
 
 loop-holds : tie.Need-loop-holds Inv-loop μ-loop
-loop-holds c = listing-start _
+loop-holds c = listing-start setConditions _
 
 array-write-at : tie.Need-array-write-at Inv-loop μ-loop
 array-write-at c = listing-room _ _ _ _ _ _ (c .before .before .before .loop .inv) (c .before .before .loop-test .taken)

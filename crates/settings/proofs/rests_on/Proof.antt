@@ -1,26 +1,22 @@
-use mathlib.Core.Path.{sym}
-use lib.Pow.{pow-lt}
+use mathlib.Core.Path.{sym, ap, _∙_}
+use mathlib.Core.Bool.{not}
+use Prim.Native.Nat.{ℕ}
+use lib.Dec.{eqb}
 use borrow.Author.Needs.{needs}
-use Rattle.settings.specs.Sets.{movers}
+use Rattle.settings.specs.Limits.{setConditions}
 use Rattle.settings.specs.SetLaws.{restsOn-shift}
+use Rattle.settings.specs.Held.{setOf}
+use Rattle.settings.proofs.Fits.{fits, none-in}
 use Rattle.settings.proofs.rests_on.Statement.{statement}
 use Rattle.settings.proofs.rests_on.Tie as tie
 
-power-requires : tie.Need-power-requires
-power-requires c κs = search needs
-
-cast-result : tie.Need-cast-result
-cast-result c = search needs
-
-shr-result : tie.Need-shr-result
-shr-result c = rw (c .power .ensures) (pow-lt {i = c .before .args .t} {j = 6} (search needs))
-
-lacking-requires : tie.Need-lacking-requires
-lacking-requires c κs = search needs
-
 returns : tie.Need-returns
-unfolding movers
-returns c = rw (c .before .power .ensures, c .lacking .ensures) (sym (restsOn-shift 6 (c .before .before .args .s) (c .before .before .args .t) (search needs)))
+returns c =
+    let c1 = c .before .before .before in
+    let c0 = c1 .before in
+    let m = c1 .movers .result in
+    ap not (none-in m (fits m (c1 .movers .ok .1 .1)) ∙ ap (λ (x : ℕ). eqb x 0) (c1 .movers .ensures))
+    ∙ sym (restsOn-shift setConditions (setOf (c0 .args .s)) (c0 .args .t) (c0 .pre))
 
 pub rests-on-spec : {M : Type 1} → statement M
-rests-on-spec = tie.close (tie.spec power-requires cast-result shr-result lacking-requires returns)
+rests-on-spec = tie.close (tie.spec (λ c κs. search needs) returns)
