@@ -45,7 +45,7 @@ abbrev pub folded : (ℕ → ℕ → ℕ) → ℕ → List ℕ → ℕ
 folded f w [] = w
 folded f w (v ∷ l) = folded f (f w v) l
 
--- so many words
+-- so many of them
 pub record HasWords (n : ℕ) (words : List ℕ) : Type 0 where
   pub size : length words ≡ n
   pub fits : Fit words
