@@ -2,7 +2,7 @@
 use mathlib.Core.Path.{_≡_, refl, sym, ap, ap₂, _∙_}
 use mathlib.Core.Bool.{Bool, true, false, not, _&&_, _||_}
 use Prim.Native.Nat.{ℕ, zero, suc, _+_, _-_, _*_, _/_, _%_, _^_, _≤_, _<_, min, max}
-use native.Mathlib.Nat.{div-one, zero-div, div-eq-of-lt, div-self}
+use native.Mathlib.Nat.{div-one, zero-div, div-eq-of-lt, div-self, mod-lt}
 use native.Mathlib.Numerals.{one-add}
 use native.Mathlib.Omega.{arith}
 use lib.Dec.{eqb}
@@ -136,6 +136,12 @@ collect-has (suc N) p (suc j) h =
     ∙ ap (λ (x : ℕ). bit (x / 2) j) (collect-low N p)
     ∙ ap (λ (x : ℕ). bit x j) (half (p 0) (collect N (λ i. p (suc i))))
     ∙ collect-has N (λ i. p (suc i)) j (omega arith)
+
+-- of what is collected of M numbers, those below N
+pub collect-first : (N M : ℕ) (p : ℕ → Bool) → N ≤ M → collect M p % 2 ^ N ≡ collect N p
+collect-first N M p h =
+    same-bits N (collect M p % 2 ^ N) (collect N p) (mod-lt (collect M p) (pow-pos N)) (collect-below N p)
+    (λ j l. bit-mod (collect M p) N j l ∙ collect-has M p j (omega arith) ∙ sym (collect-has N p j l))
 
 pub collect-above : (N : ℕ) (p : ℕ → Bool) (j : ℕ) → N ≤ j → bit (collect N p) j ≡ false
 collect-above N p j h = bit-above N (collect N p) j (collect-below N p) h

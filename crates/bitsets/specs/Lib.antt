@@ -3,3 +3,4 @@ pub mod Words
 pub mod BitLaws
 pub mod FlipLaws
 pub mod WordLaws
+pub mod JoinedLaws

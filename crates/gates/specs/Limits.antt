@@ -5,9 +5,9 @@ use Prim.Native.Nat.{ℕ, _^_}
 abbrev pub mostGates : ℕ
 mostGates = 256
 
--- at most 6 conditions
+-- at most 8 conditions (document 02, C-17)
 abbrev pub mostConditions : ℕ
-mostConditions = 6
+mostConditions = 8
 
 -- and so many settings
 abbrev pub mostSettings : ℕ

@@ -4,7 +4,7 @@
 pub struct GateId(pub u16);
 
 // The conditions of a plain circuit, at most.
-pub const MOST_CONDITIONS: usize = 6;
+pub const MOST_CONDITIONS: usize = 8;
 
 // The codes of constants, of the first and the last operation and of choices in the quads of gates (specs/Quads.antt); an operation has its byte,
 // a starting value its kind. The last operation, not, is the one that has one argument.

@@ -20,6 +20,6 @@ lastKind = 3
 abbrev pub deepest : ℕ
 deepest = 8
 
--- ifs nest at most 6 deep
+-- ifs nest at most 8 deep (document 02, C-17)
 abbrev pub nested : ℕ
-nested = 6
+nested = 8

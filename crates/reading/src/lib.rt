@@ -26,7 +26,7 @@ const LAST_KIND: u8 = 3;
 
 pub const DEEPEST: u8 = 8;
 
-pub const NESTED: u8 = 6;
+pub const NESTED: u8 = 8;
 
 // The kind of variable x, which the header has.
 pub fn kind_at(s: &[u8], x: u8) -> Kind

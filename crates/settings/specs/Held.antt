@@ -1,19 +1,19 @@
 -- A set of settings as code holds it: a `Set` in hand, and in a lent array so many words a set, the lowest word first.
-use Prim.Native.Nat.{ℕ, _+_, _*_, _/_, _^_}
+use Prim.Native.Nat.{ℕ, _*_, _/_}
 use mathlib.Core.List.{List, [], _∷_, map}
 use lib.ListN.{length, take, drop}
 use Rattle.words.specs.Lists.{upto}
+use Rattle.bitsets.specs.Words.{joined}
 use Rattle.settings.specs.Limits.{setWords}
 use Rattle.settings.specs.declared.Set.{Set}
 
+-- the words of the set in hand
+abbrev pub wordsOf : Set → List ℕ
+wordsOf s = s .w0 ∷ s .w1 ∷ s .w2 ∷ s .w3 ∷ []
+
 -- the set in hand, as a number
 unfoldable pub setOf : Set → ℕ
-setOf s = s .0
-
--- the number whose words these are
-unfoldable pub joined : List ℕ → ℕ
-joined [] = 0
-joined (w ∷ l) = w + 2 ^ 64 * joined l
+setOf s = joined (wordsOf s)
 
 -- set i of lent words, n words a set
 unfoldable pub setAt : ℕ → List ℕ → ℕ → ℕ

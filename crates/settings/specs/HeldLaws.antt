@@ -1,37 +1,131 @@
--- Laws of sets of settings as code holds them: the sets that lie in lent words. Assumes nothing.
-use mathlib.Core.Path.{_≡_, refl, ap, _∙_}
-use mathlib.Core.List.{List, [], _∷_, map}
-use Prim.Native.Nat.{ℕ, _+_, _*_, _/_, _≤_, _<_}
-use native.Mathlib.Nat.{div-one, one-mul}
+-- Laws of sets of settings as code holds them: a set in hand, and sets in lent words, read, stored and clear.
+use mathlib.Core.Path.{_≡_, refl, sym, ap, _∙_}
+use mathlib.Core.List.{List, [], _∷_, _++_, map, append-assoc}
+use mathlib.Core.Logic.{_⊎_, inl, inr}
+use Prim.Native.Nat.{ℕ, zero, suc, _+_, _*_, _/_, _^_, _≤_, _<_}
 use native.Mathlib.Omega.{arith}
-use lib.ListN.{length, take, drop, getD, replicate, length-map}
-use lib.Seq.{ext-getD}
+use lib.ListN.{length, getD, take, drop, set, replicate, length-map, length-set, length-drop, length-replicate, List·getD-eq-default}
+use lib.Seq.{sets, length-sets, sets-eq, ext-getD, getD-take, getD-drop, getD-set-same, getD-set-other, length-take-le, take-all, take-at, drop-at}
+use lib.Pow.{pow-pos}
 use Rattle.words.specs.Lists.{upto}
-use Rattle.words.specs.ListLaws.{length-from, getD-upto, drop-one}
-use Rattle.settings.specs.Limits.{setWords}
-use Rattle.settings.specs.Held.{joined, setAt, setsIn}
+use Rattle.words.specs.ListLaws.{length-from, getD-upto, getD-zeros, map-same, inside-list}
+use Rattle.words.specs.MemberLaws.{from-below}
+use Rattle.words.specs.TestLaws.{same?}
+use Rattle.bitsets.specs.Words.{joined, Fit}
+use Rattle.bitsets.specs.JoinedLaws.{fit-none, fit-cons, fit-map, joined-below}
+use Rattle.settings.specs.Limits.{setSettings, setWords}
+use Rattle.settings.specs.Held.{wordsOf, setOf, setAt, setsIn}
+use Rattle.settings.specs.declared.Set.{Set}
 
--- how many they are
+-- the words of a set in hand are words, and it is a set of so many settings
+pub words-fit : (s : Set) → s .w0 < 2 ^ 64 → s .w1 < 2 ^ 64 → s .w2 < 2 ^ 64 → s .w3 < 2 ^ 64 → Fit (wordsOf s)
+words-fit s h0 h1 h2 h3 =
+    fit-cons (s .w0) (s .w1 ∷ s .w2 ∷ s .w3 ∷ []) h0
+    (fit-cons (s .w1) (s .w2 ∷ s .w3 ∷ []) h1 (fit-cons (s .w2) (s .w3 ∷ []) h2 (fit-cons (s .w3) [] h3 fit-none)))
+
+pub set-below : (s : Set) → Fit (wordsOf s) → setOf s < 2 ^ setSettings
+unfolding setOf
+set-below s h = joined-below (wordsOf s) h
+
+-- n words from a place on, one by one
+pub words-from : (n at : ℕ) (l : List ℕ) → at + n ≤ length l → take n (drop at l) ≡ map (λ k. getD l (at + k) 0) (upto n)
+words-from n at l h =
+    ext-getD 0 _ _ (long ∙ sym (length-map (upto n) (λ k. getD l (at + k) 0) ∙ length-from 0 n))
+    (λ i m.
+    let b : i < n = rw long at m in
+    getD-take n (drop at l) i 0 b ∙ getD-drop at l i 0 ∙ sym (getD-upto (λ k. getD l (at + k) 0) 0 n i b))
+  where
+    long : length (take n (drop at l)) ≡ n
+    long = length-take-le n (drop at l) (rw (length-drop at l) (omega arith))
+
+-- stores from a place on leave all other places
+stores-other : (vs l : List ℕ) (i j : ℕ) → ((m : ℕ) → m < length vs → j ≡ i + m → ⊥) → getD (sets l i vs) j 0 ≡ getD l j 0
+stores-other [] l i j f = refl
+stores-other (a ∷ vs) l i j f =
+    stores-other vs (set l i a) (suc i) j (λ m h e. f (suc m) (omega arith) (omega arith))
+    ∙ getD-set-other l i j a 0 (λ e. f 0 (omega arith) (omega arith))
+
+-- how many sets lie in lent words, and which
 pub sets-length : (words : List ℕ) → length (setsIn words) ≡ length words / setWords
 unfolding setsIn
 sets-length words = length-map (upto (length words / setWords)) (setAt setWords words) ∙ length-from 0 (length words / setWords)
 
--- one word a set
-one-word : (words : List ℕ) (i : ℕ) → i < length words → setAt 1 words i ≡ getD words i 0
-unfolding setAt joined
-one-word words i h =
-    ap (λ (k : ℕ). joined (take 1 (drop k words))) (one-mul i)
-    ∙ ap (λ (l : List ℕ). joined (take 1 l)) (drop-one words i (getD words i 0) h refl)
-    ∙ omega arith
+module _ (words : List ℕ) (i : ℕ) (h : setWords * i + setWords ≤ length words) where
+  pub sets-at : getD (setsIn words) i 0 ≡ setAt setWords words i
+  unfolding setsIn
+  sets-at = getD-upto (setAt setWords words) 0 (length words / setWords) i (omega arith)
 
-pub sets-one : (words : List ℕ) → setsIn words ≡ words
-unfolding setsIn
-sets-one words =
-    ext-getD 0 (setsIn words) words (sets-length words ∙ div-one (length words))
-    (λ i h.
-    let k : i < length words / 1 = rw (sets-length words) at h in
-    getD-upto (setAt 1 words) 0 (length words / 1) i k ∙ one-word words i (rw (div-one (length words)) at k))
+  -- word by word
+  pub sets-words : getD (setsIn words) i 0 ≡ joined (map (λ k. getD words (setWords * i + k) 0) (upto setWords))
+  unfolding setAt
+  sets-words = sets-at ∙ ap joined (words-from setWords (setWords * i) words h)
 
--- clear words are clear sets
+-- one set alone
+pub sets-one : (words : List ℕ) → length words ≡ setWords → getD (setsIn words) 0 0 ≡ joined words
+unfolding setAt
+sets-one words e = sets-at words 0 (omega arith) ∙ ap joined (take-all setWords words (omega arith))
+
+-- set i stored word by word: its words are those stored, the others stay
+stored : (words vs : List ℕ) (i : ℕ) → setWords * i + setWords ≤ length words → length vs ≡ setWords
+    → setAt setWords (sets words (setWords * i) vs) i ≡ joined vs
+unfolding setAt
+stored words vs i h e =
+    let at : ℕ = setWords * i in
+    let rest : List ℕ = drop (at + length vs) words in
+    let q : sets words at vs ≡ take at words ++ (vs ++ rest) = sets-eq vs words at (omega arith) ∙ append-assoc (take at words) vs rest in
+    let d : drop at (sets words at vs) ≡ vs ++ rest = ap (drop at) q ∙ drop-at (take at words) (vs ++ rest) at (length-take-le at words (omega arith)) in
+    ap joined (ap (take setWords) d ∙ take-at vs rest setWords e)
+
+pub sets-store : (words vs : List ℕ) (i : ℕ) → setWords * i + setWords ≤ length words → length vs ≡ setWords
+    → setsIn (sets words (setWords * i) vs) ≡ set (setsIn words) i (joined vs)
+sets-store words vs i h e =
+    ext-getD 0 _ _
+    (sets-length (sets words at vs) ∙ ap (λ (k : ℕ). k / setWords) (length-sets words at vs)
+    ∙ sym (length-set (setsIn words) i (joined vs) ∙ sets-length words))
+    (λ k m. go k (rw (sets-length (sets words at vs), length-sets words at vs) at m) (same? k i))
+  where
+    at : ℕ
+    at = setWords * i
+
+    go : (k : ℕ) → k < length words / setWords → (k ≡ i) ⊎ (k ≡ i → ⊥)
+        → getD (setsIn (sets words at vs)) k 0 ≡ getD (set (setsIn words) i (joined vs)) k 0
+    go k m (inl p) =
+        rw p
+        (sets-at (sets words at vs) i (rw (length-sets words at vs) h) ∙ stored words vs i h e
+        ∙ sym (getD-set-same (setsIn words) i (joined vs) 0 (rw (sets-length words) (omega arith))))
+    go k m (inr f) =
+        sets-words (sets words at vs) k (rw (length-sets words at vs) (omega arith))
+        ∙ ap joined (map-same _ _ (upto setWords)
+        (λ a b. let r = from-below 0 setWords a b in stores-other vs words at (setWords * k + a) (λ y z q. f (omega arith))))
+        ∙ sym (getD-set-other (setsIn words) i k (joined vs) 0 f ∙ sets-words words k (omega arith))
+
+-- clear words hold empty sets
 pub sets-clear : (n : ℕ) → setsIn (replicate (setWords * n) 0) ≡ replicate n 0
-sets-clear n = sets-one (replicate (setWords * n) 0) ∙ ap (λ (k : ℕ). replicate k 0) (one-mul n)
+sets-clear n = ext-getD 0 _ _ (long ∙ sym (length-replicate n 0)) (λ k m. each k (rw long at m))
+  where
+    none : List ℕ
+    none = replicate (setWords * n) 0
+
+    words : length none ≡ setWords * n
+    words = length-replicate (setWords * n) 0
+
+    long : length (setsIn none) ≡ n
+    long = sets-length none ∙ omega (arith, words)
+
+    each : (k : ℕ) → k < n → getD (setsIn none) k 0 ≡ getD (replicate n 0) k 0
+    each k m =
+        sets-words none k (omega (arith, words))
+        ∙ ap joined (map-same _ (λ a. 0) (upto setWords) (λ a b. getD-zeros (setWords * n) (setWords * k + a)))
+        ∙ (unfold joined in sym (getD-zeros n k))
+
+-- what lies in words is a set of so many settings
+pub sets-below : (words : List ℕ) → Fit words → (i : ℕ) → getD (setsIn words) i 0 < 2 ^ setSettings
+sets-below words h i = go (inside-list (setsIn words) i)
+  where
+    go : (i < length (setsIn words)) ⊎ (length (setsIn words) ≤ i) → getD (setsIn words) i 0 < 2 ^ setSettings
+    go (inl b) =
+        let r : setWords * i + setWords ≤ length words = omega (arith, sets-length words) in
+        rw (sets-words words i r)
+        (joined-below (map (λ k. getD words (setWords * i + k) 0) (upto setWords))
+        (fit-map (λ k. getD words (setWords * i + k) 0) (upto setWords) (λ k. h (setWords * i + k))))
+    go (inr b) = rw (List·getD-eq-default (setsIn words) 0 b) (pow-pos setSettings)

@@ -3,6 +3,7 @@ pub mod Settings
 pub mod Sets
 pub mod Guards
 pub mod Held
+pub mod HeldLaws
 pub mod Holding
 pub mod Interface
 pub mod ListLaws
@@ -10,11 +11,12 @@ pub mod SettingLaws
 pub mod FlipLaws
 pub mod RestLaws
 pub mod SetLaws
-pub mod Listed
-pub mod ListedLaws
-pub mod HeldLaws
+pub mod MoverLaws
 pub mod HoldLaws
 pub mod PlaceLaws
+pub mod Listed
+pub mod ListedLaws
 pub mod GuardLaws
+pub mod SpreadLaws
 pub mod Numbers
 pub mod Examples

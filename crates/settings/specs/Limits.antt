@@ -3,7 +3,7 @@ use Prim.Native.Nat.{ℕ, _*_, _/_, _^_}
 
 -- the conditions that a set has room for: as many as a plain circuit may have
 abbrev pub setConditions : ℕ
-setConditions = 6
+setConditions = 8
 
 -- so many settings
 abbrev pub setSettings : ℕ

@@ -108,11 +108,11 @@ restsOn-right n s t = (
 )
 
 -- the movers of a set are settings of n conditions; which they are
-movers-below : (n s t : ℕ) → movers n s t < 2 ^ (2 ^ n)
+pub movers-below : (n s t : ℕ) → movers n s t < 2 ^ (2 ^ n)
 unfolding movers
 movers-below n s t = without-below (2 ^ n) t (bitXor (s / 2 ^ (2 ^ t)) s)
 
-movers-has : (n s t j : ℕ) → j < 2 ^ n → has (movers n s t) j ≡ (unlike (has s (2 ^ t + j)) (has s j) && not (bit j t))
+pub movers-has : (n s t j : ℕ) → j < 2 ^ n → has (movers n s t) j ≡ (unlike (has s (2 ^ t + j)) (has s j) && not (bit j t))
 unfolding movers
 movers-has n s t j h =
     has-those (2 ^ n) (λ i. not (bit i t)) (bitXor (s / 2 ^ (2 ^ t)) s) j h

@@ -1,36 +1,54 @@
-// Document 01, "Needed gates" and "The fused circuit file", at six conditions: a set of settings is 64 bits, bit j for setting j.
+// Document 01, "Needed gates" and "The fused circuit file", at eight conditions: a set of settings is 256 bits, bit j for setting j, in four words, the lowest first.
 // A set in hand is a `Set`; lent arrays hold plain words, so many a set, which `load` and `store` alone look at.
 ghost use mathlib.Core.Path.{_≡_};
 ghost use Prim.Native.Nat.{_+_, _-_, _*_, _<_, _≤_, _^_};
-ghost use lib.ListN.{length, getD, set};
+ghost use lib.ListN.{length, getD, set, replicate};
 ghost use lib.Dec.{eqb};
 ghost use lib.Bits.{bitAnd};
 ghost use Rattle.words.specs.Buffers.{over, padded};
 ghost use Rattle.words.specs.Numbers.{bytesOf};
 ghost use Rattle.bitsets.specs.Bits.{collect};
+ghost use Rattle.bitsets.specs.Words.{joined};
 ghost use Rattle.settings.specs.Sets as sets;
 ghost use Rattle.settings.specs.Guards as guards;
 ghost use Rattle.settings.specs.Limits.{setConditions, setSettings, setWords, setBytes};
-ghost use Rattle.settings.specs.Held.{setOf, setsIn};
+ghost use Rattle.settings.specs.Held.{wordsOf, setOf, setsIn};
 
 // The conditions, at most.
-pub const CONDITIONS: u8 = 6;
+pub const CONDITIONS: u8 = 8;
+
+// The places of a list of conditions.
+pub const ROOM: usize = 8;
 
 // The words of a set in a lent array.
-pub const WORDS: usize = 1;
+pub const WORDS: usize = 4;
 
 // The bytes of a set.
 pub const BYTES: usize = 8 * WORDS;
 
-// A set in hand.
-pub struct Set(pub u64);
+// A word of which every bit is 1.
+const ONES: u64 = 0xFFFFFFFFFFFFFFFF;
+
+// A set in hand: setting j is bit j % 64 of the word j / 64.
+pub struct Set {
+    pub w0: u64,
+    pub w1: u64,
+    pub w2: u64,
+    pub w3: u64,
+}
 
 // Set i of lent words.
 pub fn load(words: &[u64], i: usize) -> Set
     requires { ⌜ setWords * i + setWords ≤ length (now words) ⌝ }
     ensures { λ r. ⌜ setOf r ≡ getD (setsIn (now (words .entry))) i 0 ⌝ }
 {
-    Set(words[i])
+    let at = WORDS * i;
+    Set {
+        w0: words[at],
+        w1: words[at + 1],
+        w2: words[at + 2],
+        w3: words[at + 3],
+    }
 }
 
 // Set i of lent words is made s.
@@ -38,28 +56,57 @@ pub fn store(words: &mut [u64], i: usize, s: Set)
     requires { ⌜ setWords * i + setWords ≤ length (now words) ⌝ }
     ensures { λ r. ⌜ setsIn (now (words .exit)) ≡ set (setsIn (now (words .entry))) i (setOf s) ⌝ }
 {
-    words[i] = s.0;
+    let at = WORDS * i;
+    words[at] = s.w0;
+    words[at + 1] = s.w1;
+    words[at + 2] = s.w2;
+    words[at + 3] = s.w3;
+}
+
+// The set of which every word is w.
+fn each(w: u64) -> Set
+    ensures { λ r. ⌜ setOf r ≡ joined (replicate setWords w) ⌝ }
+{
+    Set {
+        w0: w,
+        w1: w,
+        w2: w,
+        w3: w,
+    }
 }
 
 // No setting.
 pub fn empty() -> Set
     ensures { λ r. ⌜ setOf r ≡ sets.empty ⌝ }
 {
-    Set(0)
+    each(0)
 }
 
 // Every setting.
 pub fn whole() -> Set
     ensures { λ r. ⌜ setOf r ≡ sets.whole setSettings ⌝ }
 {
-    Set(0xFFFFFFFFFFFFFFFF)
+    each(ONES)
 }
 
 // Is it every setting?
 pub fn is_whole(s: Set) -> bool
     ensures { λ r. ⌜ r ≡ eqb (setOf s) (sets.whole setSettings) ⌝ }
 {
-    s.0 == 0xFFFFFFFFFFFFFFFF
+    s.w0 & s.w1 & s.w2 & s.w3 == ONES
+}
+
+// Word i of a set.
+fn word(s: Set, i: u8) -> u64
+    requires { ⌜ i < setWords ⌝ }
+    ensures { λ r. ⌜ r ≡ getD (wordsOf s) i 0 ⌝ }
+{
+    match i {
+        0 => s.w0,
+        1 => s.w1,
+        2 => s.w2,
+        _ => s.w3,
+    }
 }
 
 // Is setting j in the set s?
@@ -67,14 +114,19 @@ pub fn has(s: Set, j: u8) -> bool
     requires { ⌜ j < setSettings ⌝ }
     ensures { λ r. ⌜ r ≡ sets.has (setOf s) j ⌝ }
 {
-    bitsets::bit_of(s.0, j)
+    bitsets::bit_of(word(s, j / 64), j % 64)
 }
 
 // The settings of either set.
 pub fn union(a: Set, b: Set) -> Set
     ensures { λ r. ⌜ setOf r ≡ sets.union (setOf a) (setOf b) ⌝ }
 {
-    Set(a.0 | b.0)
+    Set {
+        w0: a.w0 | b.w0,
+        w1: a.w1 | b.w1,
+        w2: a.w2 | b.w2,
+        w3: a.w3 | b.w3,
+    }
 }
 
 // The union of a set with the whole one, which is the whole one: the set is not looked at, and a read of it for this falls away.
@@ -88,30 +140,34 @@ pub fn with_whole(s: Set) -> Set
 pub fn excludes(a: Set, b: Set) -> bool
     ensures { λ r. ⌜ r ≡ sets.excludes (setOf a) (setOf b) ⌝ }
 {
-    a.0 & b.0 == 0
+    (a.w0 & b.w0) | (a.w1 & b.w1) | (a.w2 & b.w2) | (a.w3 & b.w3) == 0
 }
 
-// The settings that give condition t the bit 1.
-fn giving(t: u8) -> u64
+// The settings that give condition t the bit 1: below 6 the same in each word, from 6 on whole words.
+fn giving(t: u8) -> Set
     requires { ⌜ t < setConditions ⌝ }
-    ensures { λ r. ⌜ r ≡ sets.giving setSettings t ⌝ }
+    ensures { λ r. ⌜ setOf r ≡ sets.giving setSettings t ⌝ }
 {
     match t {
-        0 => 0xAAAAAAAAAAAAAAAA,
-        1 => 0xCCCCCCCCCCCCCCCC,
-        2 => 0xF0F0F0F0F0F0F0F0,
-        3 => 0xFF00FF00FF00FF00,
-        4 => 0xFFFF0000FFFF0000,
-        _ => 0xFFFFFFFF00000000,
+        0 => each(0xAAAAAAAAAAAAAAAA),
+        1 => each(0xCCCCCCCCCCCCCCCC),
+        2 => each(0xF0F0F0F0F0F0F0F0),
+        3 => each(0xFF00FF00FF00FF00),
+        4 => each(0xFFFF0000FFFF0000),
+        5 => each(0xFFFFFFFF00000000),
+        6 => Set {
+            w0: 0,
+            w1: ONES,
+            w2: 0,
+            w3: ONES,
+        },
+        _ => Set {
+            w0: 0,
+            w1: 0,
+            w2: ONES,
+            w3: ONES,
+        },
     }
-}
-
-// The settings that give condition t the bit 0.
-fn lacking(t: u8) -> u64
-    requires { ⌜ t < setConditions ⌝ }
-    ensures { λ r. ⌜ r ≡ sets.lacking setSettings t ⌝ }
-{
-    !giving(t)
 }
 
 // A set of settings parted by a condition.
@@ -126,10 +182,21 @@ pub fn part(t: u8, s: Set) -> Parted
     ensures given { λ r. ⌜ setOf (r .given) ≡ sets.given setSettings t (setOf s) ⌝ }
     ensures without { λ r. ⌜ setOf (r .without) ≡ sets.without setSettings t (setOf s) ⌝ }
 {
-    let g = s.0 & giving(t);
+    let m = giving(t);
+    let g = Set {
+        w0: s.w0 & m.w0,
+        w1: s.w1 & m.w1,
+        w2: s.w2 & m.w2,
+        w3: s.w3 & m.w3,
+    };
     Parted {
-        given: Set(g),
-        without: Set(s.0 ^ g),
+        given: g,
+        without: Set {
+            w0: s.w0 ^ g.w0,
+            w1: s.w1 ^ g.w1,
+            w2: s.w2 ^ g.w2,
+            w3: s.w3 ^ g.w3,
+        },
     }
 }
 
@@ -141,20 +208,59 @@ fn power(t: u8) -> u8
     1 << t
 }
 
+// The movers of condition t below 6 within one word: the settings j that give t the bit 0 and of which just one of j and j + 2^t is in it.
+fn word_movers(w: u64, t: u8) -> u64
+    requires { ⌜ t < 6 ⌝ }
+    ensures { λ r. ⌜ r ≡ sets.movers 6 w t ⌝ }
+{
+    let far = power(t);
+    let m = giving(t);
+    ((w >> far) ^ w) & !m.w0
+}
+
+// The movers of condition t: below 6 j and j + 2^t are in one word, from 6 on they are the same bit of two words.
+fn movers(s: Set, t: u8) -> Set
+    requires { ⌜ t < setConditions ⌝ }
+    ensures { λ r. ⌜ setOf r ≡ sets.movers setConditions (setOf s) t ⌝ }
+{
+    if t < 6 {
+        return Set {
+            w0: word_movers(s.w0, t),
+            w1: word_movers(s.w1, t),
+            w2: word_movers(s.w2, t),
+            w3: word_movers(s.w3, t),
+        };
+    }
+    if t == 6 {
+        return Set {
+            w0: s.w1 ^ s.w0,
+            w1: 0,
+            w2: s.w3 ^ s.w2,
+            w3: 0,
+        };
+    }
+    Set {
+        w0: s.w2 ^ s.w0,
+        w1: s.w3 ^ s.w1,
+        w2: 0,
+        w3: 0,
+    }
+}
+
 // Does s rest on condition t? Some setting j gives t the bit 0, and just one of j and j + 2^t is in s.
 pub fn rests_on(s: Set, t: u8) -> bool
     requires { ⌜ t < setConditions ⌝ }
     ensures { λ r. ⌜ r ≡ sets.restsOn setConditions (setOf s) t ⌝ }
 {
-    let far = power(t);
-    ((s.0 >> far) ^ s.0) & lacking(t) != 0
+    let m = movers(s, t);
+    m.w0 | m.w1 | m.w2 | m.w3 != 0
 }
 
 // Conditions, rising: so many of them, zeros after them; in the number `on` the bit of each is 1.
 pub struct ConditionList {
     pub count: u8,
     pub on: u8,
-    pub at: [u8; 6],
+    pub at: [u8; ROOM],
 }
 
 // The conditions that s rests on, one after another.
@@ -163,7 +269,7 @@ pub fn rested(s: Set) -> ConditionList
     ensures listed { λ r. ⌜ r .at ≡ padded setConditions (sets.rests setConditions (setOf s)) ⌝ }
     ensures chosen { λ r. ⌜ r .on ≡ collect setConditions (sets.restsOn setConditions (setOf s)) ⌝ }
 {
-    let mut at = [0u8; 6];
+    let mut at = [0u8; ROOM];
     let mut on: u8 = 0;
     let mut k: u8 = 0;
     let mut t: u8 = 0;
@@ -184,27 +290,19 @@ pub fn rested(s: Set) -> ConditionList
 }
 
 // The bits of a table over so many conditions.
-fn size(count: u8) -> u8
+fn size(count: u8) -> u16
     requires { ⌜ count ≤ setConditions ⌝ }
     ensures { λ r. ⌜ r ≡ 2 ^ count ⌝ }
 {
     1 << count
 }
 
-// The set of setting j alone.
-fn only(j: u8) -> u64
-    requires { ⌜ j < setSettings ⌝ }
-    ensures { λ r. ⌜ r ≡ 2 ^ j ⌝ }
-{
-    1 << j
-}
-
 // The setting after this one, of those that give 1 to conditions of `on` alone: a carry passes over the conditions that are none of `on`.
-fn next_setting(on: u8, setting: u8) -> u8
+fn next_setting(on: u16, setting: u16) -> u16
     requires { ⌜ (on < setSettings) × (setting < setSettings) ⌝ }
     ensures { λ r. ⌜ r ≡ bitAnd (setting + (setSettings - on)) on ⌝ }
 {
-    (setting + (64 - on)) & on
+    (setting + (256 - on)) & on
 }
 
 // The guard's table of s: over the conditions that s rests on, which r lists. Bit j says whether the setting that gives them the bits of j is in s.
@@ -212,19 +310,19 @@ pub fn table(s: Set, r: ConditionList) -> Set
     requires { ⌜ (r .count ≡ length (sets.rests setConditions (setOf s))) × (r .on ≡ collect setConditions (sets.restsOn setConditions (setOf s))) ⌝ }
     ensures { λ r. ⌜ setOf r ≡ guards.table setConditions (setOf s) ⌝ }
 {
-    let on = r.on;
+    let on = r.on as u16;
     let n = size(r.count);
-    let mut bits: u64 = 0;
-    let mut setting: u8 = 0;
-    let mut j: u8 = 0;
+    let mut bits = [0u64; WORDS];
+    let mut setting: u16 = 0;
+    let mut j: u16 = 0;
     while j < n {
-        if has(s, setting) {
-            bits = bits | only(j);
+        if has(s, setting as u8) {
+            bitsets::put(&mut bits, 0, j);
         }
         setting = next_setting(on, setting);
         j = j + 1;
     }
-    Set(bits)
+    load(&bits, 0)
 }
 
 // The bytes of a set, the highest first.
@@ -232,5 +330,8 @@ pub fn put_bytes(out: &mut [u8], s: Set)
     requires { ⌜ setBytes ≤ length (now out) ⌝ }
     ensures { λ r. ⌜ now (out .exit) ≡ over (bytesOf setBytes (setOf s)) (now (out .entry)) ⌝ }
 {
-    words::put64(out, s.0);
+    words::put64(out, s.w3);
+    words::put64(&mut out[8..], s.w2);
+    words::put64(&mut out[16..], s.w1);
+    words::put64(&mut out[24..], s.w0);
 }

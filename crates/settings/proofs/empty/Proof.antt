@@ -1,11 +1,11 @@
-use mathlib.Core.Path.{refl}
-use Rattle.settings.specs.Held.{setOf}
+use borrow.Author.Needs.{needs}
+use Rattle.bitsets.specs.Words.{joined}
 use Rattle.settings.proofs.empty.Statement.{statement}
 use Rattle.settings.proofs.empty.Tie as tie
 
 returns : tie.Need-returns
-unfolding setOf
-returns c = refl
+unfolding joined
+returns c = c .each .ensures
 
 pub empty-spec : {M : Type 1} → statement M
-empty-spec = tie.close (tie.spec returns)
+empty-spec = tie.close (tie.spec (λ c κs. search needs) returns)

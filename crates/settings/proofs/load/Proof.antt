@@ -1,16 +1,31 @@
+use mathlib.Core.Path.{_≡_, sym}
+use native.Mathlib.Nat.{add-zero}
 use borrow.Author.Needs.{needs}
-use mathlib.Core.Path.{sym, ap}
-use mathlib.Core.List.{List}
-use Prim.Native.Nat.{ℕ}
-use lib.ListN.{getD}
-use Rattle.settings.specs.HeldLaws.{sets-one}
 use Rattle.settings.specs.Held.{setOf}
+use Rattle.settings.specs.HeldLaws.{sets-words}
 use Rattle.settings.proofs.load.Statement.{statement}
 use Rattle.settings.proofs.load.Tie as tie
 
 returns : tie.Need-returns
 unfolding setOf
-returns c = ap (λ (l : List ℕ). getD l (c .before .args .i) 0) (sym (sets-one (c .before .args .words .now)))
+returns c =
+    let c0 = c .before .before .before .before in
+    sym (rw add-zero at (sets-words (c0 .args .words .now) (c0 .args .i) (c0 .pre)))
 
 pub load-spec : {M : Type 1} → statement M
-load-spec = tie.close (tie.spec (λ c. search needs) (λ c. search needs) returns)
+load-spec =
+    tie.close
+    (tie.spec
+    (λ c. search needs)
+    (λ c. search needs)
+    (λ c. search needs)
+    (λ c. search needs)
+    (λ c. search needs)
+    (λ c. search needs)
+    (λ c. search needs)
+    (λ c. search needs)
+    (λ c. search needs)
+    (λ c. search needs)
+    (λ c. search needs)
+    (λ c. search needs)
+    returns)

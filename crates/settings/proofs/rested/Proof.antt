@@ -17,7 +17,7 @@ abbrev μ-loop : tie.MeasureT-loop
 μ-loop s at₀ on₀ k₀ t₀ at on k t = setConditions - t
 
 loop-holds : tie.Need-loop-holds Inv-loop μ-loop
-loop-holds c = listing-start _
+loop-holds c = listing-start setConditions _
 
 array-write-at : tie.Need-array-write-at Inv-loop μ-loop
 array-write-at c = listing-room _ _ _ _ _ _ (c .before .before .before .loop .inv) (c .before .before .loop-test .taken)

@@ -7,7 +7,7 @@ use Rattle.settings.proofs.size.Statement.{statement}
 use Rattle.settings.proofs.size.Tie as tie
 
 returns : tie.Need-returns
-returns c = shl-exact {a = 1} 1 (c .args .count) 8 (search needs) (omega arith) ∙ one-mul _
+returns c = shl-exact {a = 1} 1 (c .args .count) 16 (search needs) (omega arith) ∙ one-mul _
 
 pub size-spec : {M : Type 1} → statement M
 size-spec = tie.close (tie.spec (λ c. search needs) returns)
