@@ -22,8 +22,8 @@ unfolding number kindOf operationOf codeOf readMark readCount readKinds readHead
     ruleAnswer
 examples-accepted = refl
 
--- example 10: six conditions accepted, seven 11 at the file's length
-pub example-10 : map (λ n. ruleAnswer (r10 n)) (6 ∷ 7 ∷ []) ≡ success 13 0 0 18 0 ∷ refusal 11 78 ∷ []
+-- example 10, with document 02's C-17: eight conditions accepted, nine 11 at the file's length
+pub example-10 : map (λ n. ruleAnswer (r10 n)) (8 ∷ 9 ∷ []) ≡ success 17 0 0 24 0 ∷ refusal 11 98 ∷ []
 unfolding number kindOf operationOf codeOf readMark readCount readKinds readHeader readVariable readWord readBit operationWith exprWith readExpr readAssign branchWith
     statementWith blockWith blockFuel readBlock readRule applyGate makeExpr assignsIn assigns choices makeStatement makeBlock plainCircuit costs conditions wholeWithin
     ruleAnswer

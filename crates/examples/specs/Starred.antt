@@ -59,8 +59,8 @@ pub record Starred : Type 0 where
   pub example-1 :
       (length r1 ≡ 29)
       × (map (gateAt (gatesOf r1)) (3 ∷ 4 ∷ 5 ∷ []) ≡ operation Product (1 ∷ 2 ∷ []) ∷ operation Product (2 ∷ 2 ∷ []) ∷ choice 0 3 4 ∷ [])
-      × Precondition r1 3 0xAAAAAAAAAAAAAAAA
-      × Precondition r1 4 0x5555555555555555
+      × Precondition r1 3 0xAAAAAAAAAAAAAAAAAAAAAAAAAAAAAAAAAAAAAAAAAAAAAAAAAAAAAAAAAAAAAAAA
+      × Precondition r1 4 0x5555555555555555555555555555555555555555555555555555555555555555
   -- 2. R1, inputs 1, 6, 7: results 1, 42, 7. Inputs 0, 6, 7: 0, 49, 7. Inputs 2, 6, 7: 41.
   pub example-2 :
       (map (runRule r1) ((1 ∷ 6 ∷ 7 ∷ []) ∷ (0 ∷ 6 ∷ 7 ∷ []) ∷ []) ≡ (1 ∷ 42 ∷ 7 ∷ []) ∷ (0 ∷ 49 ∷ 7 ∷ []) ∷ [])

@@ -112,8 +112,8 @@ pub example-9 : resultOf Sum 4294967295 1 ∷ resultOf Difference 0 1 ∷ result
 unfolding resultOf
 example-9 = refl
 
--- example 10, what the plain circuit counts of it: six conditions and seven
-pub example-10 : map (λ n. length (conditions (gatesOf (r10 n)))) (6 ∷ 7 ∷ []) ≡ 6 ∷ 7 ∷ []
+-- example 10, what the plain circuit counts of it: eight conditions and nine
+pub example-10 : map (λ n. length (conditions (gatesOf (r10 n)))) (8 ∷ 9 ∷ []) ≡ 8 ∷ 9 ∷ []
 unfolding number kindOf operationOf codeOf readMark readCount readKinds readHeader readVariable readWord readBit operationWith exprWith readExpr readAssign branchWith
     statementWith blockWith blockFuel readBlock readRule applyGate makeExpr assignsIn assigns choices makeStatement makeBlock plainCircuit conditions
 example-10 = refl

@@ -25,9 +25,9 @@ use Rattle.needed.specs.Pass.{preconditions, preconditionSets, rulePreco
 abbrev set : List ℕ → ℕ → ℕ
 set s g = getD (rulePreconditions s) g 0
 
--- example 1: AAAAAAAAAAAAAAAA and 5555555555555555 for gates 3 and 4
+-- example 1, over the 256 settings of eight conditions (document 02, C-17): AAAA.. and 5555.. for gates 3 and 4
 pub example-1 : rulePreconditions r1 ≡
-    0xFFFFFFFFFFFFFFFF ∷ 0xAAAAAAAAAAAAAAAA ∷ 0xFFFFFFFFFFFFFFFF ∷ 0xAAAAAAAAAAAAAAAA ∷ 0x5555555555555555 ∷ 0xFFFFFFFFFFFFFFFF ∷ []
+    0xFFFFFFFFFFFFFFFFFFFFFFFFFFFFFFFFFFFFFFFFFFFFFFFFFFFFFFFFFFFFFFFF ∷ 0xAAAAAAAAAAAAAAAAAAAAAAAAAAAAAAAAAAAAAAAAAAAAAAAAAAAAAAAAAAAAAAAA ∷ 0xFFFFFFFFFFFFFFFFFFFFFFFFFFFFFFFFFFFFFFFFFFFFFFFFFFFFFFFFFFFFFFFF ∷ 0xAAAAAAAAAAAAAAAAAAAAAAAAAAAAAAAAAAAAAAAAAAAAAAAAAAAAAAAAAAAAAAAA ∷ 0x5555555555555555555555555555555555555555555555555555555555555555 ∷ 0xFFFFFFFFFFFFFFFFFFFFFFFFFFFFFFFFFFFFFFFFFFFFFFFFFFFFFFFFFFFFFFFF ∷ []
 unfolding number kindOf workingOf operationOf codeOf readMark readCount readKinds readHeader readVariable readWord readBit operationWith exprWith readExpr readAssign branchWith
     statementWith blockWith blockFuel readBlock readRule applyGate makeExpr assignsIn assigns choices makeStatement makeBlock plainCircuit conditions collect numbers
     preconditions preconditionSets
@@ -39,7 +39,7 @@ unfolding number kindOf operationOf codeOf readMark readCount readKinds readHead
     statementWith blockWith blockFuel readBlock readRule applyGate makeExpr assignsIn assigns choices makeStatement makeBlock plainCircuit conditions
 example-6-conditions = refl
 
-pub example-6 : map (set r2) (4 ∷ 5 ∷ 6 ∷ 7 ∷ []) ≡ 0xAAAAAAAAAAAAAAAA ∷ 0xAAAAAAAAAAAAAAAA ∷ 0x5555555555555555 ∷ 0x4444444444444444 ∷ []
+pub example-6 : map (set r2) (4 ∷ 5 ∷ 6 ∷ 7 ∷ []) ≡ 0xAAAAAAAAAAAAAAAAAAAAAAAAAAAAAAAAAAAAAAAAAAAAAAAAAAAAAAAAAAAAAAAA ∷ 0xAAAAAAAAAAAAAAAAAAAAAAAAAAAAAAAAAAAAAAAAAAAAAAAAAAAAAAAAAAAAAAAA ∷ 0x5555555555555555555555555555555555555555555555555555555555555555 ∷ 0x4444444444444444444444444444444444444444444444444444444444444444 ∷ []
 unfolding number kindOf workingOf operationOf codeOf readMark readCount readKinds readHeader readVariable readWord readBit operationWith exprWith readExpr readAssign branchWith
     statementWith blockWith blockFuel readBlock readRule applyGate makeExpr assignsIn assigns choices makeStatement makeBlock plainCircuit conditions collect numbers
     preconditions preconditionSets
@@ -53,14 +53,14 @@ unfolding number kindOf workingOf operationOf codeOf readMark readCount readKind
 example-6-excludes = refl
 
 -- example 7: nothing needs gates 0 to 2
-pub example-7 : rulePreconditions r7 ≡ 0 ∷ 0 ∷ 0 ∷ 0xFFFFFFFFFFFFFFFF ∷ []
+pub example-7 : rulePreconditions r7 ≡ 0 ∷ 0 ∷ 0 ∷ 0xFFFFFFFFFFFFFFFFFFFFFFFFFFFFFFFFFFFFFFFFFFFFFFFFFFFFFFFFFFFFFFFF ∷ []
 unfolding number kindOf workingOf operationOf codeOf readMark readCount readKinds readHeader readVariable readWord readBit operationWith exprWith readExpr readAssign branchWith
     statementWith blockWith blockFuel readBlock readRule applyGate makeExpr assignsIn assigns choices makeStatement makeBlock plainCircuit conditions collect numbers
     preconditions preconditionSets
 example-7 = refl
 
 -- example 8: gate 5 is needed where condition 0 is 1, gate 9 where condition 1 is 1; a setting that gives both 1 needs both, so they do not exclude each other
-pub example-8 : set r8 5 ∷ set r8 9 ∷ bitAnd (set r8 5) (set r8 9) ∷ [] ≡ 0xAAAAAAAAAAAAAAAA ∷ 0xCCCCCCCCCCCCCCCC ∷ 0x8888888888888888 ∷ []
+pub example-8 : set r8 5 ∷ set r8 9 ∷ bitAnd (set r8 5) (set r8 9) ∷ [] ≡ 0xAAAAAAAAAAAAAAAAAAAAAAAAAAAAAAAAAAAAAAAAAAAAAAAAAAAAAAAAAAAAAAAA ∷ 0xCCCCCCCCCCCCCCCCCCCCCCCCCCCCCCCCCCCCCCCCCCCCCCCCCCCCCCCCCCCCCCCC ∷ 0x8888888888888888888888888888888888888888888888888888888888888888 ∷ []
 unfolding number kindOf workingOf operationOf codeOf readMark readCount readKinds readHeader readVariable readWord readBit operationWith exprWith readExpr readAssign branchWith
     statementWith blockWith blockFuel readBlock readRule applyGate makeExpr assignsIn assigns choices makeStatement makeBlock plainCircuit conditions collect numbers
     preconditions preconditionSets

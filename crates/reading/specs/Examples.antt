@@ -79,9 +79,9 @@ unfolding number kindOf operationOf codeOf readMark readCount readKinds readHead
     statementWith blockWith blockFuel readBlock readRule
 example-4 = refl
 
--- example 10, what reading decides of it: 8 deep accepted, 9 deep 8; 6 nested accepted, 7 nested 8
-example-10 : map reads (deep 7 ∷ deep 8 ∷ nests 6 ∷ nests 7 ∷ [])
-    ≡ success 0 0 0 0 0 ∷ refusal 8 17 ∷ success 0 0 0 0 0 ∷ refusal 8 25 ∷ []
+-- example 10, what reading decides of it: 8 deep accepted, 9 deep 8; with document 02's C-17, 8 nested accepted, 9 nested 8
+example-10 : map reads (deep 7 ∷ deep 8 ∷ nests 8 ∷ nests 9 ∷ [])
+    ≡ success 0 0 0 0 0 ∷ refusal 8 17 ∷ success 0 0 0 0 0 ∷ refusal 8 31 ∷ []
 unfolding number kindOf operationOf codeOf readMark readCount readKinds readHeader readVariable readWord readBit operationWith exprWith readExpr readAssign branchWith
     statementWith blockWith blockFuel readBlock readRule
 example-10 = refl
