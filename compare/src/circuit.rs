@@ -65,6 +65,11 @@ impl Settings {
         Settings::default()
     }
 
+    /// Its words, the lowest first.
+    pub fn words(&self) -> [u64; SETTINGS / 64] {
+        self.0
+    }
+
     pub fn has(&self, j: usize) -> bool {
         self.0[j / 64] >> (j % 64) & 1 == 1
     }

@@ -25,7 +25,7 @@ pub struct Answer {
 pub struct Shown {
     pub answer: Answer,
     pub rows: [u32; 1024],
-    pub needs: [u64; 256],
+    pub needs: [u64; 1024],
 }
 
 /// The part of an array from `start` on, so many elements.
