@@ -1,6 +1,6 @@
 //! Files of version 1 that were written before C-17, kept as they were then, with what reading, showing and running them
-//! printed then: `data/version_1.cas` is a conformance stream, `data/version_1.txt` has its lines. Nothing that is built
-//! today makes them.
+//! printed then: `data/version_1.cas` is a conformance stream, `data/version_1.txt` has its lines. They rest on no
+//! writer of today.
 
 use super::super::List;
 use crate::stream::{cases, lines};
