@@ -1,6 +1,7 @@
 /* Linnetshelf: reads a matching rule, runs it, checks a plan for it and writes the fused circuit,
  * byte for byte as document 01 fixes it, with C-11 (circuit files from the other house are read and
- * run), C-12 (argument order), C-13 (working figures) and C-15 (groups in one order) of document 02.
+ * run), C-12 (argument order), C-13 (working figures), C-15 (groups in one order) and C-17 (eight
+ * conditions) of document 02.
  * Every function here is proved to answer and to write what the definitions of crates/<crate>/specs
  * give, for any bytes at all.
  *
@@ -15,6 +16,10 @@
  * inputs and writes V results, one for each variable: its figure at the end, and 0 for a working
  * variable. In a circuit file the output of a working variable is FF FF, which names no wire.
  *
+ * Versions. A circuit file is written as version 00 02, whose guards have up to 8 wires and a table of
+ * 32 bytes. Files of version 00 01 are read too: their guards have up to 6 wires and a table of 8 bytes.
+ * Rules and plans are of version 00 01.
+ *
  * Refusals. An operation either succeeds, with number 0 and place 0, or refuses, with a number, a
  * place and every count 0. A refusal writes to no array. Rule comes before plan, plan before inputs
  * or buffer, a circuit file before inputs. A rule is read up to its first wrong byte. In a plan, a
@@ -26,7 +31,7 @@
  *   rule     1 size (6 to 4,096 bytes)        2 mark or version        3 variables or a kind byte
  *            4 a byte is wanted past the end  5 unknown code           6 no such variable
  *            7 wrong kind                     8 too deep               9 bytes after the end
- *           10 over 256 gates                11 over 6 conditions
+ *           10 over 256 gates                11 over 8 conditions
  *   plan    20 size (9 to 1,024 bytes)       21 mark or version       22 gate count differs
  *           23 groups do not end with the file   24 a group below 2   25 no such gate, or not rising
  *           26 gate in two groups            32 groups not in order   27 member not costly
@@ -38,7 +43,8 @@
  *           60 size, mark, version, variables or wires (8 to 16,384 bytes, 1 to 32 variables, at
  *              most 640 wires)
  *           61 records not laid out: an unknown code, records or outputs that do not end with the
- *              file, a bit constant above 1, a guard of over 6 wires, a pick of no pair
+ *              file, a bit constant above 1, a guard of over 8 wires (over 6 in version 1), a
+ *              pick of no pair
  *           62 records do not fit together: inputs that are not just the first V records in order, a
  *              wire that is not earlier or of the wrong kind, a table bit from 2^d up in a guard of d
  *              wires, an output that is neither FF FF nor a wire of its variable's kind
@@ -66,16 +72,17 @@ struct linnet_answer {
     size_t after;   /* cost of the fused circuit */
 };
 
-/* A plain circuit. Gate g has rows[4 * g] to rows[4 * g + 3] and needs[g]; zeros after the last
- * gate, and everywhere for a refused rule. A row is the code that the gate's record of a circuit
+/* A plain circuit. Gate g has rows[4 * g] to rows[4 * g + 3] and needs[4 * g] to needs[4 * g + 3]; zeros
+ * after the last gate, and everywhere for a refused rule. A row is the code that the gate's record of a circuit
  * file begins with (00, 01 starting values of words and bits, working ones too, 11, 12 constants, 20
  * to 27, 30 a choice), then the variable of a starting value, the figure of a constant, or the argument
- * gates in the order in which the gate takes them; 0 where there is none. needs[g] is the gate's
- * precondition: bit j is 1 when setting j needs the gate. */
+ * gates in the order in which the gate takes them; 0 where there is none. The four words of needs are the
+ * gate's precondition, 256 bits, the lowest word first: bit j % 64 of needs[4 * g + j / 64] is 1 when
+ * setting j needs the gate. */
 struct linnet_shown {
     struct linnet_answer answer;
     uint32_t rows[1024];
-    uint64_t needs[256];
+    uint64_t needs[1024];
 };
 
 /* The part of an array from start on, so many elements. */
@@ -120,7 +127,7 @@ struct linnet_answer linnet_run_fused(
 struct linnet_shown linnet_show_plain(
     const uint8_t *rule, size_t rule_count);
 
-/* 07 Reads a circuit file, of whichever house. Answers its wires and bytes. Writes nothing. */
+/* 07 Reads a circuit file of either version, of whichever house. Answers its wires and bytes. Writes nothing. */
 struct linnet_answer linnet_read_circuit(
     const uint8_t *file, size_t file_count);
 

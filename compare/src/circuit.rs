@@ -56,35 +56,44 @@ impl Gate {
     }
 }
 
-/// A set of settings; setting j is member j.
-#[derive(Clone, Debug, PartialEq, Eq)]
-pub struct Settings(pub [bool; SETTINGS]);
+/// A set of settings; setting j is bit j, those from 64 on in the words after the first.
+#[derive(Clone, Debug, Default, PartialEq, Eq)]
+pub struct Settings([u64; SETTINGS / 64]);
 
 impl Settings {
     pub fn none() -> Settings {
-        Settings([false; SETTINGS])
+        Settings::default()
+    }
+
+    /// Its words, the lowest first.
+    pub fn words(&self) -> [u64; SETTINGS / 64] {
+        self.0
+    }
+
+    pub fn has(&self, j: usize) -> bool {
+        self.0[j / 64] >> (j % 64) & 1 == 1
+    }
+
+    pub fn add(&mut self, j: usize) {
+        self.0[j / 64] |= 1 << (j % 64);
     }
 
     pub fn meets(&self, other: &Settings) -> bool {
-        (0..SETTINGS).any(|j| self.0[j] && other.0[j])
+        self.0
+            .iter()
+            .zip(other.0)
+            .any(|(one, other)| one & other != 0)
     }
 
     /// Whether changing bit t alone moves some setting in or out.
     pub fn rests_on(&self, t: usize) -> bool {
-        (0..SETTINGS).any(|j| self.0[j] != self.0[j ^ (1 << t)])
+        (0..SETTINGS).any(|j| self.has(j) != self.has(j ^ (1 << t)))
     }
 
     /// The set as hexadecimal digits, capitals, setting 0 the lowest bit of the last digit.
     pub fn hex(&self) -> String {
-        let mut text = String::new();
-        for digit in (0..SETTINGS / 4).rev() {
-            let figure = (0..4)
-                .filter(|bit| self.0[4 * digit + bit])
-                .map(|bit| 1 << bit)
-                .sum::<u32>();
-            text.push_str(&format!("{figure:X}"));
-        }
-        text
+        let highest_first = self.0.iter().rev();
+        highest_first.map(|word| format!("{word:016X}")).collect()
     }
 }
 
@@ -221,12 +230,17 @@ impl Accepted {
 
 /// Reads a rule by all its rows; the place of 10 and 11 is the file's length.
 pub fn accept(bytes: &[u8]) -> Result<Accepted, Refusal> {
-    let rule = rule::read(bytes)?;
+    accept_within(bytes, LIMITS)
+}
+
+/// The same by these limits, which are no greater than C-17's.
+pub fn accept_within(bytes: &[u8], limits: Limits) -> Result<Accepted, Refusal> {
+    let rule = rule::read_within(bytes, limits)?;
     let circuit = make(&rule);
     if circuit.gates.len() > GATES_MAX {
         return Err(Refusal::at(10, bytes.len()));
     }
-    if circuit.conditions.len() > CONDITIONS_MAX {
+    if circuit.conditions.len() > limits.conditions {
         return Err(Refusal::at(11, bytes.len()));
     }
     Ok(Accepted { rule, circuit })
@@ -240,13 +254,19 @@ pub fn read_rule(bytes: &[u8]) -> Answer {
     }
 }
 
-/// Every gate's precondition: for each setting a search from the outputs.
+/// Every gate's precondition: for each setting a search from the outputs. Settings that give every condition the same
+/// bit need the same gates, so one search serves for all of them.
 /// The circuit has at most as many conditions as settings have bits.
 pub fn preconditions(circuit: &Circuit) -> Vec<Settings> {
     let mut needs = vec![Settings::none(); circuit.gates.len()];
-    for j in 0..SETTINGS {
-        for (gate, needed) in needed_under(circuit, j).into_iter().enumerate() {
-            needs[gate].0[j] = needed;
+    let apart = 1 << circuit.conditions.len();
+    for first in 0..apart {
+        for (gate, needed) in needed_under(circuit, first).into_iter().enumerate() {
+            if needed {
+                for j in (first..SETTINGS).step_by(apart) {
+                    needs[gate].add(j);
+                }
+            }
         }
     }
     needs

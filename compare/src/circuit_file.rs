@@ -1,5 +1,6 @@
 //! A circuit file from any house (C-11): rows 60 to 62, its records, and the part of it that holds one.
-//! FF FF is admitted as the output of any variable (C-13).
+//! FF FF is admitted as the output of any variable (C-13). Files of both versions are read, each with its own size of
+//! guards (C-17).
 
 use crate::answer::{Answer, Refusal};
 use crate::circuit::Settings;
@@ -12,6 +13,7 @@ pub struct CircuitFile<'a> {
     pub circuit: Fused,
     /// For each wire the part of the file that holds its record.
     pub parts: Vec<&'a [u8]>,
+    pub version: Version,
     bytes: usize,
 }
 
@@ -32,12 +34,17 @@ impl CircuitFile<'_> {
 
 /// Checks the rows one after the other, each over the whole file, so the lowest number decides.
 pub fn accept(file: &[u8]) -> Result<CircuitFile<'_>, Refusal> {
-    let (variables, wires) = header(file).ok_or(Refusal::nowhere(60))?;
-    let laid_out = lay_out(file, variables, wires).ok_or(Refusal::nowhere(61))?;
+    let header = header(file).ok_or(Refusal::nowhere(60))?;
+    let laid_out = lay_out(file, &header).ok_or(Refusal::nowhere(61))?;
     if !holds_together(&laid_out.circuit) {
         return Err(Refusal::nowhere(62));
     }
     Ok(laid_out)
+}
+
+/// Whether a file has the mark and version of C-17.
+pub fn is_version_2(file: &[u8]) -> bool {
+    file.starts_with(&[&CIRCUIT_MARK[..], &VERSION_2.bytes].concat())
 }
 
 /// The operation "read a circuit file".
@@ -56,41 +63,53 @@ pub fn record(file: &[u8], wire: Wire) -> &[u8] {
     }
 }
 
-/// V and the wire count, or none by row 60.
-fn header(file: &[u8]) -> Option<(usize, usize)> {
+struct Header {
+    version: Version,
+    variables: usize,
+    wires: usize,
+}
+
+/// What stands before the records, or none by row 60.
+fn header(file: &[u8]) -> Option<Header> {
     if !(CIRCUIT_BYTES_MIN..=CIRCUIT_BYTES_MAX).contains(&file.len()) {
         return None;
     }
     let mut rest = file;
-    if take(&mut rest, 5)? != CIRCUIT_MARK {
+    if take(&mut rest, CIRCUIT_MARK.len())? != CIRCUIT_MARK {
         return None;
     }
+    let version = Version::of_bytes(take(&mut rest, 2)?)?;
     let variables = usize::from(byte(&mut rest)?);
     let wires = number(&mut rest)?;
     let good = (VARIABLES_MIN..=VARIABLES_MAX).contains(&variables) && wires <= WIRES_MAX;
-    good.then_some((variables, wires))
+    good.then_some(Header {
+        version,
+        variables,
+        wires,
+    })
 }
 
 /// The records and the outputs, ending where the file ends, or none by row 61.
-fn lay_out(file: &[u8], variables: usize, wires: usize) -> Option<CircuitFile<'_>> {
+fn lay_out<'a>(file: &'a [u8], header: &Header) -> Option<CircuitFile<'a>> {
     let mut rest = &file[CIRCUIT_BYTES_MIN..];
     let (mut records, mut parts) = (Vec::new(), Vec::new());
-    for _ in 0..wires {
+    for _ in 0..header.wires {
         let from = rest;
-        records.push(take_record(&mut rest)?);
+        records.push(take_record(&mut rest, header.version)?);
         parts.push(&from[..from.len() - rest.len()]);
     }
-    let outputs = take_wires(&mut rest, variables)?;
+    let outputs = take_wires(&mut rest, header.variables)?;
     let named = |wire: Wire| (wire.0 != NO_WIRE).then_some(wire);
     let outputs = outputs.into_iter().map(named).collect();
     rest.is_empty().then_some(CircuitFile {
         circuit: Fused { records, outputs },
         parts,
+        version: header.version,
         bytes: file.len(),
     })
 }
 
-fn take_record(rest: &mut &[u8]) -> Option<Record> {
+fn take_record(rest: &mut &[u8], version: Version) -> Option<Record> {
     let code = byte(rest)?;
     let record = match code {
         WORD_INPUT => Record::Input(usize::from(byte(rest)?), Kind::Word),
@@ -105,7 +124,7 @@ fn take_record(rest: &mut &[u8]) -> Option<Record> {
             Record::Choice(wires[0], wires[1], wires[2])
         }
         PICK => take_pick(rest)?,
-        GUARD => take_guard(rest)?,
+        GUARD => take_guard(rest, version)?,
         _ => {
             let row = operation(code)?;
             Record::Operation(code, take_wires(rest, row.arguments)?)
@@ -124,17 +143,19 @@ fn take_pick(rest: &mut &[u8]) -> Option<Record> {
     Some(Record::Pick(pairs))
 }
 
-fn take_guard(rest: &mut &[u8]) -> Option<Record> {
+fn take_guard(rest: &mut &[u8], version: Version) -> Option<Record> {
     let count = usize::from(byte(rest)?);
-    if count > CONDITIONS_MAX {
+    if count > version.guard_wires_max {
         return None;
     }
     let wires = take_wires(rest, count)?;
-    let bytes = take(rest, TABLE_BYTES)?;
+    // Big-endian: the last byte holds table bits 0 to 7.
+    let bytes = take(rest, version.table_bytes())?.iter().rev();
     let mut table = Settings::none();
-    for (j, bit) in table.0.iter_mut().enumerate() {
-        // Big-endian: the last byte holds table bits 0 to 7.
-        *bit = bytes[TABLE_BYTES - 1 - j / 8] >> (j % 8) & 1 == 1;
+    for (byte, &bits) in bytes.enumerate() {
+        for bit in (0..8).filter(|bit| bits >> bit & 1 == 1) {
+            table.add(8 * byte + bit);
+        }
     }
     Some(Record::Guard(wires, table))
 }
@@ -190,7 +211,7 @@ fn kind(record: &Record, earlier: &[Kind]) -> Option<Kind> {
             (are(&guards, Kind::Bit) && are(&values, kind)).then_some(kind)
         }
         Record::Guard(wires, table) => {
-            let above = table.0[1 << wires.len()..].contains(&true);
+            let above = (1 << wires.len()..SETTINGS).any(|j| table.has(j));
             (are(wires, Kind::Bit) && !above).then_some(Kind::Bit)
         }
     }

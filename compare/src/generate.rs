@@ -4,10 +4,12 @@
 pub mod batches;
 pub mod cases;
 pub mod circuits;
+pub mod conditions;
 pub mod group_order;
 pub mod kinds;
 pub mod plans;
 pub mod rules;
+pub mod words;
 
 /// A small xorshift; its state is never 0.
 pub struct Random(u64);

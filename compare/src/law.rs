@@ -1,8 +1,7 @@
-//! The numbers, codes and costs of document 01 and of C-11 to C-13 and C-16, in one place: later requests move them here.
+//! The numbers, codes and costs of document 01 and of C-11 to C-13, C-16 and C-17, in one place: later requests move them here.
 
 pub const RULE_MARK: [u8; 5] = [0x52, 0x55, 0x4C, 0x00, 0x01];
 pub const PLAN_MARK: [u8; 5] = [0x50, 0x4C, 0x4E, 0x00, 0x01];
-pub const CIRCUIT_MARK: [u8; 5] = [0x43, 0x49, 0x52, 0x00, 0x01];
 /// The mark and version of a batch (C-16).
 pub const BATCH_MARK: [u8; 5] = [0x42, 0x41, 0x54, 0x00, 0x01];
 
@@ -11,14 +10,29 @@ pub const RULE_BYTES_MAX: usize = 4096;
 pub const VARIABLES_MIN: usize = 1;
 pub const VARIABLES_MAX: usize = 32;
 pub const EXPRESSION_DEPTH_MAX: usize = 8;
-pub const IF_DEPTH_MAX: usize = 6;
 
 pub const GATES_MAX: usize = 256;
-pub const CONDITIONS_MAX: usize = 6;
 /// One setting for each way of giving every condition 0 or 1.
-pub const SETTINGS: usize = 1 << CONDITIONS_MAX;
-/// A guard's table has one bit for each setting.
-pub const TABLE_BYTES: usize = SETTINGS / 8;
+pub const SETTINGS: usize = 1 << LIMITS.conditions;
+
+/// What rows 8 and 11 look at, which C-17 moved.
+#[derive(Clone, Copy, Debug, PartialEq, Eq)]
+pub struct Limits {
+    pub conditions: usize,
+    /// How deep ifs nest.
+    pub ifs: usize,
+}
+
+/// C-17's.
+pub const LIMITS: Limits = Limits {
+    conditions: 8,
+    ifs: 8,
+};
+/// Those of before C-17. No operation looks at them: what was stored before is made by them still.
+pub const LIMITS_BEFORE: Limits = Limits {
+    conditions: 6,
+    ifs: 6,
+};
 
 pub const PLAN_BYTES_MIN: usize = 9;
 pub const PLAN_BYTES_MAX: usize = 1024;
@@ -30,6 +44,41 @@ pub const NO_WIRE: usize = 0xFFFF;
 /// Mark, version, V and wire count.
 pub const CIRCUIT_BYTES_MIN: usize = 8;
 pub const CIRCUIT_BYTES_MAX: usize = 16_384;
+pub const CIRCUIT_MARK: [u8; 3] = [0x43, 0x49, 0x52];
+
+/// A version of circuit files, with its guards' size (C-17).
+#[derive(Clone, Copy, Debug, PartialEq, Eq)]
+pub struct Version {
+    pub bytes: [u8; 2],
+    pub guard_wires_max: usize,
+}
+
+impl Version {
+    /// A guard's table has one bit for each setting of as many wires as it can have.
+    pub const fn table_bits(self) -> usize {
+        1 << self.guard_wires_max
+    }
+
+    pub const fn table_bytes(self) -> usize {
+        self.table_bits() / 8
+    }
+
+    pub fn of_bytes(bytes: &[u8]) -> Option<Version> {
+        VERSIONS.into_iter().find(|version| version.bytes == bytes)
+    }
+}
+
+/// Document 01's, which is read still.
+pub const VERSION_1: Version = Version {
+    bytes: [0x00, 0x01],
+    guard_wires_max: 6,
+};
+/// C-17's, which is written.
+pub const VERSION_2: Version = Version {
+    bytes: [0x00, 0x02],
+    guard_wires_max: 8,
+};
+pub const VERSIONS: [Version; 2] = [VERSION_1, VERSION_2];
 
 // Codes of statements.
 pub const CLOSE: u8 = 0x00;

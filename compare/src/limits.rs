@@ -1,12 +1,14 @@
-//! Fixed cases at the limits of document 01, of C-11, C-13 and C-15: its examples, every refusal, every limit, for every
+//! Fixed cases at the limits of document 01, of C-11, C-13, C-15 and C-17: its examples, every refusal, every limit, for every
 //! operation. Rules, plans and circuits are put together from their parts. The number that a case must come to is
 //! written beside it, from the document, and looked at when the case is added; only the cases of
 //! `reading` and the empty plans of refused rules have none.
 
 mod arguments;
 mod batches;
+mod before;
 mod circles;
 mod circuits;
+mod eight;
 mod empty;
 mod examples;
 mod groups;
@@ -20,13 +22,15 @@ mod rows;
 mod turned;
 mod working;
 
-use crate::answer::Answer;
 use crate::batch_cases;
-use crate::circuit::accept;
+use crate::circuit::{accept, accept_within};
+use crate::generate::conditions::Conditions;
 use crate::generate::group_order::in_order;
 use crate::generate::plans::bytes_of;
 use crate::law::*;
+use crate::plan::accept_both;
 use crate::stream::{Case, CHECK, DIRECT, FUSED, PLAIN, READ, WRITE};
+use crate::write::fuse;
 use std::collections::HashSet;
 
 /// The fixed cases of operations 01 to 06, each once, in the order of the stored stream.
@@ -35,10 +39,8 @@ pub fn cases() -> Vec<Case> {
 }
 
 fn rules() -> List {
-    let mut list = List {
-        cases: reading::cases(),
-        ..List::default()
-    };
+    let mut list = List::of(Conditions::Six);
+    list.cases = reading::cases();
     examples::add(&mut list);
     layout::add(&mut list);
     rows::add(&mut list);
@@ -53,9 +55,13 @@ fn rules() -> List {
 
 /// The fixed cases of operations 07 to 09, each once. They come after all that was stored before them.
 pub fn circuit_cases() -> Vec<Case> {
-    let mut list = List::default();
+    each_once(circuits().cases)
+}
+
+fn circuits() -> List {
+    let mut list = List::of(Conditions::Six);
     circuits::add(&mut list);
-    each_once(list.cases)
+    list
 }
 
 /// The fixed cases of C-13, over all operations, each once. They come after all that was stored before them.
@@ -64,7 +70,7 @@ pub fn working_cases() -> Vec<Case> {
 }
 
 fn working() -> List {
-    let mut list = List::default();
+    let mut list = List::of(Conditions::Six);
     working::add(&mut list);
     list
 }
@@ -72,15 +78,38 @@ fn working() -> List {
 /// The fixed cases of C-15, and those of before whose groups stood in another order once more with them in order; each
 /// once, and none that was there before. They come after all that was stored before them.
 pub fn ordered_cases() -> Vec<Case> {
-    let mut list = List::default();
-    groups::add(&mut list);
+    let mut list = ordered();
     let [mut rules, mut working] = [rules(), working()];
     list.cases.append(&mut rules.in_order);
     list.cases.append(&mut working.in_order);
-    let mut all = each_once([rules.cases, working.cases].concat());
-    let before = all.len();
-    all.append(&mut list.cases);
-    each_once(all).split_off(before)
+    behind(&[rules, working], list.cases)
+}
+
+fn ordered() -> List {
+    let mut list = List::of(Conditions::Six);
+    groups::add(&mut list);
+    list
+}
+
+/// The fixed cases of C-17, over all operations, and those of writing of before once more with rooms for files of version 2;
+/// each once, and none that was there before. They come after all that was stored before them.
+pub fn eight_cases() -> Vec<Case> {
+    let mut list = List::of(Conditions::Eight);
+    eight::add(&mut list);
+    let mut before = [rules(), circuits(), working(), ordered()];
+    for moved in before.iter_mut().flat_map(|list| list.moved.drain(..)) {
+        list.add(moved.0, moved.1);
+    }
+    behind(&before, list.cases)
+}
+
+/// The cases that are none of those before, each once.
+fn behind(before: &[List], mut cases: Vec<Case>) -> Vec<Case> {
+    let before = before.iter().flat_map(|list| list.cases.clone());
+    let mut all = each_once(before.collect());
+    let count = all.len();
+    all.append(&mut cases);
+    each_once(all).split_off(count)
 }
 
 /// The batches of C-16, fixed and random ones, each with the size of its pieces, in the order of the stored stream.
@@ -128,16 +157,29 @@ fn inputs_of(kinds: &[Kind], turn: usize) -> Vec<u32> {
     kinds.iter().enumerate().map(one).collect()
 }
 
-#[derive(Default)]
 struct List {
     cases: Vec<Case>,
+    /// Whether the cases are those of before C-17.
+    conditions: Conditions,
     /// Whether the cases that are added have the groups of their plan in another order.
     turned: bool,
     /// Those cases with the groups in order.
     in_order: Vec<Case>,
+    /// Cases of writing with the room that C-17 moves them to, and their numbers.
+    moved: Vec<(Case, u8)>,
 }
 
 impl List {
+    fn of(conditions: Conditions) -> List {
+        List {
+            cases: Vec::new(),
+            conditions,
+            turned: false,
+            in_order: Vec::new(),
+            moved: Vec::new(),
+        }
+    }
+
     #[track_caller]
     fn add(&mut self, case: Case, wanted: u8) {
         let wanted = self.as_it_stands(&case, wanted);
@@ -232,7 +274,8 @@ impl List {
     /// A rule and a plan of which one is refused: checked, written and run.
     #[track_caller]
     fn with_plan(&mut self, rule: &[u8], plan: &[u8], wanted: u8) {
-        let inputs = inputs(rule, 1);
+        let accepted = accept_within(rule, self.conditions.limits());
+        let inputs = accepted.map_or(Vec::new(), |accepted| inputs_of(&accepted.rule.kinds(), 1));
         self.check(rule, plan, wanted);
         self.write(rule, plan, CIRCUIT_BYTES_MAX, wanted);
         self.fused(rule, plan, &inputs, inputs.len() + 1, wanted);
@@ -274,18 +317,17 @@ impl List {
 
     /// How long the circuit file is, groups in order; 0 for a refused one.
     fn length(&self, rule: &[u8], plan: &[u8]) -> usize {
-        self.written(rule, plan).0.bytes
+        self.file(rule, plan).len()
     }
 
-    /// What writing answers and prints, groups in order, with all the room there can be.
-    fn written(&self, rule: &[u8], plan: &[u8]) -> (Answer, String) {
-        let case = Case {
-            operation: WRITE,
-            room: u16::MAX,
-            first: rule.to_vec(),
-            second: in_order(plan),
-            ..Case::default()
-        };
-        case.work().expect("an operation that is built")
+    /// The circuit file, groups in order, empty for a refused one. Before C-17 it was of version 1.
+    fn file(&self, rule: &[u8], plan: &[u8]) -> Vec<u8> {
+        match accept_both(rule, &in_order(plan)) {
+            Ok((accepted, plan)) => {
+                let fused = fuse(&accepted.circuit, &plan);
+                fused.file_of(self.conditions.written())
+            }
+            Err(_) => Vec::new(),
+        }
     }
 }

@@ -48,6 +48,11 @@ impl Rule {
 
 /// Reads a rule by rows 1 to 9 only. Rows 10 and 11 speak of the circuit: see `circuit::accept`.
 pub fn read(bytes: &[u8]) -> Result<Rule, Refusal> {
+    read_within(bytes, LIMITS)
+}
+
+/// The same where ifs nest as deep as these limits let them.
+pub fn read_within(bytes: &[u8], limits: Limits) -> Result<Rule, Refusal> {
     if bytes.len() < RULE_BYTES_MIN || bytes.len() > RULE_BYTES_MAX {
         return Err(Refusal::nowhere(1));
     }
@@ -55,6 +60,7 @@ pub fn read(bytes: &[u8]) -> Result<Rule, Refusal> {
         bytes,
         at: 0,
         variables: Vec::new(),
+        limits,
     };
     reader.mark()?;
     reader.kind_bytes()?;
@@ -73,6 +79,7 @@ struct Reader<'a> {
     /// The place of the byte wanted next.
     at: usize,
     variables: Vec<Variable>,
+    limits: Limits,
 }
 
 impl Reader<'_> {
@@ -126,7 +133,7 @@ impl Reader<'_> {
                 }
                 SKIP => statements.push(Statement::Skip),
                 IF => {
-                    if ifs + 1 > IF_DEPTH_MAX {
+                    if ifs + 1 > self.limits.ifs {
                         return Err(Refusal::at(8, place));
                     }
                     let condition = self.expression(Kind::Bit, 1)?;

@@ -71,7 +71,7 @@ fn figure(record: &Record, kind: Kind, inputs: &[u32], earlier: &[u32]) -> u32 {
         Record::Guard(wires, table) => {
             let bits = wires.iter().enumerate();
             let j: usize = bits.map(|(t, wire)| (of(wire) as usize) << t).sum();
-            u32::from(table.0[j])
+            u32::from(table.has(j))
         }
     }
 }

@@ -173,6 +173,16 @@ fn gates_text(rule: &[u8]) -> String {
     text
 }
 
+/// All cases of a stream; none if it has another mark or ends inside a case.
+pub fn cases(stream: &[u8]) -> Option<Vec<Case>> {
+    let mut rest = stream.strip_prefix(&STREAM_MARK[..])?;
+    let mut cases = Vec::new();
+    while !rest.is_empty() {
+        cases.push(Case::take(&mut rest)?);
+    }
+    Some(cases)
+}
+
 /// All lines of a stream, handed out one by one. An operation that is not built ends it like a
 /// stream that ends inside a case: nothing says what its line would be.
 pub fn lines(stream: &[u8], mut line: impl FnMut(&str)) {

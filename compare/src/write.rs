@@ -43,7 +43,7 @@ impl Record {
         }
     }
 
-    fn put(&self, file: &mut Vec<u8>) {
+    fn put(&self, version: Version, file: &mut Vec<u8>) {
         match self {
             Record::Input(variable, Kind::Word) => file.extend([WORD_INPUT, *variable as u8]),
             Record::Input(variable, Kind::Bit) => file.extend([BIT_INPUT, *variable as u8]),
@@ -70,8 +70,8 @@ impl Record {
                 file.extend([GUARD, wires.len() as u8]);
                 put_wires(wires, file);
                 // Big-endian: the last byte holds table bits 0 to 7.
-                for byte in (0..TABLE_BYTES).rev() {
-                    let bits = (0..8).filter(|bit| table.0[8 * byte + bit]);
+                for byte in (0..version.table_bytes()).rev() {
+                    let bits = (0..8).filter(|bit| table.has(8 * byte + bit));
                     file.push(bits.map(|bit| 1u8 << bit).sum());
                 }
             }
@@ -98,13 +98,20 @@ impl Fused {
         self.records.iter().map(Record::cost).sum()
     }
 
-    /// The bytes of the circuit file.
+    /// The bytes of the circuit file, as they are written since C-17.
     pub fn file(&self) -> Vec<u8> {
+        self.file_of(VERSION_2)
+    }
+
+    /// The same in another version. Only the fixed cases and the generator make files of version 1; a guard that version
+    /// 1 has no room for loses the table bits from 64 on.
+    pub fn file_of(&self, version: Version) -> Vec<u8> {
         let mut file = CIRCUIT_MARK.to_vec();
+        file.extend(version.bytes);
         file.push(self.outputs.len() as u8);
         file.extend((self.records.len() as u16).to_be_bytes());
         for record in &self.records {
-            record.put(&mut file);
+            record.put(version, &mut file);
         }
         for output in &self.outputs {
             put_wires(&[output.unwrap_or(Wire(NO_WIRE))], &mut file);
@@ -221,7 +228,9 @@ impl Writer<'_> {
                 .enumerate()
                 .map(|(place, &t)| (j >> place & 1) << t)
                 .sum();
-            table.0[j] = needs.0[setting];
+            if needs.has(setting) {
+                table.add(j);
+            }
         }
         self.add(Record::Guard(wires, table))
     }

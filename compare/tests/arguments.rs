@@ -2,8 +2,7 @@
 //! than keep the order written.
 
 use compare::circuit::{accept, make, preconditions, Accepted, Circuit, Gate, GateNumber};
-use compare::generate::group_order::GroupOrder;
-use compare::generate::kinds::Kinds;
+use compare::generate::words::Words;
 use compare::generate::{cases, inputs, plans, rules, Random};
 use compare::law::*;
 use compare::limits::parts::{not, rule, set, two, var, when, word};
@@ -99,7 +98,8 @@ fn a_joined_group_of_two_orders() {
     );
     let file = file_of(&rule, &plan(&rule, &[&[3, 4]]));
     let picks = hex("31 02 00 03 00 01 00 04 00 01 31 02 00 03 00 02 00 04 00 02 22 00 05 00 06");
-    assert_eq!(file[38..38 + picks.len()], picks);
+    // The header, three inputs and two guards of 36 bytes stand before them.
+    assert_eq!(file[86..86 + picks.len()], picks);
 }
 
 /// A gate's number does not rest on the order: arguments are made left to right, then taken.
@@ -115,7 +115,7 @@ fn gates_are_made_left_to_right() {
         [gate(SUM, 0, 1), gate(PRODUCT, 2, 3)][..]
     );
     let file = file_of(&first, &plan(&first, &[]));
-    let wanted = "43 49 52 00 01 03 00 05 00 00 00 01 00 02 20 00 00 00 01 22 00 02 00 03 \
+    let wanted = "43 49 52 00 02 03 00 05 00 00 00 01 00 02 20 00 00 00 01 22 00 02 00 03 \
          00 04 00 01 00 02";
     assert_eq!(file, hex(wanted));
     let second = rule(&kinds, vec![set(0, two(PRODUCT, var(2), sum()))]);
@@ -165,9 +165,9 @@ fn by_gate_and_not_by_wire() {
         let late = vec![when(two(LESS, var(1), var(2)), product, vec![])];
         rule(&kinds, vec![when(var(0), early, late)])
     };
-    let table = "00 00 00 00 00 00 00";
+    let table = "00 ".repeat(31);
     let wanted = format!(
-        "43 49 52 00 01 03 00 0E 01 00 00 01 00 02 20 00 02 00 02 23 00 01 00 02 \
+        "43 49 52 00 02 03 00 0E 01 00 00 01 00 02 20 00 02 00 02 23 00 01 00 02 \
          32 01 00 00 {table} 02 32 02 00 00 00 04 {table} 04 \
          31 02 00 05 00 01 00 06 00 02 31 02 00 05 00 02 00 06 00 02 22 00 07 00 08 \
          20 00 09 00 03 30 00 04 00 09 00 01 30 00 00 00 0A 00 0B 30 00 00 00 03 00 02 \
@@ -256,7 +256,7 @@ fn turned(rule: &Rule) -> Vec<usize> {
 fn only_arguments_of_the_five_move() {
     let mut random = Random::new(12);
     for _ in 0..500 {
-        let rule = accept(&rules::accepted(&mut random, Kinds::Working))
+        let rule = accept(&rules::accepted(&mut random, Words::ALL))
             .unwrap()
             .rule;
         let (made, written) = (make(&rule), as_written(&rule));
@@ -282,7 +282,7 @@ fn the_order_written_does_not_matter() {
     let mut random = Random::new(1201);
     let (mut differing, mut joined) = (0, 0);
     for _ in 0..1000 {
-        let bytes = rules::accepted(&mut random, Kinds::Working);
+        let bytes = rules::accepted(&mut random, Words::ALL);
         let accepted = accept(&bytes).unwrap();
         let block = change(&accepted.rule.block, &mut |expression| match expression {
             Expression::Operation(code, mut arguments)
@@ -338,10 +338,10 @@ fn falls(record: &Record) -> bool {
 fn stored_cases() -> Vec<Case> {
     let (mut one, mut four) = (Random::new(1), Random::new(4));
     let operations: Vec<u8> = (1..=LAST).collect();
-    let ordered = |_| cases::case(&mut four, &operations, Kinds::Working, GroupOrder::Rising);
+    let ordered = |_| cases::case(&mut four, &operations, Words::BEFORE_EIGHT);
     let mut stored: Vec<Case> = (0..2000).map(ordered).collect();
     stored.retain(|case| case.operation <= PLAIN);
-    stored.extend((0..2000).map(|_| cases::rule_case(&mut one, Kinds::Results, GroupOrder::Any)));
+    stored.extend((0..2000).map(|_| cases::rule_case(&mut one, Words::NONE)));
     stored
 }
 

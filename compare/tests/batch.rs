@@ -5,6 +5,7 @@ use compare::batch::{bytes_of, report};
 use compare::batch_cases::{answer_all, Case};
 use compare::examples::{P1, R1};
 use compare::generate::batches;
+use compare::generate::words::Words;
 use compare::generate::Random;
 use compare::limits;
 use compare::month::month;
@@ -269,7 +270,7 @@ fn read_as_it_comes() {
 fn random_batches_read_as_they_come() {
     let mut random = Random::new(3);
     for count in (0..12).cycle().take(200) {
-        let batch = batches::batch(&mut random, count, batches::ANY_SIZE);
+        let batch = batches::batch(&mut random, Words::ALL, count, batches::ANY_SIZE);
         let size = batches::piece_size(&mut random, &batch);
         let case = Case::new(size, &batch);
         assert_eq!(in_pieces(&case), report(&batch), "{size}");

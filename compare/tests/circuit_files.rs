@@ -1,10 +1,11 @@
-//! C-11: circuit files read, shown by record and run; most of them written out byte by byte.
+//! C-11: circuit files read, shown by record and run; most of them written out byte by byte, in version 1. Those of
+//! version 2 are in `tests/eight.rs`.
 
 use compare::answer::Answer;
 use compare::circuit::{accept, preconditions};
 use compare::circuit_file::{self, read_circuit, record};
 use compare::direct;
-use compare::generate::kinds::Kinds;
+use compare::generate::words::Words;
 use compare::generate::{circuits, inputs, plans, rules, Random};
 use compare::law::*;
 use compare::plan::check;
@@ -72,7 +73,7 @@ fn row_60() {
         (2, 0x72),
         (3, 0x01),
         (4, 0x00),
-        (4, 0x02),
+        (4, 0x03),
         (5, 0),
         (5, 33),
         (5, 255),
@@ -110,7 +111,10 @@ fn the_limits_of_row_60() {
     assert_gives(&file, 21, &[1], &[1]);
     file.push(0x00);
     assert_refused(&file, 60);
-    assert_refused(&circuits::at_bytes(&mut Random::new(1), 16_385), 60);
+    for version in VERSIONS {
+        let file = circuits::at_bytes(&mut Random::new(1), version, 16_385);
+        assert_refused(&file, 60);
+    }
 }
 
 #[test]
@@ -305,7 +309,7 @@ fn results_of(rule: &[u8], inputs: &[u32]) -> Vec<u32> {
 fn our_own_files() {
     let mut random = Random::new(11);
     for _ in 0..600 {
-        let rule = rules::accepted(&mut random, Kinds::Working);
+        let rule = rules::accepted(&mut random, Words::ALL);
         let accepted = accept(&rule).unwrap();
         let needs = preconditions(&accepted.circuit);
         let ground = plans::Ground::new(&accepted.circuit, &needs);
@@ -355,12 +359,13 @@ fn files_of_other_houses() {
     let mut random = Random::new(12);
     let (mut most_wires, mut most_bytes) = (0, 0);
     for _ in 0..600 {
-        let circuit = circuits::foreign(&mut random, Kinds::Working);
-        let file = circuit.file();
+        let made = circuits::foreign(&mut random, Words::ALL);
+        let file = made.file();
         let read = circuit_file::accept(&file).expect("a good file");
-        assert_eq!(read.circuit, circuit);
-        assert_parts(&file, circuit.outputs.len());
-        most_wires = most_wires.max(circuit.records.len());
+        assert_eq!(read.circuit, made.circuit);
+        assert_eq!(read.version, made.version);
+        assert_parts(&file, made.circuit.outputs.len());
+        most_wires = most_wires.max(made.circuit.records.len());
         most_bytes = most_bytes.max(file.len());
     }
     assert_eq!((most_wires, most_bytes), (WIRES_MAX, CIRCUIT_BYTES_MAX));
@@ -372,7 +377,7 @@ fn any_bytes() {
     let mut random = Random::new(13);
     for turn in 0..3000 {
         let file = match turn % 3 {
-            0 => circuits::damaged(&mut random, Kinds::Working),
+            0 => circuits::damaged(&mut random, Words::ALL),
             1 => (0..random.below(60)).map(|_| random.any() as u8).collect(),
             _ => {
                 let mut file = cir("02 00 09");

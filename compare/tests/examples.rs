@@ -61,12 +61,13 @@ fn example_1_circuit_of_r1() {
     assert_eq!(circuit.outputs, [0, 5, 2].map(|gate| Some(n(gate))));
     assert_eq!(circuit.conditions, vec![n(0)]);
     let needs: Vec<String> = preconditions(&circuit).iter().map(|s| s.hex()).collect();
-    assert_eq!(needs[3], "AAAAAAAAAAAAAAAA");
-    assert_eq!(needs[4], "5555555555555555");
+    // The patterns go on over 256 bits (C-17).
+    assert_eq!(needs[3], "A".repeat(64));
+    assert_eq!(needs[4], "5".repeat(64));
     for always in [0, 2, 5] {
-        assert_eq!(needs[always], "FFFFFFFFFFFFFFFF");
+        assert_eq!(needs[always], "F".repeat(64));
     }
-    assert_eq!(needs[1], "AAAAAAAAAAAAAAAA");
+    assert_eq!(needs[1], "A".repeat(64));
     assert_eq!(read_rule(&R1), Answer::of_plain(6, 33));
 }
 
@@ -101,26 +102,36 @@ fn example_2_direct_runs() {
 
 #[test]
 fn example_3_the_whole_file() {
-    let file = hex("43 49 52 00 01 03 00 09 01 00 00 01 00 02 \
-         32 01 00 00 00 00 00 00 00 00 00 02 32 01 00 00 00 00 00 00 00 00 00 01 \
-         31 02 00 03 00 01 00 04 00 02 31 02 00 03 00 02 00 04 00 02 \
-         22 00 05 00 06 30 00 00 00 07 00 07 00 00 00 08 00 02");
-    assert_eq!(file.len(), 76);
-    let done = Answer::of_fused(6, 9, 76, 33, 28);
-    for room in [76, 77, 100] {
+    // Document 01's bytes, and those of version 2 (C-17): 24 more in each table.
+    let of = |version: &str, more: &str| {
+        hex(&format!(
+            "43 49 52 {version} 03 00 09 01 00 00 01 00 02 \
+             32 01 00 00 {more} 00 00 00 00 00 00 00 02 32 01 00 00 {more} 00 00 00 00 00 00 00 01 \
+             31 02 00 03 00 01 00 04 00 02 31 02 00 03 00 02 00 04 00 02 \
+             22 00 05 00 06 30 00 00 00 07 00 07 00 00 00 08 00 02"
+        ))
+    };
+    let before = of("00 01", "");
+    let file = of("00 02", &"00 ".repeat(24));
+    assert_eq!((before.len(), file.len()), (76, 124));
+    let done = Answer::of_fused(6, 9, 124, 33, 28);
+    for room in [124, 125, 200] {
         let mut buffer = vec![0xEE; room];
         assert_eq!(write::write(&R1, &P1, &mut buffer), done);
-        assert_eq!(buffer[..76], file);
-        assert!(buffer[76..].iter().all(|&byte| byte == 0xEE));
+        assert_eq!(buffer[..124], file);
+        assert!(buffer[124..].iter().all(|&byte| byte == 0xEE));
     }
-    let mut buffer = [0xEE; 75];
+    let mut buffer = [0xEE; 123];
     assert_eq!(write::write(&R1, &P1, &mut buffer), refused(50, 0));
-    assert_eq!(buffer, [0xEE; 75]);
+    assert_eq!(buffer, [0xEE; 123]);
 
-    for (inputs, wanted) in [([1, 6, 7], [1, 42, 7]), ([0, 6, 7], [0, 49, 7])] {
-        let mut results = [UNTOUCHED; 3];
-        let answer = run::run_circuit(&file, &inputs, &mut results);
-        assert_eq!((answer, results), (Answer::of_file(9, 76), wanted));
+    for file in [&before, &file] {
+        for (inputs, wanted) in [([1, 6, 7], [1, 42, 7]), ([0, 6, 7], [0, 49, 7])] {
+            let mut results = [UNTOUCHED; 3];
+            let answer = run::run_circuit(file, &inputs, &mut results);
+            let done = Answer::of_file(9, file.len());
+            assert_eq!((answer, results), (done, wanted));
+        }
     }
     let mut results = [UNTOUCHED; 4];
     assert_eq!(run::run(&R1, &P1, &[1, 6, 7], &mut results), done);
@@ -213,8 +224,8 @@ fn example_6_a_joined_gate_waits_for_its_conditions() {
 /// is written after a later gate since it waits for it.
 #[test]
 fn example_6_the_files() {
-    let table = "00 00 00 00 00 00 00";
-    let head = "43 49 52 00 01 04 00 0E 01 00 00 01 00 02 01 03";
+    let table = "00 ".repeat(31);
+    let head = "43 49 52 00 02 04 00 0E 01 00 00 01 00 02 01 03";
     let products = format!(
         "{head} 23 00 01 00 02 32 01 00 00 {table} 02 32 02 00 00 00 04 {table} 04 \
          31 02 00 05 00 01 00 06 00 01 31 02 00 05 00 01 00 06 00 02 22 00 07 00 08 \

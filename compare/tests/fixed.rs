@@ -1,6 +1,7 @@
 //! The fixed cases of `make_limits`: every number comes often enough, and the largest are there.
 
 use compare::counts::Counts;
+use compare::law::CIRCUIT_BYTES_MAX;
 use compare::limits;
 use compare::stream::{
     Case, CHECK, DIRECT, FUSED, LAST, PLAIN, READ, READ_CIRCUIT, RECORD, RUN_CIRCUIT, WRITE,
@@ -8,9 +9,9 @@ use compare::stream::{
 
 #[test]
 fn every_number_comes() {
-    let cases = limits::cases();
     let mut counts = Counts::default();
-    for case in &cases {
+    // Those of 11 among the first are accepted since C-17.
+    for case in limits::cases().iter().chain(&limits::eight_cases()) {
         counts.count(case);
     }
     let of = |number: u8, operation: u8| {
@@ -102,6 +103,32 @@ fn every_number_of_working_variables_comes() {
     assert!(of(50, WRITE) >= 100);
 }
 
+/// Those of C-17 are over all operations, and reach every number that it moves, and files near the longest.
+#[test]
+fn every_number_of_eight_conditions_comes() {
+    let cases = limits::eight_cases();
+    let mut counts = Counts::default();
+    for case in &cases {
+        counts.count(case);
+    }
+    let of = |number: u8, operation: u8| counts.by_number[&number][usize::from(operation)];
+    for operation in READ..=PLAIN {
+        assert!(of(0, operation) >= 40, "operation {operation:02X}");
+        assert!(of(8, operation) >= 10 && of(11, operation) >= 10);
+    }
+    for operation in [READ_CIRCUIT, RECORD, RUN_CIRCUIT] {
+        assert!(of(0, operation) >= 500, "operation {operation:02X}");
+        assert!([60, 61, 62].iter().all(|&row| of(row, operation) >= 50));
+    }
+    assert!(of(50, WRITE) >= 500);
+    let sizes = |operation: u8| {
+        let of = cases.iter().filter(move |case| case.operation == operation);
+        of.filter_map(Case::work).map(|(answer, _)| answer.bytes)
+    };
+    assert_eq!(sizes(WRITE).max(), Some(15_387));
+    assert_eq!(sizes(RUN_CIRCUIT).max(), Some(CIRCUIT_BYTES_MAX));
+}
+
 /// Those of C-15 reach 32 often, every row beside it, and 26 before it.
 #[test]
 fn every_number_of_group_orders_comes() {
@@ -112,10 +139,11 @@ fn every_number_of_group_orders_comes() {
     let of = |number: u8, operation: u8| counts.by_number[&number][usize::from(operation)];
     for operation in [CHECK, WRITE, FUSED] {
         assert!(of(32, operation) >= 150 && of(26, operation) >= 30);
-        assert!(of(0, operation) >= 30);
+        // Since C-17 most rooms for files of version 1 are too short.
+        assert!(of(0, operation) >= 30 || operation == WRITE);
         for row in 20..=30 {
             assert!(of(row, operation) >= 2, "{row} by {operation:02X}");
         }
     }
-    assert!(of(50, WRITE) >= 30);
+    assert!(of(50, WRITE) >= 60);
 }

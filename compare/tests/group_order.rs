@@ -5,7 +5,7 @@ use compare::answer::Answer;
 use compare::circuit::{accept, preconditions, read_rule};
 use compare::examples::{P1, R1, R2, R7};
 use compare::generate::group_order::{in_order, turn, GroupOrder};
-use compare::generate::kinds::Kinds;
+use compare::generate::words::Words;
 use compare::generate::{plans, rules, Random};
 use compare::law::*;
 use compare::limits::parts::{rule, set, two, var, when};
@@ -181,7 +181,7 @@ fn the_largest_plan() {
 /// An accepted rule and the groups of an accepted plan for it, of two groups or more.
 fn grouped(random: &mut Random) -> (Vec<u8>, plans::Groups) {
     loop {
-        let bytes = rules::accepted(random, Kinds::Working);
+        let bytes = rules::accepted(random, Words::ALL);
         let circuit = accept(&bytes).unwrap().circuit;
         let needs = preconditions(&circuit);
         let plan = plans::valid(random, &plans::Ground::new(&circuit, &needs));

@@ -29,8 +29,14 @@ fn example_10_limits() {
         );
         bytes_of(&Rule::of_results(&[Kind::Word], vec![one; count]))
     };
-    assert_eq!(read_rule(&ifs(6)), Answer::of_plain(13, 6 * 43));
-    assert_eq!(read_rule(&ifs(7)), refused(11, ifs(7).len()));
+    // Eight accepted, nine 11 (C-17).
+    for count in [6, 7, 8] {
+        let done = Answer::of_plain(1 + 2 * count, count * 43);
+        assert_eq!(read_rule(&ifs(count)), done);
+    }
+    for count in [9, 10, 17] {
+        assert_eq!(read_rule(&ifs(count)), refused(11, ifs(count).len()));
+    }
 
     let deep = |depth: usize| {
         let mut value = Expression::Variable(0);
@@ -123,6 +129,7 @@ fn the_good_rule_is_what_it_should_be() {
 /// A bit and a pick of it: operations 07, 08 for every wire and one more, 09, and a refused file.
 fn circuit_stream() -> Vec<u8> {
     let mut file = CIRCUIT_MARK.to_vec();
+    file.extend(VERSION_2.bytes);
     file.extend([1, 0, 2, 0x01, 0, 0x31, 1, 0, 0, 0, 0, 0, 1]);
     let mut stream = STREAM_MARK.to_vec();
     for (operation, number, room, length) in [
@@ -184,25 +191,30 @@ fn the_stream_of_conformance() {
         (2, 3),
         (2, 2),
         (3, 0),
-        (4, 80),
-        (4, 75),
+        (4, 128),
+        (4, 123),
         (5, 4),
         (6, 0),
     ] {
         case(operation, room).put(&mut stream);
     }
+    let table = "00".repeat(31);
+    let [always, first, second] = ["F", "A", "5"].map(|digit| digit.repeat(64));
     let wanted = [
         "0 0 6 0 0 33 0",
         "0 0 6 0 0 33 0 | 1 42 7",
         "42 0 0 0 0 0 0 | 3735928559 3735928559",
         "0 0 6 0 0 33 0",
-        "0 0 6 9 76 33 28 | 4349520001030009010000010002320100000000000000000002320100000000000000000001\
-         3102000300010004000231020003000200040002220005000630000000070007000000080002 4",
-        "50 0 0 0 0 0 0 | - 75",
-        "0 0 6 9 76 33 28 | 1 42 7 3735928559",
-        "0 0 6 0 0 33 0 | 01.0.0.0.FFFFFFFFFFFFFFFF 00.1.0.0.AAAAAAAAAAAAAAAA \
-         00.2.0.0.FFFFFFFFFFFFFFFF 22.1.2.0.AAAAAAAAAAAAAAAA 22.2.2.0.5555555555555555 \
-         30.0.3.4.FFFFFFFFFFFFFFFF",
+        &format!(
+            "0 0 6 9 124 33 28 | 434952000203000901000001000232010000{table}0232010000{table}01\
+             3102000300010004000231020003000200040002220005000630000000070007000000080002 4"
+        ),
+        "50 0 0 0 0 0 0 | - 123",
+        "0 0 6 9 124 33 28 | 1 42 7 3735928559",
+        &format!(
+            "0 0 6 0 0 33 0 | 01.0.0.0.{always} 00.1.0.0.{first} 00.2.0.0.{always} \
+             22.1.2.0.{first} 22.2.2.0.{second} 30.0.3.4.{always}"
+        ),
     ];
     let wanted = wanted.map(String::from);
     assert_eq!(print(&stream), wanted);

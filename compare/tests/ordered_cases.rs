@@ -1,7 +1,7 @@
 //! What C-15 stores: the cases of before stay as they were, and the new ones have what they are made for.
 
 use compare::generate::group_order::{in_order, GroupOrder};
-use compare::generate::kinds::Kinds;
+use compare::generate::words::Words;
 use compare::generate::{cases, Random};
 use compare::limits;
 use compare::plan::check_plan;
@@ -20,7 +20,11 @@ fn mark_of(cases: impl Iterator<Item = Case>) -> u64 {
 fn random_cases(seed: u64, order: GroupOrder) -> impl Iterator<Item = Case> {
     let mut random = Random::new(seed);
     let operations: Vec<u8> = (1..=LAST).collect();
-    std::iter::repeat_with(move || cases::case(&mut random, &operations, Kinds::Working, order))
+    let words = Words {
+        order,
+        ..Words::BEFORE_EIGHT
+    };
+    std::iter::repeat_with(move || cases::case(&mut random, &operations, words))
 }
 
 /// What C-13 stored is made as it was then; `tests/working.rs` has what was stored before it.

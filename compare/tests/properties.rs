@@ -1,8 +1,10 @@
 //! What holds for every accepted rule, plan and inputs, tried on many random ones.
 
 use compare::circuit::{accept, preconditions};
+use compare::generate::conditions::Conditions;
 use compare::generate::group_order::GroupOrder;
 use compare::generate::kinds::Kinds;
+use compare::generate::words::Words;
 use compare::generate::{cases, damage, inputs, plans, rules, Random};
 use compare::law::*;
 use compare::plan::{accept_both, check};
@@ -17,7 +19,7 @@ fn the_fused_circuit_gives_what_the_rule_gives() {
     let mut random = Random::new(2026);
     let (mut joined, mut most_wires, mut most_bytes, mut widest) = (0, 0, 0, 0);
     for _ in 0..1500 {
-        let bytes = rules::accepted(&mut random, Kinds::Working);
+        let bytes = rules::accepted(&mut random, Words::ALL);
         let accepted = accept(&bytes).ok().unwrap();
         let needs = preconditions(&accepted.circuit);
         let ground = plans::Ground::new(&accepted.circuit, &needs);
@@ -31,7 +33,7 @@ fn the_fused_circuit_gives_what_the_rule_gives() {
             assert!(record.reads().iter().all(|read| read.0 < wire));
             if let Record::Guard(wires, table) = record {
                 widest = widest.max(wires.len());
-                assert!(!table.0[1 << wires.len()..].contains(&true));
+                assert!((1 << wires.len()..SETTINGS).all(|j| !table.has(j)));
             }
             picks += usize::from(matches!(record, Record::Pick(_)));
         }
@@ -62,7 +64,7 @@ fn the_fused_circuit_gives_what_the_rule_gives() {
     // The generator reaches what it should.
     assert!(joined > 700, "only {joined} with joins");
     assert!(most_wires > 600, "at most {most_wires} wires");
-    assert!(widest >= 4, "guards of at most {widest} conditions");
+    assert_eq!(widest, LIMITS.conditions, "conditions of a guard");
     println!("{joined} joined, {most_wires} wires, {most_bytes} bytes, guards over {widest}");
 }
 
@@ -86,7 +88,7 @@ fn one_guard_at_most(circuit: &Fused, inputs: &[u32]) -> bool {
 fn plain_circuits_are_in_order() {
     let mut random = Random::new(7);
     for _ in 0..500 {
-        let circuit = accept(&rules::accepted(&mut random, Kinds::Working))
+        let circuit = accept(&rules::accepted(&mut random, Words::ALL))
             .ok()
             .unwrap()
             .circuit;
@@ -94,7 +96,7 @@ fn plain_circuits_are_in_order() {
             assert!(gate.arguments().iter().all(|a| a.0 < number));
         }
         for needs in preconditions(&circuit) {
-            for t in circuit.conditions.len()..CONDITIONS_MAX {
+            for t in circuit.conditions.len()..LIMITS.conditions {
                 assert!(!needs.rests_on(t));
             }
         }
@@ -106,7 +108,7 @@ fn plain_circuits_are_in_order() {
 fn reading_takes_any_bytes() {
     let mut random = Random::new(11);
     for _ in 0..20_000 {
-        let rule = rules::tree(&mut random);
+        let rule = rules::tree(&mut random, LIMITS);
         let mut bytes = bytes_of(&Kinds::Working.give(&mut random, rule));
         for _ in 0..random.below(4) {
             damage(&mut random, &mut bytes, 0);
@@ -134,18 +136,24 @@ fn reading_takes_any_bytes() {
 fn every_number_is_reached() {
     for kinds in [Kinds::Results, Kinds::Working] {
         for order in [GroupOrder::Any, GroupOrder::Rising] {
-            reaches_every_number(kinds, order);
+            for conditions in [Conditions::Six, Conditions::Eight] {
+                reaches_every_number(Words {
+                    kinds,
+                    order,
+                    conditions,
+                });
+            }
         }
     }
 }
 
-fn reaches_every_number(kinds: Kinds, order: GroupOrder) {
+fn reaches_every_number(words: Words) {
     let mut random = Random::new(3);
     let mut bytes = stream::STREAM_MARK.to_vec();
     let operations: Vec<u8> = (1..=stream::LAST).collect();
     let count = 3000;
     for _ in 0..count {
-        cases::case(&mut random, &operations, kinds, order).put(&mut bytes);
+        cases::case(&mut random, &operations, words).put(&mut bytes);
     }
     let mut numbers = vec![0; 63];
     let mut printed = 0;

@@ -5,8 +5,8 @@ use compare::answer::Answer;
 use compare::circuit::{accept, preconditions, read_rule, Accepted, Settings};
 use compare::circuit_file::{self, read_circuit, record};
 use compare::examples::{P1, R1, R2, R8};
-use compare::generate::group_order::GroupOrder;
 use compare::generate::kinds::Kinds;
+use compare::generate::words::Words;
 use compare::generate::{cases, inputs, plans, rules, Random};
 use compare::law::*;
 use compare::plan::{check, check_plan};
@@ -119,8 +119,8 @@ fn needs_of(rule: &[u8]) -> Vec<String> {
 /// R1: the products are there for v1 alone. The other variables' last gates are their starting values.
 #[test]
 fn needed_gates_of_r1() {
-    let (all, none) = ("FFFFFFFFFFFFFFFF", "0000000000000000");
-    let (first, second) = ("AAAAAAAAAAAAAAAA", "5555555555555555");
+    let patterns = ["F", "0", "A", "5"].map(|digit| digit.repeat(64));
+    let [all, none, first, second] = patterns.each_ref().map(String::as_str);
     for mask in 0..8 {
         let needs = needs_of(&working(&R1, mask));
         if mask & 0b010 == 0 {
@@ -135,9 +135,10 @@ fn needed_gates_of_r1() {
 /// R1 with P1 in full. Guards of gates that nothing needs have no wire and an empty table.
 #[test]
 fn files_of_r1() {
-    let head = "43 49 52 00 01 03 00 09 01 00 00 01 00 02";
-    let guards = "32 01 00 00 00 00 00 00 00 00 00 02 32 01 00 00 00 00 00 00 00 00 00 01";
-    let unneeded = "32 00 00 00 00 00 00 00 00 00 32 00 00 00 00 00 00 00 00 00";
+    let head = "43 49 52 00 02 03 00 09 01 00 00 01 00 02";
+    let zeros = "00 ".repeat(31);
+    let guards = &format!("32 01 00 00 {zeros} 02 32 01 00 00 {zeros} 01");
+    let unneeded = &format!("32 00 {zeros} 00 32 00 {zeros} 00");
     let rest = "31 02 00 03 00 01 00 04 00 02 31 02 00 03 00 02 00 04 00 02 22 00 05 00 06 \
          30 00 00 00 07 00 07";
     for (mask, guards, outputs) in [
@@ -209,7 +210,7 @@ fn all_variables_work() {
     let mut random = Random::new(131);
     let mut joined = 0;
     for _ in 0..300 {
-        let rule = working(&rules::accepted(&mut random, Kinds::Results), usize::MAX);
+        let rule = working(&rules::accepted(&mut random, Words::NONE), usize::MAX);
         let Accepted { circuit, .. } = accept(&rule).unwrap();
         let needs = preconditions(&circuit);
         assert!(needs.iter().all(|needs| *needs == Settings::none()));
@@ -294,15 +295,16 @@ fn beside_results() {
     let mut random = Random::new(13);
     let (mut some, mut fewer) = (0, 0);
     for _ in 0..1000 {
-        let bytes = rules::accepted(&mut random, Kinds::Working);
+        let bytes = rules::accepted(&mut random, Words::ALL);
         let Accepted { rule, circuit } = accept(&bytes).unwrap();
         let results = as_results(&rule);
         let other = accept(&bytes_of(&results)).unwrap();
         assert_eq!(read_rule(&bytes), other.answer());
         assert_eq!(circuit.gates, other.circuit.gates);
         let (needs, all) = (preconditions(&circuit), preconditions(&other.circuit));
-        let within =
-            |(needs, all): (&Settings, &Settings)| (0..SETTINGS).all(|j| all.0[j] || !needs.0[j]);
+        let within = |(needs, all): (&Settings, &Settings)| {
+            (0..SETTINGS).all(|j| all.has(j) || !needs.has(j))
+        };
         assert!(needs.iter().zip(&all).all(within));
         let works = rule.variables.iter().any(|variable| variable.working);
         some += usize::from(works);
@@ -326,8 +328,7 @@ fn beside_results() {
 fn files_of_rules_with_working_variables() {
     let mut random = Random::new(132);
     for _ in 0..500 {
-        let Accepted { rule, circuit } =
-            accept(&rules::accepted(&mut random, Kinds::Working)).unwrap();
+        let Accepted { rule, circuit } = accept(&rules::accepted(&mut random, Words::ALL)).unwrap();
         let needs = preconditions(&circuit);
         let plan = plans::valid(&mut random, &plans::Ground::new(&circuit, &needs));
         let fused = fuse(&circuit, &check(&circuit, needs, &plan).unwrap());
@@ -358,7 +359,11 @@ fn mark_of(cases: impl Iterator<Item = Case>) -> u64 {
 
 fn random_cases(seed: u64, operations: &[u8], kinds: Kinds) -> impl Iterator<Item = Case> + '_ {
     let mut random = Random::new(seed);
-    std::iter::repeat_with(move || cases::case(&mut random, operations, kinds, GroupOrder::Any))
+    let words = Words {
+        kinds,
+        ..Words::NONE
+    };
+    std::iter::repeat_with(move || cases::case(&mut random, operations, words))
 }
 
 /// What was stored before C-13 is made as it was then.

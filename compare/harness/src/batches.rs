@@ -5,6 +5,7 @@
 use compare::batch::{report, REFUSED};
 use compare::batch_cases::Case;
 use compare::generate::batches::{batch, boundaries, piece_size, ANY_SIZE};
+use compare::generate::words::Words;
 use compare::generate::Random;
 use std::io::{self, BufRead, Write};
 
@@ -21,7 +22,7 @@ pub fn cases(seed: u64, batches: u64) -> impl Iterator<Item = Case> {
             true => (random.below(5), random.pick(&[60, 90, 120])),
             false => (random.below(13), random.pick(&[400, 2000, ANY_SIZE])),
         };
-        let batch = batch(&mut random, count, most);
+        let batch = batch(&mut random, Words::ALL, count, most);
         of_batch(&mut random, &batch)
     })
 }

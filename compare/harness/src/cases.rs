@@ -3,8 +3,7 @@
 use crate::differ::differences;
 use crate::tool::Tool;
 use compare::counts::ByOperation;
-use compare::generate::group_order::GroupOrder;
-use compare::generate::kinds::Kinds;
+use compare::generate::words::Words;
 use compare::generate::{cases, Random};
 use compare::stream::{Case, LAST};
 use std::collections::BTreeMap;
@@ -49,7 +48,7 @@ fn block(tools: &[&dyn Tool], seed: u64, block: u64, count: u64) -> Tally {
     let operations: Vec<u8> = (1..=LAST).collect();
     let mut tally = Tally::default();
     for _ in 0..count {
-        let case = cases::case(&mut random, &operations, Kinds::Working, GroupOrder::Rising);
+        let case = cases::case(&mut random, &operations, Words::ALL);
         let (answer, differs) = differences(tools, &case);
         let by = tally.counts.entry(answer.number).or_default();
         by[usize::from(case.operation)] += 1;

@@ -131,7 +131,12 @@ pub fn difference(one: &Outcome, other: &Outcome) -> Option<String> {
             &one.rows,
             &other.rows,
         ));
-        text.push_str(&first_place("precondition", 0, &one.needs, &other.needs));
+        text.push_str(&first_place(
+            "word of the preconditions, four a gate,",
+            0,
+            &one.needs,
+            &other.needs,
+        ));
     }
     Some(text)
 }

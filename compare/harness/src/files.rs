@@ -1,5 +1,5 @@
-//! Circuit files that are measured: of just so many wires, made of every sort of record in the same shares, and the
-//! largest that there is.
+//! Circuit files that are measured: of just so many wires, made of every sort of record in the same shares, one of them in
+//! version 1 too, one with guards of eight wires, and the largest that there is.
 
 use crate::subject::{Goal, Row, Subject};
 use compare::circuit::Settings;
@@ -22,6 +22,25 @@ const PAIRS: usize = 2;
 pub fn growing() -> Vec<Row> {
     let row = |wires| small(wires).row(format!("{wires} wires"));
     WIRES.into_iter().map(row).collect()
+}
+
+/// The last of them as it was written before C-17, and with guards of as many wires as there can be.
+pub fn others() -> Vec<Row> {
+    let before = Maker {
+        version: VERSION_1,
+        ..small(WIRES_MAX)
+    };
+    let mut wide = Maker {
+        guard_wires: VERSION_2.guard_wires_max,
+        ..Maker::new()
+    };
+    while wide.circuit.records.len() < WIRES_MAX {
+        wide.add(PAIRS);
+    }
+    vec![
+        before.row("640 wires, version 1".into()),
+        wide.row("640 wires, guards of 8".into()),
+    ]
 }
 
 fn small(wires: usize) -> Maker {
@@ -65,6 +84,8 @@ struct Maker {
     bits: Vec<Wire>,
     /// So many of the next constants of words are to be bits.
     bits_for_words: usize,
+    guard_wires: usize,
+    version: Version,
 }
 
 impl Maker {
@@ -77,6 +98,8 @@ impl Maker {
             words: Vec::new(),
             bits: Vec::new(),
             bits_for_words: 0,
+            guard_wires: 2,
+            version: VERSION_2,
         };
         for (variable, kind) in KINDS.into_iter().enumerate() {
             maker.put(Record::Input(variable, kind), kind);
@@ -102,10 +125,14 @@ impl Maker {
         self.bits[self.bits.len() - 1 - back % self.bits.len()]
     }
 
-    fn guard(&self, table: [bool; 4]) -> Record {
-        let mut settings = Settings::none();
-        settings.0[..4].copy_from_slice(&table);
-        Record::Guard(vec![self.bit(0), self.bit(1)], settings)
+    /// A guard that is 1 where of its first two wires an odd number is 1, or an even one.
+    fn guard(&self, odd: usize) -> Record {
+        let mut table = Settings::none();
+        for j in (0..1 << self.guard_wires).filter(|j| (j ^ j >> 1) & 1 == odd) {
+            table.add(j);
+        }
+        let wires = (0..self.guard_wires).map(|back| self.bit(back)).collect();
+        Record::Guard(wires, table)
     }
 
     /// The next record: a comparison, two guards, two picks by them, a product, a constant, a sum, a choice, an and.
@@ -117,8 +144,8 @@ impl Maker {
         let place = (self.circuit.records.len() - KINDS.len()) % TURN;
         let (record, kind) = match place {
             0 => (operation(LESS), Kind::Bit),
-            1 => (self.guard([false, true, true, false]), Kind::Bit),
-            2 => (self.guard([true, false, false, true]), Kind::Bit),
+            1 => (self.guard(1), Kind::Bit),
+            2 => (self.guard(0), Kind::Bit),
             3 | 4 => {
                 let pair = |turn| (self.bit(turn), self.word(turn + place));
                 (Record::Pick((0..pairs).map(pair).collect()), Kind::Word)
@@ -150,7 +177,7 @@ impl Maker {
             rule: Vec::new(),
             plan: Vec::new(),
             inputs: vec![1, 0, 5, 6, 7, 8],
-            file: self.circuit.file(),
+            file: self.circuit.file_of(self.version),
         };
         Row::one(name, subject, Goal::None)
     }

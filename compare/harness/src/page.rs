@@ -32,22 +32,23 @@ its arrays lie moves a call's time by up to a quarter. A call is whole: it begin
 the caller lends them, and lent again.
 
 - proved: the library `linnet`. It allocates nothing.
-- plain: `compare/`, Rust written to be compared with and not tuned (for needed gates one search a setting). It
-  allocates what it holds between, and gives a plain circuit in its own form.
+- plain: `compare/`, Rust written to be compared with and not tuned (for needed gates one search for each setting of the
+  rule's conditions). It allocates what it holds between, and gives a plain circuit in its own form.
 - tuned: `compare/tuned/`, Rust written for speed and proved by nobody: unsafe throughout, no allocation, one pass that
   reads and makes gates, one wide load for statements of the form \"variable := operation on two variables\". The
   ladders are mostly made of these, the rules that are hard to order wholly.
 
 Rules, with the table at the end: R1 of document 01; ladders of nested ifs with products and comparisons in both blocks,
-a fifth of the gates joined; as many joined pairs as fit, each waiting for the one after it (reversed); half of the gates
+a fifth of the gates joined, up to six ifs and, in the last, eight (C-17); as many joined pairs as fit, each waiting for the one after it (reversed); half of the gates
 waiting for all of the other half (held up); a group that waits for each of many such pairs, with as many sums that wait
 for it (passed again: the search goes back to that group after every pair, and past the sums, so that this one grows with
 the square of the gates); and COUNT mixed rules, one call each in a row: the first COUNT accepted cases of operation 05
 that the generator of `compare/run` makes from seed SEED, groups put in order, used for every operation.
 
 Circuit files, for 07 and 09, with a table at the end: that of R1; files that grow, made of turns of a comparison, two
-guards, two picks, a product, a constant, a sum, a choice and an and; the largest that there is, the same records with
-as many pairs in their picks as fill it; and the files of the mixed rules.";
+guards of two wires, two picks, a product, a constant, a sum, a choice and an and; the last of these in version 1, and with
+guards of eight wires; the largest that there is, the same records with as many pairs in their picks as fill it; and the
+files of the mixed rules. All but the one are of version 2, whose guards have tables of 32 bytes.";
 
 /// The mixed rules are so many in a row that fewer turns do.
 pub fn mixed_turns(turns: usize) -> usize {

@@ -2,16 +2,19 @@
 
 use compare::answer::Answer;
 use compare::circuit::{accept, preconditions, Circuit, Gate, Settings};
-use compare::law::{CONDITIONS_MAX, GATES_MAX};
+use compare::law::{GATES_MAX, SETTINGS};
 use compare::write::Wire;
 use std::mem::MaybeUninit;
 
-/// What operation 06 gives: the answer, four numbers a gate, and preconditions; zeros after them.
+/// Words of a precondition: bit j of the 256, from the lowest word's lowest bit on, is setting j.
+pub const SET_WORDS: usize = SETTINGS / 64;
+
+/// What operation 06 gives: the answer, four numbers a gate, and four words of precondition a gate; zeros after them.
 #[derive(Clone, Debug, PartialEq, Eq)]
 pub struct Shown {
     pub answer: Answer,
     pub rows: [u32; 4 * GATES_MAX],
-    pub needs: [u64; GATES_MAX],
+    pub needs: [u64; SET_WORDS * GATES_MAX],
 }
 
 pub trait Tool: Sync {
@@ -132,12 +135,13 @@ impl Tool for Plain {
         let mut shown = Shown {
             answer: compare::circuit::read_rule(rule),
             rows: [0; 4 * GATES_MAX],
-            needs: [0; GATES_MAX],
+            needs: [0; SET_WORDS * GATES_MAX],
         };
         if let Some((circuit, needs)) = plain_circuit(rule) {
             for (gate, needs) in needs.iter().enumerate() {
                 shown.rows[4 * gate..4 * gate + 4].copy_from_slice(&row(&circuit.gates[gate]));
-                shown.needs[gate] = number(needs);
+                let words = &mut shown.needs[SET_WORDS * gate..][..SET_WORDS];
+                words.copy_from_slice(&needs.words());
             }
         }
         shown
@@ -239,12 +243,4 @@ fn row(gate: &Gate) -> [u32; 4] {
         }
     }
     row
-}
-
-/// A set of settings as a number: bit j for setting j.
-fn number(settings: &Settings) -> u64 {
-    const { assert!(1 << CONDITIONS_MAX == u64::BITS) };
-    (0..u64::BITS as usize)
-        .map(|j| u64::from(settings.0[j]) << j)
-        .sum()
 }

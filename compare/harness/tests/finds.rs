@@ -1,9 +1,11 @@
 //! The harness finds what differs, and the three tools agree, on the circuit files that are measured too.
 
 use compare::answer::Answer;
+use compare::circuit::accept_within;
 use compare::circuit_file;
 use compare::generate::group_order::in_order;
-use compare::law::{CIRCUIT_BYTES_MAX, VARIABLES_MAX, WIRES_MAX};
+use compare::law::{CIRCUIT_BYTES_MAX, LIMITS_BEFORE, VARIABLES_MAX, VERSION_1, WIRES_MAX};
+use compare::write::Record;
 use harness::cases::compare as compare_tools;
 use harness::files;
 use harness::subject::r1;
@@ -28,9 +30,38 @@ enum Fault {
     AnyOrder,
     /// 32 comes after 30, as the lowest number would have it.
     OrderLast,
+    /// A precondition is wrong from setting 64 on.
+    SecondWord,
+    /// Seven conditions are refused, as before C-17.
+    Six,
+    /// Files of version 1 are refused.
+    NoVersion1,
+    /// The words of a table stand in the other order.
+    TableTurned,
 }
 
 struct Wrong(Fault);
+
+/// Puts the words of every table of a file in the other order.
+fn turn_tables(file: &mut [u8]) {
+    let Ok(read) = circuit_file::accept(file) else {
+        return;
+    };
+    let mut ends = Vec::new();
+    let mut end = 8;
+    for (record, part) in read.circuit.records.iter().zip(&read.parts) {
+        end += part.len();
+        if matches!(record, Record::Guard(..)) {
+            ends.push(end);
+        }
+    }
+    for end in ends {
+        let table = &mut file[end - 32..end];
+        table.rotate_left(16);
+        table[..16].rotate_left(8);
+        table[16..].rotate_left(8);
+    }
+}
 
 impl Wrong {
     /// The rule as it is read.
@@ -75,6 +106,11 @@ impl Tool for Wrong {
     }
 
     fn read_rule(&self, rule: &[u8]) -> Answer {
+        if self.0 == Fault::Six {
+            if let Err(refusal) = accept_within(rule, LIMITS_BEFORE) {
+                return refusal.into();
+            }
+        }
         let mut answer = Plain.read_rule(rule);
         if self.0 == Fault::Place && answer.number == 7 {
             answer.place -= 1;
@@ -95,6 +131,9 @@ impl Tool for Wrong {
     fn write_fused(&self, rule: &[u8], plan: &[u8], out: &mut [u8]) -> Answer {
         let rule = self.read_as(rule);
         let answer = Plain.write_fused(&rule, &self.checked_as(&rule, plan), out);
+        if self.0 == Fault::TableTurned {
+            turn_tables(&mut out[..answer.bytes]);
+        }
         self.spoil(answer, answer.bytes, out)
     }
 
@@ -109,7 +148,9 @@ impl Tool for Wrong {
         let mut shown = Plain.show_plain(&self.read_as(rule));
         match self.0 {
             Fault::Row => shown.rows[1023] ^= 1,
-            Fault::Precondition if shown.needs[20] != 0 => shown.needs[20] ^= 1 << 63,
+            // The highest setting of gate 20, and of gate 30 the lowest of the second word.
+            Fault::Precondition if shown.needs[80] != 0 => shown.needs[83] ^= 1 << 63,
+            Fault::SecondWord if shown.needs[120] != 0 => shown.needs[121] ^= 1,
             _ => {}
         }
         shown
@@ -122,6 +163,7 @@ impl Tool for Wrong {
         };
         match circuit_file::accept(file) {
             Ok(read) if self.0 == Fault::NoWire && read.circuit.outputs.contains(&None) => refused,
+            Ok(read) if self.0 == Fault::NoVersion1 && read.version == VERSION_1 => refused,
             _ => Plain.read_circuit(file),
         }
     }
@@ -161,6 +203,10 @@ fn every_fault_is_found() {
         Fault::NoWire,
         Fault::AnyOrder,
         Fault::OrderLast,
+        Fault::SecondWord,
+        Fault::Six,
+        Fault::NoVersion1,
+        Fault::TableTurned,
     ] {
         let wrong = Wrong(fault);
         let three: [[&dyn Tool; 3]; 3] = [
@@ -224,7 +270,11 @@ fn growing_files_are_what_they_are_said_to_be() {
         (subject.wires(), subject.file.len()),
         (WIRES_MAX, CIRCUIT_BYTES_MAX)
     );
-    for row in rows.iter().chain([&largest, &r1()]) {
+    let others = files::others();
+    assert!(others
+        .iter()
+        .all(|row| row.subjects[0].wires() == WIRES_MAX));
+    for row in rows.iter().chain(&others).chain([&largest, &r1()]) {
         let subject = &row.subjects[0];
         let mut all = TOOLS.map(|tool| {
             let mut results = [0; VARIABLES_MAX];

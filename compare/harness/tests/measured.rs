@@ -1,4 +1,5 @@
-//! What is measured is what it is said to be, and is accepted: groups stand in order (C-15). Needs no archive.
+//! What is measured is what it is said to be, and is accepted: groups stand in order (C-15), one ladder has eight conditions
+//! (C-17). Needs no archive.
 
 use compare::law::VARIABLES_MAX;
 use compare::plan::accept_both;
@@ -11,7 +12,6 @@ fn assert_accepted(subject: &Subject) {
     let (rule, plan) = (&subject.rule, &subject.plan);
     let answer = Plain.run_fused(rule, plan, &subject.inputs, &mut results);
     assert_eq!((answer.number, answer.gates), (0, subject.gates()));
-    assert!(subject.conditions() <= 6);
 }
 
 /// One rule of just so many gates.
@@ -29,12 +29,14 @@ fn only(row: &Row, gates: usize) -> &Subject {
 fn ladders_are_what_they_are_said_to_be() {
     assert_eq!(only(&r1(), 6).joined(), 2);
     let ladders = ladder::ladders();
-    assert_eq!(ladders.len(), 4);
-    for (row, gates) in ladders.iter().zip([32, 64, 128, 256]) {
+    assert_eq!(ladders.len(), 5);
+    let wanted = [(32, 2), (64, 4), (128, 6), (256, 6), (256, 8)];
+    for (row, (gates, conditions)) in ladders.iter().zip(wanted) {
         let subject = only(row, gates);
+        assert_eq!(subject.conditions(), conditions);
         assert!(subject.joined().abs_diff(gates / 5) <= 1);
         let (_, needs) = plain_circuit(&subject.rule).expect("accepted");
-        assert!(needs.iter().all(|needs| needs.0.contains(&true)));
+        assert!(needs.iter().all(|needs| needs.words() != [0; 4]));
     }
 }
 
@@ -85,6 +87,7 @@ fn mixed_rules_are_accepted() {
     let row = mixed::mixed();
     assert_eq!(row.subjects.len(), mixed::COUNT);
     row.subjects.iter().for_each(assert_accepted);
+    assert!(row.subjects.iter().all(|one| one.conditions() <= 6));
     let some = row.subjects.iter().filter(|one| groups(one) > 0).count();
     let ordered = row.subjects.iter().filter(|one| groups(one) > 1).count();
     println!("{some} with a group, {ordered} with more");

@@ -1,5 +1,6 @@
 //! What a pass is given of a rule, worked out before anything is timed.
 
+use crate::passes::{Narrow, Wide, SET_WORDS};
 use crate::rules::Sort;
 use compare::circuit::{accept, Gate, GateNumber};
 use compare::law::GATES_MAX;
@@ -17,7 +18,7 @@ pub struct Given {
     starts: usize,
     count: usize,
     choices: usize,
-    needs: [u64; GATES_MAX],
+    needs: Wide,
 }
 
 impl Given {
@@ -31,7 +32,8 @@ impl Given {
             (circuit.gates.len(), circuit.conditions.len()),
             (gates, sort.conditions)
         );
-        assert!(shown.needs[..gates].iter().all(|&needed| needed != 0));
+        let mut sets = shown.needs.chunks(SET_WORDS).take(gates);
+        assert!(sets.all(|set| set.iter().any(|&word| word != 0)));
         let last = circuit.outputs.iter().flatten();
         Given {
             rows: shown.rows,
@@ -79,8 +81,14 @@ impl Given {
     }
 
     /// The preconditions, as operation 06 gives them; zeros after the gates.
-    pub fn needs(&self) -> &[u64; GATES_MAX] {
-        &self.needs
+    pub fn needs(&self) -> Wide {
+        self.needs
+    }
+
+    /// The preconditions as they were before C-17, where there are no more conditions than there were then: of such a rule
+    /// all four words of a set are the same.
+    pub fn narrow_needs(&self) -> Narrow {
+        std::array::from_fn(|gate| self.needs[SET_WORDS * gate])
     }
 }
 

@@ -9,16 +9,17 @@ mod rules;
 
 use given::Given;
 use harness::measure::{measure, Caller, Times};
-use lent::{caller, Lent};
-use page::Measured;
-use passes::{proved, tuned, Archive};
-use rules::{Sort, GATES, SORTS};
+use lent::{caller, narrow_caller, Lent};
+use page::{Before, Measured};
+use passes::{after, before, tuned};
+use rules::{Sort, SORTS};
 use std::process::ExitCode;
 
 const TURNS: usize = 2001;
 /// Turns are taken in so many rounds over all rules, so that other work for a second or two falls on no rule alone.
 const ROUNDS: usize = 24;
-/// The tools by number, as rounds take them in turn: before, after and tuned in each of their orders.
+/// The tools by number, as rounds take them in turn: before, after and tuned in each of their orders. Where the pass of before
+/// takes no such rule, it is left out.
 const ORDERS: [[usize; 3]; 6] = [
     [0, 1, 2],
     [1, 0, 2],
@@ -35,7 +36,7 @@ fn main() -> ExitCode {
     };
     let rules: Vec<Rule> = SORTS
         .iter()
-        .flat_map(|sort| GATES.map(|gates| Rule::of(sort, gates)))
+        .flat_map(|sort| sort.gates().iter().map(|&gates| Rule::of(sort, gates)))
         .collect();
     page::print_head(turns, ROUNDS);
     let measured = measured(&rules, turns);
@@ -55,27 +56,36 @@ fn turns() -> Option<usize> {
     rest.next().is_none().then_some(turns)
 }
 
-/// A rule as the page names it, with what is lent.
+/// A rule as the page names it, with what is lent, and whether the pass of before takes it.
 struct Rule {
     name: String,
     lent: Lent,
+    was_there: bool,
 }
 
 impl Rule {
     fn of(sort: &Sort, gates: usize) -> Rule {
         let lent = Lent::of(Given::of(sort, gates));
-        lent.check(proved(Archive::Before));
-        lent.check(proved(Archive::After));
+        let was_there = sort.was_there();
+        if was_there {
+            lent.check_narrow(before());
+        }
+        lent.check(after());
         lent.check(tuned());
         Rule {
             name: format!("{gates} gates, {}", sort.name),
             lent,
+            was_there,
         }
     }
 
     /// The tools in this order; their times by their numbers.
     fn round(&self, order: [usize; 3], turns: usize) -> [Times; 3] {
-        let mut callers = order.map(tool);
+        let called = order
+            .into_iter()
+            .filter(|&which| which > 0 || self.was_there);
+        let order: Vec<usize> = called.collect();
+        let mut callers: Vec<Caller<Lent>> = order.iter().map(|&which| tool(which)).collect();
         let taken = measure(turns, &mut callers, std::slice::from_ref(&self.lent));
         let mut times = [Times::default(); 3];
         for (which, taken) in order.into_iter().zip(taken) {
@@ -86,6 +96,9 @@ impl Rule {
 
     /// Before as if it were two tools.
     fn control(&self, turns: usize) -> [Times; 2] {
+        if !self.was_there {
+            return [Times::default(); 2];
+        }
         let taken = measure(
             turns,
             &mut [tool(0), tool(0)],
@@ -107,10 +120,12 @@ fn measured(rules: &[Rule], turns: usize) -> Vec<Measured<'_>> {
     all.map(|((rule, [before, after, tuned]), [one, other])| Measured {
         name: &rule.name,
         given: &rule.lent.given,
-        before,
+        before: rule.was_there.then(|| Before {
+            times: before,
+            itself: other.over(&one),
+        }),
         after,
         tuned,
-        itself: other.over(&one),
     })
     .collect()
 }
@@ -137,8 +152,8 @@ fn rounds<const N: usize>(
 /// Before, after and tuned, by number.
 fn tool(which: usize) -> Caller<Lent> {
     match which {
-        0 => caller(proved(Archive::Before)),
-        1 => caller(proved(Archive::After)),
+        0 => narrow_caller(before()),
+        1 => caller(after()),
         _ => caller(tuned()),
     }
 }

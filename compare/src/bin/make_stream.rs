@@ -1,27 +1,25 @@
-//! `make_stream SEED COUNT [OPERATIONS] [working] [ordered]`: writes a conformance stream of COUNT random cases to
+//! `make_stream SEED COUNT [OPERATIONS] [working] [ordered] [eight]`: writes a conformance stream of COUNT random cases to
 //! stdout, over all operations or those named (as `1,2,6`), and how many came to each number, by
 //! operation, to stderr. With the word `working` many have working variables (C-13), with the word `ordered` the groups of
-//! most plans stand in order (C-15); without them a seed makes the cases that it made before there were these.
+//! most plans stand in order (C-15), with the word `eight` many rules have seven, eight or nine conditions or ifs nested as
+//! deep, and circuit files are of both versions (C-17); without them a seed makes the cases that it made before there were
+//! these.
 
 use compare::counts::Counts;
 use compare::generate::cases::case;
-use compare::generate::group_order::GroupOrder;
-use compare::generate::kinds::Kinds;
+use compare::generate::words::Words;
 use compare::generate::Random;
 use compare::stream::{LAST, STREAM_MARK};
 use std::io::{self, BufWriter, Write};
 
 fn main() -> io::Result<()> {
     let mut arguments: Vec<String> = std::env::args().skip(1).collect();
-    let (mut kinds, mut order) = (Kinds::Results, GroupOrder::Any);
-    while let Some(word) = arguments.pop_if(|last| last == "working" || last == "ordered") {
-        match word.as_str() {
-            "working" => kinds = Kinds::Working,
-            _ => order = GroupOrder::Rising,
-        }
+    let mut words = Words::NONE;
+    while arguments.last().is_some_and(|last| words.take(last)) {
+        arguments.pop();
     }
     let Some((seed, count, operations)) = parsed(&arguments) else {
-        eprintln!("make_stream SEED COUNT [OPERATIONS] [working] [ordered]");
+        eprintln!("make_stream SEED COUNT [OPERATIONS] [working] [ordered] [eight]");
         std::process::exit(2);
     };
     let mut random = Random::new(seed);
@@ -29,7 +27,7 @@ fn main() -> io::Result<()> {
     out.write_all(&STREAM_MARK)?;
     let mut counts = Counts::default();
     for _ in 0..count {
-        let case = case(&mut random, &operations, kinds, order);
+        let case = case(&mut random, &operations, words);
         let mut bytes = Vec::new();
         case.put(&mut bytes);
         out.write_all(&bytes)?;

@@ -1,9 +1,8 @@
 //! Batches (C-16): entries of every sort, batches whole and damaged, and the sizes of the pieces that they come in.
 
-use super::group_order::GroupOrder;
-use super::kinds::Kinds;
+use super::words::Words;
 use super::{cases, plans, rules, Random};
-use crate::batch::{answer, bytes_of};
+use crate::batch::bytes_of;
 use crate::circuit::{accept, preconditions};
 use crate::law::*;
 use crate::stream::{CHECK, FUSED, WRITE};
@@ -21,12 +20,12 @@ pub const ANY_SIZE: usize = 2 * MOST;
 const MOST: usize = 65_535;
 
 /// An entry of any sort, whose parts have at most so many bytes together.
-pub fn entry(random: &mut Random, most: usize) -> Entry {
+pub fn entry(random: &mut Random, words: Words, most: usize) -> Entry {
     loop {
         let entry = match random.below(60) {
-            0 => over(random),
-            1..=4 => odd(random),
-            _ => pair(random),
+            0 => over(random, words),
+            1..=4 => odd(random, words),
+            _ => pair(random, words),
         };
         if size(&entry) <= most {
             return entry;
@@ -40,9 +39,9 @@ pub fn size((rule, plan): &Entry) -> usize {
 }
 
 /// A rule and a plan as the cases of checking, writing and running have them.
-fn pair(random: &mut Random) -> Entry {
+fn pair(random: &mut Random, words: Words) -> Entry {
     loop {
-        let case = cases::rule_case(random, Kinds::Working, GroupOrder::Rising);
+        let case = cases::rule_case(random, words);
         if matches!(case.operation, CHECK | WRITE | FUSED) {
             return (case.first, case.second);
         }
@@ -50,21 +49,21 @@ fn pair(random: &mut Random) -> Entry {
 }
 
 /// A part empty, the parts of two entries, or of one turned.
-fn odd(random: &mut Random) -> Entry {
-    let (rule, plan) = pair(random);
+fn odd(random: &mut Random, words: Words) -> Entry {
+    let (rule, plan) = pair(random, words);
     match random.below(6) {
         0 => (Vec::new(), Vec::new()),
         1 => (Vec::new(), plan),
         2 => (rule, Vec::new()),
         3 => (plan, rule),
-        4 => (rules::damaged(random, Kinds::Working), plan),
-        _ => (rule, pair(random).1),
+        4 => (rules::damaged(random, words), plan),
+        _ => (rule, pair(random, words).1),
     }
 }
 
 /// A part as long as is allowed, or longer by one, or by some, or as long as its length can say; the other too at times.
-fn over(random: &mut Random) -> Entry {
-    let (mut rule, mut plan) = pair(random);
+fn over(random: &mut Random, words: Words) -> Entry {
+    let (mut rule, mut plan) = pair(random, words);
     let which = random.below(3);
     if which != 1 {
         let length = random.pick(&[4096, 4097, 4097, 4352, 8192, MOST]);
@@ -78,50 +77,51 @@ fn over(random: &mut Random) -> Entry {
 }
 
 /// An accepted entry of at most so many bytes.
-pub fn accepted(random: &mut Random, most: usize) -> Entry {
-    of_number(random, 0, most, pair)
+pub fn accepted(random: &mut Random, words: Words, most: usize) -> Entry {
+    of_number(random, words, 0, most, |random| pair(random, words))
 }
 
 /// An entry refused by the wanted number, of at most so many bytes.
-pub fn refused(random: &mut Random, wanted: u8, most: usize) -> Entry {
-    of_number(random, wanted, most, |random| match wanted {
+pub fn refused(random: &mut Random, words: Words, wanted: u8, most: usize) -> Entry {
+    of_number(random, words, wanted, most, |random| match wanted {
         1..=11 => {
-            let rule = rules::refused(random, Kinds::Working, wanted);
-            (rule, pair(random).1)
+            let rule = rules::refused(random, words, wanted);
+            (rule, pair(random, words).1)
         }
-        _ => with_refused_plan(random, wanted),
+        _ => with_refused_plan(random, words, wanted),
     })
 }
 
 fn of_number(
     random: &mut Random,
+    words: Words,
     wanted: u8,
     most: usize,
     mut make: impl FnMut(&mut Random) -> Entry,
 ) -> Entry {
     loop {
         let entry = make(random);
-        if size(&entry) <= most && answer(&entry.0, &entry.1).number == wanted {
+        if size(&entry) <= most && words.number(&entry.0, &entry.1) == wanted {
             return entry;
         }
     }
 }
 
-fn with_refused_plan(random: &mut Random, wanted: u8) -> Entry {
+fn with_refused_plan(random: &mut Random, words: Words, wanted: u8) -> Entry {
     loop {
-        let rule = rules::accepted(random, Kinds::Working);
+        let rule = rules::accepted(random, words);
         let circuit = accept(&rule).expect("made so").circuit;
         let needs = preconditions(&circuit);
         let ground = plans::Ground::new(&circuit, &needs);
-        if let Some(plan) = plans::refused(random, &ground, GroupOrder::Rising, wanted) {
+        if let Some(plan) = plans::refused(random, &ground, words.order, wanted) {
             return (rule, plan);
         }
     }
 }
 
 /// A batch of so many entries, each of at most so many bytes; as it should be, or damaged.
-pub fn batch(random: &mut Random, count: usize, most: usize) -> Vec<u8> {
-    let entries: Vec<Entry> = (0..count).map(|_| entry(random, most)).collect();
+pub fn batch(random: &mut Random, words: Words, count: usize, most: usize) -> Vec<u8> {
+    let entries: Vec<Entry> = (0..count).map(|_| entry(random, words, most)).collect();
     let mut batch = bytes_of(&entries);
     if random.chance(55) {
         damage(random, &mut batch);

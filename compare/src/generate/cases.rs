@@ -1,7 +1,6 @@
 //! Whole cases of the conformance stream.
 
-use super::group_order::GroupOrder;
-use super::kinds::Kinds;
+use super::words::Words;
 use super::{circuits, inputs, plans, rules, Random};
 use crate::circuit::{accept, preconditions, Accepted};
 use crate::examples::P1;
@@ -22,9 +21,9 @@ enum Aim {
 }
 
 /// A case of one of these operations, some of which are built. Those of rules alone, 01 to 06, make the same
-/// cases of a seed as before there were others, results alone those of before there were working variables, and any
-/// order those of before groups had one.
-pub fn case(random: &mut Random, operations: &[u8], kinds: Kinds, order: GroupOrder) -> Case {
+/// cases of a seed as before there were others, results alone those of before there were working variables, any
+/// order those of before groups had one, and six conditions those of before there were eight.
+pub fn case(random: &mut Random, operations: &[u8], words: Words) -> Case {
     let rules = operations.iter().any(|one| (READ..=PLAIN).contains(one));
     let circuits = operations
         .iter()
@@ -32,9 +31,9 @@ pub fn case(random: &mut Random, operations: &[u8], kinds: Kinds, order: GroupOr
     assert!(rules || circuits, "no operation that is built");
     loop {
         let case = if circuits && (!rules || random.chance(30)) {
-            circuit_case(random, kinds)
+            circuit_case(random, words)
         } else {
-            rule_case(random, kinds, order)
+            rule_case(random, words)
         };
         if operations.contains(&case.operation) {
             return case;
@@ -43,7 +42,8 @@ pub fn case(random: &mut Random, operations: &[u8], kinds: Kinds, order: GroupOr
 }
 
 /// A case of operations 01 to 06.
-pub fn rule_case(random: &mut Random, kinds: Kinds, order: GroupOrder) -> Case {
+pub fn rule_case(random: &mut Random, words: Words) -> Case {
+    let order = words.order;
     let operation = match random.below(100) {
         0..=17 => READ,
         18..=35 => DIRECT,
@@ -58,13 +58,13 @@ pub fn rule_case(random: &mut Random, kinds: Kinds, order: GroupOrder) -> Case {
         ..Case::default()
     };
     if aim == Aim::Rule {
-        refused_rule(random, kinds, &mut case);
+        refused_rule(random, words, &mut case);
         return case;
     }
     // A rule whose plan can be what is aimed at: not every rule has joins or circles.
     let wanted = order.wanted(random);
     loop {
-        let bytes = rules::accepted(random, kinds);
+        let bytes = rules::accepted(random, words);
         let accepted = accept(&bytes).expect("made so");
         let needs = preconditions(&accepted.circuit);
         let ground = plans::Ground::new(&accepted.circuit, &needs);
@@ -85,7 +85,7 @@ pub fn rule_case(random: &mut Random, kinds: Kinds, order: GroupOrder) -> Case {
             continue;
         }
         give_inputs(random, &mut case, aim, &accepted);
-        give_room(random, &mut case, aim, &accepted, &order.judged(&plan));
+        give_room(random, &mut case, aim, &accepted, words, &plan);
         case.first = bytes;
         case.second = plan;
         return case;
@@ -114,12 +114,12 @@ fn aim(random: &mut Random, operation: u8) -> Aim {
 }
 
 /// A refused rule; what comes after it may be right or wrong and must not matter.
-fn refused_rule(random: &mut Random, kinds: Kinds, case: &mut Case) {
+fn refused_rule(random: &mut Random, words: Words, case: &mut Case) {
     case.first = if random.chance(85) {
         let wanted = random.among(1, 11) as u8;
-        rules::refused(random, kinds, wanted)
+        rules::refused(random, words, wanted)
     } else {
-        rules::damaged(random, kinds)
+        rules::damaged(random, words)
     };
     if case.operation != READ {
         case.second = match random.below(3) {
@@ -171,15 +171,25 @@ fn spoil_inputs(random: &mut Random, case: &mut Case, kinds: &[Kind]) {
     }
 }
 
-/// The room rests on the plan that is judged.
-fn give_room(random: &mut Random, case: &mut Case, aim: Aim, accepted: &Accepted, plan: &[u8]) {
+/// The room rests on the plan that is judged, and on the version that is written.
+fn give_room(
+    random: &mut Random,
+    case: &mut Case,
+    aim: Aim,
+    accepted: &Accepted,
+    words: Words,
+    plan: &[u8],
+) {
     if !takes_room(case.operation) {
         return;
     }
     let wanted = if case.operation == WRITE {
         let needs = preconditions(&accepted.circuit);
-        match crate::plan::check(&accepted.circuit, needs, plan) {
-            Ok(plan) => fuse(&accepted.circuit, &plan).file().len(),
+        match crate::plan::check(&accepted.circuit, needs, &words.order.judged(plan)) {
+            Ok(plan) => {
+                let fused = fuse(&accepted.circuit, &plan);
+                fused.file_of(words.conditions.written()).len()
+            }
             Err(_) => random.among(0, 200),
         }
     } else {
@@ -208,7 +218,7 @@ fn room(random: &mut Random, operation: u8, wanted: usize, short: bool) -> usize
 }
 
 /// A case of operations 07 to 09.
-pub fn circuit_case(random: &mut Random, kinds: Kinds) -> Case {
+pub fn circuit_case(random: &mut Random, words: Words) -> Case {
     let (operation, refused) = match random.below(100) {
         0..=29 => (READ_CIRCUIT, 60),
         30..=49 => (RECORD, 30),
@@ -217,10 +227,10 @@ pub fn circuit_case(random: &mut Random, kinds: Kinds) -> Case {
     let first = match random.below(100) {
         turn if turn < refused => {
             let wanted = random.pick(&[60, 61, 62, 62]);
-            circuits::refused(random, kinds, wanted)
+            circuits::refused(random, words, wanted)
         }
-        turn if turn < refused + 8 => circuits::damaged(random, kinds),
-        _ => circuits::accepted(random, kinds).file(),
+        turn if turn < refused + 8 => circuits::damaged(random, words),
+        _ => circuits::accepted(random, words).file(),
     };
     let mut case = Case {
         operation,
@@ -228,16 +238,16 @@ pub fn circuit_case(random: &mut Random, kinds: Kinds) -> Case {
         ..Case::default()
     };
     match operation {
-        RECORD => case.number = wire(random, kinds, &case.first),
-        RUN_CIRCUIT => give_run(random, kinds, &mut case),
+        RECORD => case.number = wire(random, words, &case.first),
+        RUN_CIRCUIT => give_run(random, words, &mut case),
         _ => {}
     }
     case
 }
 
 /// A wire of the file, mostly; the first that is none, and others.
-fn wire(random: &mut Random, kinds: Kinds, file: &[u8]) -> u16 {
-    let accepted = kinds.accept_file(file);
+fn wire(random: &mut Random, words: Words, file: &[u8]) -> u16 {
+    let accepted = words.accept_file(file);
     let wires = accepted.map_or(0, |accepted| accepted.parts.len());
     match random.below(10) {
         0 => wires as u16,
@@ -247,8 +257,8 @@ fn wire(random: &mut Random, kinds: Kinds, file: &[u8]) -> u16 {
 }
 
 /// Inputs and room of a run; a refused file may get any.
-fn give_run(random: &mut Random, kinds: Kinds, case: &mut Case) {
-    let kinds = match kinds.accept_file(&case.first) {
+fn give_run(random: &mut Random, words: Words, case: &mut Case) {
+    let kinds = match words.accept_file(&case.first) {
         Ok(accepted) => accepted.variables(),
         Err(_) => rules::kinds(random),
     };

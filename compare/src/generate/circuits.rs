@@ -1,7 +1,9 @@
 //! Circuit files (C-11): our own, well-formed ones as another house may write them, and ones refused by a
 //! wanted number.
 
+use super::conditions::Conditions;
 use super::kinds::Kinds;
+use super::words::Words;
 use super::{damage_by, plans, rules, Random};
 use crate::circuit::{accept, preconditions, Settings};
 use crate::law::*;
@@ -14,26 +16,51 @@ const TELLING: [u8; 22] = [
     0x28, 0x30, 0x31, 0x32, 0x33, 0xFF,
 ];
 
-/// A circuit whose file reading accepts.
-pub fn accepted(random: &mut Random, kinds: Kinds) -> Fused {
-    match random.below(100) {
-        0..=34 => own(random, kinds),
-        _ => foreign(random, kinds),
+/// Mark and version.
+const HEAD: usize = 5;
+
+/// A circuit, and the version that its file is to have.
+#[derive(Clone)]
+pub struct Made {
+    pub circuit: Fused,
+    pub version: Version,
+}
+
+impl Made {
+    pub fn file(&self) -> Vec<u8> {
+        self.circuit.file_of(self.version)
     }
 }
 
-/// What our writer makes of a random rule and plan.
-pub fn own(random: &mut Random, kinds: Kinds) -> Fused {
-    let accepted = accept(&rules::accepted(random, kinds)).expect("made so");
+/// A circuit whose file reading accepts.
+pub fn accepted(random: &mut Random, words: Words) -> Made {
+    match random.below(100) {
+        0..=34 => own(random, words),
+        _ => foreign(random, words),
+    }
+}
+
+/// What our writer makes of a random rule and plan, or made of it before C-17.
+pub fn own(random: &mut Random, words: Words) -> Made {
+    let conditions = words.conditions.or_six(random, 30);
+    let words = Words {
+        conditions,
+        ..words
+    };
+    let accepted = accept(&rules::accepted(random, words)).expect("made so");
     let needs = preconditions(&accepted.circuit);
     let plan = plans::valid(random, &plans::Ground::new(&accepted.circuit, &needs));
     let plan = check(&accepted.circuit, needs, &plan).expect("a valid plan");
-    fuse(&accepted.circuit, &plan)
+    Made {
+        circuit: fuse(&accepted.circuit, &plan),
+        version: words.conditions.written(),
+    }
 }
 
 /// A circuit of records that no rule need have: several guards at 1, wires that nothing reads, any tables.
-pub fn foreign(random: &mut Random, kinds: Kinds) -> Fused {
-    let mut maker = maker(random);
+pub fn foreign(random: &mut Random, words: Words) -> Made {
+    let version = words.conditions.version(random);
+    let mut maker = maker(random, version);
     let shape = maker.random.below(50);
     let wires = match shape {
         0 => WIRES_MAX,
@@ -47,28 +74,30 @@ pub fn foreign(random: &mut Random, kinds: Kinds) -> Fused {
     if shape == 3 {
         maker.fill(CIRCUIT_BYTES_MAX);
     }
-    maker.finish(kinds)
+    let circuit = maker.finish(words.kinds);
+    Made { circuit, version }
 }
 
 /// The file filled up with picks to just so many bytes; there is room for them.
-pub fn at_bytes(random: &mut Random, bytes: usize) -> Vec<u8> {
-    let mut maker = maker(random);
+pub fn at_bytes(random: &mut Random, version: Version, bytes: usize) -> Vec<u8> {
+    let mut maker = maker(random, version);
     for _ in 0..10 {
         maker.any_record();
     }
     maker.fill(bytes);
-    maker.finish(Kinds::Results).file()
+    maker.finish(Kinds::Results).file_of(version)
 }
 
 /// What a random circuit is made by.
 struct Maker<'a> {
     random: &'a mut Random,
+    version: Version,
     circuit: Fused,
     /// The wires so far of words and of bits.
     of_kind: [Vec<Wire>; 2],
 }
 
-fn maker(random: &mut Random) -> Maker<'_> {
+fn maker(random: &mut Random, version: Version) -> Maker<'_> {
     let kinds = rules::kinds(random);
     let circuit = Fused {
         records: Vec::new(),
@@ -76,6 +105,7 @@ fn maker(random: &mut Random) -> Maker<'_> {
     };
     let mut maker = Maker {
         random,
+        version,
         circuit,
         of_kind: [Vec::new(), Vec::new()],
     };
@@ -164,12 +194,14 @@ impl Maker<'_> {
     }
 
     fn guard(&mut self) {
-        let count = self.random.below(CONDITIONS_MAX + 1);
+        let count = self.random.below(self.version.guard_wires_max + 1);
         let wires = self.wires(Kind::Bit, count);
         let ones = self.random.pick(&[0, 20, 50, 80, 100]);
         let mut table = Settings::none();
-        for bit in &mut table.0[..1 << count] {
-            *bit = self.random.chance(ones);
+        for j in 0..1 << count {
+            if self.random.chance(ones) {
+                table.add(j);
+            }
         }
         self.add(Record::Guard(wires, table), Kind::Bit);
     }
@@ -198,7 +230,7 @@ impl Maker<'_> {
     fn left(&self, bytes: usize) -> Option<usize> {
         let inputs = |record: &&Record| matches!(record, Record::Input(..));
         let variables = self.circuit.records.iter().filter(inputs).count();
-        bytes.checked_sub(self.circuit.file().len() + 2 * variables)
+        bytes.checked_sub(self.circuit.file_of(self.version).len() + 2 * variables)
     }
 
     /// With an output for every variable, of its kind; working ones have none.
@@ -218,24 +250,24 @@ impl Maker<'_> {
 }
 
 /// A file that reading refuses by the wanted number, 60 to 62, found by trying.
-pub fn refused(random: &mut Random, kinds: Kinds, wanted: u8) -> Vec<u8> {
+pub fn refused(random: &mut Random, words: Words, wanted: u8) -> Vec<u8> {
     loop {
-        let mut circuit = accepted(random, kinds);
+        let mut made = accepted(random, words);
         let mut file = match wanted {
-            60 => bad_header(random, circuit.file()),
-            61 => bad_layout(random, circuit),
+            60 => bad_header(random, words.conditions, made),
+            61 => bad_layout(random, words.conditions, made),
             _ => {
-                if !odd_output(random, kinds, &mut circuit) {
-                    bad_wires(random, &mut circuit);
+                if !odd_output(random, words.kinds, &mut made.circuit) {
+                    bad_wires(random, &mut made);
                 }
-                circuit.file()
+                made.file()
             }
         };
         // Often a second fault somewhere, so that it is seen which one decides.
         if random.chance(25) {
             damage_by(random, &mut file, 0, &TELLING);
         }
-        let refusal = kinds.accept_file(&file).err();
+        let refusal = words.accept_file(&file).err();
         if refusal.is_some_and(|refusal| refusal.number == wanted) {
             return file;
         }
@@ -243,10 +275,10 @@ pub fn refused(random: &mut Random, kinds: Kinds, wanted: u8) -> Vec<u8> {
 }
 
 /// A good file with some bytes changed, cut or added, whatever it comes to.
-pub fn damaged(random: &mut Random, kinds: Kinds) -> Vec<u8> {
-    let mut circuit = accepted(random, kinds);
-    odd_output(random, kinds, &mut circuit);
-    let mut file = circuit.file();
+pub fn damaged(random: &mut Random, words: Words) -> Vec<u8> {
+    let mut made = accepted(random, words);
+    odd_output(random, words.kinds, &mut made.circuit);
+    let mut file = made.file();
     for _ in 0..random.among(1, 2) {
         damage_by(random, &mut file, 0, &TELLING);
     }
@@ -266,14 +298,31 @@ fn odd_output(random: &mut Random, kinds: Kinds, circuit: &mut Fused) -> bool {
     true
 }
 
-fn bad_header(random: &mut Random, mut file: Vec<u8>) -> Vec<u8> {
+/// Versions that there are none of, beside those that there are.
+const NO_VERSIONS: [[u8; 2]; 8] = [
+    [0, 0],
+    [0, 3],
+    [0, 0xFF],
+    [1, 0],
+    [1, 1],
+    [1, 2],
+    [2, 0],
+    [0x80, 2],
+];
+
+fn bad_header(random: &mut Random, conditions: Conditions, made: Made) -> Vec<u8> {
+    let mut file = made.file();
+    if conditions.more(random, 25) {
+        file[3..HEAD].copy_from_slice(&random.pick(&NO_VERSIONS));
+        return file;
+    }
     match random.below(5) {
         0 => file.truncate(random.below(CIRCUIT_BYTES_MIN)),
         1 if random.chance(10) => {
             let over = random.pick(&[1, 1, 2, 100]);
-            file = at_bytes(random, CIRCUIT_BYTES_MAX + over);
+            file = at_bytes(random, made.version, CIRCUIT_BYTES_MAX + over);
         }
-        1 | 2 => file[random.below(CIRCUIT_MARK.len())] ^= 1 << random.below(8),
+        1 | 2 => file[random.below(HEAD)] ^= 1 << random.below(8),
         3 => file[5] = random.pick(&[0, 33, 34, 128, 255]),
         _ => {
             let wires = random.pick(&[641, 641, 642, 1024, 65_535]);
@@ -284,27 +333,32 @@ fn bad_header(random: &mut Random, mut file: Vec<u8>) -> Vec<u8> {
 }
 
 /// Where the record of a wire begins in the circuit's file.
-fn start(circuit: &Fused, wire: usize) -> usize {
-    let records = circuit.records[..wire].to_vec();
+fn start(made: &Made, wire: usize) -> usize {
+    let records = made.circuit.records[..wire].to_vec();
     let outputs = Vec::new();
-    Fused { records, outputs }.file().len()
+    Fused { records, outputs }.file_of(made.version).len()
 }
 
-fn bad_layout(random: &mut Random, mut circuit: Fused) -> Vec<u8> {
+fn bad_layout(random: &mut Random, conditions: Conditions, mut made: Made) -> Vec<u8> {
+    if conditions.more(random, 15) {
+        return in_the_other(random, made);
+    }
+    let circuit = &mut made.circuit;
     let place = random.below(circuit.records.len());
     let fault = random.below(9);
     // Row 61 comes before 62, so what else the record put there breaks does not matter.
     match fault {
         0 => circuit.records[place] = Record::Bit(false),
         1 => {
-            let count = random.pick(&[7, 7, 8, 64, 255]);
+            let over = made.version.guard_wires_max + 1;
+            let count = random.pick(&[over, over, over + 1, 64, 255]);
             circuit.records[place] = Record::Guard(vec![Wire(0); count], Settings::none());
         }
         2 => circuit.records[place] = Record::Pick(Vec::new()),
         _ => {}
     }
-    let mut file = circuit.file();
-    let start = start(&circuit, place);
+    let mut file = made.file();
+    let start = start(&made, place);
     match fault {
         0 => file[start + 1] = random.pick(&[2, 3, 0x12, 255]),
         3 => file[start] = random.pick(&[0x02, 0x10, 0x13, 0x1F, 0x28, 0x2F, 0x33, 0xFF]),
@@ -318,6 +372,24 @@ fn bad_layout(random: &mut Random, mut circuit: Fused) -> Vec<u8> {
     file
 }
 
+/// A file whose version is made the other, while its guards keep their size.
+fn in_the_other(random: &mut Random, mut made: Made) -> Vec<u8> {
+    let wires = made.circuit.records.len();
+    let bit = |&wire: &usize| matches!(made.circuit.records[wire], Record::Input(_, Kind::Bit));
+    let bits: Vec<usize> = (0..made.circuit.outputs.len()).filter(bit).collect();
+    // A guard, where there is a bit to guard by; else whatever is there.
+    if !bits.is_empty() && wires < WIRES_MAX {
+        let count = random.below(made.version.guard_wires_max + 1);
+        let wires = (0..count).map(|_| Wire(random.pick(&bits))).collect();
+        let guard = Record::Guard(wires, Settings::none());
+        made.circuit.records.push(guard);
+    }
+    let mut file = made.file();
+    let other = VERSIONS.into_iter().find(|other| *other != made.version);
+    file[3..HEAD].copy_from_slice(&other.expect("two versions").bytes);
+    file
+}
+
 /// Another wire than before: the record's own, a later one, none at all, or any earlier, of whatever kind.
 fn another(random: &mut Random, own: usize, wires: usize) -> Wire {
     let any = random.below(wires);
@@ -325,7 +397,9 @@ fn another(random: &mut Random, own: usize, wires: usize) -> Wire {
 }
 
 /// One fault of row 62, or what may be one.
-fn bad_wires(random: &mut Random, circuit: &mut Fused) {
+fn bad_wires(random: &mut Random, made: &mut Made) {
+    let version = made.version;
+    let circuit = &mut made.circuit;
     let wires = circuit.records.len();
     let place = random.below(wires);
     match random.below(12) {
@@ -334,7 +408,7 @@ fn bad_wires(random: &mut Random, circuit: &mut Fused) {
             let output = random.below(circuit.outputs.len());
             circuit.outputs[output] = Some(another(random, wires, wires));
         }
-        6 => set_table_bit(random, circuit),
+        6 => set_table_bit(random, version, circuit),
         7 => bad_input(random, circuit),
         8 => {
             let record = circuit.records[place].clone();
@@ -372,10 +446,10 @@ fn move_wire(random: &mut Random, circuit: &mut Fused, place: usize) {
     }
 }
 
-/// A bit from 2^d up of some guard of less than six wires, which is added where there is none.
-fn set_table_bit(random: &mut Random, circuit: &mut Fused) {
-    let small =
-        |record: &Record| matches!(record, Record::Guard(wires, _) if wires.len() < CONDITIONS_MAX);
+/// A bit from 2^d up of some guard of less wires than there can be, which is added where there is none.
+fn set_table_bit(random: &mut Random, version: Version, circuit: &mut Fused) {
+    let most = version.guard_wires_max;
+    let small = |record: &Record| matches!(record, Record::Guard(wires, _) if wires.len() < most);
     let mut guards: Vec<usize> = (0..circuit.records.len())
         .filter(|&wire| small(&circuit.records[wire]))
         .collect();
@@ -386,8 +460,9 @@ fn set_table_bit(random: &mut Random, circuit: &mut Fused) {
     }
     if let Record::Guard(wires, table) = &mut circuit.records[random.pick(&guards)] {
         let first = 1 << wires.len();
-        let bit = random.among(first, SETTINGS - 1);
-        table.0[random.pick(&[first, bit, bit, SETTINGS - 1])] = true;
+        let last = version.table_bits() - 1;
+        let bit = random.among(first, last);
+        table.add(random.pick(&[first, bit, bit, last]));
     }
 }
 

@@ -1,9 +1,6 @@
 //! Which variables random cases have. What C-13 newly admits was refused before it, and a seed is to make the cases
 //! that it made then: without working variables the generator looks for what it looked for before.
 
-use crate::answer::Refusal;
-use crate::circuit::read_rule;
-use crate::circuit_file::{self, CircuitFile};
 use crate::generate::Random;
 use crate::law::*;
 use crate::rule::Rule;
@@ -48,28 +45,10 @@ impl Kinds {
             Kinds::Working => &[4, 4, 5, 6, 7, 16, 128, 255],
         }
     }
-
-    /// What reading a rule answers, as the generator looks for it.
-    pub fn rule_number(self, rule: &[u8]) -> u8 {
-        match read_rule(rule).number {
-            number @ (1 | 2) => number,
-            _ if self == Kinds::Results && names_working(rule) => 3,
-            number => number,
-        }
-    }
-
-    /// A circuit file that reading accepts, as the generator looks for it.
-    pub fn accept_file(self, file: &[u8]) -> Result<CircuitFile<'_>, Refusal> {
-        let accepted = circuit_file::accept(file)?;
-        if self == Kinds::Results && accepted.circuit.outputs.contains(&None) {
-            return Err(Refusal::nowhere(62));
-        }
-        Ok(accepted)
-    }
 }
 
 /// Whether a kind byte of a rule with the right mark is a working one's.
-fn names_working(rule: &[u8]) -> bool {
+pub(super) fn names_working(rule: &[u8]) -> bool {
     let (head, rest) = rule.split_at(RULE_BYTES_MIN);
     let variables = usize::from(head[RULE_MARK.len()]);
     let mut kind_bytes = rest.iter().take(variables);

@@ -2,67 +2,81 @@
 
 mod limits;
 
-use super::kinds::Kinds;
+use super::words::Words;
 use super::{damage, Random};
-use crate::circuit::accept;
 use crate::law::*;
 use crate::rule::{bytes_of, Block, Expression, Rule, Statement};
-use limits::{at_conditions, at_depth, at_gates, at_nesting, at_size, dead, wide};
+use limits::{at_conditions, at_depth, at_gates, at_nesting, at_size, branches, dead, wide};
 
 /// A rule that reading accepts.
-pub fn accepted(random: &mut Random, kinds: Kinds) -> Vec<u8> {
+pub fn accepted(random: &mut Random, words: Words) -> Vec<u8> {
+    let limits = words.conditions.limits();
     loop {
-        let rule = match random.below(20) {
-            0 => at_gates(random, GATES_MAX),
-            1 => at_conditions(random, CONDITIONS_MAX),
-            2 => at_depth(random, EXPRESSION_DEPTH_MAX),
-            3 => at_nesting(random, IF_DEPTH_MAX),
-            4 => wide(random),
-            5 => dead(random),
-            _ => tree(random),
+        let rule = if words.conditions.more(random, 35) {
+            more_conditions(random, limits)
+        } else {
+            match random.below(20) {
+                0 => at_gates(random, GATES_MAX, limits),
+                1 => at_conditions(random, limits.conditions, limits),
+                2 => at_depth(random, EXPRESSION_DEPTH_MAX, limits),
+                3 => at_nesting(random, limits.ifs, limits),
+                4 => wide(random),
+                5 => dead(random),
+                _ => tree(random, limits),
+            }
         };
-        let rule = kinds.give(random, rule);
+        let rule = words.kinds.give(random, rule);
         let bytes = if random.chance(2) {
             at_size(random, rule, RULE_BYTES_MAX)
         } else {
             bytes_of(&rule)
         };
-        if accept(&bytes).is_ok() {
+        if words.accept(&bytes).is_ok() {
             return bytes;
         }
     }
 }
 
+/// Seven conditions or eight, ifs nested seven deep or eight (C-17).
+fn more_conditions(random: &mut Random, limits: Limits) -> Rule {
+    let many = random.among(7, 8);
+    match random.below(4) {
+        0 => at_conditions(random, many, limits),
+        1 => at_nesting(random, many, limits),
+        _ => branches(random, many),
+    }
+}
+
 /// A rule that reading refuses by the wanted number, 1 to 11, found by trying.
-pub fn refused(random: &mut Random, kinds: Kinds, wanted: u8) -> Vec<u8> {
+pub fn refused(random: &mut Random, words: Words, wanted: u8) -> Vec<u8> {
     loop {
-        let bytes = try_refused(random, kinds, wanted);
-        if kinds.rule_number(&bytes) == wanted {
+        let bytes = try_refused(random, words, wanted);
+        if words.rule_number(&bytes) == wanted {
             return bytes;
         }
     }
 }
 
 /// The limits just broken, where the wanted number is that of a limit.
-fn over_limits(random: &mut Random, wanted: u8) -> Rule {
+fn over_limits(random: &mut Random, limits: Limits, wanted: u8) -> Rule {
     match wanted {
         8 if random.chance(70) => {
             let over = random.among(1, 3);
             if random.chance(50) {
-                at_depth(random, EXPRESSION_DEPTH_MAX + over)
+                at_depth(random, EXPRESSION_DEPTH_MAX + over, limits)
             } else {
-                at_nesting(random, IF_DEPTH_MAX + over)
+                at_nesting(random, limits.ifs + over, limits)
             }
         }
         10 => {
             let over = random.pick(&[1, 1, 2, 50]);
-            at_gates(random, GATES_MAX + over)
+            at_gates(random, GATES_MAX + over, limits)
         }
         11 => {
             let over = random.pick(&[1, 1, 2, 5]);
-            at_conditions(random, CONDITIONS_MAX + over)
+            at_conditions(random, limits.conditions + over, limits)
         }
-        _ => tree(random),
+        _ => tree(random, limits),
     }
 }
 
@@ -78,9 +92,9 @@ fn of_wrong_size(random: &mut Random, rule: Rule) -> Vec<u8> {
     }
 }
 
-fn try_refused(random: &mut Random, kinds: Kinds, wanted: u8) -> Vec<u8> {
-    let rule = over_limits(random, wanted);
-    let rule = kinds.give(random, rule);
+fn try_refused(random: &mut Random, words: Words, wanted: u8) -> Vec<u8> {
+    let rule = over_limits(random, words.conditions.limits(), wanted);
+    let rule = words.kinds.give(random, rule);
     if wanted == 1 {
         return of_wrong_size(random, rule);
     }
@@ -93,7 +107,7 @@ fn try_refused(random: &mut Random, kinds: Kinds, wanted: u8) -> Vec<u8> {
         }
         3 => {
             let place = random.among(RULE_MARK.len() + 1, head - 1);
-            bytes[place] = random.pick(kinds.refused_bytes());
+            bytes[place] = random.pick(words.kinds.refused_bytes());
         }
         // From the shortest size on, cut anywhere, the kind bytes included.
         4 if random.chance(30) => bytes.truncate(random.among(RULE_BYTES_MIN, bytes.len() - 1)),
@@ -108,12 +122,12 @@ fn try_refused(random: &mut Random, kinds: Kinds, wanted: u8) -> Vec<u8> {
 }
 
 /// Any bytes that look a little like a rule.
-pub fn damaged(random: &mut Random, kinds: Kinds) -> Vec<u8> {
+pub fn damaged(random: &mut Random, words: Words) -> Vec<u8> {
     let mut bytes = if random.chance(80) {
-        let rule = tree(random);
-        bytes_of(&kinds.give(random, rule))
+        let rule = tree(random, words.conditions.limits());
+        bytes_of(&words.kinds.give(random, rule))
     } else {
-        accepted(random, kinds)
+        accepted(random, words)
     };
     for _ in 0..random.among(1, 3) {
         damage(random, &mut bytes, 0);
@@ -128,6 +142,7 @@ struct Maker<'a> {
     /// The word and bit operations that this rule likes, so that gates of one operation abound.
     liked: [u8; 2],
     ifs_left: usize,
+    limits: Limits,
 }
 
 /// Kinds of variables, mostly two to six.
@@ -149,21 +164,22 @@ pub(super) fn kinds(random: &mut Random) -> Vec<Kind> {
         .collect()
 }
 
-fn maker(random: &mut Random) -> Maker<'_> {
+fn maker(random: &mut Random, limits: Limits) -> Maker<'_> {
     let kinds = kinds(random);
     let liked = [PRODUCT, random.pick(&[LESS, LESS, EQUAL, AND, OR])];
-    let ifs_left = random.among(0, CONDITIONS_MAX + 2);
+    let ifs_left = random.among(0, limits.conditions + 2);
     Maker {
         random,
         kinds,
         liked,
         ifs_left,
+        limits,
     }
 }
 
 /// A random rule; most, but not all, are accepted.
-pub fn tree(random: &mut Random) -> Rule {
-    let mut maker = maker(random);
+pub fn tree(random: &mut Random, limits: Limits) -> Rule {
+    let mut maker = maker(random, limits);
     let statements = maker.random.among(1, 6);
     let block = maker.block(statements, 0);
     Rule::of_results(&maker.kinds, block)
@@ -178,7 +194,7 @@ impl Maker<'_> {
         if self.random.chance(7) {
             return Statement::Skip;
         }
-        if ifs < IF_DEPTH_MAX && self.ifs_left > 0 && self.random.chance(45) {
+        if ifs < self.limits.ifs && self.ifs_left > 0 && self.random.chance(45) {
             self.ifs_left -= 1;
             let condition = self.condition();
             let count = self.random.pick(&[0, 1, 1, 2, 2, 3]);

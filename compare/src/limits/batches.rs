@@ -1,22 +1,26 @@
 //! Batches of C-16: document 02's, cut at every byte and changed at every byte of the head, bytes left, entries of every
-//! refusal, parts at their limits, savings of every sign; then random ones. Beside most stands how their report must end,
+//! refusal, parts at their limits, savings of every sign; random ones; then those of C-17. Beside most stands how their report must end,
 //! from the document, and it is looked at when the case is added.
 
 mod entries;
 
+use super::reading::{conditions, nested};
 use crate::batch::{bytes_of, report};
 use crate::batch_cases::Case;
 use crate::examples::{P1, R1};
 use crate::generate::batches::{self, boundaries, piece_size, Entry, NUMBERS};
+use crate::generate::words::Words;
 use crate::generate::Random;
 use crate::law::{PLAN_BYTES_MAX, RULE_BYTES_MAX};
-use entries::{joined, loss, padded_plan, padded_rule, r1, unjoined};
+use entries::{eight_joined, joined, loss, padded_plan, padded_rule, r1, unjoined};
 
 /// Sizes of the pieces in which short batches come; 0 is all at once.
 const SIZES: [usize; 5] = [1, 2, 3, 7, 0];
 /// What the two entries of document 02's batch print, and the entries of one that was cut or spoiled.
 const BOTH: &str = "accepted 6 9 33 28\naccepted 6 6 33 33\n";
 const FIRST: &str = "accepted 6 9 33 28\n";
+/// What random entries were made by before C-17: they keep their bytes.
+const BEFORE: Words = Words::BEFORE_EIGHT;
 /// The longest that a length can say.
 const MOST: usize = 65_535;
 
@@ -36,7 +40,8 @@ pub fn cases() -> Vec<Case> {
     many(&mut list);
     let mut random = Random::new(5);
     at_boundaries(&mut list, &mut random);
-    any(&mut list, &mut random);
+    any(&mut list, &mut random, BEFORE, 300);
+    eight(&mut list);
     list.cases
 }
 
@@ -205,7 +210,7 @@ fn refusals(list: &mut List) {
     let (mut all, mut turned) = (Vec::new(), Vec::new());
     for number in NUMBERS {
         let most = if number == 10 { 1500 } else { 200 };
-        let [one, other] = [(); 2].map(|()| batches::refused(&mut random, number, most));
+        let [one, other] = [(); 2].map(|()| batches::refused(&mut random, BEFORE, number, most));
         list.refused(&one);
         let mixed = [r1(), one.clone(), r1(), other.clone()];
         list.entries(&mixed, "total 2 2 66 56 10");
@@ -348,7 +353,9 @@ fn many(list: &mut List) {
 /// Pieces that end at every boundary of some batches, one byte before it and one after it.
 fn at_boundaries(list: &mut List, random: &mut Random) {
     for count in [1, 1, 2, 2, 3, 3] {
-        let entries: Vec<Entry> = (0..count).map(|_| batches::entry(random, 150)).collect();
+        let entries: Vec<Entry> = (0..count)
+            .map(|_| batches::entry(random, BEFORE, 150))
+            .collect();
         let batch = bytes_of(&entries);
         for boundary in boundaries(&batch) {
             for size in boundary - 1..=boundary + 1 {
@@ -362,26 +369,71 @@ fn at_boundaries(list: &mut List, random: &mut Random) {
 }
 
 /// Random batches, whole and damaged, in pieces of any size.
-fn any(list: &mut List, random: &mut Random) {
-    for _ in 0..300 {
+fn any(list: &mut List, random: &mut Random, words: Words, batches: usize) {
+    for _ in 0..batches {
         let count = random.below(13);
         let most = random.pick(&[60, 150, 150, 400, 1000]);
-        let batch = batches::batch(random, count, most);
+        let batch = batches::batch(random, words, count, most);
         let size = piece_size(random, &batch);
         list.cases.push(Case::new(size, &batch));
     }
 }
 
-/// A whole batch of some 300 entries of every sort, in no order.
+/// C-17: entries at the limits of conditions and ifs, and just over them, then refused and accepted ones of random rules.
+fn eight(list: &mut List) {
+    for (entry, line) in at_limits() {
+        let alone = bytes_of(std::slice::from_ref(&entry));
+        for size in SIZES {
+            let report = String::from_utf8(report(&alone)).expect("a report");
+            assert_eq!(report.lines().next(), Some(line));
+            list.cases.push(Case::new(size, &alone));
+        }
+        let mixed = bytes_of(&[r1(), entry, r1()]);
+        for boundary in boundaries(&mixed) {
+            list.cases.push(Case::new(boundary, &mixed));
+            list.cases.push(Case::new(3, &mixed[..boundary]));
+        }
+    }
+    let all: Vec<Entry> = at_limits().into_iter().map(|(entry, _)| entry).collect();
+    list.entries(&all, "total 7 4 426 276 150");
+    let mut random = Random::new(17);
+    for number in [8, 11] {
+        for _ in 0..6 {
+            let entry = batches::refused(&mut random, Words::ALL, number, 400);
+            list.refused(&entry);
+            list.entries(&[r1(), entry, r1()], "total 2 1 66 56 10");
+        }
+    }
+    any(list, &mut random, Words::ALL, 60);
+}
+
+/// Entries at the limits that C-17 moved, and the lines that they print.
+fn at_limits() -> Vec<(Entry, &'static str)> {
+    vec![
+        (unjoined(&conditions(6)), "accepted 13 13 18 18"),
+        (unjoined(&conditions(7)), "accepted 15 15 21 21"),
+        (unjoined(&conditions(8)), "accepted 17 17 24 24"),
+        (unjoined(&conditions(9)), "refused 11 98"),
+        (unjoined(&conditions(10)), "refused 11 108"),
+        (unjoined(&nested(7)), "accepted 9 9 21 21"),
+        (unjoined(&nested(8)), "accepted 10 10 24 24"),
+        (unjoined(&nested(9)), "refused 8 39"),
+        (unjoined(&nested(10)), "refused 8 39"),
+        (eight_joined(), "accepted 36 39 159 84"),
+        (eight_joined(), "accepted 36 39 159 84"),
+    ]
+}
+
+/// A whole batch of some 300 entries of every sort, in no order; behind them those of C-17.
 pub fn month() -> Vec<u8> {
     let mut random = Random::new(1016);
     let mut all: Vec<Entry> = Vec::new();
     for number in NUMBERS {
         let most = if number == 10 { 1500 } else { 300 };
-        all.extend((0..4).map(|_| batches::refused(&mut random, number, most)));
+        all.extend((0..4).map(|_| batches::refused(&mut random, BEFORE, number, most)));
     }
     for most in [100, 300, 1000, 5000] {
-        all.extend((0..35).map(|_| batches::accepted(&mut random, most)));
+        all.extend((0..35).map(|_| batches::accepted(&mut random, BEFORE, most)));
     }
     let [at, over] =
         [RULE_BYTES_MAX, RULE_BYTES_MAX + 1].map(|length| unjoined(&padded_rule(length)));
@@ -397,6 +449,10 @@ pub fn month() -> Vec<u8> {
     all.extend(entries::costly(4));
     for last in (1..all.len()).rev() {
         all.swap(last, random.below(last + 1));
+    }
+    all.extend(at_limits().into_iter().map(|(entry, _)| entry));
+    for number in [8, 8, 11, 11] {
+        all.push(batches::refused(&mut random, Words::ALL, number, 300));
     }
     bytes_of(&all)
 }

@@ -1,14 +1,15 @@
 //! C-11: circuit files read, shown by record and run. Files are put together from records, and faults set in
-//! their bytes; the number beside each is document 02's.
+//! their bytes; the number beside each is document 02's. All are of version 1; those of version 2 are in `eight`.
 
 mod faults;
 mod ours;
 mod sums;
 
+pub(super) use ours::wanted_of_example_3;
+
 use super::List;
 use crate::circuit::Settings;
 use crate::circuit_file::accept;
-use crate::generate::group_order::in_order;
 use crate::law::*;
 use crate::stream::{Case, READ_CIRCUIT, RECORD, RUN_CIRCUIT};
 use crate::write::{Fused, Record, Wire};
@@ -82,15 +83,6 @@ impl List {
             self.run_circuit(file, &inputs, inputs.len() + turn % 2, 0);
         }
     }
-
-    /// What writing makes of an accepted rule and plan, groups in order.
-    pub(super) fn file(&self, rule: &[u8], plan: &[u8]) -> Vec<u8> {
-        let mut buffer = vec![0; CIRCUIT_BYTES_MAX];
-        let answer = crate::write::write(rule, &in_order(plan), &mut buffer);
-        assert_eq!(answer.number, 0, "an accepted plan");
-        buffer.truncate(answer.bytes);
-        buffer
-    }
 }
 
 pub(super) fn run_case(file: &[u8], inputs: &[u32], room: usize) -> Case {
@@ -124,11 +116,16 @@ pub(super) fn pick(pairs: &[(usize, usize)]) -> Record {
 
 /// A guard whose table is the number's bits.
 pub(super) fn guard(wires: &[usize], table: u64) -> Record {
-    let mut settings = Settings::none();
-    for (j, bit) in settings.0.iter_mut().enumerate() {
-        *bit = table >> j & 1 == 1;
+    guard_where(wires, |j| j < 64 && table >> j & 1 == 1)
+}
+
+/// A guard whose table has these bits.
+pub(super) fn guard_where(wires: &[usize], has: impl Fn(usize) -> bool) -> Record {
+    let mut table = Settings::none();
+    for j in (0..SETTINGS).filter(|&j| has(j)) {
+        table.add(j);
     }
-    Record::Guard(wires.iter().copied().map(Wire).collect(), settings)
+    Record::Guard(wires.iter().copied().map(Wire).collect(), table)
 }
 
 /// Inputs of these kinds, then the records.

@@ -24,6 +24,7 @@ fn one_to_three(list: &mut List) {
         list.fused(&R1, &plan(6, &[]), &inputs, 3, wanted);
     }
     list.check(&R1, &P1, 0);
+    // The rooms of before C-17: 76 bytes in version 1, and 124 in version 2.
     let rooms = [
         (76, 0),
         (75, 50),
@@ -145,13 +146,10 @@ fn ten(list: &mut List) {
         let given = inputs(&accepted, 0);
         list.fused(&accepted, &plan(count, &[]), &given, 0, 42);
     }
-    for (refused, wanted) in [
-        (conditions(7), 11),
-        (deep(9), 8),
-        (nested(7), 8),
-        (gates(257), 10),
-        (skips(4097), 1),
-    ] {
-        list.refused_rule(&refused, &P1, wanted);
-    }
+    // Seven conditions were 11, ifs nested seven deep 8, before C-17.
+    list.no_longer_refused(&conditions(7), &P1);
+    list.refused_rule(&deep(9), &P1, 8);
+    list.no_longer_refused(&nested(7), &P1);
+    list.refused_rule(&gates(257), &P1, 10);
+    list.refused_rule(&skips(4097), &P1, 1);
 }

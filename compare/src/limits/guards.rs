@@ -7,10 +7,10 @@ use crate::law::*;
 use crate::rule::{Block, Statement};
 
 pub fn add(list: &mut List) {
-    for count in 0..=CONDITIONS_MAX {
+    for count in 0..=LIMITS_BEFORE.conditions {
         on_first(list, count);
     }
-    for set in 0..SETTINGS {
+    for set in 0..1 << LIMITS_BEFORE.conditions {
         on_some(list, set);
     }
     one_by_one(list);

@@ -153,19 +153,22 @@ fn rule_first(list: &mut List) {
         (changed(11, 0x01), 7),
         (changed(14, 0x23), 7),
         (deep(9), 8),
-        (nested(7), 8),
+        // Before C-17 they were 8 and 11.
+        (nested(7), 22),
         (more, 9),
         (gates(257), 10),
-        (conditions(7), 11),
+        (conditions(7), 22),
     ] {
         any_plans(list, &rule, wanted);
     }
 }
 
-/// A rule that is refused by this number whatever comes after it, or an accepted one like R1, with several plans.
+/// A rule that is refused by this number whatever comes after it, or an accepted one like R1, or, for 22, of another gate
+/// count, with several plans.
 fn any_plans(list: &mut List, rule: &[u8], wanted: u8) {
     let numbers = match wanted {
         0 => [[20; 5], [23; 5], [0, 50, 0, 40, 41], [21; 5]],
+        22 => [[20; 5], [22; 5], [22; 5], [21; 5]],
         _ => [[wanted; 5]; 4],
     };
     let plans = [&[][..], &P1[..9], &P1, &R1];

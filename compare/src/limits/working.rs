@@ -60,7 +60,7 @@ impl Subject {
 impl List {
     /// A run that, groups in order, succeeds and writes these figures, and nothing after them.
     #[track_caller]
-    fn gives(&mut self, case: Case, figures: &[u32]) {
+    pub(super) fn gives(&mut self, case: Case, figures: &[u32]) {
         let mut wanted = figures.to_vec();
         wanted.resize(usize::from(case.room), UNTOUCHED_RESULT);
         let (_, text) = put_in_order(&case)

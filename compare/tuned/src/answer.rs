@@ -30,11 +30,11 @@ impl Answer {
     }
 }
 
-/// A plain circuit: the answer of reading its rule, four numbers a gate, and each gate's precondition;
-/// zeros after them.
+/// A plain circuit: the answer of reading its rule, four numbers a gate, and each gate's precondition, four words a gate, the
+/// lowest first; zeros after them.
 #[derive(Clone, Copy, Debug, PartialEq, Eq)]
 pub struct Shown {
     pub answer: Answer,
     pub rows: [u32; 1024],
-    pub needs: [u64; 256],
+    pub needs: [u64; 1024],
 }

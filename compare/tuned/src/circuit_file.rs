@@ -1,6 +1,6 @@
 //! Circuit files from any house (C-11): one pass lays a file out, holds it against row 62 and, if wanted, works its
 //! figures out. It stops at the first fault; only then a second pass tells 61 from 62. FF FF is admitted as any
-//! variable's output (C-13).
+//! variable's output (C-13). Files of both versions are read, each with its own size of guards (C-17).
 
 use crate::law::*;
 use crate::places::{byte, eight, four, two, Places};
@@ -23,24 +23,34 @@ fn same_kind(one: u64, other: u64) -> bool {
 pub struct Header {
     pub variables: usize,
     pub wires: usize,
+    /// Whether it is of version 2.
+    wide: bool,
 }
 
-/// V and the wire count; none by row 60.
+/// A mark and version as the lowest five bytes of a number, at its upper end.
+const fn mark([a, b, c, d, e]: [u8; 5]) -> u64 {
+    u64::from_le_bytes([a, b, c, d, e, 0, 0, 0]) << 24
+}
+
+/// V, the wire count and the version; none by row 60.
 #[inline(always)]
 pub fn header(file: &[u8]) -> Option<Header> {
-    const MARK: u64 = {
-        let [a, b, c, d, e] = CIRCUIT_MARK;
-        u64::from_le_bytes([a, b, c, d, e, 0, 0, 0])
-    };
+    const WIDE: u64 = mark(CIRCUIT_MARK);
+    const NARROW: u64 = mark(CIRCUIT_MARK_1);
     if file.len().wrapping_sub(CIRCUIT_BYTES_MIN) > CIRCUIT_BYTES_MAX - CIRCUIT_BYTES_MIN {
         return None;
     }
-    let head = eight(file, 0);
+    let head = eight(file, 0) << 24;
     let variables = usize::from(byte(file, 5));
     let wires = usize::from(two(file, 6));
+    let wide = head == WIDE;
     let good =
-        head << 24 == MARK << 24 && variables.wrapping_sub(1) < VARIABLES_MAX && wires <= WIRES_MAX;
-    good.then_some(Header { variables, wires })
+        (wide || head == NARROW) && variables.wrapping_sub(1) < VARIABLES_MAX && wires <= WIRES_MAX;
+    good.then_some(Header {
+        variables,
+        wires,
+        wide,
+    })
 }
 
 /// A file and what is known of its wires so far; there is a place more than wires can be, for no wire.
@@ -60,7 +70,11 @@ impl<'a> Pass<'a> {
     /// inputs, else none. Says whether a bit's input is above 1.
     #[inline(always)]
     pub fn whole<const RUN: bool>(&mut self, header: Header, inputs: &[u32]) -> Option<bool> {
-        let Header { variables, wires } = header;
+        let Header {
+            variables,
+            wires,
+            wide,
+        } = header;
         // A record that ends at or before this place leaves the outputs, so a byte after its code can be read.
         let end = self.file.len().checked_sub(2 * variables)?;
         let mut at = CIRCUIT_BYTES_MIN + 2 * variables;
@@ -69,7 +83,7 @@ impl<'a> Pass<'a> {
         }
         let over = self.inputs(variables, inputs)?;
         for own in variables..wires {
-            let (known, size) = self.record::<RUN>(own, at, end - at)?;
+            let (known, size) = self.record::<RUN>(own, at, end - at, wide)?;
             self.known.set(own, known);
             at += size;
         }
@@ -123,7 +137,13 @@ impl<'a> Pass<'a> {
 
     /// What is known of the record at a place, and its size, which is not above what is left.
     #[inline(always)]
-    fn record<const RUN: bool>(&self, own: usize, at: usize, left: usize) -> Option<(u64, usize)> {
+    fn record<const RUN: bool>(
+        &self,
+        own: usize,
+        at: usize,
+        left: usize,
+        wide: bool,
+    ) -> Option<(u64, usize)> {
         let code = byte(self.file, at);
         match code {
             SUM..=OR if left >= 5 => {
@@ -142,6 +162,7 @@ impl<'a> Pass<'a> {
                 good.then_some((taken, 7))
             }
             PICK => self.pick::<RUN>(own, at, left),
+            GUARD if wide => self.wide_guard::<RUN>(own, at, left),
             GUARD => self.guard::<RUN>(own, at, left),
             WORD if left >= 5 => {
                 let word = four(self.file, at + 1).swap_bytes();
@@ -176,24 +197,64 @@ impl<'a> Pass<'a> {
         (differ >> 32 == 0).then_some((kind | u64::from(sum), size))
     }
 
+    /// The setting that so many wires give from a place on; none if one is not earlier or no bit.
     #[inline(always)]
-    fn guard<const RUN: bool>(&self, own: usize, at: usize, left: usize) -> Option<(u64, usize)> {
+    fn setting(&self, own: usize, at: usize, count: usize) -> Option<usize> {
+        let (mut differ, mut setting) = (0, 0);
+        for place in 0..count {
+            let bit = self.wire(at + 2 * place, own)?;
+            differ |= bit ^ BIT_KIND;
+            setting |= (bit as usize & 1) << place;
+        }
+        (differ >> 32 == 0).then_some(setting)
+    }
+
+    /// A guard of version 2.
+    #[inline(always)]
+    fn wide_guard<const RUN: bool>(
+        &self,
+        own: usize,
+        at: usize,
+        left: usize,
+    ) -> Option<(u64, usize)> {
         let count = usize::from(byte(self.file, at + 1));
-        let size = 10 + 2 * count;
+        let size = 2 + TABLE_BYTES + 2 * count;
         if count > CONDITIONS_MAX || left < size {
             return None;
         }
-        let (mut differ, mut setting) = (0, 0);
-        for place in 0..count {
-            let bit = self.wire(at + 2 + 2 * place, own)?;
-            differ |= bit ^ BIT_KIND;
-            setting |= (bit & 1) << place;
+        let setting = self.setting(own, at + 2, count)?;
+        // The words of the table from the lowest up stand from the last down.
+        let last = at + size - 8;
+        let low = eight(self.file, last).swap_bytes();
+        let above = match count {
+            8 => 0,
+            7 => eight(self.file, last - 16) | eight(self.file, last - 24),
+            _ => {
+                let high = (1..4).map(|word| eight(self.file, last - 8 * word));
+                high.fold(low >> ((1 << count) - 1) >> 1, |all, word| all | word)
+            }
+        };
+        let bit = match RUN {
+            true => byte(self.file, last + 7 - setting / 8) >> (setting % 8) & 1,
+            false => 0,
+        };
+        (above == 0).then_some((BIT_KIND | u64::from(bit), size))
+    }
+
+    /// A guard of version 1.
+    #[inline(always)]
+    fn guard<const RUN: bool>(&self, own: usize, at: usize, left: usize) -> Option<(u64, usize)> {
+        let count = usize::from(byte(self.file, at + 1));
+        let size = 2 + TABLE_BYTES_1 + 2 * count;
+        if count > GUARD_WIRES_MAX_1 || left < size {
+            return None;
         }
+        let setting = self.setting(own, at + 2, count)?;
         let table = eight(self.file, at + 2 + 2 * count).swap_bytes();
         // In two steps, since six wires make it all 64 bits.
         let above = table >> ((1 << count) - 1) >> 1;
         let bit = if RUN { table >> setting & 1 } else { 0 };
-        (differ >> 32 == 0 && above == 0).then_some((BIT_KIND | bit, size))
+        (above == 0).then_some((BIT_KIND | bit, size))
     }
 
     /// The figures of the outputs, after a pass that ran; 0 for FF FF.
@@ -232,7 +293,7 @@ fn operation<const RUN: bool>(code: u8, first: u64, second: u64) -> Option<u64> 
 }
 
 /// The size of the record at a place; none for a record that row 61 refuses.
-fn size(file: &[u8], at: usize) -> Option<usize> {
+fn size(file: &[u8], at: usize, wide: bool) -> Option<usize> {
     let count = file.get(at + 1).copied().map(usize::from);
     let size = match *file.get(at)? {
         0x00 | 0x01 => 2,
@@ -241,22 +302,23 @@ fn size(file: &[u8], at: usize) -> Option<usize> {
         WORD | SUM..=OR => 5,
         CHOICE => 7,
         PICK => 2 + 4 * count.filter(|&pairs| pairs > 0)?,
-        GUARD => 10 + 2 * count.filter(|&wires| wires <= CONDITIONS_MAX)?,
+        GUARD if wide => 2 + TABLE_BYTES + 2 * count.filter(|&wires| wires <= CONDITIONS_MAX)?,
+        GUARD => 2 + TABLE_BYTES_1 + 2 * count.filter(|&wires| wires <= GUARD_WIRES_MAX_1)?,
         _ => return None,
     };
     (at + size <= file.len()).then_some(size)
 }
 
 /// Where the record of a wire, or what comes after the last, begins; none by row 61.
-fn start(file: &[u8], wire: usize) -> Option<usize> {
-    (0..wire).try_fold(CIRCUIT_BYTES_MIN, |at, _| Some(at + size(file, at)?))
+fn start(file: &[u8], wire: usize, wide: bool) -> Option<usize> {
+    (0..wire).try_fold(CIRCUIT_BYTES_MIN, |at, _| Some(at + size(file, at, wide)?))
 }
 
 /// The row of a file that the pass stopped in: 61 if it is not laid out, else 62.
 #[cold]
 #[inline(never)]
 pub fn row(file: &[u8], header: Header) -> u8 {
-    match start(file, header.wires) {
+    match start(file, header.wires, header.wide) {
         Some(outputs) if outputs + 2 * header.variables == file.len() => 62,
         _ => 61,
     }
@@ -264,7 +326,8 @@ pub fn row(file: &[u8], header: Header) -> u8 {
 
 /// The part of an accepted file that holds a wire's record.
 pub fn part(file: &[u8], wire: usize) -> &[u8] {
-    let part = start(file, wire).and_then(|at| file.get(at..at + size(file, at)?));
+    let wide = file.starts_with(&CIRCUIT_MARK);
+    let part = start(file, wire, wide).and_then(|at| file.get(at..at + size(file, at, wide)?));
     part.unwrap_or(&[])
 }
 

@@ -1,8 +1,10 @@
-//! The numbers, codes and costs of document 01 and of C-11 to C-13 and C-16, in one place: later requests move them here.
+//! The numbers, codes and costs of document 01 and of C-11 to C-13, C-16 and C-17, in one place: later requests move them here.
 
 pub const RULE_MARK: [u8; 5] = *b"RUL\x00\x01";
 pub const PLAN_MARK: [u8; 5] = *b"PLN\x00\x01";
-pub const CIRCUIT_MARK: [u8; 5] = *b"CIR\x00\x01";
+/// The mark and version of what is written (C-17), and of files of before, which are read too.
+pub const CIRCUIT_MARK: [u8; 5] = *b"CIR\x00\x02";
+pub const CIRCUIT_MARK_1: [u8; 5] = *b"CIR\x00\x01";
 /// The mark and version of a batch (C-16).
 pub const BATCH_MARK: [u8; 5] = *b"BAT\x00\x01";
 
@@ -10,9 +12,13 @@ pub const RULE_BYTES_MIN: usize = 6;
 pub const RULE_BYTES_MAX: usize = 4096;
 pub const VARIABLES_MAX: usize = 32;
 pub const EXPRESSION_DEPTH_MAX: u32 = 8;
-pub const IF_DEPTH_MAX: u32 = 6;
+pub const IF_DEPTH_MAX: u32 = 8;
 pub const GATES_MAX: usize = 256;
-pub const CONDITIONS_MAX: usize = 6;
+pub const CONDITIONS_MAX: usize = 8;
+/// A guard's table has a bit for each setting; and in version 1, of six wires at most.
+pub const TABLE_BYTES: usize = (1 << CONDITIONS_MAX) / 8;
+pub const GUARD_WIRES_MAX_1: usize = 6;
+pub const TABLE_BYTES_1: usize = 8;
 pub const PLAN_BYTES_MIN: usize = 9;
 pub const PLAN_BYTES_MAX: usize = 1024;
 pub const WIRES_MAX: usize = 640;

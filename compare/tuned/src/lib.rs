@@ -1,4 +1,4 @@
-//! Document 01's operations 01 to 06 with requests C-12 and C-13, C-11's 07 to 09 and C-16's program, in Rust tuned for speed:
+//! Document 01's operations 01 to 06 with requests C-12, C-13, C-15 and C-17, C-11's 07 to 09 and C-16's program, in Rust tuned for speed:
 //! a tool to measure the proved one beside. No allocation, nothing cleared that is not read, one pass over the rule, one
 //! over the plan, one backward over the gates, one to order and one to write; one over a circuit file.
 //!
@@ -23,7 +23,7 @@ pub use needed::pass_alone;
 
 use circuit_file::{header, Pass};
 use law::*;
-use needed::{conditions, find_needed};
+use needed::{conditions, find_needed, Set};
 use order::{order, Nothing, Order};
 use plan::Planned;
 use reading::{Reader, COUNT, MAKE, RUN, SHOW};
@@ -84,7 +84,7 @@ pub fn show_plain<'a>(rule: &[u8], shown: &'a mut MaybeUninit<Shown>) -> &'a Sho
     // Rows and needs have room for every gate, and all of both is set before a reference to them is made.
     unsafe {
         let rows = (&raw mut (*out).rows).cast::<u32>();
-        let needs = (&raw mut (*out).needs).cast::<u64>();
+        let needs = (&raw mut (*out).needs).cast::<Set>();
         let mut reader = Reader::new(rows, null_mut());
         let (answer, gates) = match read::<SHOW>(&mut reader, rule) {
             Some(()) => {

@@ -1,12 +1,57 @@
-//! Needed gates: one backward pass over the gates. A set of settings is 64 bits, bit j for setting j.
+//! Needed gates: one backward pass over the gates, in sets of four words that are changed in place.
 
 use crate::law::*;
 use crate::places::Places;
 use crate::reading::{Reader, SHOW};
 use std::ops::Range;
 
-/// The settings that give condition t the bit 0.
-const LACKING: [u64; CONDITIONS_MAX] = [
+/// A set of settings: 256 bits, bit j for setting j, those from 64 on in the words after the first.
+pub type Set = [u64; 4];
+
+const NONE: Set = [0; 4];
+const ALL: Set = [u64::MAX; 4];
+
+// Four words at once: the compiler makes two or one of each of these, as the machine has them.
+
+#[inline(always)]
+fn or(one: Set, other: Set) -> Set {
+    std::array::from_fn(|word| one[word] | other[word])
+}
+
+#[inline(always)]
+fn and(one: Set, other: Set) -> Set {
+    std::array::from_fn(|word| one[word] & other[word])
+}
+
+#[inline(always)]
+fn without(one: Set, other: Set) -> Set {
+    std::array::from_fn(|word| one[word] & !other[word])
+}
+
+#[inline(always)]
+fn folded(set: Set) -> u64 {
+    set[0] | set[1] | set[2] | set[3]
+}
+
+/// Whether two sets meet; the second is put into the first.
+#[inline(always)]
+pub fn meet(seen: &mut Set, set: Set) -> bool {
+    let meets = folded(and(*seen, set)) != 0;
+    *seen = or(*seen, set);
+    meets
+}
+
+/// The bit of a setting, which is below 256.
+#[inline(always)]
+pub fn bit(set: Set, setting: u32) -> u32 {
+    (set[(setting >> 6 & 3) as usize] >> (setting & 63)) as u32 & 1
+}
+
+/// Conditions that are told apart inside a word.
+const IN_A_WORD: usize = 6;
+
+/// The settings that give condition t, one of the first six, the bit 0; every word is the same.
+const LACKING_WORD: [u64; IN_A_WORD] = [
     0x5555_5555_5555_5555,
     0x3333_3333_3333_3333,
     0x0F0F_0F0F_0F0F_0F0F,
@@ -15,7 +60,19 @@ const LACKING: [u64; CONDITIONS_MAX] = [
     0x0000_0000_FFFF_FFFF,
 ];
 
-/// The gates of the conditions, rising; zeros after the last. Eight, so that three bits name one.
+/// The settings that give condition t the bit 0.
+const LACKING: [Set; CONDITIONS_MAX] = [
+    [LACKING_WORD[0]; 4],
+    [LACKING_WORD[1]; 4],
+    [LACKING_WORD[2]; 4],
+    [LACKING_WORD[3]; 4],
+    [LACKING_WORD[4]; 4],
+    [LACKING_WORD[5]; 4],
+    [u64::MAX, 0, u64::MAX, 0],
+    [u64::MAX, u64::MAX, 0, 0],
+];
+
+/// The gates of the conditions, rising; zeros after the last. Eight at most, so three bits name one.
 pub type Conditions = [u8; 8];
 
 #[inline(always)]
@@ -43,7 +100,7 @@ pub unsafe fn find_needed<const DO: u8>(
     reader: &Reader,
     conditions: &Conditions,
     rows: *const u32,
-    needs: *mut u64,
+    needs: *mut Set,
 ) {
     std::ptr::write_bytes(needs, 0, reader.gates());
     let last = reader.present[..reader.variables].iter().enumerate();
@@ -60,17 +117,19 @@ pub unsafe fn find_needed<const DO: u8>(
 ///
 /// # Safety
 /// `rows` holds the gates of an accepted rule as operation 06 shows them, `gates` are those after its starting values,
-/// `conditions` its conditions if it has any, and `wanted` gates of it: no number is tested. `needs` is clear.
+/// `conditions` its conditions if it has any, and `wanted` gates of it: no number is tested. `needs`, four words a gate, the
+/// lowest first, is clear.
 #[inline(never)]
 pub unsafe fn pass_alone(
     rows: &[u32; 4 * GATES_MAX],
     gates: Range<usize>,
     conditions: &[u8],
     wanted: &[u16],
-    needs: &mut [u64; GATES_MAX],
+    needs: &mut [u64; 4 * GATES_MAX],
 ) {
     let wanted = wanted.iter().map(|&gate| usize::from(gate));
-    pass::<SHOW>(rows.as_ptr(), gates, conditions, wanted, needs.as_mut_ptr());
+    let needs = needs.as_mut_ptr().cast::<Set>();
+    pass::<SHOW>(rows.as_ptr(), gates, conditions, wanted, needs);
 }
 
 /// The backward pass proper, in sets that are clear: each gate once, from the last on, hands its set to its arguments.
@@ -84,10 +143,10 @@ unsafe fn pass<const DO: u8>(
     gates: Range<usize>,
     conditions: &[u8],
     wanted: impl Iterator<Item = usize>,
-    needs: *mut u64,
+    needs: *mut Set,
 ) {
     for gate in wanted {
-        *needs.add(gate) = u64::MAX;
+        *needs.add(gate) = ALL;
     }
     match conditions {
         [] => pass_whole::<DO>(rows, gates, needs),
@@ -117,11 +176,11 @@ unsafe fn pass_settings<const DO: u8>(
     rows: *const u32,
     gates: Range<usize>,
     conditions: &[u8],
-    needs: *mut u64,
+    needs: *mut Set,
 ) {
     let set = |gate: u8| &mut *needs.add(usize::from(gate));
     // By gate, so that a choice finds its condition's at once; only conditions' places are set and read.
-    let mut lacking = Places::<u64, GATES_MAX>::new();
+    let mut lacking = Places::<Set, GATES_MAX>::new();
     for (&gate, &settings) in conditions.iter().zip(&LACKING) {
         lacking.set(gate, settings);
     }
@@ -131,13 +190,13 @@ unsafe fn pass_settings<const DO: u8>(
             continue;
         }
         let needed = *needs.add(gate);
-        *set(x) |= needed;
+        *set(x) = or(*set(x), needed);
         if has_two::<DO>(code) {
-            *set(y) |= needed;
+            *set(y) = or(*set(y), needed);
         } else if code == CHOICE {
             let second = lacking.get(x);
-            *set(y) |= needed & !second;
-            *set(z) |= needed & second;
+            *set(y) = or(*set(y), without(needed, second));
+            *set(z) = or(*set(z), and(needed, second));
         }
     }
 }
@@ -145,33 +204,34 @@ unsafe fn pass_settings<const DO: u8>(
 /// The pass where there is no condition, and so no choice: a gate is needed always or never. Sets are stored without
 /// being read, so that no gate waits for the store of another.
 #[inline(always)]
-unsafe fn pass_whole<const DO: u8>(rows: *const u32, gates: Range<usize>, needs: *mut u64) {
+unsafe fn pass_whole<const DO: u8>(rows: *const u32, gates: Range<usize>, needs: *mut Set) {
     let set = |gate: u8| &mut *needs.add(usize::from(gate));
     for gate in gates.rev() {
         let [code, x, y, _] = row::<DO>(rows, gate);
-        if code >= SUM && *needs.add(gate) != 0 {
-            *set(x) = u64::MAX;
-            *set(if has_two::<DO>(code) { y } else { x }) = u64::MAX;
+        if code >= SUM && (*needs.add(gate))[0] != 0 {
+            *set(x) = ALL;
+            *set(if has_two::<DO>(code) { y } else { x }) = ALL;
         }
     }
 }
 
 /// The conditions that a set rests on, bit t for condition t.
 #[inline(always)]
-fn rests_on(set: u64) -> u8 {
+fn rests_on(set: Set) -> u8 {
     let mut on = 0;
-    for (condition, &lacking) in LACKING.iter().enumerate() {
-        let moves = (set >> (1 << condition) ^ set) & lacking != 0;
-        on |= u8::from(moves) << condition;
+    for (condition, &lacking) in LACKING_WORD.iter().enumerate() {
+        let moves = folded(set.map(|word| word >> (1 << condition) ^ word)) & lacking;
+        on |= u8::from(moves != 0) << condition;
     }
-    on
+    let [a, b, c, d] = set;
+    on | u8::from((a ^ b) | (c ^ d) != 0) << 6 | u8::from((a ^ c) | (b ^ d) != 0) << 7
 }
 
 /// How many conditions such a byte names: a table, as the instruction that counts is not on every machine.
-const COUNTED: [u8; 64] = {
-    let mut all = [0; 64];
+const COUNTED: [u8; 256] = {
+    let mut all = [0; 256];
     let mut on = 0;
-    while on < 64 {
+    while on < 256 {
         all[on] = on.count_ones() as u8;
         on += 1;
     }
@@ -180,24 +240,24 @@ const COUNTED: [u8; 64] = {
 
 #[inline(always)]
 pub fn counted(on: u8) -> usize {
-    usize::from(COUNTED[usize::from(on & 63)])
+    usize::from(COUNTED[usize::from(on)])
 }
 
 /// What the last set at the same place of a group rested on: members of one block share their set, and
 /// groups mostly hold a member of each of two blocks.
 pub struct Rested {
-    sets: [u64; 2],
+    sets: [Set; 2],
     on: [u8; 2],
 }
 
 impl Rested {
     pub const NONE: Rested = Rested {
-        sets: [0; 2],
+        sets: [NONE; 2],
         on: [0; 2],
     };
 
     #[inline(always)]
-    pub fn of(&mut self, set: u64, place: usize) -> u8 {
+    pub fn of(&mut self, set: Set, place: usize) -> u8 {
         let place = place & 1;
         if self.sets[place] != set {
             self.sets[place] = set;
@@ -207,23 +267,59 @@ impl Rested {
     }
 }
 
-/// A guard's table: the set with the conditions that it does not rest on taken out, the highest first.
+/// A guard's table: the set with the conditions that it does not rest on taken out.
 #[inline(always)]
-pub fn table(set: u64, on: u8) -> u64 {
+pub fn table(set: Set, on: u8) -> Set {
+    let [a, b, c, d] = set;
+    let inside = on & 63;
+    // Of two words that a condition tells apart, both stay where the set rests on it, else either.
+    match on >> 6 {
+        0 => [in_a_word(a, inside), 0, 0, 0],
+        1 => joined(in_a_word(a, inside), in_a_word(b, inside), inside),
+        2 => joined(in_a_word(a, inside), in_a_word(c, inside), inside),
+        _ => all_four([a, b, c, d].map(|word| in_a_word(word, inside)), inside),
+    }
+}
+
+/// Two tables of a word each, one behind the other.
+#[inline(always)]
+fn joined(low: u64, high: u64, inside: u8) -> Set {
+    match counted(inside) {
+        IN_A_WORD => [low, high, 0, 0],
+        bits => [low | high << (1 << bits), 0, 0, 0],
+    }
+}
+
+/// Four, likewise.
+#[inline(always)]
+fn all_four([a, b, c, d]: Set, inside: u8) -> Set {
+    match counted(inside) {
+        IN_A_WORD => [a, b, c, d],
+        5 => [a | b << 32, c | d << 32, 0, 0],
+        bits => {
+            let by = 1 << bits;
+            [a | b << by | c << (2 * by) | d << (3 * by), 0, 0, 0]
+        }
+    }
+}
+
+/// A word with the conditions inside it that it does not rest on taken out, the highest first.
+#[inline(always)]
+fn in_a_word(word: u64, on: u8) -> u64 {
     let top = 8 - on.leading_zeros() as usize;
-    let mut table = if top < CONDITIONS_MAX {
-        set & ((1 << (1 << top)) - 1)
+    let mut table = if top < IN_A_WORD {
+        word & ((1 << (1 << top)) - 1)
     } else {
-        set
+        word
     };
     let mut out = !on & ((1u8 << (top & 7)) - 1);
     while out != 0 {
         let condition = 7 - out.leading_zeros() as usize;
         out ^= 1 << condition;
         // That bit of the setting goes: those above it move down by one.
-        table &= LACKING[condition];
+        table &= LACKING_WORD[condition];
         for above in condition..top - 1 {
-            table = (table | table >> (1 << above)) & LACKING[above + 1];
+            table = (table | table >> (1 << above)) & LACKING_WORD[above + 1];
         }
     }
     table

@@ -1,7 +1,7 @@
 //! A plan for a rule's circuit: rows 20 to 29 and 32 in one pass over its bytes, and what joining adds to the counts.
 
 use crate::law::*;
-use crate::needed::{counted, Conditions, Rested};
+use crate::needed::{counted, meet, Conditions, Rested, Set};
 use crate::places::{rising, two, Places};
 
 // What `marks` says of a gate: it is in a joined group; it is not the first there; its group is watched.
@@ -39,7 +39,7 @@ pub struct Planned {
     /// The code in the lowest byte, then up to three argument gates in file order.
     pub rows: Places<u32, GATES_MAX>,
     pub constants: Places<u32, GATES_MAX>,
-    pub needs: Places<u64, GATES_MAX>,
+    pub needs: Places<Set, GATES_MAX>,
     pub conditions: Conditions,
     pub conditions_count: usize,
     /// 0 for a gate alone that nothing watches.
@@ -154,7 +154,7 @@ impl Planned {
         }
         let code = self.rows.get(first) as u8;
         let mut broken = 0;
-        let (mut seen, mut on, mut named) = (0, 0, 0);
+        let (mut seen, mut on, mut named) = ([0; 4], 0, 0);
         let (mut least, mut mark) = (0, JOINED);
         for place in 0..size {
             let gate = member(plan, begins, place);
@@ -167,8 +167,7 @@ impl Planned {
             broken |= u32::from(self.marks.get(gate) != 0) << TWICE;
             broken |= u32::from(!costly(own)) << NOT_COSTLY;
             broken |= u32::from(own != code) << DIFFERS;
-            broken |= u32::from(seen & needs != 0) << MEETS;
-            seen |= needs;
+            broken |= u32::from(meet(&mut seen, needs)) << MEETS;
             let rests = rested.of(needs, place);
             on |= rests;
             named += counted(rests);
@@ -188,7 +187,7 @@ impl Planned {
     /// conditions the guards name.
     #[inline(always)]
     fn count_group(&mut self, code: u8, size: usize, named: usize) {
-        let guards = 10 * size + 2 * named;
+        let guards = (2 + TABLE_BYTES) * size + 2 * named;
         let picks = 2 * (2 + 4 * size);
         self.more_bytes += guards + picks + 5 - 5 * size;
         let cost = isize::from(COSTS[usize::from(code & 7)]);

@@ -1,6 +1,7 @@
 //! Figures of the fused circuit: record by record from its file or, without one, group by group in order.
 
 use crate::law::*;
+use crate::needed::bit;
 use crate::order::Taken;
 use crate::places::Places;
 use crate::plan::{member, Planned};
@@ -72,9 +73,10 @@ impl Record<'_> {
         for condition in 0..count {
             setting |= self.figure(2 + 2 * condition) << condition;
         }
-        let table = self.at.add(2 + 2 * count).cast::<u64>().read_unaligned();
-        let bit = (u64::from_be(table) >> setting) as u32 & 1;
-        (bit, 10 + 2 * count)
+        // Bit j stands in the byte that is j / 8 before the last.
+        let size = 2 + 2 * count + TABLE_BYTES;
+        let table = self.byte(size - 1 - (setting >> 3 & 31) as usize);
+        (u32::from(table) >> (setting & 7) & 1, size)
     }
 }
 
@@ -169,7 +171,7 @@ impl Taken for Figures {
         for place in 0..size {
             let gate = member(plan, begins, place);
             let [_, x, y, _] = circuit.rows.get(gate).to_le_bytes();
-            let guard = mask((circuit.needs.get(gate) >> setting) as u32 & 1);
+            let guard = mask(bit(circuit.needs.get(gate), setting));
             first |= self.of(x) & guard;
             second |= self.of(y) & guard;
         }

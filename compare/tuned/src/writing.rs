@@ -139,5 +139,8 @@ unsafe fn put_guard(out: &mut Out, circuit: &Planned, gate: usize) {
         out.two(circuit.wires.get(condition));
         left &= left - 1;
     }
-    out.eight(table(circuit.needs.get(gate), on));
+    // Big-endian: the lowest setting is the lowest bit of the last byte.
+    for word in table(circuit.needs.get(gate), on).into_iter().rev() {
+        out.eight(word);
+    }
 }

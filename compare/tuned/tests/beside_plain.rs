@@ -1,9 +1,10 @@
 //! The tuned implementation beside the plain one, line by line as the conformance stream has them: on every fixed case,
-//! and on random ones with and without working variables (C-13), with groups in order (C-15) and in any. Both ways of
-//! running a fused circuit.
+//! and on random ones with and without working variables (C-13), with groups in order (C-15) and in any, with eight
+//! conditions (C-17) and with six. Both ways of running a fused circuit.
 
 use compare::generate::group_order::GroupOrder;
 use compare::generate::kinds::Kinds;
+use compare::generate::words::Words;
 use compare::generate::{cases, Random};
 use compare::limits;
 use compare::stream::*;
@@ -55,8 +56,9 @@ fn shown(case: &Case) -> String {
     let mut text = numbers(shown.answer) + " |";
     for gate in 0..shown.answer.gates {
         let [code, a, b, c] = [0, 1, 2, 3].map(|place| shown.rows[4 * gate + place]);
-        let needs = shown.needs[gate];
-        text.push_str(&format!(" {code:02X}.{a}.{b}.{c}.{needs:016X}"));
+        let words = shown.needs[4 * gate..][..4].iter().rev();
+        let needs: String = words.map(|word| format!("{word:016X}")).collect();
+        text.push_str(&format!(" {code:02X}.{a}.{b}.{c}.{needs}"));
     }
     text
 }
@@ -102,19 +104,29 @@ fn on_fixed_cases() {
     limits::circuit_cases().iter().for_each(assert_same);
     limits::working_cases().iter().for_each(assert_same);
     limits::ordered_cases().iter().for_each(assert_same);
+    limits::eight_cases().iter().for_each(assert_same);
 }
 
 #[test]
 fn on_random_cases() {
     let operations: Vec<u8> = (1..=LAST).collect();
-    for (kinds, order, seed, count) in [
-        (Kinds::Working, GroupOrder::Rising, 13, 6_000),
-        (Kinds::Results, GroupOrder::Rising, 14, 2_000),
-        (Kinds::Working, GroupOrder::Any, 15, 2_000),
+    let results = Words {
+        kinds: Kinds::Results,
+        ..Words::ALL
+    };
+    let any = Words {
+        order: GroupOrder::Any,
+        ..Words::ALL
+    };
+    for (words, seed, count) in [
+        (Words::ALL, 13, 6_000),
+        (Words::BEFORE_EIGHT, 16, 2_000),
+        (results, 14, 2_000),
+        (any, 15, 2_000),
     ] {
         let mut random = Random::new(seed);
         for _ in 0..count {
-            assert_same(&cases::case(&mut random, &operations, kinds, order));
+            assert_same(&cases::case(&mut random, &operations, words));
         }
     }
 }

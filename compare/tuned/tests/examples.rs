@@ -15,6 +15,7 @@ const R1: [u8; 29] = [
 #[rustfmt::skip]
 const P1: [u8; 14] = [0x50, 0x4C, 0x4E, 0x00, 0x01, 0x00, 0x06, 0x00, 0x01, 0x02, 0x00, 0x03, 0x00, 0x04];
 
+/// Example 3's file in version 1, as document 01 has it.
 #[rustfmt::skip]
 const FILE: [u8; 76] = [
     0x43, 0x49, 0x52, 0x00, 0x01, 0x03, 0x00, 0x09,
@@ -27,6 +28,15 @@ const FILE: [u8; 76] = [
     0x30, 0x00, 0x00, 0x00, 0x07, 0x00, 0x07,
     0x00, 0x00, 0x00, 0x08, 0x00, 0x02,
 ];
+
+/// The same in version 2 (C-17), as it is written: 24 bytes more in each table.
+fn file() -> Vec<u8> {
+    let more = [0; 24];
+    let parts = [&FILE[..18], &more, &FILE[18..30], &more, &FILE[30..]];
+    let mut file = parts.concat();
+    file[4] = 2;
+    file
+}
 
 fn line(answer: Answer) -> [usize; 7] {
     [
@@ -49,12 +59,10 @@ fn example_1_circuit_of_r1() {
         shown.rows[12..24],
         [0x22, 1, 2, 0, 0x22, 2, 2, 0, 0x30, 0, 3, 4]
     );
-    assert_eq!(
-        shown.needs[3..5],
-        [0xAAAA_AAAA_AAAA_AAAA, 0x5555_5555_5555_5555]
-    );
+    assert_eq!(shown.needs[12..16], [0xAAAA_AAAA_AAAA_AAAA; 4]);
+    assert_eq!(shown.needs[16..20], [0x5555_5555_5555_5555; 4]);
     assert!(shown.rows[24..].iter().all(|&number| number == 0));
-    assert!(shown.needs[6..].iter().all(|&set| set == 0));
+    assert!(shown.needs[24..].iter().all(|&word| word == 0));
 }
 
 /// A direct run, and a fused run in both ways, give the same.
@@ -67,7 +75,7 @@ fn example_2_runs() {
         for fused in [run_fused, run_fused_unwritten] {
             let mut results = [9; 4];
             let answer = fused(&R1, &P1, &inputs, &mut results);
-            assert_eq!(line(answer), [0, 0, 6, 9, 76, 33, 28]);
+            assert_eq!(line(answer), [0, 0, 6, 9, 124, 33, 28]);
             assert_eq!((&results[..3], results[3]), (&wanted[..], 9));
         }
     }
@@ -83,15 +91,15 @@ fn example_2_runs() {
 
 #[test]
 fn example_3_the_whole_file() {
-    let mut out = [0xEE; 80];
+    let mut out = [0xEE; 128];
     assert_eq!(write_fused(&R1, &P1, &mut out).number, 0);
-    assert_eq!((&out[..76], &out[76..]), (&FILE[..], &[0xEE; 4][..]));
-    let mut short = [0xEE; 75];
+    assert_eq!((&out[..124], &out[124..]), (&file()[..], &[0xEE; 4][..]));
+    let mut short = [0xEE; 123];
     assert_eq!(
         line(write_fused(&R1, &P1, &mut short)),
         [50, 0, 0, 0, 0, 0, 0]
     );
-    assert_eq!(short, [0xEE; 75]);
+    assert_eq!(short, [0xEE; 123]);
 }
 
 #[test]
@@ -116,18 +124,59 @@ fn example_5_a_choice_is_not_costly() {
 
 #[test]
 fn example_3_read_and_run() {
-    assert_eq!(line(read_circuit(&FILE)), [0, 0, 0, 9, 76, 0, 0]);
-    for (inputs, wanted) in [([1, 6, 7], [1, 42, 7]), ([0, 6, 7], [0, 49, 7])] {
-        let mut results = [9; 4];
-        let answer = run_circuit(&FILE, &inputs, &mut results);
-        assert_eq!(line(answer), [0, 0, 0, 9, 76, 0, 0]);
-        assert_eq!((&results[..3], results[3]), (&wanted[..], 9));
+    for file in [FILE.to_vec(), file()] {
+        let done = [0, 0, 0, 9, file.len(), 0, 0];
+        assert_eq!(line(read_circuit(&file)), done);
+        for (inputs, wanted) in [([1, 6, 7], [1, 42, 7]), ([0, 6, 7], [0, 49, 7])] {
+            let mut results = [9; 4];
+            let answer = run_circuit(&file, &inputs, &mut results);
+            assert_eq!(line(answer), done);
+            assert_eq!((&results[..3], results[3]), (&wanted[..], 9));
+        }
+        let parts: Vec<&[u8]> = (0..9).map(|wire| record(&file, wire)).collect();
+        assert_eq!(parts.concat(), file[8..file.len() - 6]);
+        assert_eq!(parts[7], [0x22, 0x00, 0x05, 0x00, 0x06]);
+        for none in [9, 65_535, usize::MAX] {
+            assert_eq!(record(&file, none), []);
+        }
     }
-    let parts: Vec<&[u8]> = (0..9).map(|wire| record(&FILE, wire)).collect();
-    assert_eq!(parts.concat(), FILE[8..70]);
-    assert_eq!(parts[7], [0x22, 0x00, 0x05, 0x00, 0x06]);
-    for none in [9, 65_535, usize::MAX] {
-        assert_eq!(record(&FILE, none), []);
+}
+
+/// C-17: eight conditions and ifs eight deep, nine are refused; each version has its own guards.
+#[test]
+fn eight_conditions() {
+    let conditions = |count: usize| {
+        let mut rule = b"RUL\x00\x01\x01\x01".to_vec();
+        rule.extend(b"\x03\x27\x10\x00\x01\x00\x10\x00\x00\x00".repeat(count));
+        rule.push(0);
+        rule
+    };
+    assert_eq!(line(read_rule(&conditions(8))), [0, 0, 17, 0, 0, 24, 0]);
+    assert_eq!(line(read_rule(&conditions(9)))[..2], [11, 98]);
+    let nested = |depth: usize| {
+        let mut rule = b"RUL\x00\x01\x01\x01".to_vec();
+        rule.extend(b"\x03\x10\x00\x00".repeat(depth));
+        rule.extend(b"\x01\x00\x27\x10\x00");
+        rule.extend(vec![0; depth + 1]);
+        rule
+    };
+    assert_eq!(line(read_rule(&nested(8))), [0, 0, 10, 0, 0, 24, 0]);
+    assert_eq!(line(read_rule(&nested(9)))[..2], [8, 39]);
+    for (version, most, table) in [(1, 6, 8), (2, 8, 32)] {
+        for count in 0..=most + 1 {
+            let head = [&b"CIR\x00"[..], &[version, 1, 0, 2, 1, 0, 0x32, count]].concat();
+            let mut file = [head, vec![0; 2 * usize::from(count) + table - 1]].concat();
+            file.extend([1, 0, 1]);
+            let wanted = if count <= most { 0 } else { 61 };
+            assert_eq!(read_circuit(&file).number, wanted);
+            let place = file.len() - 3;
+            file[place] = 0;
+            file[place + 1 - table] = 0x80;
+            let wanted = [62, 0, 61][usize::from(count >= most) + usize::from(count > most)];
+            assert_eq!(read_circuit(&file).number, wanted);
+            file[4] = 3;
+            assert_eq!(read_circuit(&file).number, 60);
+        }
     }
 }
 

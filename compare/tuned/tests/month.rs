@@ -4,6 +4,7 @@
 use compare::batch::{bytes_of, report};
 use compare::batch_cases::Case;
 use compare::examples::{P1, R1};
+use compare::generate::words::Words;
 use compare::generate::{batches, Random};
 use compare::limits;
 
@@ -44,7 +45,7 @@ fn random_batches() {
     let mut random = Random::new(16);
     for count in (0..12).cycle().take(400) {
         let most = random.pick(&[150, 1000, batches::ANY_SIZE]);
-        let batch = batches::batch(&mut random, count, most);
+        let batch = batches::batch(&mut random, Words::ALL, count, most);
         let size = batches::piece_size(&mut random, &batch);
         assert_same(&Case::new(size, &batch));
     }

@@ -62,7 +62,7 @@ fn needs() {
             0 => [result(0), 0, result(2), 0, 0, 0],
             _ => [u64::MAX, first, u64::MAX, first, second, u64::MAX],
         };
-        assert_eq!(shown.needs[..6], wanted);
+        assert_eq!(shown.needs[..24], wanted.map(|word| [word; 4]).concat());
     }
 }
 
@@ -71,8 +71,8 @@ fn needs() {
 fn files_and_runs() {
     for mask in 0..8 {
         let rule = working(mask);
-        let bytes = if mask & 0b010 == 0 { 76 } else { 72 };
-        let mut file = [0xEE; 80];
+        let bytes = if mask & 0b010 == 0 { 124 } else { 120 };
+        let mut file = [0xEE; 128];
         let answer = write_fused(&rule, &P1, &mut file);
         assert_eq!((answer.number, answer.bytes, answer.after), (0, bytes, 28));
         assert_eq!(write_fused(&rule, &P1, &mut file[..bytes - 1]).number, 50);

@@ -19,13 +19,14 @@ pub struct Answer {
 
 /// A plain circuit: the answer of reading its rule, four numbers a gate (code, then variable,
 /// figure, or argument gates in the order in which the gate takes them), and each gate's
-/// precondition; zeros after the gates.
+/// precondition, four words a gate, the lowest first: bit j of these 256 is setting j; zeros after
+/// the gates.
 #[repr(C)]
 #[derive(Clone, Copy, Debug, PartialEq, Eq)]
 pub struct Shown {
     pub answer: Answer,
     pub rows: [u32; 1024],
-    pub needs: [u64; 256],
+    pub needs: [u64; 1024],
 }
 
 /// The part of an array from `start` on, so many elements.
@@ -87,7 +88,7 @@ pub fn run_fused(rule: &[u8], plan: &[u8], inputs: &[u32], results: &mut [u32]) 
     unsafe { linnet_run_fused(rule.as_ptr(), rule.len(), plan.as_ptr(), plan.len(), inputs.as_ptr(), inputs.len(), results.as_mut_ptr(), results.len()) }
 }
 
-/// Reads a circuit file, of whichever house: its wires and bytes, or a refusal by rows 60 to 62.
+/// Reads a circuit file of either version, of whichever house: its wires and bytes, or a refusal by rows 60 to 62.
 #[rustfmt::skip]
 pub fn read_circuit(file: &[u8]) -> Answer {
     unsafe { linnet_read_circuit(file.as_ptr(), file.len()) }

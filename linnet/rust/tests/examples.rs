@@ -50,20 +50,18 @@ fn plain_circuits_are_shown() {
         shown.rows[12..24],
         [0x22, 1, 2, 0, 0x22, 2, 2, 0, 0x30, 0, 3, 4]
     );
-    assert_eq!(
-        shown.needs[3..5],
-        [0xAAAA_AAAA_AAAA_AAAA, 0x5555_5555_5555_5555]
-    );
+    assert_eq!(shown.needs[12..16], [0xAAAA_AAAA_AAAA_AAAA; 4]);
+    assert_eq!(shown.needs[16..20], [0x5555_5555_5555_5555; 4]);
     assert_eq!(
         (
             shown.rows[24..].iter().sum::<u32>(),
-            shown.needs[6..].iter().sum::<u64>()
+            shown.needs[24..].iter().sum::<u64>()
         ),
         (0, 0)
     );
     let shown = linnet::show_plain(&R1[..28]);
     assert_eq!(shown.answer, refused(4, 28));
-    assert_eq!((shown.rows, shown.needs), ([0; 1024], [0; 256]));
+    assert_eq!((shown.rows, shown.needs), ([0; 1024], [0; 1024]));
 }
 
 #[test]
@@ -71,20 +69,21 @@ fn plans_are_checked_written_and_run() {
     let p1 = [0x50, 0x4C, 0x4E, 0, 1, 0, 6, 0, 1, 2, 0, 3, 0, 4];
     let fused = Answer {
         wires: 9,
-        bytes: 76,
+        bytes: 124,
         after: 28,
         ..plain(6, 33)
     };
     assert_eq!(linnet::check_plan(&R1, &p1), plain(6, 33));
     assert_eq!(linnet::check_plan(&R1, &p1[..13]), refused(23, 0));
-    let mut out = [0xEE; 80];
+    let mut out = [0xEE; 128];
     assert_eq!(
-        linnet::write_fused(&R1, &p1, &mut out[..75]),
+        linnet::write_fused(&R1, &p1, &mut out[..123]),
         refused(50, 0)
     );
-    assert_eq!(out, [0xEE; 80]);
+    assert_eq!(out, [0xEE; 128]);
     assert_eq!(linnet::write_fused(&R1, &p1, &mut out), fused);
-    assert_eq!((&out[..3], out[75], out[76]), (&b"CIR"[..], 2, 0xEE));
+    assert_eq!(out[..5], *b"CIR\x00\x02");
+    assert_eq!((out[123], out[124]), (2, 0xEE));
     let mut results = [9; 4];
     assert_eq!(linnet::run_fused(&R1, &p1, &[0, 6, 7], &mut results), fused);
     assert_eq!(results, [0, 49, 7, 9]);
@@ -121,14 +120,14 @@ fn working_variables_give_0() {
     results = [9; 4];
     linnet::run_fused(&rule, &p1, &[0, 6, 7], &mut results);
     assert_eq!(results, [0, 49, 0, 9]);
-    let mut file = [0; 76];
-    assert_eq!(linnet::write_fused(&rule, &p1, &mut file).bytes, 76);
-    assert_eq!(file[..74], circuit()[..74]);
-    assert_eq!(file[74..], [0xFF, 0xFF]);
+    let mut file = [0; 124];
+    assert_eq!(linnet::write_fused(&rule, &p1, &mut file).bytes, 124);
+    assert_eq!(file[..122], circuit()[..122]);
+    assert_eq!(file[122..], [0xFF, 0xFF]);
     results = [9; 4];
     linnet::run_circuit(&file, &[1, 6, 7], &mut results);
     assert_eq!(results, [1, 42, 0, 9]);
-    file[75] = 0xFE;
+    file[123] = 0xFE;
     assert_eq!(linnet::read_circuit(&file), refused(62, 0));
     rule[8] = 4;
     assert_eq!(linnet::read_rule(&rule), refused(3, 8));
@@ -141,20 +140,34 @@ fn working_variables_give_0() {
     assert_eq!(results, [0, 42, 7, 9]);
 }
 
-/// Example 3's file, 76 bytes.
+/// Example 3's file, 124 bytes.
 fn circuit() -> Vec<u8> {
     let p1 = [0x50, 0x4C, 0x4E, 0, 1, 0, 6, 0, 1, 2, 0, 3, 0, 4];
-    let mut out = [0; 76];
+    let mut out = [0; 124];
     assert_eq!(linnet::write_fused(&R1, &p1, &mut out).number, 0);
     out.to_vec()
 }
 
+/// The same in version 1, 76 bytes: tables of 8 bytes.
+fn circuit_of_version_1() -> Vec<u8> {
+    let file = circuit();
+    let mut before = [&file[..18], &file[42..54], &file[78..]].concat();
+    before[4] = 1;
+    assert_eq!(before.len(), 76);
+    before
+}
+
 #[test]
 fn circuit_files_are_read_and_run() {
-    let file = circuit();
+    // The last bytes of the two tables.
+    read_and_run(circuit(), [49, 85]);
+    read_and_run(circuit_of_version_1(), [25, 37]);
+}
+
+fn read_and_run(file: Vec<u8>, tables: [usize; 2]) {
     let accepted = Answer {
         wires: 9,
-        bytes: 76,
+        bytes: file.len(),
         ..Answer::default()
     };
     assert_eq!(linnet::read_circuit(&file), accepted);
@@ -175,7 +188,7 @@ fn circuit_files_are_read_and_run() {
     assert_eq!(results, [1, 42, 7, 9]);
     // Both guards always at 1: the picks give sums.
     let mut sums = file.clone();
-    (sums[25], sums[37]) = (3, 3);
+    (sums[tables[0]], sums[tables[1]]) = (3, 3);
     assert_eq!(
         linnet::run_circuit(&sums, &[1, 6, 7], &mut results),
         accepted
@@ -187,7 +200,17 @@ fn circuit_files_are_read_and_run() {
 fn circuit_files_are_refused() {
     let file = circuit();
     let mut results = [9; 3];
-    for (place, byte, number) in [(0, 0x44, 60), (58, 0x28, 61), (17, 1, 62)] {
+    for (place, byte, number) in [
+        (0, 0x44, 60),
+        (4, 0x03, 60),
+        // In version 1 the tables would be shorter, and bytes are left.
+        (4, 0x01, 61),
+        (15, 9, 61),
+        (106, 0x28, 61),
+        (17, 1, 62),
+        (49, 4, 62),
+        (18, 0x80, 62),
+    ] {
         let mut file = file.clone();
         file[place] = byte;
         assert_eq!(linnet::read_circuit(&file), refused(number, 0));
@@ -197,6 +220,30 @@ fn circuit_files_are_refused() {
     }
     assert_eq!(linnet::read_circuit(&file[..8]), refused(61, 0));
     assert_eq!(linnet::read_circuit(&[]), refused(60, 0));
+}
+
+/// C-17: eight conditions and ifs eight deep, and nine of each.
+#[test]
+fn eight_conditions() {
+    let conditions = |count: usize| {
+        let branch = [0x03, 0x27, 0x10, 0, 1, 0, 0x10, 0, 0, 0].repeat(count);
+        [&b"RUL\x00\x01\x01\x01"[..], &branch, &[0]].concat()
+    };
+    assert_eq!(linnet::read_rule(&conditions(8)), plain(17, 24));
+    assert_eq!(linnet::read_rule(&conditions(9)), refused(11, 98));
+    let nested = |depth: usize| {
+        let ifs = [0x03, 0x10, 0, 0].repeat(depth);
+        let inside = [1, 0, 0x27, 0x10, 0];
+        let ends = vec![0; depth + 1];
+        [&b"RUL\x00\x01\x01\x01"[..], &ifs, &inside, &ends].concat()
+    };
+    assert_eq!(linnet::read_rule(&nested(8)), plain(10, 24));
+    assert_eq!(linnet::read_rule(&nested(9)), refused(8, 39));
+    // Each condition but the first is what the choice before it gives, turned: all are needed always. The last gate's
+    // condition is gate 15.
+    let shown = linnet::show_plain(&conditions(8));
+    assert_eq!(shown.rows[64..68], [0x30, 15, 14, 14]);
+    assert_eq!(shown.needs[60..68], [u64::MAX; 8]);
 }
 
 /// Records follow each other between header and outputs, in the caller's own bytes.
@@ -209,7 +256,7 @@ fn records_are_shown() {
         assert!(std::ptr::eq(part, &file[from..from + part.len()]));
         from += part.len();
     }
-    assert_eq!(from, 70);
+    assert_eq!(from, 118);
     assert_eq!(linnet::record(&file, 7), [0x22, 0x00, 0x05, 0x00, 0x06]);
     for none in [9, 65_535, usize::MAX] {
         assert_eq!(linnet::record(&file, none), []);

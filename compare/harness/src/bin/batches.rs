@@ -7,6 +7,7 @@
 use compare::batch::report;
 use compare::batch_cases::Case;
 use compare::generate::batches::{batch, ANY_SIZE};
+use compare::generate::words::Words;
 use compare::generate::Random;
 use harness::batches::{cases, compare, write_all, writes, Tally, TOOLS};
 use std::io::{self, BufReader, BufWriter, Write};
@@ -86,7 +87,7 @@ fn whole(seed: u64, batches: u64) -> io::Result<Tally> {
     for _ in 0..batches {
         let most = random.pick(&[100, 300, 2000, ANY_SIZE]);
         let count = random.below(13);
-        let batch = batch(&mut random, count, most);
+        let batch = batch(&mut random, Words::ALL, count, most);
         let ends = writes(&mut random, &batch);
         let wanted = report(&batch);
         let given = by_program(&batch, &ends)?;

@@ -73,6 +73,7 @@ fn rows() -> (Vec<Row>, Vec<Row>) {
     let mixed = mixed::mixed();
     let mut files = vec![r1()];
     files.extend(files::growing());
+    files.extend(files::others());
     files.extend([files::largest(), mixed.clone()]);
     rules.push(mixed);
     (rules, files)

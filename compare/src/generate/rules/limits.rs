@@ -7,11 +7,11 @@ use crate::law::*;
 use crate::rule::{bytes_of, Block, Expression, Rule, Statement};
 
 /// A rule of just so many gates: a random one filled up with constants.
-pub(super) fn at_gates(random: &mut Random, gates: usize) -> Rule {
+pub(super) fn at_gates(random: &mut Random, gates: usize, limits: Limits) -> Rule {
     loop {
         let mut rule = match random.below(4) {
             0 => wide(random),
-            _ => tree(random),
+            _ => tree(random, limits),
         };
         while make(&rule).gates.len() < gates {
             let variable = random.below(rule.variables.len());
@@ -30,9 +30,9 @@ pub(super) fn at_gates(random: &mut Random, gates: usize) -> Rule {
 }
 
 /// A rule of just so many conditions, its ifs one after the other or nested.
-pub(super) fn at_conditions(random: &mut Random, conditions: usize) -> Rule {
+pub(super) fn at_conditions(random: &mut Random, conditions: usize, limits: Limits) -> Rule {
     loop {
-        let mut maker = maker(random);
+        let mut maker = maker(random, limits);
         maker.ifs_left = 0;
         let mut block = Vec::new();
         for _ in 0..conditions {
@@ -41,7 +41,7 @@ pub(super) fn at_conditions(random: &mut Random, conditions: usize) -> Rule {
             let mut first = vec![maker.assign(2)];
             let second = maker.mirror(&first);
             // Nest what there is so far, or go on after it.
-            if maker.random.chance(40) && depth_of(&block) < IF_DEPTH_MAX {
+            if maker.random.chance(40) && depth_of(&block) < limits.ifs {
                 first.append(&mut block);
             }
             block.push(Statement::If(condition, first, second));
@@ -65,8 +65,8 @@ fn depth_of(block: &Block) -> usize {
 }
 
 /// A rule with an expression of just this depth, leaning anywhere.
-pub(super) fn at_depth(random: &mut Random, depth: usize) -> Rule {
-    let mut maker = maker(random);
+pub(super) fn at_depth(random: &mut Random, depth: usize, limits: Limits) -> Rule {
+    let mut maker = maker(random, limits);
     let before = maker.random.below(3);
     let mut block = maker.block(before, 0);
     let variable = maker.random.below(maker.kinds.len());
@@ -103,8 +103,8 @@ impl Maker<'_> {
 }
 
 /// A rule with ifs nested just so deep, each in either block of the one before.
-pub(super) fn at_nesting(random: &mut Random, nesting: usize) -> Rule {
-    let mut maker = maker(random);
+pub(super) fn at_nesting(random: &mut Random, nesting: usize, limits: Limits) -> Rule {
+    let mut maker = maker(random, limits);
     maker.ifs_left = 0;
     let mut block = maker.block(1, 0);
     for _ in 0..nesting {
@@ -123,6 +123,82 @@ pub(super) fn at_nesting(random: &mut Random, nesting: usize) -> Rule {
         }
     }
     Rule::of_results(&maker.kinds, block)
+}
+
+/// Ifs on so many bits, nested in any shape, each bit once or more, and at many ends a costly operation on two words or two
+/// bits: gates that exclude each other and rest on any of the conditions (C-17).
+pub(super) fn branches(random: &mut Random, bits: usize) -> Rule {
+    let code = random.pick(&[PRODUCT, PRODUCT, LESS, AND]);
+    let row = operation(code).expect("an operation");
+    let mut kinds = vec![Kind::Bit; bits];
+    kinds.extend([row.takes, row.takes, row.gives]);
+    let mut maker = Branches {
+        random,
+        row,
+        bits,
+        ifs_left: 40,
+    };
+    let mut block = Vec::new();
+    // At first every bit, in any order, one inside the other: so many conditions, if nothing is stored over.
+    let mut order: Vec<usize> = (0..bits).collect();
+    for last in (1..bits).rev() {
+        order.swap(last, maker.random.below(last + 1));
+    }
+    for (depth, bit) in order.into_iter().enumerate() {
+        let end = maker.end();
+        let other = match maker.random.below(3) {
+            0 => maker.block(LIMITS.ifs - bits + depth),
+            _ => vec![maker.end()],
+        };
+        let inner = if depth == 0 { vec![end] } else { block };
+        let (first, second) = match maker.random.chance(50) {
+            true => (inner, other),
+            false => (other, inner),
+        };
+        block = vec![Statement::If(Expression::Variable(bit), first, second)];
+    }
+    if maker.random.chance(30) {
+        block.insert(0, maker.end());
+    }
+    Rule::of_results(&kinds, block)
+}
+
+struct Branches<'a> {
+    random: &'a mut Random,
+    row: Operation,
+    bits: usize,
+    ifs_left: usize,
+}
+
+impl Branches<'_> {
+    /// Ifs on any bits, so deep at most.
+    fn block(&mut self, deep: usize) -> Block {
+        if deep == 0 || self.ifs_left == 0 || self.random.chance(30) {
+            return vec![self.end()];
+        }
+        self.ifs_left -= 1;
+        let bit = Expression::Variable(self.random.below(self.bits));
+        let first = self.block(deep - 1);
+        vec![Statement::If(bit, first, self.block(deep - 1))]
+    }
+
+    /// The operation, mostly, on the two arguments in either order, or on its own result, or none.
+    fn end(&mut self) -> Statement {
+        let [one, other, to] = [0, 1, 2].map(|place| self.bits + place);
+        if self.random.chance(10) {
+            return Statement::Skip;
+        }
+        let own = if self.row.gives == self.row.takes {
+            to
+        } else {
+            one
+        };
+        let [first, second] = self
+            .random
+            .pick(&[[one, other], [other, one], [own, other]]);
+        let arguments = vec![Expression::Variable(first), Expression::Variable(second)];
+        Statement::Assign(to, Expression::Operation(self.row.code, arguments))
+    }
 }
 
 /// One if with many operations in both blocks: many pairs to join, up to the greatest wire count.

@@ -4,6 +4,7 @@ use crate::circuit::read_rule;
 use crate::examples::{P1, R1};
 use crate::generate::batches::Entry;
 use crate::law::*;
+use crate::limits::eight;
 use crate::limits::parts::{rule, set, two, var, when};
 use crate::limits::plan;
 use crate::rule::Block;
@@ -46,6 +47,11 @@ pub fn loss(pairs_count: usize) -> Entry {
 /// Two pairs of equals.
 pub fn joined() -> Entry {
     pairs(EQUAL, 2)
+}
+
+/// A ladder of eight ifs (C-17) whose nine products are joined.
+pub fn eight_joined() -> Entry {
+    eight::ladder()
 }
 
 /// As many entries of 254 comparisons each, none joined: 10,160 a rule.

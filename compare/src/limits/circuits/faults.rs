@@ -8,7 +8,7 @@ use crate::law::*;
 use crate::write::{Fused, Record, Wire};
 
 pub fn add(list: &mut List) {
-    list.accepted_circuit(&sample().file(), &[0, 1, 2, 3]);
+    list.accepted_circuit(&sample().file_of(VERSION_1), &[0, 1, 2, 3]);
     headers(list);
     codes(list);
     layouts(list);
@@ -51,7 +51,7 @@ fn changed(file: &[u8], place: usize, byte: u8) -> Vec<u8> {
 fn start(circuit: &Fused, wire: usize) -> usize {
     let records = circuit.records[..wire].to_vec();
     let outputs = Vec::new();
-    Fused { records, outputs }.file().len()
+    Fused { records, outputs }.file_of(VERSION_1).len()
 }
 
 /// The file with the last record made another one.
@@ -59,16 +59,17 @@ fn with_last(record: Record) -> Vec<u8> {
     let mut circuit = sample();
     *circuit.records.last_mut().expect("records") = record;
     circuit.outputs[0] = Some(Wire(20));
-    circuit.file()
+    circuit.file_of(VERSION_1)
 }
 
 /// Row 60.
 fn headers(list: &mut List) {
-    let file = sample().file();
+    let file = sample().file_of(VERSION_1);
     for length in 0..CIRCUIT_BYTES_MIN {
         list.refused_circuit(&file[..length], 60);
     }
-    for place in 0..CIRCUIT_MARK.len() {
+    // No bit alone makes version 1 version 2.
+    for place in 0..5 {
         for bit in 0..8 {
             list.refused_circuit(&changed(&file, place, file[place] ^ 1 << bit), 60);
         }
@@ -86,7 +87,7 @@ fn headers(list: &mut List) {
 fn codes(list: &mut List) {
     let last = with_last(choice(0, 3, 3));
     let place = start(&sample(), sample().records.len() - 1);
-    let early = sample().file();
+    let early = sample().file_of(VERSION_1);
     let early_place = start(&sample(), 14);
     for code in 0..=u8::MAX {
         let known = operation(code).is_some()
@@ -101,7 +102,7 @@ fn codes(list: &mut List) {
 
 /// Row 61: the other reasons.
 fn layouts(list: &mut List) {
-    let file = sample().file();
+    let file = sample().file_of(VERSION_1);
     // The outputs run past the end, then the records; bytes are left.
     for length in CIRCUIT_BYTES_MIN..file.len() {
         list.read_circuit(&file[..length], 61);
@@ -140,7 +141,7 @@ fn inputs(list: &mut List) {
     let with = |change: &dyn Fn(&mut Vec<Record>)| {
         let mut circuit = sample();
         change(&mut circuit.records);
-        circuit.file()
+        circuit.file_of(VERSION_1)
     };
     for (one, other) in [(0, 3), (1, 2), (0, 1), (3, 4), (0, 21)] {
         list.refused_circuit(&with(&|records| records.swap(one, other)), 62);
@@ -158,9 +159,12 @@ fn inputs(list: &mut List) {
     // Fewer wires than variables, though every output is a wire of the right kind; no wire at all.
     for wires in 0..4 {
         let short = circuit(&vec![Kind::Bit; wires], vec![], &[0; 4]);
-        list.refused_circuit(&short.file(), 62);
+        list.refused_circuit(&short.file_of(VERSION_1), 62);
     }
-    list.refused_circuit(&circuit(&[], vec![Record::Bit(true)], &[0]).file(), 62);
+    list.refused_circuit(
+        &circuit(&[], vec![Record::Bit(true)], &[0]).file_of(VERSION_1),
+        62,
+    );
 }
 
 /// A record of the sample with its wire at a place made another one.
@@ -174,7 +178,7 @@ fn with_wire(own: usize, place: usize, to: usize) -> Vec<u8> {
         Record::Pick(pairs) => pairs[place / 2].1 = Wire(to),
         _ => unreachable!("it reads no wire"),
     }
-    circuit.file()
+    circuit.file_of(VERSION_1)
 }
 
 /// Row 62: every wire of every record made the record's own, a later one, none at all, and one of the other kind.
@@ -197,13 +201,14 @@ fn wires(list: &mut List) {
 
 /// Row 62: a table bit set from 2^d up.
 fn tables(list: &mut List) {
-    for count in 0..=CONDITIONS_MAX {
+    let most = VERSION_1.guard_wires_max;
+    for count in 0..=most {
         let wires = &[0, 3, 0, 3, 0, 3][..count];
-        for bit in 0..SETTINGS {
+        for bit in 0..VERSION_1.table_bits() {
             let wanted = if bit < 1 << count { 0 } else { 62 };
             list.read_circuit(&with_last(guard(wires, 1 << bit)), wanted);
         }
-        let wanted = if count < CONDITIONS_MAX { 62 } else { 0 };
+        let wanted = if count < most { 62 } else { 0 };
         list.run_circuit(&with_last(guard(wires, u64::MAX)), &[1, 6, 7, 0], 4, wanted);
     }
     list.refused_circuit(&with_last(guard(&[], 2)), 62);
@@ -219,17 +224,17 @@ fn outputs(list: &mut List) {
             let mut circuit = sample.clone();
             circuit.outputs[variable] = Some(Wire(output));
             let wanted = if output == NO_WIRE { 0 } else { 62 };
-            list.read_circuit(&circuit.file(), wanted);
+            list.read_circuit(&circuit.file_of(VERSION_1), wanted);
         }
         for output in (0..kinds.len()).filter(|&wire| kinds[wire] == *kind) {
             let mut circuit = sample.clone();
             circuit.outputs[variable] = Some(Wire(output));
-            list.run_circuit(&circuit.file(), &[1, 6, 7, 0], 4, 0);
+            list.run_circuit(&circuit.file_of(VERSION_1), &[1, 6, 7, 0], 4, 0);
         }
     }
     let mut circuit = sample.clone();
     circuit.outputs[0] = Some(Wire(1));
-    list.refused_circuit(&circuit.file(), 62);
+    list.refused_circuit(&circuit.file_of(VERSION_1), 62);
 }
 
 /// A fault of a row set early or late in the sample's file.
@@ -245,15 +250,22 @@ fn broken(row: u8, late: bool, mut circuit: Fused) -> Fused {
 /// A file that breaks several rows.
 fn several(list: &mut List) {
     for late in [false, true] {
-        let both = broken(61, late, broken(62, !late, sample())).file();
-        list.refused_circuit(&broken(62, late, sample()).file(), 62);
-        list.refused_circuit(&broken(61, late, sample()).file(), 61);
+        let both = broken(61, late, broken(62, !late, sample())).file_of(VERSION_1);
+        list.refused_circuit(&broken(62, late, sample()).file_of(VERSION_1), 62);
+        list.refused_circuit(&broken(61, late, sample()).file_of(VERSION_1), 61);
         list.refused_circuit(&both, 61);
         for row in [61, 62] {
-            let file = broken(row, late, sample()).file();
-            for (place, byte) in [(0, 0x44), (4, 0x02), (5, 0x00), (5, 0x21), (6, 0x03)] {
-                list.refused_circuit(&changed(&file, place, byte), 60);
-                list.refused_circuit(&changed(&both, place, byte), 60);
+            let file = broken(row, late, sample()).file_of(VERSION_1);
+            for (place, byte, wanted) in [
+                (0, 0x44, 60),
+                // In version 2 (C-17) the guards' tables would be longer, and the records run past the end.
+                (4, 0x02, 61),
+                (5, 0x00, 60),
+                (5, 0x21, 60),
+                (6, 0x03, 60),
+            ] {
+                list.refused_circuit(&changed(&file, place, byte), wanted);
+                list.refused_circuit(&changed(&both, place, byte), wanted);
             }
             let mut long = file.clone();
             long.resize(CIRCUIT_BYTES_MAX + 1, 0x00);
@@ -264,19 +276,19 @@ fn several(list: &mut List) {
     // An output that names no wire, and 62 in the inputs, with the bytes' end wrong.
     let mut circuit = sample();
     circuit.outputs[3] = Some(Wire(65_535));
-    let file = circuit.file();
+    let file = circuit.file_of(VERSION_1);
     list.refused_circuit(&file[..file.len() - 1], 61);
     list.refused_circuit(&[&file[..], &[0x00]].concat(), 61);
     circuit.records.swap(0, 3);
-    let file = circuit.file();
+    let file = circuit.file_of(VERSION_1);
     list.refused_circuit(&file, 62);
     list.refused_circuit(&file[..file.len() - 1], 61);
 }
 
 /// 60 to 62 come before 40 to 42, whatever inputs and room are.
 fn before_inputs(list: &mut List) {
-    let good = sample().file();
-    let late = broken(62, true, sample()).file();
+    let good = sample().file_of(VERSION_1);
+    let late = broken(62, true, sample()).file_of(VERSION_1);
     for (file, numbers) in [
         (&good, [40, 40, 41, 42, 40, 41, 41]),
         (&changed(&good, 0, 0x00), [60; 7]),

@@ -106,7 +106,7 @@ fn every_byte(list: &mut List) {
             changed[place] = byte;
             if changed != file {
                 let case = run_case(&changed, &[1, 6, 7], 3);
-                match wanted(place, byte) {
+                match wanted_of_example_3(place, byte) {
                     Some(wanted) => list.add(case, wanted),
                     None => list.cases.push(case),
                 }
@@ -122,9 +122,11 @@ const WORDS: [u8; 6] = [1, 2, 5, 6, 7, 8];
 
 /// What another byte at a place of example 3's file comes to. None for the codes and counts of records, which may
 /// move all that stands behind them.
-fn wanted(place: usize, byte: u8) -> Option<u8> {
+pub fn wanted_of_example_3(place: usize, byte: u8) -> Option<u8> {
     let among = |kind: &[u8]| if kind.contains(&byte) { 0 } else { 62 };
     Some(match place {
+        // In version 2 (C-17) the guards' tables would be longer, and the records run past the end.
+        4 if byte == 2 => 61,
         0..=4 => 60,
         5 if (1..=32).contains(&byte) => 61,
         6 if (1..=2).contains(&byte) => 61,

@@ -24,7 +24,7 @@ const THREE: [(usize, usize); 3] = [(0, 3), (1, 4), (2, 5)];
 fn words(list: &mut List) {
     let mut kinds = [Kind::Word; 6];
     kinds[..3].fill(Kind::Bit);
-    let file = circuit(&kinds, vec![pick(&THREE)], &[0, 1, 2, 6, 4, 5]).file();
+    let file = circuit(&kinds, vec![pick(&THREE)], &[0, 1, 2, 6, 4, 5]).file_of(VERSION_1);
     for ([a, b, c], sum) in [
         ([0, 0, 0], 0),
         ([1, 0, 0], 4_000_000_000),
@@ -47,7 +47,7 @@ fn words(list: &mut List) {
 
 /// Three bits guard three bits: two ones give 0, three give 1.
 fn bits(list: &mut List) {
-    let file = circuit(&[Kind::Bit; 6], vec![pick(&THREE)], &[0, 1, 2, 6, 4, 5]).file();
+    let file = circuit(&[Kind::Bit; 6], vec![pick(&THREE)], &[0, 1, 2, 6, 4, 5]).file_of(VERSION_1);
     for turn in 0..64u32 {
         let inputs: Vec<u32> = (0..6).map(|place| turn >> place & 1).collect();
         let mut results = inputs.clone();
@@ -63,13 +63,13 @@ fn doubled(list: &mut List) {
         (Kind::Bit, 1, 0, 1),
     ] {
         let records = vec![pick(&[(0, 1), (0, 1)]), pick(&[(0, 1); 255])];
-        let file = circuit(&[Kind::Bit, kind, kind], records, &[0, 3, 4]).file();
+        let file = circuit(&[Kind::Bit, kind, kind], records, &[0, 3, 4]).file_of(VERSION_1);
         list.run_gives(&file, &[1, value, 0], &[1, twice, many]);
         list.run_gives(&file, &[0, value, 0], &[0, 0, 0]);
         list.accepted_circuit(&file, &[]);
     }
     // A pick whose one value is its guard.
-    let file = circuit(&[Kind::Bit], vec![pick(&[(0, 0)])], &[1]).file();
+    let file = circuit(&[Kind::Bit], vec![pick(&[(0, 0)])], &[1]).file_of(VERSION_1);
     list.run_gives(&file, &[1], &[1]);
     list.run_gives(&file, &[0], &[0]);
 }
@@ -77,14 +77,14 @@ fn doubled(list: &mut List) {
 /// Guards of no wire, of one wire named twice, and of each count with each of its table's bits alone.
 fn guards(list: &mut List) {
     for (table, figure) in [(0, 0), (1, 1)] {
-        let file = circuit(&[Kind::Bit], vec![guard(&[], table)], &[1]).file();
+        let file = circuit(&[Kind::Bit], vec![guard(&[], table)], &[1]).file_of(VERSION_1);
         list.run_gives(&file, &[0], &[figure]);
         list.run_gives(&file, &[1], &[figure]);
     }
-    let twice = circuit(&[Kind::Bit], vec![guard(&[0, 0], 0b1000)], &[1]).file();
+    let twice = circuit(&[Kind::Bit], vec![guard(&[0, 0], 0b1000)], &[1]).file_of(VERSION_1);
     list.run_gives(&twice, &[1], &[1]);
     list.run_gives(&twice, &[0], &[0]);
-    for count in 1..=CONDITIONS_MAX {
+    for count in 1..=VERSION_1.guard_wires_max {
         let wires: Vec<usize> = (0..count).collect();
         for j in 0..1usize << count {
             let mut outputs = wires.clone();
@@ -98,12 +98,12 @@ fn guards(list: &mut List) {
             let inputs: Vec<u32> = wires.iter().map(|t| (j >> t & 1) as u32).collect();
             let mut results = inputs.clone();
             results[0] = 1;
-            list.run_gives(&file.file(), &inputs, &results);
+            list.run_gives(&file.file_of(VERSION_1), &inputs, &results);
             let mut other = inputs.clone();
             other[j % count] ^= 1;
             let mut results = other.clone();
             results[0] = 0;
-            list.run_gives(&file.file(), &other, &results);
+            list.run_gives(&file.file_of(VERSION_1), &other, &results);
         }
     }
 }
@@ -121,7 +121,7 @@ fn every_operation(list: &mut List) {
             Kind::Bit => [4, 1, 2, 3],
             Kind::Word => [0, 1, 4, 3],
         };
-        let file = circuit(&kinds, vec![record], &outputs).file();
+        let file = circuit(&kinds, vec![record], &outputs).file_of(VERSION_1);
         for inputs in [
             [0, 0, 5, 7],
             [0, 1, 7, 5],
@@ -135,7 +135,7 @@ fn every_operation(list: &mut List) {
         }
     }
     let records = vec![choice(1, 2, 3), choice(0, 1, 0)];
-    let file = circuit(&kinds, records, &[5, 1, 4, 2]).file();
+    let file = circuit(&kinds, records, &[5, 1, 4, 2]).file_of(VERSION_1);
     for (inputs, results) in [
         ([0, 0, 5, 7], [0, 0, 7, 5]),
         ([0, 1, 5, 7], [0, 1, 5, 5]),
@@ -154,7 +154,7 @@ fn outputs(list: &mut List) {
         ([2, 0, 1], [7, 5, 6]),
         ([3, 3, 1], [9, 9, 6]),
     ] {
-        let file = circuit(&[Kind::Word; 3], unread.clone(), &outputs).file();
+        let file = circuit(&[Kind::Word; 3], unread.clone(), &outputs).file_of(VERSION_1);
         list.run_gives(&file, &[5, 6, 7], &results);
         list.accepted_circuit(&file, &[0]);
     }
@@ -163,7 +163,7 @@ fn outputs(list: &mut List) {
 /// So many sums, each of the wire before with itself.
 fn chain(wires: usize) -> Vec<u8> {
     let sum = |wire: usize| operation_on(SUM, &[wire - 1, wire - 1]);
-    circuit(&[Kind::Word], (1..wires).map(sum).collect(), &[wires - 1]).file()
+    circuit(&[Kind::Word], (1..wires).map(sum).collect(), &[wires - 1]).file_of(VERSION_1)
 }
 
 /// Up to 640 wires, and one more.
@@ -198,7 +198,7 @@ fn of_bytes(bytes: usize) -> Vec<u8> {
         records.push(record);
         left -= size;
     }
-    let file = circuit(&[Kind::Bit], records, &[1]).file();
+    let file = circuit(&[Kind::Bit], records, &[1]).file_of(VERSION_1);
     assert_eq!(file.len(), bytes);
     file
 }
@@ -220,7 +220,7 @@ fn variables(list: &mut List) {
     for (variables, wanted) in [(1, 0), (2, 0), (31, 0), (32, 0), (33, 60), (255, 60)] {
         for kind in [Kind::Word, Kind::Bit] {
             let outputs: Vec<usize> = (0..variables).rev().collect();
-            let file = circuit(&vec![kind; variables], vec![], &outputs).file();
+            let file = circuit(&vec![kind; variables], vec![], &outputs).file_of(VERSION_1);
             list.read_circuit(&file, wanted);
             let inputs: Vec<u32> = (0..variables as u32).map(|place| place % 2).collect();
             list.run_circuit(&file, &inputs, variables, wanted);
@@ -230,6 +230,9 @@ fn variables(list: &mut List) {
             list.run_circuit(&file, &vec![2; variables], variables, wanted.max(over));
         }
     }
-    list.refused_circuit(&circuit(&[], vec![], &[]).file(), 60);
-    list.refused_circuit(&circuit(&[], vec![Record::Bit(true)], &[]).file(), 60);
+    list.refused_circuit(&circuit(&[], vec![], &[]).file_of(VERSION_1), 60);
+    list.refused_circuit(
+        &circuit(&[], vec![Record::Bit(true)], &[]).file_of(VERSION_1),
+        60,
+    );
 }

@@ -56,7 +56,7 @@ fn written<const N: usize>(mut figures: [u32; N], mask: usize) -> [u32; N] {
 /// FF FF as every set of a file's outputs, on words and on bits.
 fn every_output(list: &mut List) {
     for mask in 0..16 {
-        let file = sample(mask).file();
+        let file = sample(mask).file_of(VERSION_1);
         list.accepted_circuit(&file, &[]);
         for wire in [1, 6, NO_WIRE] {
             list.record(&file, wire, 0);
@@ -93,12 +93,12 @@ fn no_wires(list: &mut List) {
             for odd in ODD {
                 let mut circuit = sample(mask);
                 circuit.outputs[place] = Some(Wire(odd));
-                list.refused_circuit(&circuit.file(), 62);
+                list.refused_circuit(&circuit.file_of(VERSION_1), 62);
             }
             // A wire of the other kind.
             let mut circuit = sample(mask);
             circuit.outputs[place] = Some(Wire(usize::from(kind == Kind::Bit)));
-            list.refused_circuit(&circuit.file(), 62);
+            list.refused_circuit(&circuit.file_of(VERSION_1), 62);
         }
     }
 }
@@ -126,7 +126,7 @@ fn example_3(list: &mut List) {
 /// One variable, and 32, of both kinds, none with an output; the first or the last alone with one.
 fn few_and_many(list: &mut List) {
     for kind in [Kind::Word, Kind::Bit] {
-        let file = circuit(&[kind], vec![], &[NO_WIRE]).file();
+        let file = circuit(&[kind], vec![], &[NO_WIRE]).file_of(VERSION_1);
         list.accepted_circuit(&file, &[]);
         list.gives(run_case(&file, &[1], 1), &[0]);
         list.gives(run_case(&file, &[0], 2), &[0]);
@@ -135,11 +135,11 @@ fn few_and_many(list: &mut List) {
             Kind::Bit => list.run_circuit(&file, &[2], 1, 41),
         }
         for odd in ODD {
-            list.refused_circuit(&circuit(&[kind], vec![], &[odd]).file(), 62);
+            list.refused_circuit(&circuit(&[kind], vec![], &[odd]).file_of(VERSION_1), 62);
         }
         for mask in [usize::MAX, !1, !(1 << 31), 1, 1 << 31] {
             let outputs = without([31; 32], mask);
-            let file = circuit(&[kind; 32], vec![], &outputs).file();
+            let file = circuit(&[kind; 32], vec![], &outputs).file_of(VERSION_1);
             list.accepted_circuit(&file, &[]);
             list.gives(run_case(&file, &[1; 32], 33), &written([1; 32], mask));
             list.run_circuit(&file, &[1; 32], 31, 42);
@@ -154,7 +154,9 @@ fn few_and_many(list: &mut List) {
 /// 640 wires: 02 7F is the last, 02 80 none; 16,384 bytes.
 fn largest(list: &mut List) {
     let sum = |wire: usize| operation_on(SUM, &[wire - 1, 0]);
-    let of = |output| circuit(&[Kind::Word], (1..WIRES_MAX).map(sum).collect(), &[output]).file();
+    let of = |output| {
+        circuit(&[Kind::Word], (1..WIRES_MAX).map(sum).collect(), &[output]).file_of(VERSION_1)
+    };
     list.gives(run_case(&of(639), &[3], 1), &[1920]);
     list.gives(run_case(&of(NO_WIRE), &[3], 2), &[0]);
     list.accepted_circuit(&of(NO_WIRE), &[]);
@@ -164,7 +166,7 @@ fn largest(list: &mut List) {
     // 12 bytes beside the records: 16 picks of 255 pairs and four words.
     let mut records = vec![pick(&[(0, 0); 255]); 16];
     records.extend(vec![Record::Word(7); 4]);
-    let file = circuit(&[Kind::Bit], records, &[NO_WIRE]).file();
+    let file = circuit(&[Kind::Bit], records, &[NO_WIRE]).file_of(VERSION_1);
     assert_eq!(file.len(), CIRCUIT_BYTES_MAX);
     list.accepted_circuit(&file, &[]);
     list.gives(run_case(&file, &[1], 1), &[0]);
@@ -186,7 +188,7 @@ fn inside_records(list: &mut List) {
     ] {
         for outputs in [[0, 1], [NO_WIRE, 1], [0, NO_WIRE], [NO_WIRE; 2]] {
             let kinds = [Kind::Bit, Kind::Word];
-            let file = circuit(&kinds, vec![record.clone()], &outputs).file();
+            let file = circuit(&kinds, vec![record.clone()], &outputs).file_of(VERSION_1);
             list.refused_circuit(&file, 62);
         }
     }
@@ -194,7 +196,7 @@ fn inside_records(list: &mut List) {
 
 /// The other faults are found beside FF FF: bytes missing and left, inputs that are missing, too few wires.
 fn other_rows(list: &mut List) {
-    let file = sample(0b1111).file();
+    let file = sample(0b1111).file_of(VERSION_1);
     for cut in 1..=8 {
         list.refused_circuit(&file[..file.len() - cut], 61);
     }
@@ -202,7 +204,8 @@ fn other_rows(list: &mut List) {
     list.refused_circuit(&[&file[..], &[0xFF; 2]].concat(), 61);
     for (place, byte, wanted) in [
         (0, 0x42, 60),
-        (4, 0x02, 60),
+        // In version 2 (C-17) it is as good, since it has no guard.
+        (4, 0x02, 0),
         (5, 0x00, 60),
         (5, 0x21, 60),
         (6, 0x03, 60),
@@ -214,11 +217,18 @@ fn other_rows(list: &mut List) {
     ] {
         let mut changed = file.clone();
         changed[place] = byte;
-        list.refused_circuit(&changed, wanted);
+        if wanted > 0 {
+            list.refused_circuit(&changed, wanted);
+            continue;
+        }
+        list.read_circuit(&changed, 0);
+        list.record(&changed, 0, 0);
+        list.run_circuit(&changed, &[1, 6, 7], 3, 40);
+        list.run_circuit(&changed, &[], 0, 40);
     }
     for wires in 0..4 {
         let short = circuit(&vec![Kind::Bit; wires], vec![], &[NO_WIRE; 4]);
-        list.refused_circuit(&short.file(), 62);
+        list.refused_circuit(&short.file_of(VERSION_1), 62);
     }
-    list.refused_circuit(&circuit(&[], vec![], &[NO_WIRE]).file(), 62);
+    list.refused_circuit(&circuit(&[], vec![], &[NO_WIRE]).file_of(VERSION_1), 62);
 }

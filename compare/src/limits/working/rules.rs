@@ -88,6 +88,7 @@ fn with_an_if(list: &mut List) {
     );
     for mask in 0..8 {
         let subject = subject.working(mask);
+        // In version 1; in version 2 there are 48 more.
         let bytes = if mask & 0b010 == 0 { 76 } else { 72 };
         list.taken(&subject);
         list.taken_with(&subject, &plan(6, &[]));
@@ -240,10 +241,8 @@ fn limits(list: &mut List) {
         list.taken(&subject);
         list.taken_with(&subject, &plan(gates, &[]));
     }
-    for (rule, wanted) in [
-        (working(gates(257), 0x02), 10),
-        (working(conditions(7), 0x03), 11),
-    ] {
-        list.refused_at(&rule, wanted, rule.len());
-    }
+    let rule = working(gates(257), 0x02);
+    list.refused_at(&rule, 10, rule.len());
+    // It was 11 before C-17.
+    list.no_longer_refused(&working(conditions(7), 0x03), &plan(5, &[]));
 }
