@@ -68,7 +68,10 @@ fn rested_by(plan: &[u8], at: usize, needs: &[u64; 256]) -> usize
     n
 }
 
-// The size of the joined group at the place `at` of the plan: a guard of 10 bytes and its wires for each member, two picks, the operation.
+// The bytes of a joined group for each member, but for the wires that its guard reads: two and the table of its guard, a pair in each of two picks.
+const MEMBER: usize = 10 + records::WRITTEN_TABLE;
+
+// The size of the joined group at the place `at` of the plan: a guard and its wires for each member, two picks, the operation.
 pub fn size_joined(plan: &[u8], at: usize, quads: &[u32; 1024], needs: &[u64; 256]) -> Size
     requires { ⌜ Joinable (now quads) (now plan) at ⌝ }
     ensures { λ r. ⌜ Measured (now (quads .entry)) (now (needs .entry)) (groupAt (now (plan .entry)) at) (r .wires) (r .bytes) (r .cost) ⌝ }
@@ -80,7 +83,7 @@ pub fn size_joined(plan: &[u8], at: usize, quads: &[u32; 1024], needs: &[u64; 25
     let means = codes::code_of(quads[4 * i] as u8);
     Size {
         wires: size + 3,
-        bytes: 18 * size + 2 * n + 9,
+        bytes: MEMBER * size + 2 * n + 9,
         cost: 5 * size + (means.cost as usize),
     }
 }

@@ -27,6 +27,10 @@ bits-bytes (suc k) =
     let e : 8 * suc k ≡ 8 + 8 * k = omega arith in
     ap (λ (n : ℕ). 2 ^ n) e ∙ pow-add 2 8 (8 * k) ∙ ap (λ (n : ℕ). 256 * n) (bits-bytes k) ∙ sym (pow-succ' 256 k)
 
+-- so a table of the most wires has its bytes, and no bit is left
+pub table-room : (ver : Version) → 256 ^ tableBytes ver ≡ 2 ^ 2 ^ mostGuardWires ver
+table-room ver = sym (bits-bytes (tableBytes ver)) ∙ ap (λ (n : ℕ). 2 ^ n) (table-bits ver)
+
 -- how few the wires and the table's bytes are
 pub wires-few : (ver : Version) → mostGuardWires ver ≤ 8
 wires-few one = omega arith
