@@ -66,7 +66,7 @@ fn put_guard(
     put_rested(&mut out[2..], s, r, conditions, group, wires);
     let n = 2 + 2 * (d as usize);
     words::put64(&mut out[n..], settings::table(s, r));
-    n + 8
+    n + records::WRITTEN_TABLE
 }
 
 // The guards of a group, members rising; gives their bytes.
