@@ -34,7 +34,7 @@ use Rattle.plan.specs.JoinedLaws.{members-costly}
 use Rattle.plan.specs.WaitLaws.{order-once}
 use Rattle.fused.specs.FusedCircuit.{groupRecords, written, fused, recordsOf, outputWires, costAfter, fusedFile}
 use Rattle.fused.specs.OutputLaws.{outputs-length}
-use Rattle.fused.specs.SizeLimits.{mostBytesOfTwo, mostRecordBytes}
+use Rattle.fused.specs.SizeLimits.{mostBytesOfTwo, mostRecordBytes, mostFusedBytes}
 use Rattle.fused.specs.SizeEmit.{emit-most}
 use Rattle.fused.specs.SizeTotal.{total, total-le}
 
@@ -102,5 +102,8 @@ fused-size s p h =
     ∙ ap (λ (k : ℕ). 8 + length (recordsBytes writtenVersion (recordsOf s p)) + 2 * k) (outputs-length s p)
 
 -- at most 16,384 bytes
+pub bytes-most : (s p : List ℕ) → planAnswer s p .number ≡ 0 → length (fusedFile s p) ≤ mostFusedBytes
+bytes-most s p h = omega (arith, plan-most s p h .1, fused-size s p h, outputs-count s p h .1)
+
 pub bytes-bound : (s p : List ℕ) → planAnswer s p .number ≡ 0 → length (fusedFile s p) ≤ 16384
-bytes-bound s p h = omega (arith, plan-most s p h .1, fused-size s p h, outputs-count s p h .1)
+bytes-bound s p h = omega (arith, bytes-most s p h)

@@ -1,7 +1,9 @@
 -- Inner, for document 01, "The fused circuit file", and document 02, C-17, "A file still fits in 16,384 bytes": what records come to at most, in the version that is written.
 use Prim.Native.Nat.{ℕ, _+_, _*_, _/_}
+use Rattle.reading.specs.Limits.{mostVariables}
 use Rattle.gates.specs.Limits.{mostGates}
 use Rattle.records.specs.Versions.{writtenVersion, mostGuardWires, tableBytes}
+use Rattle.records.specs.FileFigures.{firstRecord}
 
 -- the bytes of a guard
 abbrev pub mostGuardBytes : ℕ
@@ -14,3 +16,7 @@ mostBytesOfTwo = 2 * mostGuardBytes + 25
 -- those of the most gates
 abbrev pub mostRecordBytes : ℕ
 mostRecordBytes = mostGates / 2 * mostBytesOfTwo
+
+-- those of a file: the bytes before its records, theirs, and an output for each of the most variables
+abbrev pub mostFusedBytes : ℕ
+mostFusedBytes = firstRecord + mostRecordBytes + 2 * mostVariables
