@@ -13,6 +13,7 @@ use Rattle.reading.specs.Header.{variables, kindAt}
 use Rattle.circuit.specs.Whole.{ruleAnswer}
 use Rattle.direct.specs.Direct.{runAnswer, runResults}
 use Rattle.plan.specs.Rows.{planAnswer}
+use Rattle.records.specs.Versions.{Version, writtenVersion}
 use Rattle.records.specs.Records.{Pair, Record, pick, guard, recordIn, ReadsEarlier, pickFigure, guardFigure}
 use Rattle.records.specs.WireKinds.{valuesOf, wireKind}
 use Rattle.records.specs.WireFigures.{pickSum, wireFigure}
@@ -24,9 +25,10 @@ use Rattle.fused.specs.PickSums as picks
 use Rattle.foreign.specs.Foreign.{circuitAnswer, recordPart, circuitRunAnswer, circuitRunResults}
 use Rattle.demands.specs.ForeignLaws as foreign
 
--- "We want to read a circuit file": which files are read, said without a reader: those that are the bytes of a well-formed list of records and outputs,
+-- "We want to read a circuit file": which files are read, said without a reader: those that are the bytes, in a version, of a list of records
+-- and outputs that is well-formed for it,
 pub circuit-format : (f : List ℕ) → Bytes f
-    → (circuitAnswer f .number ≡ 0) ↔ ((v : ℕ) × (R : List Record) × (outputs : List ℕ) × circuits.WellFormed v R outputs × (f ≡ fileBytes v R outputs))
+    → (circuitAnswer f .number ≡ 0) ↔ ((ver : Version) × (v : ℕ) × (R : List Record) × (outputs : List ℕ) × circuits.WellFormed ver v R outputs × (f ≡ fileBytes ver v R outputs))
 circuit-format = foreign.circuit-format
 
 -- and every record of such a file reads only earlier wires.
@@ -34,12 +36,12 @@ pub circuit-earlier : (f : List ℕ) → circuitAnswer f .number ≡ 0 → Reads
 circuit-earlier = foreign.circuit-earlier
 
 -- "The reader shows the bytes of one gate record inside the caller's file, by wire number": those that were written for that wire;
-pub record-shown : (v : ℕ) (R : List Record) (outputs : List ℕ) → circuits.WellFormed v R outputs → (n : ℕ) → n < length R
-    → recordPart (fileBytes v R outputs) n ≡ recordBytes (recordIn R n)
+pub record-shown : (ver : Version) (v : ℕ) (R : List Record) (outputs : List ℕ) → circuits.WellFormed ver v R outputs → (n : ℕ) → n < length R
+    → recordPart (fileBytes ver v R outputs) n ≡ recordBytes ver (recordIn R n)
 record-shown = foreign.record-shown
 
 pub own-record : (s p : List ℕ) → Bytes s → planAnswer s p .number ≡ 0 → (n : ℕ) → n < length (recordsOf s p)
-    → recordPart (fusedFile s p) n ≡ recordBytes (recordIn (recordsOf s p) n)
+    → recordPart (fusedFile s p) n ≡ recordBytes writtenVersion (recordIn (recordsOf s p) n)
 own-record = foreign.own-record
 
 -- "it shows an empty part for a refused file or a number that is no wire."

@@ -19,6 +19,7 @@ use Rattle.settings.specs.Settings.{Setting}
 use Rattle.needed.specs.Needed.{Needed, wantedOf}
 use Rattle.circuit.specs.Whole.{ruleAnswer}
 use Rattle.plan.specs.Rows.{planAnswer}
+use Rattle.records.specs.Versions.{Version}
 use Rattle.records.specs.Records.{Record}
 use Rattle.records.specs.CircuitFile.{fileBytes, noWire}
 use Rattle.records.specs.FileFigures.{wireCount, fileOutputs, fileFigures}
@@ -67,10 +68,10 @@ pub result-written : (s inputs : List ℕ) (x : ℕ) → x < variables s → wor
 result-written = written.writes-result
 
 -- "and the circuit reader admits FF FF as an output": any output of any file that is read may be made FF FF; running it then writes 0 there, and else what it wrote.
-pub no-wire-read : (v : ℕ) (R : List Record) (outputs : List ℕ) → circuits.WellFormed v R outputs → (x : ℕ)
-    → circuitAnswer (fileBytes v R (set outputs x noWire)) .number ≡ 0
+pub no-wire-read : (ver : Version) (v : ℕ) (R : List Record) (outputs : List ℕ) → circuits.WellFormed ver v R outputs → (x : ℕ)
+    → circuitAnswer (fileBytes ver v R (set outputs x noWire)) .number ≡ 0
 no-wire-read = working.no-wire-read
 
-pub no-wire-run : (v : ℕ) (R : List Record) (outputs : List ℕ) → circuits.WellFormed v R outputs → (x : ℕ) (inputs : List ℕ)
-    → fileFigures (fileBytes v R (set outputs x noWire)) inputs ≡ set (fileFigures (fileBytes v R outputs) inputs) x 0
+pub no-wire-run : (ver : Version) (v : ℕ) (R : List Record) (outputs : List ℕ) → circuits.WellFormed ver v R outputs → (x : ℕ) (inputs : List ℕ)
+    → fileFigures (fileBytes ver v R (set outputs x noWire)) inputs ≡ set (fileFigures (fileBytes ver v R outputs) inputs) x 0
 no-wire-run = working.no-wire-run

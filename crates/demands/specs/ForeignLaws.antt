@@ -22,6 +22,7 @@ use Rattle.direct.specs.Direct.{runAnswer, runResults}
 use Rattle.direct.specs.DirectLaws as direct
 use Rattle.plan.specs.Rows.{planAnswer}
 use Rattle.plan.specs.AcceptedLaws.{plan-accepted}
+use Rattle.records.specs.Versions.{Version, writtenVersion}
 use Rattle.records.specs.Records.{Record, recordIn, ReadsEarlier}
 use Rattle.records.specs.WireKinds.{wireKind}
 use Rattle.records.specs.CircuitFile.{recordBytes, fileBytes}
@@ -62,19 +63,19 @@ run-answered f inputs room =
 
 -- the format, and what follows from it
 pub circuit-format : (f : List ℕ) → Bytes f
-    → (circuitAnswer f .number ≡ 0) ↔ ((v : ℕ) × (R : List Record) × (outputs : List ℕ) × WellFormed v R outputs × (f ≡ fileBytes v R outputs))
+    → (circuitAnswer f .number ≡ 0) ↔ ((ver : Version) × (v : ℕ) × (R : List Record) × (outputs : List ℕ) × WellFormed ver v R outputs × (f ≡ fileBytes ver v R outputs))
 circuit-format f bytes = let (to, back) = format.circuit-format f bytes in (λ z. to (sym (answer-number f) ∙ z), λ w. answer-number f ∙ back w)
 
 pub circuit-earlier : (f : List ℕ) → circuitAnswer f .number ≡ 0 → ReadsEarlier (fileRecords f)
 circuit-earlier f z = format.row-passed f (sym (answer-number f) ∙ z) .stand .earlier
 
 -- the record of wire n of a file that was written is what was written for it; no other is shown
-pub record-shown : (v : ℕ) (R : List Record) (outputs : List ℕ) → WellFormed v R outputs → (n : ℕ) → n < length R
-    → recordPart (fileBytes v R outputs) n ≡ recordBytes (recordIn R n)
-record-shown v R outputs w n l =
-    let f = fileBytes v R outputs in
-    let (_, (_, part)) = part-shown f n (format.well-row v R outputs w) (rw (count-found v R outputs (w .fits .few)) l) (recordPlace f n) (sizeAt f (recordPlace f n)) refl refl in
-    sym part ∙ file-part v R outputs (w .fits .each) n l
+pub record-shown : (ver : Version) (v : ℕ) (R : List Record) (outputs : List ℕ) → WellFormed ver v R outputs → (n : ℕ) → n < length R
+    → recordPart (fileBytes ver v R outputs) n ≡ recordBytes ver (recordIn R n)
+record-shown ver v R outputs w n l =
+    let f = fileBytes ver v R outputs in
+    let (_, (_, part)) = part-shown f n (format.well-row ver v R outputs w) (rw (count-found ver v R outputs (w .fits .few)) l) (recordPlace f n) (sizeAt f (recordPlace f n)) refl refl in
+    sym part ∙ file-part ver v R outputs (w .fits .each) n l
 
 pub none-shown : (f : List ℕ) (n : ℕ) → (circuitAnswer f .number ≡ 0 → n < wireCount f → ⊥) → recordPart f n ≡ []
 none-shown f n h =
@@ -93,9 +94,9 @@ module _ (s p : List ℕ) (bytes : Bytes s) (h : planAnswer s p .number ≡ 0) w
       let n = fused-found s p h bytes (reads-earlier s p h) (output-earlier s p h) .3 in
       taken-answer f (fused-row s p bytes h) ∙ ap (λ (k : ℕ). success 0 k (length f) 0 0) n
 
-  pub own-record : (n : ℕ) → n < length (recordsOf s p) → recordPart (fusedFile s p) n ≡ recordBytes (recordIn (recordsOf s p) n)
+  pub own-record : (n : ℕ) → n < length (recordsOf s p) → recordPart (fusedFile s p) n ≡ recordBytes writtenVersion (recordIn (recordsOf s p) n)
   own-record n l =
-      ap (λ (x : List ℕ). recordPart x n) (fused-is s p) ∙ record-shown (variables s) (recordsOf s p) (outputWires s p) (fused-well-formed s p bytes h) n l
+      ap (λ (x : List ℕ). recordPart x n) (fused-is s p) ∙ record-shown writtenVersion (variables s) (recordsOf s p) (outputWires s p) (fused-well-formed s p bytes h) n l
 
   -- its variables are the rule's, of the rule's kinds
   rows : (inputs : List ℕ) (room : ℕ) → fileInputsRow f inputs room ≡ inputRow s inputs room

@@ -28,6 +28,7 @@ use Rattle.needed.specs.WantedLaws.{result-wanted, wanted-result, all-working}
 use Rattle.circuit.specs.Whole.{wholeWithin, ruleAnswer}
 use Rattle.circuit.specs.WholeLaws.{answer-whole}
 use Rattle.plan.specs.Rows.{planAnswer}
+use Rattle.records.specs.Versions.{Version}
 use Rattle.records.specs.Records.{Record}
 use Rattle.records.specs.CircuitFile.{fileBytes, noWire}
 use Rattle.records.specs.FileFigures.{wireCount, fileOutputs, fileFigures}
@@ -85,12 +86,12 @@ module _ (kinds other : List ℕ) (o : OnlyWorking kinds other) (b : Block) (w :
           contrary x k y f = true≢false (sym (more x k y) ∙ sym (rule-working other b x (omega (arith, k, o .many))) ∙ f)
 
 -- any output of a circuit that is read may be made no wire
-pub no-wire-read : (v : ℕ) (R : List Record) (outputs : List ℕ) → circuits.WellFormed v R outputs → (x : ℕ) → circuitAnswer (fileBytes v R (set outputs x noWire)) .number ≡ 0
-no-wire-read v R outputs w x = answer-number (fileBytes v R (set outputs x noWire)) ∙ well-row v R (set outputs x noWire) (well-less v R outputs x w)
+pub no-wire-read : (ver : Version) (v : ℕ) (R : List Record) (outputs : List ℕ) → circuits.WellFormed ver v R outputs → (x : ℕ) → circuitAnswer (fileBytes ver v R (set outputs x noWire)) .number ≡ 0
+no-wire-read ver v R outputs w x = answer-number (fileBytes ver v R (set outputs x noWire)) ∙ well-row ver v R (set outputs x noWire) (well-less ver v R outputs x w)
 
-pub no-wire-run : (v : ℕ) (R : List Record) (outputs : List ℕ) → circuits.WellFormed v R outputs → (x : ℕ) (inputs : List ℕ)
-    → fileFigures (fileBytes v R (set outputs x noWire)) inputs ≡ set (fileFigures (fileBytes v R outputs) inputs) x 0
-no-wire-run v R outputs w x = figures-less v R outputs x (w .fits)
+pub no-wire-run : (ver : Version) (v : ℕ) (R : List Record) (outputs : List ℕ) → circuits.WellFormed ver v R outputs → (x : ℕ) (inputs : List ℕ)
+    → fileFigures (fileBytes ver v R (set outputs x noWire)) inputs ≡ set (fileFigures (fileBytes ver v R outputs) inputs) x 0
+no-wire-run ver v R outputs w x = figures-less ver v R outputs x (w .fits)
 
 -- the outputs that stand in our own file
 module _ (s p : List ℕ) (bytes : Bytes s) (h : planAnswer s p .number ≡ 0) (x : ℕ) (l : x < variables s) where

@@ -14,6 +14,7 @@ use Rattle.codes.specs.declared.Code.{Code}
 use Rattle.gates.specs.Gates.{start, bit, arguments}
 use Rattle.needed.specs.Held.{choiceCode, Applies, gateIn, codeAt, firstAt, secondAt, thirdAt}
 use Rattle.needed.specs.QuadLaws.{KindIn, chooses, is-word, is-bit, applies, starts, kind-in, choice-in, word-in, bit-in, start-in, applied-in}
+use Rattle.records.specs.Versions.{writtenVersion}
 use Rattle.records.specs.CircuitFile.{wiresBytes, recordBytes}
 use Rattle.records.specs.SizeLaws.{wires-size, input-size, word-size, bit-size, choice-size}
 use Rattle.emitting.specs.Emitted.{aloneIn, Grouped, FitsGate, Coded, Writable}
@@ -83,17 +84,17 @@ module _ (quads : List ℕ) (g : ℕ) where
 
   module _ (wire : ℕ → ℕ) where
     -- the bytes, by the code
-    pub choice-bytes : codeAt quads g ≡ choiceCode → recordBytes (aloneIn quads wire g) ≡ 0x30 ∷ wiresBytes
+    pub choice-bytes : codeAt quads g ≡ choiceCode → recordBytes writtenVersion (aloneIn quads wire g) ≡ 0x30 ∷ wiresBytes
         (wire (firstAt quads g) ∷ wire (secondAt quads g) ∷ wire (thirdAt quads g) ∷ [])
     choice-bytes e = rw (choice-in quads g e)
 
-    pub word-bytes : codeAt quads g ≡ 0x11 → recordBytes (aloneIn quads wire g) ≡ 0x11 ∷ bytesOf 4 (firstAt quads g)
+    pub word-bytes : codeAt quads g ≡ 0x11 → recordBytes writtenVersion (aloneIn quads wire g) ≡ 0x11 ∷ bytesOf 4 (firstAt quads g)
     word-bytes e = rw (word-in quads g e)
 
-    pub bit-bytes : codeAt quads g ≡ 0x12 → recordBytes (aloneIn quads wire g) ≡ codeAt quads g ∷ firstAt quads g ∷ []
+    pub bit-bytes : codeAt quads g ≡ 0x12 → recordBytes writtenVersion (aloneIn quads wire g) ≡ codeAt quads g ∷ firstAt quads g ∷ []
     bit-bytes e = rw (bit-in quads g e, e)
 
-    pub start-bytes : codeAt quads g ≤ 1 → recordBytes (aloneIn quads wire g) ≡ codeAt quads g ∷ firstAt quads g ∷ []
+    pub start-bytes : codeAt quads g ≤ 1 → recordBytes writtenVersion (aloneIn quads wire g) ≡ codeAt quads g ∷ firstAt quads g ∷ []
     start-bytes h = rw (start-in quads g (omega (arith, h))) (ap (λ (b : ℕ). b ∷ firstAt quads g ∷ []) (go (same? (codeAt quads g) 1)))
       where
         go : (codeAt quads g ≡ 1) ⊎ (codeAt quads g ≡ 1 → ⊥) → startCode (startKind (codeAt quads g)) ≡ codeAt quads g
@@ -101,42 +102,42 @@ module _ (quads : List ℕ) (g : ℕ) where
         go (inr n) = rw (kind-word (codeAt quads g) n) (omega (arith, h, n))
 
     applied-bytes : Applies (codeAt quads g) → (k : ℕ) → codeOf (codeAt quads g) .arity ≡ k
-        → recordBytes (aloneIn quads wire g) ≡ codeAt quads g ∷ wiresBytes (map wire (take k (firstAt quads g ∷ secondAt quads g ∷ [])))
+        → recordBytes writtenVersion (aloneIn quads wire g) ≡ codeAt quads g ∷ wiresBytes (map wire (take k (firstAt quads g ∷ secondAt quads g ∷ [])))
     applied-bytes h k e =
         let a : entryOf (operationOf (codeAt quads g)) .arity ≡ k = ap (λ (c : Code). c .arity) (sym (code-operation (codeAt quads g) (h .0) (h .1))) ∙ e in
         rw (applied-in quads g h, a, byte-back (codeAt quads g) (h .0) (h .1))
 
-    pub unary-bytes : Applies (codeAt quads g) → codeOf (codeAt quads g) .arity ≡ 1 → recordBytes (aloneIn quads wire g) ≡ codeAt quads g ∷ wiresBytes
+    pub unary-bytes : Applies (codeAt quads g) → codeOf (codeAt quads g) .arity ≡ 1 → recordBytes writtenVersion (aloneIn quads wire g) ≡ codeAt quads g ∷ wiresBytes
         (wire (firstAt quads g) ∷ [])
     unary-bytes h e = applied-bytes h 1 e
 
-    pub binary-bytes : Applies (codeAt quads g) → (codeOf (codeAt quads g) .arity ≡ 1 → ⊥) → recordBytes (aloneIn quads wire g) ≡ codeAt quads g ∷ wiresBytes
+    pub binary-bytes : Applies (codeAt quads g) → (codeOf (codeAt quads g) .arity ≡ 1 → ⊥) → recordBytes writtenVersion (aloneIn quads wire g) ≡ codeAt quads g ∷ wiresBytes
         (wire (firstAt quads g) ∷ wire (secondAt quads g) ∷ [])
     binary-bytes h n = go (one-or-two (operationOf (codeAt quads g)))
       where
         same : codeOf (codeAt quads g) ≡ entryOf (operationOf (codeAt quads g))
         same = code-operation (codeAt quads g) (h .0) (h .1)
 
-        go : (entryOf (operationOf (codeAt quads g)) .arity ≡ 1) ⊎ (entryOf (operationOf (codeAt quads g)) .arity ≡ 2) → recordBytes
+        go : (entryOf (operationOf (codeAt quads g)) .arity ≡ 1) ⊎ (entryOf (operationOf (codeAt quads g)) .arity ≡ 2) → recordBytes writtenVersion
             (aloneIn quads wire g) ≡ codeAt quads g ∷ wiresBytes (wire (firstAt quads g) ∷ wire (secondAt quads g) ∷ [])
         go (inl e) = absurd (n (ap (λ (c : Code). c .arity) same ∙ e))
         go (inr e) = applied-bytes h 2 (ap (λ (c : Code). c .arity) same ∙ e)
 
     -- and how many they are
-    pub choice-long : codeAt quads g ≡ choiceCode → length (recordBytes (aloneIn quads wire g)) ≡ 7
-    choice-long e = rw (choice-in quads g e) (choice-size (wire (firstAt quads g)) (wire (secondAt quads g)) (wire (thirdAt quads g)))
+    pub choice-long : codeAt quads g ≡ choiceCode → length (recordBytes writtenVersion (aloneIn quads wire g)) ≡ 7
+    choice-long e = rw (choice-in quads g e) (choice-size writtenVersion (wire (firstAt quads g)) (wire (secondAt quads g)) (wire (thirdAt quads g)))
 
-    pub word-long : codeAt quads g ≡ 0x11 → length (recordBytes (aloneIn quads wire g)) ≡ 5
-    word-long e = rw (word-in quads g e) (word-size (firstAt quads g))
+    pub word-long : codeAt quads g ≡ 0x11 → length (recordBytes writtenVersion (aloneIn quads wire g)) ≡ 5
+    word-long e = rw (word-in quads g e) (word-size writtenVersion (firstAt quads g))
 
-    pub bit-long : codeAt quads g ≡ 0x12 → length (recordBytes (aloneIn quads wire g)) ≡ 2
-    bit-long e = rw (bit-in quads g e) (bit-size (firstAt quads g))
+    pub bit-long : codeAt quads g ≡ 0x12 → length (recordBytes writtenVersion (aloneIn quads wire g)) ≡ 2
+    bit-long e = rw (bit-in quads g e) (bit-size writtenVersion (firstAt quads g))
 
-    pub start-long : codeAt quads g ≤ 1 → length (recordBytes (aloneIn quads wire g)) ≡ 2
-    start-long h = rw (start-in quads g (omega (arith, h))) (input-size (startKind (codeAt quads g)) (firstAt quads g))
+    pub start-long : codeAt quads g ≤ 1 → length (recordBytes writtenVersion (aloneIn quads wire g)) ≡ 2
+    start-long h = rw (start-in quads g (omega (arith, h))) (input-size writtenVersion (startKind (codeAt quads g)) (firstAt quads g))
 
-    pub unary-long : Applies (codeAt quads g) → codeOf (codeAt quads g) .arity ≡ 1 → length (recordBytes (aloneIn quads wire g)) ≡ 3
+    pub unary-long : Applies (codeAt quads g) → codeOf (codeAt quads g) .arity ≡ 1 → length (recordBytes writtenVersion (aloneIn quads wire g)) ≡ 3
     unary-long h e = rw (unary-bytes h e) (ap suc (wires-size (wire (firstAt quads g) ∷ [])))
 
-    pub binary-long : Applies (codeAt quads g) → (codeOf (codeAt quads g) .arity ≡ 1 → ⊥) → length (recordBytes (aloneIn quads wire g)) ≡ 5
+    pub binary-long : Applies (codeAt quads g) → (codeOf (codeAt quads g) .arity ≡ 1 → ⊥) → length (recordBytes writtenVersion (aloneIn quads wire g)) ≡ 5
     binary-long h n = rw (binary-bytes h n) (ap suc (wires-size (wire (firstAt quads g) ∷ wire (secondAt quads g) ∷ [])))

@@ -9,6 +9,7 @@ ghost use lib.ListN.{length, getD};
 ghost use Rattle.words.specs.Numbers.{bytesOf};
 ghost use Rattle.words.specs.Buffers.{over};
 ghost use Rattle.needed.specs.Held.{Applies, codeAt};
+ghost use Rattle.records.specs.Versions.{writtenVersion};
 ghost use Rattle.records.specs.CircuitFile.{wiresBytes, recordBytes};
 ghost use Rattle.emitting.specs.Emitted.{wireIn, aloneIn, Grouped, Writable};
 
@@ -89,9 +90,9 @@ fn put_applied(
     wires: &[u16; 256],
     g: GateId,
 ) -> usize
-    requires { ⌜ (length (recordBytes (aloneIn (now quads) (wireIn (now group) (now wires)) (g .0))) ≤ length (now out)) × (Writable (now quads) (now group) (g .0) × Applies (codeAt (now quads) (g .0))) ⌝ }
-    ensures counted { λ r. ⌜ r ≡ length (recordBytes (aloneIn (now (quads .entry)) (wireIn (now (group .entry)) (now (wires .entry))) (g .0))) ⌝ }
-    ensures written { λ r. ⌜ now (out .exit) ≡ over (recordBytes (aloneIn (now (quads .entry)) (wireIn (now (group .entry)) (now (wires .entry))) (g .0))) (now (out .entry)) ⌝ }
+    requires { ⌜ (length (recordBytes writtenVersion (aloneIn (now quads) (wireIn (now group) (now wires)) (g .0))) ≤ length (now out)) × (Writable (now quads) (now group) (g .0) × Applies (codeAt (now quads) (g .0))) ⌝ }
+    ensures counted { λ r. ⌜ r ≡ length (recordBytes writtenVersion (aloneIn (now (quads .entry)) (wireIn (now (group .entry)) (now (wires .entry))) (g .0))) ⌝ }
+    ensures written { λ r. ⌜ now (out .exit) ≡ over (recordBytes writtenVersion (aloneIn (now (quads .entry)) (wireIn (now (group .entry)) (now (wires .entry))) (g .0))) (now (out .entry)) ⌝ }
 {
     let i = g.0 as usize;
     let code = quads[4 * i] as u8;
@@ -113,9 +114,9 @@ pub fn put_alone(
     wires: &[u16; 256],
     g: GateId,
 ) -> usize
-    requires { ⌜ (length (recordBytes (aloneIn (now quads) (wireIn (now group) (now wires)) (g .0))) ≤ length (now out)) × Writable (now quads) (now group) (g .0) ⌝ }
-    ensures counted { λ r. ⌜ r ≡ length (recordBytes (aloneIn (now (quads .entry)) (wireIn (now (group .entry)) (now (wires .entry))) (g .0))) ⌝ }
-    ensures written { λ r. ⌜ now (out .exit) ≡ over (recordBytes (aloneIn (now (quads .entry)) (wireIn (now (group .entry)) (now (wires .entry))) (g .0))) (now (out .entry)) ⌝ }
+    requires { ⌜ (length (recordBytes writtenVersion (aloneIn (now quads) (wireIn (now group) (now wires)) (g .0))) ≤ length (now out)) × Writable (now quads) (now group) (g .0) ⌝ }
+    ensures counted { λ r. ⌜ r ≡ length (recordBytes writtenVersion (aloneIn (now (quads .entry)) (wireIn (now (group .entry)) (now (wires .entry))) (g .0))) ⌝ }
+    ensures written { λ r. ⌜ now (out .exit) ≡ over (recordBytes writtenVersion (aloneIn (now (quads .entry)) (wireIn (now (group .entry)) (now (wires .entry))) (g .0))) (now (out .entry)) ⌝ }
 {
     let i = g.0 as usize;
     let code = quads[4 * i];

@@ -11,12 +11,13 @@ use Rattle.codes.specs.Codes.{codeOf}
 use Rattle.codes.specs.declared.Kind.{Kind}
 use Rattle.codes.specs.declared.Kind.the-variants as kind
 use Rattle.records.specs.Records.{Record, input, word, bit, operation, choice, pick, guard, pairWires, reads, recordFigure}
+use Rattle.records.specs.Versions.{mostGuardWires, tableBytes}
 use Rattle.records.specs.WireKinds.{recordKind}
 use Rattle.records.specs.WireFigures.{figuresIn, sumFigure, pickSum}
-use Rattle.records.specs.FileFigures.{wiresAt, pairsAt, recordAt}
+use Rattle.records.specs.FileFigures.{versionIn, wiresAt, pairsAt, recordAt}
 use Rattle.records.specs.FilePartLaws.{wires-length}
 use Rattle.records.specs.FoundForms.{OtherByte, form-input, form-word, form-bit, form-choice, form-pick, form-guard, form-other, operation-byte}
-use Rattle.records.specs.Limits.{mostWires, mostGuardWires}
+use Rattle.records.specs.Limits.{mostWires}
 use Rattle.records.specs.LaidOut.{Bounded}
 use Rattle.parts.specs.HeldKinds.{isBit}
 use Rattle.parts.specs.HeldLaws.{kind-back}
@@ -48,8 +49,8 @@ module _ (f : List ℕ) (v at : ℕ) (k : Workable f v mostWires at) where
   pick-takes h = (omega (arith, k .whole .inside, form-pick f at h .1), wires-as _ (form-pick f at h .0))
 
   pub guard-takes : getD f at 0 ≡ 0x32
-      → (getD f (at + 1) 0 ≤ mostGuardWires) × (at + 2 + 2 * getD f (at + 1) 0 + 8 ≤ length f) × Inside mostWires (wiresAt (getD f (at + 1) 0) f (at + 2))
-  guard-takes h = (rw (wires-length (getD f (at + 1) 0) f (at + 2)) at (subst Bounded (form-guard f at h .0) (k .whole .bounded)), omega (arith, k .whole .inside, form-guard f at h .1), wires-as _ (form-guard f at h .0))
+      → (getD f (at + 1) 0 ≤ mostGuardWires (versionIn f)) × (at + 2 + 2 * getD f (at + 1) 0 + tableBytes (versionIn f) ≤ length f) × Inside mostWires (wiresAt (getD f (at + 1) 0) f (at + 2))
+  guard-takes h = (rw (wires-length (getD f (at + 1) 0) f (at + 2)) at (subst (Bounded (versionIn f)) (form-guard f at h .0) (k .whole .bounded)), omega (arith, k .whole .inside, form-guard f at h .1), wires-as _ (form-guard f at h .0))
 
   pub operation-takes : OtherByte (getD f at 0)
       → (0x20 ≤ getD f at 0) × (getD f at 0 ≤ 0x27) × (at + (1 + 2 * codeOf (getD f at 0) .arity) ≤ length f)

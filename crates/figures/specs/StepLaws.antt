@@ -16,10 +16,11 @@ use Rattle.settings.specs.SettingLaws.{numberOf-below}
 use Rattle.settings.specs.Sets.{has}
 use Rattle.codes.specs.Results.{isOne}
 use Rattle.records.specs.Records.{pairWires, guardFigure}
+use Rattle.records.specs.Versions.{two, mostGuardWires, tableBytes}
 use Rattle.records.specs.WireFigures.{sumFigure}
-use Rattle.records.specs.FileFigures.{wiresAt, pairsAt}
+use Rattle.records.specs.FileFigures.{versionIn, wiresAt, pairsAt}
 use Rattle.records.specs.FilePartLaws.{wires-length, wire-of}
-use Rattle.records.specs.Limits.{mostWires, mostGuardWires}
+use Rattle.records.specs.Limits.{mostWires}
 use Rattle.figures.specs.Working.{held, pickBy}
 
 -- a choice: its condition is 1, or it is not
@@ -94,32 +95,33 @@ module _ (f figures : List ℕ) (at count t sum : ℕ) (p : Summing f figures at
 
 -- amid the wires of a guard: j is the number of the wires from t on
 pub record CountingWires (f figures : List ℕ) (at count t j : ℕ) : Type 0 where
-  pub few : count ≤ mostGuardWires
+  pub few : count ≤ mostGuardWires two
   pub below : t ≤ count
   pub inside : at + 2 * count ≤ length f
   pub wires : Inside mostWires (wiresAt count f at)
   pub same : j ≡ numberOf (wiresAt (count - t) f (at + 2 * t)) (λ w. isOne (held figures w))
 
-pub counting-start : (f figures : List ℕ) (at count t : ℕ) → count ≤ mostGuardWires → at + 2 * count ≤ length f → Inside mostWires (wiresAt count f at)
+pub counting-start : (f figures : List ℕ) (at count t : ℕ) → count ≤ mostGuardWires two → at + 2 * count ≤ length f → Inside mostWires (wiresAt count f at)
     → t ≡ count → CountingWires f figures at count t 0
 counting-start f figures at count t few h w e =
     let z : count - t ≡ 0 = omega arith in
     record { few = few; below = omega arith; inside = h; wires = w; same = sym (ap (λ (n : ℕ). numberOf (wiresAt n f (at + 2 * t)) (λ w. isOne (held figures w))) z) }
 
--- six bits make a number below 64
-number-few : (f : List ℕ) (at n : ℕ) (σ : ℕ → Bool) → n ≤ mostGuardWires → numberOf (wiresAt n f at) σ < 64
-number-few f at n σ h =
-    let l : numberOf (wiresAt n f at) σ < 2 ^ n = rw (wires-length n f at) at (numberOf-below (wiresAt n f at) σ) in
-    let k : 2 ^ n ≤ 2 ^ 6 = pow-mono h in omega (arith, l, k)
+-- n bits make a number below 2^n
+number-few : (f : List ℕ) (at n : ℕ) (σ : ℕ → Bool) → numberOf (wiresAt n f at) σ < 2 ^ n
+number-few f at n σ = rw (wires-length n f at) at (numberOf-below (wiresAt n f at) σ)
 
 module _ (f figures : List ℕ) (at count t j : ℕ) (p : CountingWires f figures at count t j) where
-  pub counting-few : j < 64
-  counting-few = rw (p .same) (number-few f (at + 2 * t) (count - t) _ (omega (arith, p .few)))
+  pub counting-few : j < 256
+  counting-few =
+      let l : j < 2 ^ (count - t) = rw (p .same) (number-few f (at + 2 * t) (count - t) _) in
+      let k : 2 ^ (count - t) ≤ 2 ^ 8 = pow-mono {i = count - t} {j = 8} (omega (arith, p .few)) in omega (arith, l, k)
 
-  pub counted : t ≤ 0 → (j ≡ numberOf (wiresAt count f at) (λ w. isOne (held figures w))) × (j < 64)
+  pub counted : t ≤ 0 → (j ≡ numberOf (wiresAt count f at) (λ w. isOne (held figures w))) × (j < 2 ^ count)
   counted h =
       let a : count - t ≡ count = omega arith in let b : at + 2 * t ≡ at = omega arith in
-      (p .same ∙ rw (a, b), counting-few)
+      let e : j ≡ numberOf (wiresAt count f at) (λ w. isOne (held figures w)) = p .same ∙ rw (a, b) in
+      (e, rw e (number-few f at count _))
 
   module _ (h : 0 < t) where
     pub wire-inside : numberAt 2 f (at + 2 * (t - 1)) < mostWires
@@ -148,8 +150,8 @@ module _ (f figures : List ℕ) (at count t j : ℕ) (p : CountingWires f figure
     pub counting-none : (g : ℕ) → g ≡ held figures (numberAt 2 f (at + 2 * (t - 1))) → (g ≡ 1 → ⊥) → CountingWires f figures at count (t - 1) (2 * j)
     counting-none g e none = counting-next g (2 * j) e (rw (ne-eqb g 1 none) (omega arith))
 
--- a guard: bit j of its table, where j and the table were read
-module _ (f figures : List ℕ) (at count j k t : ℕ) (b : Bool) (e : j ≡ numberOf (wiresAt count f at) (λ w. isOne (held figures w)))
-    (q : k ≡ count) (r : t ≡ numberAt 8 f (at + 2 * k)) (h : b ≡ has t j) where
-  pub table-bit : (n : ℕ) → n ≡ bitOf b → n ≡ guardFigure (held figures) (wiresAt count f at) (numberAt 8 f (at + 2 * count))
-  table-bit n z = z ∙ ap bitOf h ∙ rw (r, e, q)
+-- a guard: bit j of its table, where j and the table's place and size were read
+module _ (f figures : List ℕ) (at count j k n : ℕ) (e : j ≡ numberOf (wiresAt count f at) (λ w. isOne (held figures w)))
+    (q : k ≡ count) (r : n ≡ tableBytes (versionIn f)) (b : Bool) (h : b ≡ has (numberAt n f (at + 2 * k)) j) where
+  pub table-bit : (x : ℕ) → x ≡ bitOf b → x ≡ guardFigure (held figures) (wiresAt count f at) (numberAt (tableBytes (versionIn f)) f (at + 2 * count))
+  table-bit x z = z ∙ ap bitOf h ∙ rw (r, e, q)

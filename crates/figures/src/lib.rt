@@ -5,23 +5,25 @@ use records::WireId;
 ghost use mathlib.Core.Path.{_≡_};
 ghost use mathlib.Core.Bool.{cond};
 ghost use mathlib.Core.List.{map, [], _∷_};
-ghost use Prim.Native.Nat.{ℕ, _+_, _*_, _<_, _≤_};
+ghost use Prim.Native.Nat.{ℕ, _+_, _*_, _^_, _<_, _≤_};
 ghost use lib.ListN.{length, getD};
 ghost use Rattle.words.specs.Numbers.{numberAt};
 ghost use Rattle.words.specs.Buffers.{over};
 ghost use Rattle.words.specs.Lists.{Inside};
 ghost use Rattle.settings.specs.Settings.{numberOf};
+ghost use Rattle.settings.specs.Sets.{has};
 ghost use Rattle.codes.specs.Codes.{operationOf, codeOf};
 ghost use Rattle.codes.specs.Results.{isOne, resultOn};
+ghost use Rattle.records.specs.Versions.{two, mostGuardWires, tableBytes};
 ghost use Rattle.records.specs.Records.{pairWires, guardFigure, recordFigure};
-ghost use Rattle.records.specs.FileFigures.{wiresAt, pairsAt, recordAt, fileVariables, wireCount, fileFigures};
-ghost use Rattle.records.specs.Limits.{mostWires, mostGuardWires};
+ghost use Rattle.records.specs.FileFigures.{versionIn, wiresAt, pairsAt, recordAt, fileVariables, wireCount, fileFigures};
+ghost use Rattle.records.specs.Limits.{mostWires};
 ghost use Rattle.records.specs.LaidOut.{recordPlace};
 ghost use Rattle.records.specs.CircuitRows.{circuitRow};
 ghost use Rattle.figures.specs.Working.{held, outputHeld, Output, pickBy, Workable, figuresOf};
 
 // The figure of a wire that is worked out.
-fn figure_of(figures: &[u32; 640], w: WireId) -> u32
+fn figure_of(figures: &[u32; records::MOST_WIRES], w: WireId) -> u32
     requires { ⌜ w .0 < mostWires ⌝ }
     ensures { λ r. ⌜ r ≡ held (now (figures .entry)) (w .0) ⌝ }
 {
@@ -29,7 +31,7 @@ fn figure_of(figures: &[u32; 640], w: WireId) -> u32
 }
 
 // The figure of the wire whose number stands at a place.
-fn figure_at(file: &[u8], at: usize, figures: &[u32; 640]) -> u32
+fn figure_at(file: &[u8], at: usize, figures: &[u32; records::MOST_WIRES]) -> u32
     requires { ⌜ (at + 2 ≤ length (now file)) × (numberAt 2 (now file) at < mostWires) ⌝ }
     ensures { λ r. ⌜ r ≡ held (now (figures .entry)) (numberAt 2 (now (file .entry)) at) ⌝ }
 {
@@ -38,7 +40,7 @@ fn figure_at(file: &[u8], at: usize, figures: &[u32; 640]) -> u32
 }
 
 // An operation, 20 to 27, on the figures of its one or two wires.
-fn operation_figure(file: &[u8], at: usize, figures: &[u32; 640]) -> u32
+fn operation_figure(file: &[u8], at: usize, figures: &[u32; records::MOST_WIRES]) -> u32
     requires { ⌜
         (0x20 ≤ getD (now file) at 0) × (getD (now file) at 0 ≤ 0x27)
         × (at + (1 + 2 * codeOf (getD (now file) at 0) .arity) ≤ length (now file))
@@ -63,7 +65,7 @@ fn operation_figure(file: &[u8], at: usize, figures: &[u32; 640]) -> u32
 }
 
 // A choice, 30: its condition wire names one of two wires.
-fn choice_figure(file: &[u8], at: usize, figures: &[u32; 640]) -> u32
+fn choice_figure(file: &[u8], at: usize, figures: &[u32; records::MOST_WIRES]) -> u32
     requires { ⌜
         (at + 7 ≤ length (now file))
         × Inside mostWires (numberAt 2 (now file) (at + 1) ∷ numberAt 2 (now file) (at + 3) ∷ numberAt 2 (now file) (at + 5) ∷ [])
@@ -80,7 +82,13 @@ fn choice_figure(file: &[u8], at: usize, figures: &[u32; 640]) -> u32
 }
 
 // A pick of `count` pairs from `at` on: the sum of the values whose guards are 1, which wraps, and for bits its last bit; the last pair is read first.
-fn pick_figure(file: &[u8], at: usize, count: u8, bit: bool, figures: &[u32; 640]) -> u32
+fn pick_figure(
+    file: &[u8],
+    at: usize,
+    count: u8,
+    bit: bool,
+    figures: &[u32; records::MOST_WIRES],
+) -> u32
     requires { ⌜ (at + 4 * count ≤ length (now file)) × Inside mostWires (pairWires (pairsAt count (now file) at)) ⌝ }
     ensures { λ r. ⌜ r ≡ pickBy bit (held (now (figures .entry))) (pairsAt count (now (file .entry)) at) ⌝ }
 {
@@ -96,15 +104,15 @@ fn pick_figure(file: &[u8], at: usize, count: u8, bit: bool, figures: &[u32; 640
 }
 
 // The number whose bit t is the wire t of `count` wires from `at` on; the last wire is read first, so each moves those after it up.
-fn guard_number(file: &[u8], at: usize, count: u8, figures: &[u32; 640]) -> u8
+fn guard_number(file: &[u8], at: usize, count: u8, figures: &[u32; records::MOST_WIRES]) -> usize
     requires { ⌜
-        (count ≤ mostGuardWires)
+        (count ≤ mostGuardWires two)
         × (at + 2 * count ≤ length (now file))
         × Inside mostWires (wiresAt count (now file) at)
         ⌝ }
-    ensures { λ r. ⌜ (r ≡ numberOf (wiresAt count (now (file .entry)) at) (λ w. isOne (held (now (figures .entry)) w))) × (r < 64) ⌝ }
+    ensures { λ r. ⌜ (r ≡ numberOf (wiresAt count (now (file .entry)) at) (λ w. isOne (held (now (figures .entry)) w))) × (r < 2 ^ count) ⌝ }
 {
-    let mut j: u8 = 0;
+    let mut j: usize = 0;
     let mut t = words::wide8(count);
     while 0 < t {
         t = t - 1;
@@ -117,22 +125,38 @@ fn guard_number(file: &[u8], at: usize, count: u8, figures: &[u32; 640]) -> u8
     j
 }
 
+// Bit j of a table of `size` bytes from `at` on; the last byte has the lowest bits.
+fn table_has(file: &[u8], at: usize, size: usize, j: usize) -> bool
+    requires { ⌜ (at + size ≤ length (now file)) × (j < 8 * size) ⌝ }
+    ensures { λ r. ⌜ r ≡ has (numberAt size (now (file .entry)) at) j ⌝ }
+{
+    let byte = file[at + (size - 1 - j / 8)];
+    (byte >> (j % 8)) % 2 == 1
+}
+
 // A guard, 32: bit j of its table.
-fn guard_figure(file: &[u8], at: usize, count: u8, figures: &[u32; 640]) -> u32
+fn guard_figure(file: &[u8], at: usize, count: u8, figures: &[u32; records::MOST_WIRES]) -> u32
     requires { ⌜
-        (count ≤ mostGuardWires)
-        × (at + 2 * count + 8 ≤ length (now file))
+        (count ≤ mostGuardWires (versionIn (now file)))
+        × (at + 2 * count + tableBytes (versionIn (now file)) ≤ length (now file))
         × Inside mostWires (wiresAt count (now file) at)
         ⌝ }
-    ensures { λ r. ⌜ r ≡ guardFigure (held (now (figures .entry))) (wiresAt count (now (file .entry)) at) (numberAt 8 (now (file .entry)) (at + 2 * count)) ⌝ }
+    ensures { λ r. ⌜ r ≡ guardFigure (held (now (figures .entry))) (wiresAt count (now (file .entry)) at) (numberAt (tableBytes (versionIn (now (file .entry)))) (now (file .entry)) (at + 2 * count)) ⌝ }
 {
     let j = guard_number(file, at, count, figures);
-    let table = words::read64(file, at + 2 * words::wide8(count));
-    if bitsets::bit_of(table, j) { 1 } else { 0 }
+    let from = at + 2 * words::wide8(count);
+    let size = records::table_bytes(file[4]);
+    if table_has(file, from, size, j) { 1 } else { 0 }
 }
 
 // The figure of the record at a place, by its first byte; `bit`: whether its wire is a bit, for a pick.
-fn record_figure(file: &[u8], at: usize, bit: bool, inputs: &[u32], figures: &[u32; 640]) -> u32
+fn record_figure(
+    file: &[u8],
+    at: usize,
+    bit: bool,
+    inputs: &[u32],
+    figures: &[u32; records::MOST_WIRES],
+) -> u32
     requires { ⌜ Workable (now file) (length (now inputs)) mostWires at ⌝ }
     ensures { λ r. ⌜ r ≡ recordFigure (now (inputs .entry)) (pickBy bit) (held (now (figures .entry))) (recordAt (now (file .entry)) at) ⌝ }
 {
@@ -149,13 +173,13 @@ fn record_figure(file: &[u8], at: usize, bit: bool, inputs: &[u32], figures: &[u
 }
 
 // Works out every record's figure, and beside it which wires are bits; gives the place after the records.
-fn work_out(file: &[u8], inputs: &[u32], figures: &mut [u32; 640]) -> usize
+fn work_out(file: &[u8], inputs: &[u32], figures: &mut [u32; records::MOST_WIRES]) -> usize
     requires { ⌜ (circuitRow (now file) ≡ 0) × (length (now inputs) ≡ fileVariables (now file)) × (length (now figures) ≡ mostWires) ⌝ }
     ensures place { λ r. ⌜ r ≡ recordPlace (now (file .entry)) (wireCount (now (file .entry))) ⌝ }
     ensures figures { λ _. ⌜ now (figures .exit) ≡ over (figuresOf (now (file .entry)) (now (inputs .entry)) (wireCount (now (file .entry)))) (now (figures .entry)) ⌝ }
 {
     let count = words::wide16(words::read16(file, 6));
-    let mut bits = [false; 640];
+    let mut bits = [false; records::MOST_WIRES];
     let mut at: usize = 8;
     let mut i: usize = 0;
     while i < count {
@@ -170,7 +194,7 @@ fn work_out(file: &[u8], inputs: &[u32], figures: &mut [u32; 640]) -> usize
 }
 
 // What a run writes for the output that stands at a place: the figure of its wire, 0 where it is no wire.
-fn output_figure(file: &[u8], at: usize, figures: &[u32; 640]) -> u32
+fn output_figure(file: &[u8], at: usize, figures: &[u32; records::MOST_WIRES]) -> u32
     requires { ⌜ (at + 2 ≤ length (now file)) × Output (numberAt 2 (now file) at) ⌝ }
     ensures { λ r. ⌜ r ≡ outputHeld (now (figures .entry)) (numberAt 2 (now (file .entry)) at) ⌝ }
 {
@@ -182,7 +206,7 @@ fn output_figure(file: &[u8], at: usize, figures: &[u32; 640]) -> u32
 }
 
 // What a run writes for every variable; the outputs stand from `at` on.
-fn give_outputs(file: &[u8], at: usize, figures: &[u32; 640], results: &mut [u32])
+fn give_outputs(file: &[u8], at: usize, figures: &[u32; records::MOST_WIRES], results: &mut [u32])
     requires { ⌜
         (8 ≤ length (now file))
         × (at + 2 * fileVariables (now file) ≤ length (now file))
@@ -209,7 +233,7 @@ pub fn run_file(file: &[u8], inputs: &[u32], results: &mut [u32])
         ⌝ }
     ensures { λ _. ⌜ now (results .exit) ≡ over (fileFigures (now (file .entry)) (now (inputs .entry))) (now (results .entry)) ⌝ }
 {
-    let mut figures = [0u32; 640];
+    let mut figures = [0u32; records::MOST_WIRES];
     let at = work_out(file, inputs, &mut figures);
     give_outputs(file, at, &figures, results);
 }

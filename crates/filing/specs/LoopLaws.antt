@@ -7,6 +7,7 @@ use lib.ListN.{length, getD, set, take, drop, replicate}
 use borrow.Rule.Slice.PartMut.{putMid}
 use Rattle.words.specs.Buffers.{over}
 use Rattle.gates.specs.Limits.{mostGates}
+use Rattle.records.specs.Versions.{writtenVersion}
 use Rattle.records.specs.Records.{Record}
 use Rattle.records.specs.CircuitFile.{recordsBytes}
 use Rattle.records.specs.SizeLaws.{bytes-append, cost-append}
@@ -14,6 +15,7 @@ use Rattle.emitting.specs.Emitted.{wireIn}
 use Rattle.joining.specs.Joined.{emitIn}
 use Rattle.measuring.specs.Sizes.{Measured}
 use Rattle.emitting.specs.FillLaws.{pieces, pieces-none, pieces-next, Filling, filling-start, filling-room, filling-fits, filling-length, filling-step, filling-end, filling-same}
+use Rattle.fused.specs.SizeLimits.{mostRecordBytes}
 use Rattle.filing.specs.Staged.{Stage, membersOf, turnRecords, stage, Turnable}
 use Rattle.filing.specs.Turns.{wiresOf, Measurable, Measures, Sum}
 use Rattle.filing.specs.TurnLaws.{stage-more, turn-is, turn-measurable, turn-wires, turn-length, turn-sum, turn-small}
@@ -46,7 +48,7 @@ module _ (p quads needs places ord : List ℕ) (groups : ℕ) where
           turn-measurable p quads (m .count) needs (m .group) places ord (m .conds) groups (m .turnable) i g at h eg ea
 
       module _ (a b c : ℕ) (z : Measured quads needs (membersOf p at (getD ord i 0)) a b c) where
-        pub measuring-small : (wires + a ≤ 640) × (bytes + b ≤ 8832) × (cost + c ≤ 10240)
+        pub measuring-small : (wires + a ≤ 640) × (bytes + b ≤ mostRecordBytes) × (cost + c ≤ 10240)
         measuring-small =
             let m = l .measures in
             turn-small p quads (m .count) needs (m .group) places ord (m .conds) groups (m .turnable) i g at h eg ea wires bytes cost a b c
@@ -72,15 +74,15 @@ module _ (p quads needs places ord : List ℕ) (groups : ℕ) where
 
 module _ (p quads : List ℕ) (count : ℕ) (needs group places ord : List ℕ) where
   abbrev pub turnPiece : ℕ → List ℕ
-  turnPiece i = recordsBytes (turnRecords p quads count needs group places (stage p quads count needs group places ord i) (getD ord i 0))
+  turnPiece i = recordsBytes writtenVersion (turnRecords p quads count needs group places (stage p quads count needs group places ord i) (getD ord i 0))
 
-  pub turn-pieces : (i : ℕ) → pieces turnPiece i ≡ recordsBytes (stage p quads count needs group places ord i .records)
+  pub turn-pieces : (i : ℕ) → pieces turnPiece i ≡ recordsBytes writtenVersion (stage p quads count needs group places ord i .records)
   unfolding stage
   turn-pieces zero = pieces-none turnPiece
   turn-pieces (suc i) =
       pieces-next turnPiece i
       ∙ ap (λ (b : List ℕ). b ++ turnPiece i) (turn-pieces i)
-      ∙ sym (bytes-append (stage p quads count needs group places ord i .records)
+      ∙ sym (bytes-append writtenVersion (stage p quads count needs group places ord i .records)
       (turnRecords p quads count needs group places (stage p quads count needs group places ord i) (getD ord i 0)))
 
   -- i groups are written: n wires, and the wire of each
@@ -89,7 +91,7 @@ module _ (p quads : List ℕ) (count : ℕ) (needs group places ord : List ℕ) 
     pub counted : n ≡ length (stage p quads count needs group places ord i .records)
     pub wired : wires ≡ stage p quads count needs group places ord i .wires
 
-  pub putting-start : (groups : ℕ) (out wires : List ℕ) → length (recordsBytes (stage p quads count needs group places ord groups .records)) ≤ length out
+  pub putting-start : (groups : ℕ) (out wires : List ℕ) → length (recordsBytes writtenVersion (stage p quads count needs group places ord groups .records)) ≤ length out
       → wires ≡ replicate mostGates 0
       → PuttingGroups groups out out wires 0 0 0
   unfolding stage
@@ -97,20 +99,20 @@ module _ (p quads : List ℕ) (count : ℕ) (needs group places ord : List ℕ) 
 
   module _ (groups : ℕ) (out out₀ wires : List ℕ) (at n i : ℕ) (l : PuttingGroups groups out out₀ wires at n i) where
     module _ (h : i < groups) (g place : ℕ) (eg : g ≡ getD ord i 0) (ea : place ≡ getD places g 0) where
-      piece-is : recordsBytes (emitIn quads count needs (wireIn group wires) n (membersOf p place (getD ord i 0))) ≡ turnPiece i
-      piece-is = ap (λ (R : List Record). recordsBytes R) (turn-is p quads count needs group places ord i g place n wires eg ea (l .wired) (l .counted))
+      piece-is : recordsBytes writtenVersion (emitIn quads count needs (wireIn group wires) n (membersOf p place (getD ord i 0))) ≡ turnPiece i
+      piece-is = ap (λ (R : List Record). recordsBytes writtenVersion R) (turn-is p quads count needs group places ord i g place n wires eg ea (l .wired) (l .counted))
 
-      pub putting-fits : (at + length (recordsBytes (emitIn quads count needs (wireIn group wires) n (membersOf p place (getD ord i 0)))) ≤ length out) ×
+      pub putting-fits : (at + length (recordsBytes writtenVersion (emitIn quads count needs (wireIn group wires) n (membersOf p place (getD ord i 0)))) ≤ length out) ×
           (length out ≡ length out₀)
       putting-fits = (rw piece-is (filling-fits turnPiece out out₀ groups at i (l .filling) h), filling-length turnPiece out out₀ groups at i (l .filling) h)
 
-      pub putting-room : length (recordsBytes (emitIn quads count needs (wireIn group wires) n (membersOf p place (getD ord i 0)))) ≤ length
+      pub putting-room : length (recordsBytes writtenVersion (emitIn quads count needs (wireIn group wires) n (membersOf p place (getD ord i 0)))) ≤ length
           (take (length out - at) (drop at out))
       putting-room = rw piece-is (filling-room turnPiece out out₀ groups at i (l .filling) h)
 
       pub putting-step : (conds : List ℕ) → Turnable p quads count needs group places conds ord groups → (k u : ℕ) (ys : List ℕ)
-          → k ≡ length (recordsBytes (emitIn quads count needs (wireIn group wires) n (membersOf p place (getD ord i 0))))
-          → ys ≡ over (recordsBytes (emitIn quads count needs (wireIn group wires) n (membersOf p place (getD ord i 0)))) (take (length out - at) (drop at out))
+          → k ≡ length (recordsBytes writtenVersion (emitIn quads count needs (wireIn group wires) n (membersOf p place (getD ord i 0))))
+          → ys ≡ over (recordsBytes writtenVersion (emitIn quads count needs (wireIn group wires) n (membersOf p place (getD ord i 0)))) (take (length out - at) (drop at out))
           → u ≡ wiresOf p place → PuttingGroups groups (putMid at (length out - at) out ys) out₀ (set wires g (n + u - 1)) (at + k) (n + u) (i + 1)
       putting-step conds t k u ys q r z =
           let S : Stage = stage p quads count needs group places ord i in
@@ -127,8 +129,8 @@ module _ (p quads : List ℕ) (count : ℕ) (needs group places ord : List ℕ) 
     pub putting-same : groups ≤ i → length out ≡ length out₀
     putting-same h = filling-same turnPiece out out₀ groups at i (l .filling) h
 
-    pub putting-end : groups ≤ i → (at ≡ length (recordsBytes (stage p quads count needs group places ord groups .records)))
-        × ((out ≡ over (recordsBytes (stage p quads count needs group places ord groups .records)) out₀) ×
+    pub putting-end : groups ≤ i → (at ≡ length (recordsBytes writtenVersion (stage p quads count needs group places ord groups .records)))
+        × ((out ≡ over (recordsBytes writtenVersion (stage p quads count needs group places ord groups .records)) out₀) ×
         (wires ≡ stage p quads count needs group places ord groups .wires))
     putting-end h =
         let e : groups ≡ i = omega (arith, h, l .filling .below) in

@@ -13,6 +13,7 @@ use Rattle.words.specs.Numbers.{bytesOf}
 use Rattle.words.specs.NumberLaws.{length-bytes}
 use Rattle.words.specs.Buffers.{over}
 use Rattle.words.specs.BufferLaws.{length-over, room-rest, sets-over}
+use Rattle.records.specs.Versions.{writtenVersion}
 use Rattle.records.specs.Records.{Record}
 use Rattle.records.specs.CircuitFile.{mark, wiresBytes, recordsBytes, fileBytes, noWire}
 use Rattle.records.specs.SizeLaws.{wires-size, wires-append, file-size}
@@ -81,21 +82,21 @@ outputsIn s outputs group wires = map (outputIn s outputs group wires) (upto (va
 -- The head.
 
 abbrev pub headBytes : ℕ → ℕ → List ℕ
-headBytes v count = mark ++ (v ∷ bytesOf 2 count)
+headBytes v count = mark writtenVersion ++ (v ∷ bytesOf 2 count)
 
 -- its first six bytes
 abbrev pub headStores : List ℕ → ℕ → List ℕ
-headStores d v = sets d 0 (mark ++ (v ∷ []))
+headStores d v = sets d 0 (mark writtenVersion ++ (v ∷ []))
 
 head-long : (v count : ℕ) → length (headBytes v count) ≡ 8
 head-long v count = omega (arith, length-bytes 2 count)
 
 module _ (d : List ℕ) (v : ℕ) (h : 8 ≤ length d) where
-  stored : headStores d v ≡ over (mark ++ (v ∷ [])) d
-  stored = sets-over (mark ++ (v ∷ [])) d (omega (arith, h))
+  stored : headStores d v ≡ over (mark writtenVersion ++ (v ∷ [])) d
+  stored = sets-over (mark writtenVersion ++ (v ∷ [])) d (omega (arith, h))
 
   pub head-length : length (headStores d v) ≡ length d
-  head-length = ap (λ (e : List ℕ). length e) stored ∙ length-over (mark ++ (v ∷ [])) d (omega (arith, h))
+  head-length = ap (λ (e : List ℕ). length e) stored ∙ length-over (mark writtenVersion ++ (v ∷ [])) d (omega (arith, h))
 
   pub head-room : 2 ≤ length (take (length (headStores d v) - 6) (drop 6 (headStores d v)))
   head-room = rw (room-rest (headStores d v) 6) (omega (arith, head-length, h))
@@ -103,7 +104,7 @@ module _ (d : List ℕ) (v : ℕ) (h : 8 ≤ length d) where
   pub head-put : (count : ℕ) (ys : List ℕ) → ys ≡ over (bytesOf 2 count) (take (length (headStores d v) - 6) (drop 6 (headStores d v)))
       → putMid 6 (length (headStores d v) - 6) (headStores d v) ys ≡ over (headBytes v count) d
   head-put count ys r =
-      behind (mark ++ (v ∷ [])) (bytesOf 2 count) (headBytes v count) d (headStores d v) ys 6 refl refl (rw (head-long v count) h) stored r
+      behind (mark writtenVersion ++ (v ∷ [])) (bytesOf 2 count) (headBytes v count) d (headStores d v) ys 6 refl refl (rw (head-long v count) h) stored r
 
   pub head-same : (count : ℕ) (ys : List ℕ) → ys ≡ over (bytesOf 2 count) (take (length (headStores d v) - 6) (drop 6 (headStores d v)))
       → length (putMid 6 (length (headStores d v) - 6) (headStores d v) ys) ≡ length d
@@ -111,9 +112,9 @@ module _ (d : List ℕ) (v : ℕ) (h : 8 ≤ length d) where
 
 -- The file: its head, behind it the records, behind them the outputs.
 
-module _ (v : ℕ) (R : List Record) (outs d : List ℕ) (room : length (fileBytes v R outs) ≤ length d) where
-  fits : 8 + length (recordsBytes R) + 2 * length outs ≤ length d
-  fits = rw (file-size v R outs) at room
+module _ (v : ℕ) (R : List Record) (outs d : List ℕ) (room : length (fileBytes writtenVersion v R outs) ≤ length d) where
+  fits : 8 + length (recordsBytes writtenVersion R) + 2 * length outs ≤ length d
+  fits = rw (file-size writtenVersion v R outs) at room
 
   pub file-start : 8 ≤ length d
   file-start = omega (arith, fits)
@@ -122,19 +123,19 @@ module _ (v : ℕ) (R : List Record) (outs d : List ℕ) (room : length (fileByt
     same : length e ≡ length d
     same = ap (λ (k : List ℕ). length k) w ∙ length-over (headBytes v wired) d (omega (arith, head-long v wired, fits))
 
-    pub records-room : (8 ≤ length e) × (length (recordsBytes R) ≤ length (take (length e - 8) (drop 8 e)))
+    pub records-room : (8 ≤ length e) × (length (recordsBytes writtenVersion R) ≤ length (take (length e - 8) (drop 8 e)))
     records-room = (omega (arith, same, fits), rw (room-rest e 8) (omega (arith, same, fits)))
 
-    module _ (n : ℕ) (ys : List ℕ) (en : n ≡ length (recordsBytes R)) (r : ys ≡ over (recordsBytes R) (take (length e - 8) (drop 8 e))) where
-      front : length (headBytes v wired ++ recordsBytes R) ≡ 8 + n
-      front = length-append (headBytes v wired) (recordsBytes R) ∙ omega (arith, head-long v wired, en)
+    module _ (n : ℕ) (ys : List ℕ) (en : n ≡ length (recordsBytes writtenVersion R)) (r : ys ≡ over (recordsBytes writtenVersion R) (take (length e - 8) (drop 8 e))) where
+      front : length (headBytes v wired ++ recordsBytes writtenVersion R) ≡ 8 + n
+      front = length-append (headBytes v wired) (recordsBytes writtenVersion R) ∙ omega (arith, head-long v wired, en)
 
-      records-put : putMid 8 (length e - 8) e ys ≡ over (headBytes v wired ++ recordsBytes R) d
-      records-put = behind (headBytes v wired) (recordsBytes R) (headBytes v wired ++ recordsBytes R) d e ys 8 (sym (head-long v wired)) refl
+      records-put : putMid 8 (length e - 8) e ys ≡ over (headBytes v wired ++ recordsBytes writtenVersion R) d
+      records-put = behind (headBytes v wired) (recordsBytes writtenVersion R) (headBytes v wired ++ recordsBytes writtenVersion R) d e ys 8 (sym (head-long v wired)) refl
           (omega (arith, front, en, fits)) w r
 
       records-length : length (putMid 8 (length e - 8) e ys) ≡ length d
-      records-length = ap (λ (k : List ℕ). length k) records-put ∙ length-over (headBytes v wired ++ recordsBytes R) d (omega (arith, front, en, fits))
+      records-length = ap (λ (k : List ℕ). length k) records-put ∙ length-over (headBytes v wired ++ recordsBytes writtenVersion R) d (omega (arith, front, en, fits))
 
       pub ends-room : length outs ≡ v → (8 + n ≤ length d) × (8 + n ≤ length (putMid 8 (length e - 8) e ys))
           × (2 * v ≤ length (take (length (putMid 8 (length e - 8) e ys) - (8 + n)) (drop (8 + n) (putMid 8 (length e - 8) e ys))))
@@ -144,13 +145,13 @@ module _ (v : ℕ) (R : List Record) (outs d : List ℕ) (room : length (fileByt
         rw (room-rest (putMid 8 (length e - 8) e ys) (8 + n)) (omega (arith, records-length, en, fits, eo)),
       )
 
-      whole : fileBytes v R outs ≡ (headBytes v wired ++ recordsBytes R) ++ wiresBytes outs
-      whole = rw ew (sym (append-assoc (headBytes v (length R)) (recordsBytes R) (wiresBytes outs) ∙ append-assoc (mark ++ (v ∷ [])) (bytesOf 2 (length R))
-          (recordsBytes R ++ wiresBytes outs)))
+      whole : fileBytes writtenVersion v R outs ≡ (headBytes v wired ++ recordsBytes writtenVersion R) ++ wiresBytes outs
+      whole = rw ew (sym (append-assoc (headBytes v (length R)) (recordsBytes writtenVersion R) (wiresBytes outs) ∙ append-assoc (mark writtenVersion ++ (v ∷ [])) (bytesOf 2 (length R))
+          (recordsBytes writtenVersion R ++ wiresBytes outs)))
 
       pub file-put : (os zs : List ℕ) → os ≡ outs → zs ≡ over (wiresBytes os)
           (take (length (putMid 8 (length e - 8) e ys) - (8 + n)) (drop (8 + n) (putMid 8 (length e - 8) e ys)))
-          → putMid (8 + n) (length (putMid 8 (length e - 8) e ys) - (8 + n)) (putMid 8 (length e - 8) e ys) zs ≡ over (fileBytes v R outs) d
+          → putMid (8 + n) (length (putMid 8 (length e - 8) e ys) - (8 + n)) (putMid 8 (length e - 8) e ys) zs ≡ over (fileBytes writtenVersion v R outs) d
       file-put os zs eo z =
-          behind (headBytes v wired ++ recordsBytes R) (wiresBytes outs) (fileBytes v R outs) d (putMid 8 (length e - 8) e ys) zs (8 + n)
+          behind (headBytes v wired ++ recordsBytes writtenVersion R) (wiresBytes outs) (fileBytes writtenVersion v R outs) d (putMid 8 (length e - 8) e ys) zs (8 + n)
           (sym front) whole room records-put (rw eo at z)

@@ -7,8 +7,10 @@ use lib.Dec.{eqb}
 use lib.ListN.{length, getD, set, replicate}
 use Rattle.gates.specs.Limits.{mostGates}
 use Rattle.plan.specs.PlanFile.{groupAt}
+use Rattle.records.specs.Versions.{writtenVersion}
 use Rattle.records.specs.Records.{Record, recordsCost}
 use Rattle.records.specs.CircuitFile.{recordsBytes}
+use Rattle.fused.specs.SizeLimits.{mostRecordBytes}
 use Rattle.emitting.specs.Emitted.{wireIn, Writable}
 use Rattle.joining.specs.Joined.{emitIn, JoinWritable}
 
@@ -48,5 +50,5 @@ module _ (p quads : List ℕ) (count : ℕ) (needs group places : List ℕ) wher
     pub below : count ≤ mostGates
     pub member : (i : ℕ) → i < groups → getD ord i 0 < count
     pub wired : (i : ℕ) → i ≤ groups → length (stage ord i .records) ≤ 640
-    pub long : (i : ℕ) → i ≤ groups → length (recordsBytes (stage ord i .records)) ≤ 8832
+    pub long : (i : ℕ) → i ≤ groups → length (recordsBytes writtenVersion (stage ord i .records)) ≤ mostRecordBytes
     pub costs : (i : ℕ) → i ≤ groups → recordsCost (stage ord i .records) ≤ 10240

@@ -12,6 +12,7 @@ use Rattle.words.specs.Buffers.{over}
 use Rattle.gates.specs.Limits.{mostGates}
 use Rattle.words.specs.Lists.{Inside}
 use Rattle.plan.specs.PlanFile.{groupAt}
+use Rattle.records.specs.Versions.{writtenVersion}
 use Rattle.records.specs.Records.{Record, recordsCost}
 use Rattle.records.specs.CircuitFile.{recordBytes, recordsBytes}
 use Rattle.records.specs.SizeLaws.{size-append, cost-append}
@@ -19,6 +20,7 @@ use Rattle.emitting.specs.Emitted.{wireIn, aloneIn, Writable}
 use Rattle.joining.specs.Joined.{emitIn, JoinWritable}
 use Rattle.measuring.specs.Sizes.{Measured}
 use Rattle.measuring.specs.JoinedSizes.{joined-sized}
+use Rattle.fused.specs.SizeLimits.{mostRecordBytes}
 use Rattle.filing.specs.Staged.{Stage, membersOf, turnRecords, turn, stage, Turnable}
 use Rattle.filing.specs.Turns.{wiresOf, Measurable, Puttable, Sum}
 
@@ -39,26 +41,26 @@ wires-joined p at n = rw (ne-eqb at 0 n)
 
 module _ (p quads : List ℕ) (count : ℕ) (needs : List ℕ) (wire : ℕ → ℕ) (at q n : ℕ) where
   module _ (e : at ≡ 0) where
-    alone-bytes : recordsBytes (emitIn quads count needs wire n (membersOf p at q)) ≡ recordBytes (aloneIn quads wire q)
-    alone-bytes = rw (members-alone p at q e) (append-nil (recordBytes (aloneIn quads wire q)))
+    alone-bytes : recordsBytes writtenVersion (emitIn quads count needs wire n (membersOf p at q)) ≡ recordBytes writtenVersion (aloneIn quads wire q)
+    alone-bytes = rw (members-alone p at q e) (append-nil (recordBytes writtenVersion (aloneIn quads wire q)))
 
-    pub alone-room : (k : ℕ) → length (recordsBytes (emitIn quads count needs wire n (membersOf p at q))) ≤ k → length (recordBytes (aloneIn quads wire q)) ≤ k
+    pub alone-room : (k : ℕ) → length (recordsBytes writtenVersion (emitIn quads count needs wire n (membersOf p at q))) ≤ k → length (recordBytes writtenVersion (aloneIn quads wire q)) ≤ k
     alone-room k h = rw alone-bytes at h
 
-    pub alone-put : (k : ℕ) (d o : List ℕ) → k ≡ length (recordBytes (aloneIn quads wire q)) → o ≡ over (recordBytes (aloneIn quads wire q)) d
-        → (k ≡ length (recordsBytes (emitIn quads count needs wire n (membersOf p at q)))) ×
-        (o ≡ over (recordsBytes (emitIn quads count needs wire n (membersOf p at q))) d)
+    pub alone-put : (k : ℕ) (d o : List ℕ) → k ≡ length (recordBytes writtenVersion (aloneIn quads wire q)) → o ≡ over (recordBytes writtenVersion (aloneIn quads wire q)) d
+        → (k ≡ length (recordsBytes writtenVersion (emitIn quads count needs wire n (membersOf p at q)))) ×
+        (o ≡ over (recordsBytes writtenVersion (emitIn quads count needs wire n (membersOf p at q))) d)
     alone-put k d o x y = rw alone-bytes (x, y)
 
   module _ (e : at ≡ 0 → ⊥) where
-    pub joined-room : (k : ℕ) → length (recordsBytes (emitIn quads count needs wire n (membersOf p at q))) ≤ k → length
-        (recordsBytes (emitIn quads count needs wire n (groupAt p at))) ≤ k
+    pub joined-room : (k : ℕ) → length (recordsBytes writtenVersion (emitIn quads count needs wire n (membersOf p at q))) ≤ k → length
+        (recordsBytes writtenVersion (emitIn quads count needs wire n (groupAt p at))) ≤ k
     joined-room k h = rw (members-joined p at q e) at h
 
-    pub joined-put : (k : ℕ) (d o : List ℕ) → k ≡ length (recordsBytes (emitIn quads count needs wire n (groupAt p at))) → o ≡ over
-        (recordsBytes (emitIn quads count needs wire n (groupAt p at))) d
-        → (k ≡ length (recordsBytes (emitIn quads count needs wire n (membersOf p at q)))) ×
-        (o ≡ over (recordsBytes (emitIn quads count needs wire n (membersOf p at q))) d)
+    pub joined-put : (k : ℕ) (d o : List ℕ) → k ≡ length (recordsBytes writtenVersion (emitIn quads count needs wire n (groupAt p at))) → o ≡ over
+        (recordsBytes writtenVersion (emitIn quads count needs wire n (groupAt p at))) d
+        → (k ≡ length (recordsBytes writtenVersion (emitIn quads count needs wire n (membersOf p at q)))) ×
+        (o ≡ over (recordsBytes writtenVersion (emitIn quads count needs wire n (membersOf p at q))) d)
     joined-put k d o x y = rw (members-joined p at q e) (x, y)
 
 -- The turns.
@@ -157,17 +159,17 @@ module _ (p quads : List ℕ) (count : ℕ) (needs group places ord : List ℕ) 
         let R : stage p quads count needs group places ord (i + 1) .records ≡ S .records ++ T = ap (λ (w : Stage). w .records) (stage-more i) in
         let E : emitIn quads count needs (wireIn group (S .wires)) (length (S .records)) (membersOf p at (getD ord i 0)) ≡ T = turn-is i g at _ _ eg ea refl refl in
         let x : a ≡ length T = z .wired count _ _ turn-below ∙ ap (λ (r : List Record). length r) E in
-        let y : b ≡ length (recordsBytes T) = z .long count _ _ turn-below ∙ ap (λ (r : List Record). length (recordsBytes r)) E in
+        let y : b ≡ length (recordsBytes writtenVersion T) = z .long count _ _ turn-below ∙ ap (λ (r : List Record). length (recordsBytes writtenVersion r)) E in
         let v : c ≡ recordsCost T = z .costs count _ _ turn-below ∙ ap (λ (r : List Record). recordsCost r) E in
         record {
           wired = rw (R, length-append (S .records) T) (omega (arith, s .wired, x));
-          long = rw (R, size-append (S .records) T) (omega (arith, s .long, y));
+          long = rw (R, size-append writtenVersion (S .records) T) (omega (arith, s .long, y));
           costs = rw (R, cost-append (S .records) T) (omega (arith, s .costs, v));
         }
 
     pub turn-small : (wires bytes cost a b c : ℕ) → Sum p quads count needs group places ord i wires bytes cost → Measured quads needs
         (membersOf p at (getD ord i 0)) a b c
-        → (wires + a ≤ 640) × (bytes + b ≤ 8832) × (cost + c ≤ 10240)
+        → (wires + a ≤ 640) × (bytes + b ≤ mostRecordBytes) × (cost + c ≤ 10240)
     turn-small wires bytes cost a b c s z =
         let n = turn-sum wires bytes cost a b c s z in
         let l : i + 1 ≤ groups = omega (arith, h) in

@@ -6,6 +6,7 @@ use mathlib.Core.Bool.{cond}
 use lib.Dec.{eqb}
 use lib.ListN.{length, getD}
 use Rattle.words.specs.Lists.{upto}
+use Rattle.records.specs.Versions.{writtenVersion}
 use Rattle.records.specs.Records.{recordsCost}
 use Rattle.records.specs.CircuitFile.{recordsBytes, fileBytes, noWire}
 use Rattle.reading.specs.Header.{variables, workingAt}
@@ -38,7 +39,7 @@ pub record Measures (p quads needs places ord : List ℕ) (groups : ℕ) : Type 
 -- the records of the first i groups have these wires, bytes and cost
 pub record Sum (p quads : List ℕ) (count : ℕ) (needs group places ord : List ℕ) (i wires bytes cost : ℕ) : Type 0 where
   pub wired : wires ≡ length (stage p quads count needs group places ord i .records)
-  pub long : bytes ≡ length (recordsBytes (stage p quads count needs group places ord i .records))
+  pub long : bytes ≡ length (recordsBytes writtenVersion (stage p quads count needs group places ord i .records))
   pub costs : cost ≡ recordsCost (stage p quads count needs group places ord i .records)
 
 -- the first v of the 32 outputs can be written: the gates that give them have wires
@@ -54,5 +55,5 @@ outputIn s outputs group wires x = cond (workingAt s x) noWire (wireIn group wir
 -- the file of the rule s: outputs: every variable's last gate
 abbrev pub fileIn : List ℕ → List ℕ → List ℕ → ℕ → List ℕ → List ℕ → List ℕ → List ℕ → ℕ → List ℕ → List ℕ
 fileIn s p quads count needs group places ord groups outputs =
-    fileBytes (variables s) (stage p quads count needs group places ord groups .records)
+    fileBytes writtenVersion (variables s) (stage p quads count needs group places ord groups .records)
     (map (outputIn s outputs group (stage p quads count needs group places ord groups .wires)) (upto (variables s)))

@@ -13,6 +13,7 @@ ghost use Rattle.words.specs.Lists.{upto};
 ghost use Rattle.words.specs.Numbers.{bytesOf};
 ghost use Rattle.words.specs.Buffers.{over};
 ghost use Rattle.gates.specs.Limits.{mostGates};
+ghost use Rattle.records.specs.Versions.{writtenVersion};
 ghost use Rattle.records.specs.CircuitFile.{mark, wiresBytes, recordsBytes};
 ghost use Rattle.reading.specs.Header.{variables, HasKinds};
 ghost use Rattle.emitting.specs.Emitted.{wireIn, Grouped};
@@ -97,10 +98,10 @@ fn put_group(
     group: &[u16; 256],
     wires: &[u16; 256],
 ) -> usize
-    requires { ⌜ (length (recordsBytes (emitIn (now quads) count (setsIn (now needs)) (wireIn (now group) (now wires)) (first .0) (membersOf (now plan) at (q .0)))) ≤ length (now out))
+    requires { ⌜ (length (recordsBytes writtenVersion (emitIn (now quads) count (setsIn (now needs)) (wireIn (now group) (now wires)) (first .0) (membersOf (now plan) at (q .0)))) ≤ length (now out))
         × Puttable (now quads) (now plan) (now conditions) (now group) count at (q .0) (first .0) ⌝ }
-    ensures counted { λ r. ⌜ r ≡ length (recordsBytes (emitIn (now (quads .entry)) count (setsIn (now (needs .entry))) (wireIn (now (group .entry)) (now (wires .entry))) (first .0) (membersOf (now (plan .entry)) at (q .0)))) ⌝ }
-    ensures written { λ r. ⌜ now (out .exit) ≡ over (recordsBytes (emitIn (now (quads .entry)) count (setsIn (now (needs .entry))) (wireIn (now (group .entry)) (now (wires .entry))) (first .0) (membersOf (now (plan .entry)) at (q .0)))) (now (out .entry)) ⌝ }
+    ensures counted { λ r. ⌜ r ≡ length (recordsBytes writtenVersion (emitIn (now (quads .entry)) count (setsIn (now (needs .entry))) (wireIn (now (group .entry)) (now (wires .entry))) (first .0) (membersOf (now (plan .entry)) at (q .0)))) ⌝ }
+    ensures written { λ r. ⌜ now (out .exit) ≡ over (recordsBytes writtenVersion (emitIn (now (quads .entry)) count (setsIn (now (needs .entry))) (wireIn (now (group .entry)) (now (wires .entry))) (first .0) (membersOf (now (plan .entry)) at (q .0)))) (now (out .entry)) ⌝ }
 {
     if at == 0 {
         return emitting::put_alone(out, quads, group, wires, q);
@@ -134,10 +135,10 @@ fn put_records(
     groups: usize,
     wires: &mut [u16; 256],
 ) -> usize
-    requires { ⌜ (length (recordsBytes (stage (now plan) (now quads) count (setsIn (now needs)) (now group) (now places) (now order) groups .records)) ≤ length (now out))
+    requires { ⌜ (length (recordsBytes writtenVersion (stage (now plan) (now quads) count (setsIn (now needs)) (now group) (now places) (now order) groups .records)) ≤ length (now out))
         × (Turnable (now plan) (now quads) count (setsIn (now needs)) (now group) (now places) (now conditions) (now order) groups × (now wires ≡ replicate mostGates 0)) ⌝ }
-    ensures counted { λ r. ⌜ r ≡ length (recordsBytes (stage (now (plan .entry)) (now (quads .entry)) count (setsIn (now (needs .entry))) (now (group .entry)) (now (places .entry)) (now (order .entry)) groups .records)) ⌝ }
-    ensures written { λ r. ⌜ now (out .exit) ≡ over (recordsBytes (stage (now (plan .entry)) (now (quads .entry)) count (setsIn (now (needs .entry))) (now (group .entry)) (now (places .entry)) (now (order .entry)) groups .records)) (now (out .entry)) ⌝ }
+    ensures counted { λ r. ⌜ r ≡ length (recordsBytes writtenVersion (stage (now (plan .entry)) (now (quads .entry)) count (setsIn (now (needs .entry))) (now (group .entry)) (now (places .entry)) (now (order .entry)) groups .records)) ⌝ }
+    ensures written { λ r. ⌜ now (out .exit) ≡ over (recordsBytes writtenVersion (stage (now (plan .entry)) (now (quads .entry)) count (setsIn (now (needs .entry))) (now (group .entry)) (now (places .entry)) (now (order .entry)) groups .records)) (now (out .entry)) ⌝ }
     ensures wired { λ r. ⌜ now (wires .exit) ≡ stage (now (plan .entry)) (now (quads .entry)) count (setsIn (now (needs .entry))) (now (group .entry)) (now (places .entry)) (now (order .entry)) groups .wires ⌝ }
 {
     let mut at: usize = 0;
@@ -208,13 +209,13 @@ fn put_outputs(
 // "CIR", the version, the variables, the wires.
 fn put_head(out: &mut [u8], v: u8, count: u16)
     requires { ⌜ 8 ≤ length (now out) ⌝ }
-    ensures { λ r. ⌜ now (out .exit) ≡ over (mark ++ (v ∷ bytesOf 2 count)) (now (out .entry)) ⌝ }
+    ensures { λ r. ⌜ now (out .exit) ≡ over (mark writtenVersion ++ (v ∷ bytesOf 2 count)) (now (out .entry)) ⌝ }
 {
     out[0] = 0x43;
     out[1] = 0x49;
     out[2] = 0x52;
     out[3] = 0;
-    out[4] = 1;
+    out[4] = records::WRITTEN_VERSION;
     out[5] = v;
     words::put16(&mut out[6..], count);
 }

@@ -12,7 +12,7 @@ use Rattle.records.specs.Records.{Record, input, word, bit, operation, choice, 
 use Rattle.records.specs.WireKinds.{recordKind, wireKind}
 use Rattle.records.specs.WireKindLaws.{kinds-right}
 use Rattle.records.specs.CircuitFile.{recordBytes}
-use Rattle.records.specs.FileFigures.{recordAt, sizeAt, firstRecord, fileVariables, wireCount, fileRecords}
+use Rattle.records.specs.FileFigures.{versionIn, recordAt, sizeAt, firstRecord, fileVariables, wireCount, fileRecords}
 use Rattle.records.specs.FilePartLaws.{file-count, record-of}
 use Rattle.records.specs.FileLaws.{place-next}
 use Rattle.records.specs.FoundForms.{form-input, form-word, form-bit, form-choice, form-pick, form-guard, form-operation}
@@ -57,7 +57,7 @@ module _ (f : List ℕ) (p : Passed f) where
     here = let (k, e) = p .stand .first x l .1 in (k, sym (record-of f x below) ∙ e)
 
     size : sizeAt f (recordPlace f x) ≡ 2
-    size = size-is f (recordPlace f x) ∙ ap (λ (r : Record). length (recordBytes r)) (here .1)
+    size = size-is f (recordPlace f x) ∙ ap (λ (r : Record). length (recordBytes (versionIn f) r)) (here .1)
 
   -- two bytes each
   input-place : (x : ℕ) → x ≤ fileVariables f → recordPlace f x ≡ 8 + 2 * x

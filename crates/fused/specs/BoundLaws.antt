@@ -25,7 +25,7 @@ use Rattle.plan.specs.Order.{order}
 use Rattle.plan.specs.Rows.{planAnswer}
 use Rattle.plan.specs.AcceptedLaws.{plan-accepted}
 use Rattle.records.specs.Records.{Record, recordIn}
-use Rattle.records.specs.Limits.{mostGuardWires}
+use Rattle.records.specs.Versions.{writtenVersion, mostGuardWires}
 use Rattle.records.specs.LaidOut.{Bounded}
 use Rattle.fused.specs.Emission.{alone, gateOperation, guardOf, valuesAt, emit}
 use Rattle.fused.specs.FusedCircuit.{groupRecords, written, fused, recordsOf}
@@ -54,30 +54,30 @@ fused-along s p P h =
     written-along s (gatesOf s) (rulePreconditions s) group P h (order (gatesOf s) (rulePreconditions s) group)
 
 -- a bit constant of a gate alone is 0 or 1
-alone-bounded : (s : List ℕ) (wire : ℕ → ℕ) (kinds : ℕ → Kind) (k : Gate) → GateFits kinds k → Bounded (alone s wire k)
+alone-bounded : (s : List ℕ) (wire : ℕ → ℕ) (kinds : ℕ → Kind) (k : Gate) → GateFits kinds k → Bounded writtenVersion (alone s wire k)
 alone-bounded s wire kinds (gate.start x) h = tt
 alone-bounded s wire kinds (gate.word n) h = tt
 alone-bounded s wire kinds (gate.bit b) h = h
 alone-bounded s wire kinds (gate.operation op l) h = tt
 alone-bounded s wire kinds (gate.choice c a b) h = tt
 
--- a guard reads at most six conditions, and a pick has a pair for each member
+-- a guard reads no more conditions than its version allows, and a pick has a pair for each member
 emit-bounded : (kinds : ℕ → Kind) (s : List ℕ) (C : Gates) (sets : List ℕ) → ((i : ℕ) → GateFits kinds (gateAt C i))
-    → (wire : ℕ → ℕ) (n : ℕ) (ms : List ℕ) → Along (λ i. Bounded) n (emit s C sets wire n ms)
+    → (wire : ℕ → ℕ) (n : ℕ) (ms : List ℕ) → Along (λ i. Bounded writtenVersion) n (emit s C sets wire n ms)
 emit-bounded kinds s C sets fits wire n [] = tt
 emit-bounded kinds s C sets fits wire n (m ∷ []) = (alone-bounded s wire kinds (gateAt C m) (fits m), tt)
 emit-bounded kinds s C sets fits wire n (m ∷ k ∷ l) =
-    joined-along (λ i. Bounded) n (gateOperation (gateAt C m)) (map (guardOf s C sets wire) (m ∷ k ∷ l)) (valuesAt s C sets wire (m ∷ k ∷ l))
+    joined-along (λ i. Bounded writtenVersion) n (gateOperation (gateAt C m)) (map (guardOf s C sets wire) (m ∷ k ∷ l)) (valuesAt s C sets wire (m ∷ k ∷ l))
     (upto (length (arguments (gateAt C m))))
-    (along-map (λ i. Bounded) (guardOf s C sets wire) (m ∷ k ∷ l) n n (omega arith)
-    (λ i _ _ _. let few : length (map wire (restsOf C sets i)) ≤ mostGuardWires = omega (arith, length-map (restsOf C sets i) wire, rests-few C sets i) in few))
+    (along-map (λ i. Bounded writtenVersion) (guardOf s C sets wire) (m ∷ k ∷ l) n n (omega arith)
+    (λ i _ _ _. let few : length (map wire (restsOf C sets i)) ≤ mostGuardWires writtenVersion = omega (arith, length-map (restsOf C sets i) wire, rests-few C sets i) in few))
     (λ _ _ _ _. omega arith) tt
 
 -- every record of the fused circuit of an accepted plan
-pub fused-bounded : (s p : List ℕ) → Bytes s → planAnswer s p .number ≡ 0 → (i : ℕ) → i < length (recordsOf s p) → Bounded (recordIn (recordsOf s p) i)
+pub fused-bounded : (s p : List ℕ) → Bytes s → planAnswer s p .number ≡ 0 → (i : ℕ) → i < length (recordsOf s p) → Bounded writtenVersion (recordIn (recordsOf s p) i)
 fused-bounded s p bytes h =
     let (b, n, read) = is-read (readRule s) (accepted s (plan-accepted s p .0 h .0) .read) in
-    along-at (λ i. Bounded) (recordsOf s p) 0
-    (fused-along s p (λ i. Bounded)
+    along-at (λ i. Bounded writtenVersion) (recordsOf s p) 0
+    (fused-along s p (λ i. Bounded writtenVersion)
     (λ wire k q. emit-bounded (kindOfGate (kindAt s) (gatesOf s)) s (gatesOf s) (rulePreconditions s) (plain-fits s bytes b n read) wire k
     (members (gateCount s) (groupOf (groupsIn p)) q)))

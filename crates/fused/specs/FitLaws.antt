@@ -9,6 +9,8 @@ use native.Mathlib.Omega.{arith}
 use lib.Dec.{eqb}
 use lib.Pow.{pow-mono}
 use lib.ListN.{length, getD, length-map}
+use Rattle.records.specs.Versions.{writtenVersion, mostGuardWires, tableBytes}
+use Rattle.records.specs.VersionLaws.{table-room}
 use Rattle.records.specs.FieldLaws.{FieldsFit, AllFieldsFit}
 use Rattle.words.specs.Lists.{from, upto}
 use Rattle.words.specs.ListLaws.{length-from, length-keep}
@@ -36,15 +38,16 @@ pub table-below : (n s : ℕ) → table n s < 2 ^ 2 ^ length (rests n s)
 unfolding table tableOver
 table-below n s = collect-below (2 ^ length (rests n s)) (λ j. has s (spread n (rests n s) j))
 
--- so one of six conditions at most has eight bytes
-pub table-small : (s : ℕ) → table mostConditions s < 256 ^ 8
+-- so it has its bytes in the version that is written
+pub table-small : (s : ℕ) → table mostConditions s < 256 ^ tableBytes writtenVersion
 unfolding rests
 table-small s =
-    let few : length (rests mostConditions s) ≤ mostConditions = rw (length-from 0 mostConditions) at (length-keep (restsOn mostConditions s) (upto mostConditions)) in
-    lt-of-lt-of-le (table-below mostConditions s) (pow-mono (pow-mono few))
+    let kept : length (rests mostConditions s) ≤ mostConditions = rw (length-from 0 mostConditions) at (length-keep (restsOn mostConditions s) (upto mostConditions)) in
+    let few : length (rests mostConditions s) ≤ mostGuardWires writtenVersion = omega (arith, kept) in
+    rw (table-room writtenVersion) (lt-of-lt-of-le (table-below mostConditions s) (pow-mono (pow-mono few)))
 
 -- a gate alone
-pub alone-sized : (s : List ℕ) (wire : ℕ → ℕ) (kinds : ℕ → Kind) (v : ℕ) (k : Gate) → GateFits kinds k → StartGate v k → v ≤ 32 → FieldsFit (alone s wire k)
+pub alone-sized : (s : List ℕ) (wire : ℕ → ℕ) (kinds : ℕ → Kind) (v : ℕ) (k : Gate) → GateFits kinds k → StartGate v k → v ≤ 32 → FieldsFit writtenVersion (alone s wire k)
 alone-sized s wire kinds v (gate.start x) f h l = omega arith
 alone-sized s wire kinds v (gate.word n) f h l = f
 alone-sized s wire kinds v (gate.bit b) f h l = omega arith
@@ -59,17 +62,17 @@ members-few (k ∷ C) group q h l = rw h (omega (arith, length-keep (λ g. eqb (
 module _ (s : List ℕ) (C : Gates) (sets : List ℕ) (wire : ℕ → ℕ) where
   -- a joined group of fewer than 256 members
   joined-sized : (n : ℕ) (op : Operation) (ms : List ℕ) → length ms < 256
-      → AllFieldsFit n (joined n op (map (guardOf s C sets wire) ms) (map (valuesAt s C sets wire ms) (upto (entryOf op .arity))))
+      → AllFieldsFit writtenVersion n (joined n op (map (guardOf s C sets wire) ms) (map (valuesAt s C sets wire ms) (upto (entryOf op .arity))))
   joined-sized n op ms h =
-      joined-along (λ i. FieldsFit) n op (map (guardOf s C sets wire) ms) (valuesAt s C sets wire ms) (upto (entryOf op .arity))
-      (along-map (λ i. FieldsFit) (guardOf s C sets wire) ms n n (omega arith)
+      joined-along (λ i. FieldsFit writtenVersion) n op (map (guardOf s C sets wire) ms) (valuesAt s C sets wire ms) (upto (entryOf op .arity))
+      (along-map (λ i. FieldsFit writtenVersion) (guardOf s C sets wire) ms n n (omega arith)
       (λ m _ _ _. (omega (arith, length-map (restsOf C sets m) wire, rests-few C sets m), table-small (getD sets m 0))))
       (λ k _ _ _. omega (arith, length-pairs n (valuesAt s C sets wire ms k), length-map ms (λ m. wire (getD (arguments (gateAt C m)) k 0))))
       (length-from _ _ ∙ length-from 0 (entryOf op .arity))
 
   -- any group whose gates fit
   pub emit-sized : (kinds : ℕ → Kind) (v : ℕ) → v ≤ 32 → ((i : ℕ) → GateFits kinds (gateAt C i)) → ((i : ℕ) → StartGate v (gateAt C i))
-      → (n : ℕ) (ms : List ℕ) → (2 ≤ length ms → OneCostly C ms × (length ms < 256)) → AllFieldsFit n (emit s C sets wire n ms)
+      → (n : ℕ) (ms : List ℕ) → (2 ≤ length ms → OneCostly C ms × (length ms < 256)) → AllFieldsFit writtenVersion n (emit s C sets wire n ms)
   emit-sized kinds v l fits starts n [] h = tt
   emit-sized kinds v l fits starts n (m ∷ []) h = (alone-sized s wire kinds v (gateAt C m) (fits m) (starts m) l, tt)
   emit-sized kinds v l fits starts n (m ∷ k ∷ ms) h =

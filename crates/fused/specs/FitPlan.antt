@@ -7,6 +7,7 @@ use native.Mathlib.Omega.{arith}
 use lib.Dec.{eqb, ltb}
 use borrow.Author.Tests.{eqb-true, ltb-true, ltb-false}
 use lib.ListN.{length, List·getD-eq-default}
+use Rattle.records.specs.Versions.{writtenVersion}
 use Rattle.records.specs.FieldLaws.{FieldsFit, AllFieldsFit, all-fit}
 use Rattle.words.specs.Lists.{_∈_, upto}
 use Rattle.words.specs.ListLaws.{length-from, length-keep}
@@ -69,10 +70,10 @@ module _ (s p : List ℕ) (h : planAnswer s p .number ≡ 0) where
 
   -- the rule is bytes
   module _ (bytes : Bytes s) where
-    fused-sized : AllFieldsFit 0 (recordsOf s p)
+    fused-sized : AllFieldsFit writtenVersion 0 (recordsOf s p)
     fused-sized =
         let (b, n, read) = is-read (readRule s) (rule .read) in
-        fused-along s p (λ i. FieldsFit)
+        fused-along s p (λ i. FieldsFit writtenVersion)
         (λ wire k q. emit-sized s (gatesOf s) (rulePreconditions s) wire (kindOfGate (kindAt s) (gatesOf s)) (variables s) (outputs-count s p h .1)
         (plain-fits s bytes b n read) (rule-starting s b n read) k (members (gateCount s) group q)
         (λ many. (members-costly s p (plan-accepted s p .0 h .1) q many, group-few q many)))
@@ -85,13 +86,13 @@ module _ (s p : List ℕ) (h : planAnswer s p .number ≡ 0) where
           (λ t. omega (arith, ltb-true i (length (recordsOf s p)) t, earlier i w m, wires-bound s p h))
           (λ t. absurd (rw (List·getD-eq-default (recordsOf s p) (word 0) {n = i} (ltb-false i (length (recordsOf s p)) t)) at m))
 
-      pub fused-fits : AllReadBack (recordsOf s p)
-      fused-fits = all-fit (recordsOf s p) 0 fused-sized reads-small
+      pub fused-fits : AllReadBack writtenVersion (recordsOf s p)
+      fused-fits = all-fit writtenVersion (recordsOf s p) 0 fused-sized reads-small
 
       -- and every output is no wire or a record's
       module _ (inside : (w : ℕ) → w ∈ outputWires s p → (w ≡ noWire) ⊎ (w < length (recordsOf s p))) where
         -- so the file fits its bytes
-        pub fused-file-fits : FileFits (variables s) (recordsOf s p) (outputWires s p)
+        pub fused-file-fits : FileFits writtenVersion (variables s) (recordsOf s p) (outputWires s p)
         fused-file-fits = record {
           each = fused-fits;
           few = omega (arith, wires-bound s p h);
@@ -103,14 +104,14 @@ module _ (s p : List ℕ) (h : planAnswer s p .number ≡ 0) where
         pub fused-found : (fileRecords (fusedFile s p) ≡ recordsOf s p) × (fileOutputs (fusedFile s p) ≡ outputWires s p)
             × (fileVariables (fusedFile s p) ≡ variables s) × (wireCount (fusedFile s p) ≡ length (recordsOf s p))
         unfolding fusedFile
-        fused-found = file-found (variables s) (recordsOf s p) (outputWires s p) fused-file-fits
+        fused-found = file-found writtenVersion (variables s) (recordsOf s p) (outputWires s p) fused-file-fits
 
         -- so its figures, worked out from its bytes, are those of its records at its outputs
         pub fused-file-figures : (inputs : List ℕ) → fileFigures (fusedFile s p) inputs ≡ map (outputFigure inputs (recordsOf s p)) (outputWires s p)
         unfolding fusedFile
-        fused-file-figures inputs = file-figures (variables s) (recordsOf s p) (outputWires s p) fused-file-fits inputs
+        fused-file-figures inputs = file-figures writtenVersion (variables s) (recordsOf s p) (outputWires s p) fused-file-fits inputs
 
 -- the file of an accepted plan consists of bytes
 pub fused-bytes : (s p : List ℕ) → planAnswer s p .number ≡ 0 → Bytes s → ReadsEarlier (recordsOf s p) → Bytes (fusedFile s p)
 unfolding fusedFile
-fused-bytes s p h bytes earlier = file-bytes (variables s) (recordsOf s p) (outputWires s p) (omega (arith, outputs-count s p h .1)) (fused-fits s p h bytes earlier)
+fused-bytes s p h bytes earlier = file-bytes writtenVersion (variables s) (recordsOf s p) (outputWires s p) (omega (arith, outputs-count s p h .1)) (fused-fits s p h bytes earlier)

@@ -5,6 +5,7 @@ use mathlib.Core.Bool.{cond}
 use lib.Dec.{eqb}
 use lib.ListN.{length, getD}
 use Rattle.words.specs.Lists.{upto}
+use Rattle.records.specs.Versions.{writtenVersion}
 use Rattle.records.specs.Records.{Record, recordsCost}
 use Rattle.records.specs.CircuitFile.{fileBytes, noWire}
 use Rattle.reading.specs.Header.{variables, workingAt}
@@ -65,4 +66,4 @@ costAfter s p = recordsCost (recordsOf s p)
 
 -- the file that the rules fix for a rule and its plan
 unfoldable pub fusedFile : List ℕ → List ℕ → List ℕ
-fusedFile s p = fileBytes (variables s) (recordsOf s p) (outputWires s p)
+fusedFile s p = fileBytes writtenVersion (variables s) (recordsOf s p) (outputWires s p)

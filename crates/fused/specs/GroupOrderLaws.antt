@@ -5,6 +5,7 @@ use mathlib.Core.Bool.{cond}
 use mathlib.Core.List.{List, map}
 use lib.ListN.{getD}
 use Rattle.words.specs.Lists.{upto}
+use Rattle.records.specs.Versions.{writtenVersion}
 use Rattle.records.specs.CircuitFile.{fileBytes, noWire}
 use Rattle.reading.specs.Header.{variables, workingAt}
 use Rattle.gates.specs.PlainCircuit.{gatesOf, outputsOf}
@@ -20,7 +21,7 @@ use Rattle.fused.specs.FusedCircuit.{written, fused, fusedFile}
 abbrev fileBy : List ℕ → (ℕ → ℕ) → List ℕ
 fileBy s group =
     let w = written s (gatesOf s) (rulePreconditions s) group (order (gatesOf s) (rulePreconditions s) group) in
-    fileBytes (variables s) (w .records) (map (λ x. cond (workingAt s x) noWire (w .wire (group (getD (outputsOf s) x 0)))) (upto (variables s)))
+    fileBytes writtenVersion (variables s) (w .records) (map (λ x. cond (workingAt s x) noWire (w .wire (group (getD (outputsOf s) x 0)))) (upto (variables s)))
 
 pub same-file : (s p q : List ℕ) → LaidOut s p → LaidOut s q → Apart (groupsIn p) → Apart (groupsIn q) → SameGroups (groupsIn p) (groupsIn q)
     → fusedFile s p ≡ fusedFile s q

@@ -11,6 +11,7 @@ pub mod RightLaws
 pub mod SumLaws
 pub mod PlannedLaws
 pub mod Examples
+pub mod SizeLimits
 pub mod SizeJoined
 pub mod SizeEmit
 pub mod SizeTotal

@@ -17,6 +17,7 @@ use Rattle.codes.specs.declared.Kind.{Kind}
 use Rattle.answers.specs.declared.Answer.{Answer}
 use Rattle.reading.specs.Header.{variables, kindAt}
 use Rattle.plan.specs.Rows.{planAnswer}
+use Rattle.records.specs.Versions.{writtenVersion}
 use Rattle.records.specs.Records.{Pair, input, pick, guard, recordIn, pickFigure, guardFigure}
 use Rattle.records.specs.WireKinds.{valuesOf, wireKind}
 use Rattle.records.specs.WireFigures.{pickSum, wireFigure}
@@ -64,7 +65,7 @@ module _ (s p : List ℕ) (h : planAnswer s p .number ≡ 0) where
           let R = recordsOf s p in
           let W = wireFigure inputs R in
           let right = wires-right inputs R (planned-earlier s p h) in
-          wires-figured inputs R (planned-earlier s p h) (kinds.fused-fits s p bytes h) (fused-bounded s p bytes h) (fused-fits s p h bytes (planned-earlier s p h)) given
+          wires-figured writtenVersion inputs R (planned-earlier s p h) (kinds.fused-fits s p bytes h) (fused-bounded s p bytes h) (fused-fits s p h bytes (planned-earlier s p h)) given
           (planned-one s p h W (λ j cs t g. rw g at (right j (guard-inside R j cs t g))))
 
       -- a pick's too.

@@ -9,6 +9,7 @@ use Rattle.words.specs.ListLaws.{length-from}
 use Rattle.settings.specs.Settings.{Once}
 use Rattle.answers.specs.declared.Answer.{Answer}
 use Rattle.answers.specs.ParsingLaws.{is-read}
+use Rattle.records.specs.Versions.{writtenVersion}
 use Rattle.records.specs.Records.{recordsCost}
 use Rattle.records.specs.CircuitFile.{recordsBytes}
 use Rattle.records.specs.SizeLaws.{size-append, cost-none, cost-append, file-size}
@@ -33,15 +34,16 @@ use Rattle.plan.specs.JoinedLaws.{members-costly}
 use Rattle.plan.specs.WaitLaws.{order-once}
 use Rattle.fused.specs.FusedCircuit.{groupRecords, written, fused, recordsOf, outputWires, costAfter, fusedFile}
 use Rattle.fused.specs.OutputLaws.{outputs-length}
+use Rattle.fused.specs.SizeLimits.{mostBytesOfTwo, mostRecordBytes, mostFusedBytes}
 use Rattle.fused.specs.SizeEmit.{emit-most}
 use Rattle.fused.specs.SizeTotal.{total, total-le}
 
--- the groups written so far: five wires to two gates at most, 69 bytes to two, 40 of cost to one
+-- the groups written so far: five wires to two gates at most, `mostBytesOfTwo` bytes to two, 40 of cost to one
 module _ (s : List ℕ) (C : Gates) (shaped : Shaped C) (sets : List ℕ) (group : ℕ → ℕ)
     (costly : (q : ℕ) → 2 ≤ length (members (length C) group q) → OneCostly C (members (length C) group q)) where
   by-group : (done : List ℕ)
       → (2 * length (written s C sets group done .records) ≤ 5 * total group (upto (length C)) done)
-      × (2 * length (recordsBytes (written s C sets group done .records)) ≤ 69 * total group (upto (length C)) done)
+      × (2 * length (recordsBytes writtenVersion (written s C sets group done .records)) ≤ mostBytesOfTwo * total group (upto (length C)) done)
       × (recordsCost (written s C sets group done .records) ≤ 40 * total group (upto (length C)) done)
   unfolding written
   by-group [] = (omega arith, omega arith, omega (arith, cost-none))
@@ -51,13 +53,13 @@ module _ (s : List ℕ) (C : Gates) (shaped : Shaped C) (sets : List ℕ) (group
       let ih = by-group done in
       let e = emit-most s C sets (λ a. w .wire (group a)) (length (w .records)) shaped (members (length C) group q) (costly q) in (
         rw (length-append (w .records) new) (omega (arith, ih .0, e .0)),
-        rw (size-append (w .records) new) (omega (arith, ih .1, e .1)),
+        rw (size-append writtenVersion (w .records) new) (omega (arith, ih .1, e .1)),
         rw (cost-append (w .records) new) (omega (arith, ih .2, e .2)),
       )
 
   pub written-most : (done : List ℕ) → Once done
       → (2 * length (written s C sets group done .records) ≤ 5 * length C)
-      × (2 * length (recordsBytes (written s C sets group done .records)) ≤ 69 * length C)
+      × (2 * length (recordsBytes writtenVersion (written s C sets group done .records)) ≤ mostBytesOfTwo * length C)
       × (recordsCost (written s C sets group done .records) ≤ 40 * length C)
   written-most done once =
       let w = by-group done in
@@ -67,7 +69,7 @@ module _ (s : List ℕ) (C : Gates) (shaped : Shaped C) (sets : List ℕ) (group
 -- of an accepted plan, whatever groups are written, each once
 pub plan-written : (s p : List ℕ) → planAnswer s p .number ≡ 0 → (done : List ℕ) → Once done
     → let R = written s (gatesOf s) (rulePreconditions s) (groupOf (groupsIn p)) done .records in
-    (length R ≤ 640) × (length (recordsBytes R) ≤ 8832) × (recordsCost R ≤ 10240)
+    (length R ≤ 640) × (length (recordsBytes writtenVersion R) ≤ mostRecordBytes) × (recordsCost R ≤ 10240)
 plan-written s p h done once =
     let (r, x) = plan-accepted s p .0 h in
     let a = accepted s r in
@@ -75,7 +77,7 @@ plan-written s p h done once =
     let m = written-most s (gatesOf s) (rule-shaped s b n read) (rulePreconditions s) (groupOf (groupsIn p)) (members-costly s p x) done once in
     (omega (arith, m .0, a .gates), omega (arith, m .1, a .gates), omega (arith, m .2, a .gates))
 
-pub plan-most : (s p : List ℕ) → planAnswer s p .number ≡ 0 → (length (recordsOf s p) ≤ 640) × (length (recordsBytes (recordsOf s p)) ≤ 8832) × (costAfter s p ≤ 10240)
+pub plan-most : (s p : List ℕ) → planAnswer s p .number ≡ 0 → (length (recordsOf s p) ≤ 640) × (length (recordsBytes writtenVersion (recordsOf s p)) ≤ mostRecordBytes) × (costAfter s p ≤ 10240)
 unfolding fused
 plan-most s p h =
     plan-written s p h (order (gatesOf s) (rulePreconditions s) (groupOf (groupsIn p)))
@@ -93,12 +95,15 @@ outputs-count s p h =
     (plain-sound s b n read .count, rule-read s (a .read) .header .few)
 
 -- the file's bytes: 8, its records, two for each output
-pub fused-size : (s p : List ℕ) → planAnswer s p .number ≡ 0 → length (fusedFile s p) ≡ 8 + length (recordsBytes (recordsOf s p)) + 2 * variables s
+pub fused-size : (s p : List ℕ) → planAnswer s p .number ≡ 0 → length (fusedFile s p) ≡ 8 + length (recordsBytes writtenVersion (recordsOf s p)) + 2 * variables s
 unfolding fusedFile
 fused-size s p h =
-    file-size (variables s) (recordsOf s p) (outputWires s p)
-    ∙ ap (λ (k : ℕ). 8 + length (recordsBytes (recordsOf s p)) + 2 * k) (outputs-length s p)
+    file-size writtenVersion (variables s) (recordsOf s p) (outputWires s p)
+    ∙ ap (λ (k : ℕ). 8 + length (recordsBytes writtenVersion (recordsOf s p)) + 2 * k) (outputs-length s p)
 
 -- at most 16,384 bytes
+pub bytes-most : (s p : List ℕ) → planAnswer s p .number ≡ 0 → length (fusedFile s p) ≤ mostFusedBytes
+bytes-most s p h = omega (arith, plan-most s p h .1, fused-size s p h, outputs-count s p h .1)
+
 pub bytes-bound : (s p : List ℕ) → planAnswer s p .number ≡ 0 → length (fusedFile s p) ≤ 16384
-bytes-bound s p h = omega (arith, plan-most s p h .1, fused-size s p h, outputs-count s p h .1)
+bytes-bound s p h = omega (arith, bytes-most s p h)

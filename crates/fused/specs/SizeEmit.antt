@@ -11,6 +11,7 @@ use Rattle.words.specs.Lists.{upto}
 use Rattle.codes.specs.Codes.{entryOf, costly}
 use Rattle.codes.specs.declared.Operation.{Operation}
 use Rattle.codes.specs.declared.Operation.the-variants.{Sum, Difference, Product, LessThan, Equal, And, Or, Not}
+use Rattle.records.specs.Versions.{writtenVersion}
 use Rattle.records.specs.Records.{Record, recordCost, recordsCost}
 use Rattle.records.specs.CircuitFile.{recordBytes, recordsBytes}
 use Rattle.records.specs.SizeLaws.{word-size, operation-size, choice-size, size-one, cost-none, cost-one}
@@ -20,6 +21,7 @@ use Rattle.gates.specs.CostLaws.{cost-most}
 use Rattle.needed.specs.Held.{ShapedGate, Shaped}
 use Rattle.plan.specs.Accepted.{OneCostly}
 use Rattle.fused.specs.Emission.{alone, gateOperation, joined, guardOf, valuesAt, emit}
+use Rattle.fused.specs.SizeLimits.{mostBytesOfTwo}
 use Rattle.fused.specs.SizeJoined.{guards-most, group-count, group-size, group-cost}
 
 -- a costly operation has two arguments
@@ -53,12 +55,12 @@ alone-cost s wire (gate.operation op l) = refl
 alone-cost s wire (gate.choice c a b) = refl
 
 -- and has at most 7 bytes
-pub alone-most : (s : List ℕ) (wire : ℕ → ℕ) (k : Gate) → ShapedGate k → length (recordBytes (alone s wire k)) ≤ 7
+pub alone-most : (s : List ℕ) (wire : ℕ → ℕ) (k : Gate) → ShapedGate k → length (recordBytes writtenVersion (alone s wire k)) ≤ 7
 alone-most s wire (gate.start x) h = omega arith
-alone-most s wire (gate.word n) h = omega (arith, word-size n)
+alone-most s wire (gate.word n) h = omega (arith, word-size writtenVersion n)
 alone-most s wire (gate.bit b) h = omega arith
-alone-most s wire (gate.operation op l) h = omega (arith, operation-size op (map wire l), length-map l wire, h, arity-most op)
-alone-most s wire (gate.choice c a b) h = omega (arith, choice-size (wire c) (wire a) (wire b))
+alone-most s wire (gate.operation op l) h = omega (arith, operation-size writtenVersion op (map wire l), length-map l wire, h, arity-most op)
+alone-most s wire (gate.choice c a b) h = omega (arith, choice-size writtenVersion (wire c) (wire a) (wire b))
 
 module _ (s : List ℕ) (C : Gates) (sets : List ℕ) (wire : ℕ → ℕ) (n : ℕ) where
   -- two or more members of one costly operation: the one place that says that there are two picks
@@ -74,21 +76,21 @@ module _ (s : List ℕ) (C : Gates) (sets : List ℕ) (wire : ℕ → ℕ) (n : 
     pub emit-count : length (emit s C sets wire n (m ∷ k ∷ l)) ≡ length (m ∷ k ∷ l) + 3
     emit-count = ap length emit-joined ∙ group-count s C sets wire n op (m ∷ k ∷ l) 2 ∙ omega arith
 
-    pub emit-size : length (recordsBytes (emit s C sets wire n (m ∷ k ∷ l)))
-        ≡ length (recordsBytes (map (guardOf s C sets wire) (m ∷ k ∷ l))) + 2 * (2 + 4 * length (m ∷ k ∷ l)) + 5
-    emit-size = ap (λ (R : List Record). length (recordsBytes R)) emit-joined ∙ group-size s C sets wire n op (m ∷ k ∷ l) 2
+    pub emit-size : length (recordsBytes writtenVersion (emit s C sets wire n (m ∷ k ∷ l)))
+        ≡ length (recordsBytes writtenVersion (map (guardOf s C sets wire) (m ∷ k ∷ l))) + 2 * (2 + 4 * length (m ∷ k ∷ l)) + 5
+    emit-size = ap (λ (R : List Record). length (recordsBytes writtenVersion R)) emit-joined ∙ group-size s C sets wire n op (m ∷ k ∷ l) 2
 
     pub emit-cost : recordsCost (emit s C sets wire n (m ∷ k ∷ l)) ≡ 5 * length (m ∷ k ∷ l) + entryOf op .cost
     emit-cost = ap recordsCost emit-joined ∙ group-cost s C sets wire n op (m ∷ k ∷ l) 2 ∙ omega arith
 
-  -- any group of k members: at most 5 k / 2 records, of at most 69 k / 2 bytes, at a cost of at most 40 k
+  -- any group of k members: at most 5 k / 2 records, of at most `mostBytesOfTwo` bytes to two members, at a cost of at most 40 k
   pub emit-most : Shaped C → (ms : List ℕ) → (2 ≤ length ms → OneCostly C ms)
-      → (2 * length (emit s C sets wire n ms) ≤ 5 * length ms) × (2 * length (recordsBytes (emit s C sets wire n ms)) ≤ 69 * length ms)
+      → (2 * length (emit s C sets wire n ms) ≤ 5 * length ms) × (2 * length (recordsBytes writtenVersion (emit s C sets wire n ms)) ≤ mostBytesOfTwo * length ms)
       × (recordsCost (emit s C sets wire n ms) ≤ 40 * length ms)
   emit-most shaped [] h = (omega arith, omega arith, omega (arith, cost-none))
   emit-most shaped (m ∷ []) h = (
     omega arith,
-    omega (arith, size-one (alone s wire (gateAt C m)), alone-most s wire (gateAt C m) (shaped m)),
+    omega (arith, size-one writtenVersion (alone s wire (gateAt C m)), alone-most s wire (gateAt C m) (shaped m)),
     omega (arith, cost-one (alone s wire (gateAt C m)), alone-cost s wire (gateAt C m), cost-most (gateAt C m)),
   )
   emit-most shaped (m ∷ k ∷ l) h =

@@ -9,6 +9,7 @@ use Rattle.words.specs.Lists.{from, upto}
 use Rattle.words.specs.ListLaws.{length-from}
 use Rattle.codes.specs.Codes.{entryOf}
 use Rattle.codes.specs.declared.Operation.{Operation}
+use Rattle.records.specs.Versions.{writtenVersion, tableBytes}
 use Rattle.records.specs.Records.{Record, operation, pick, recordsCost}
 use Rattle.records.specs.CircuitFile.{recordBytes, recordsBytes}
 use Rattle.records.specs.SizeLaws.{operation-size, pick-size, guard-size, size-append, size-one, cost-none, cost-more, cost-append, cost-one}
@@ -16,6 +17,7 @@ use Rattle.gates.specs.Gates.{Gates}
 use Rattle.plan.specs.PlanFile.{EachGroup}
 use Rattle.plan.specs.Groups.{restsOf}
 use Rattle.plan.specs.RestLaws.{rests-few}
+use Rattle.fused.specs.SizeLimits.{mostGuardBytes}
 use Rattle.fused.specs.Emission.{pairs, joined, guardOf, valuesAt}
 
 -- a pair for each value
@@ -27,12 +29,12 @@ length-pairs n (w ∷ values) = ap suc (length-pairs (suc n) values)
 abbrev pub picks : ℕ → List (List ℕ) → List Record
 picks n places = map (λ values. pick (pairs n values)) places
 
-pub picks-size : (n k : ℕ) (places : List (List ℕ)) → EachGroup (λ values. length values ≡ k) places → length (recordsBytes (picks n places)) ≡ length places *
+pub picks-size : (n k : ℕ) (places : List (List ℕ)) → EachGroup (λ values. length values ≡ k) places → length (recordsBytes writtenVersion (picks n places)) ≡ length places *
     (2 + 4 * k)
 picks-size n k [] e = omega arith
 picks-size n k (values ∷ places) (e, f) =
-    length-append (recordBytes (pick (pairs n values))) (recordsBytes (picks n places))
-    ∙ ap₂ (λ (x y : ℕ). x + y) (pick-size (pairs n values) ∙ ap (λ (i : ℕ). 2 + 4 * i) (length-pairs n values ∙ e)) (picks-size n k places f)
+    length-append (recordBytes writtenVersion (pick (pairs n values))) (recordsBytes writtenVersion (picks n places))
+    ∙ ap₂ (λ (x y : ℕ). x + y) (pick-size writtenVersion (pairs n values) ∙ ap (λ (i : ℕ). 2 + 4 * i) (length-pairs n values ∙ e)) (picks-size n k places f)
     ∙ rw (suc-mul (length places) (2 + 4 * k)) (omega arith)
 
 pub picks-cost : (n k : ℕ) (places : List (List ℕ)) → EachGroup (λ values. length values ≡ k) places → recordsCost (picks n places) ≡ length places * (2 * k)
@@ -51,14 +53,14 @@ module _ (n : ℕ) (op : Operation) (guards : List Record) (places : List (List 
   joined-count = rw (length-append guards (picks n places ++ (last ∷ [])), length-append (picks n places) (last ∷ []), length-map) (omega arith)
 
   module _ (k : ℕ) (each : EachGroup (λ values. length values ≡ k) places) where
-    pub joined-size : length (recordsBytes (joined n op guards places)) ≡ length (recordsBytes guards) + length places * (2 + 4 * k) + (1 + 2 * length places)
+    pub joined-size : length (recordsBytes writtenVersion (joined n op guards places)) ≡ length (recordsBytes writtenVersion guards) + length places * (2 + 4 * k) + (1 + 2 * length places)
     joined-size =
         rw (
-          size-append guards (picks n places ++ (last ∷ [])),
-          size-append (picks n places) (last ∷ []),
+          size-append writtenVersion guards (picks n places ++ (last ∷ [])),
+          size-append writtenVersion (picks n places) (last ∷ []),
           picks-size n k places each,
-          size-one last,
-          operation-size op (from (n + length guards) (length places)),
+          size-one writtenVersion last,
+          operation-size writtenVersion op (from (n + length guards) (length places)),
           length-from (n + length guards) (length places),
         )
         (omega arith)
@@ -69,13 +71,13 @@ module _ (n : ℕ) (op : Operation) (guards : List Record) (places : List (List 
 
 -- the guards and the places of these members
 module _ (s : List ℕ) (C : Gates) (sets : List ℕ) (wire : ℕ → ℕ) where
-  pub guard-bytes : (m : ℕ) → length (recordBytes (guardOf s C sets wire m)) ≡ 10 + 2 * length (restsOf C sets m)
-  guard-bytes m = guard-size (map wire (restsOf C sets m)) _ ∙ rw length-map
+  pub guard-bytes : (m : ℕ) → length (recordBytes writtenVersion (guardOf s C sets wire m)) ≡ 2 + 2 * length (restsOf C sets m) + tableBytes writtenVersion
+  guard-bytes m = guard-size writtenVersion (map wire (restsOf C sets m)) _ ∙ rw length-map
 
-  pub guards-most : (ms : List ℕ) → length (recordsBytes (map (guardOf s C sets wire) ms)) ≤ 22 * length ms
+  pub guards-most : (ms : List ℕ) → length (recordsBytes writtenVersion (map (guardOf s C sets wire) ms)) ≤ mostGuardBytes * length ms
   guards-most [] = omega arith
   guards-most (m ∷ ms) =
-      rw (length-append (recordBytes (guardOf s C sets wire m)) (recordsBytes (map (guardOf s C sets wire) ms)), guard-bytes m)
+      rw (length-append (recordBytes writtenVersion (guardOf s C sets wire m)) (recordsBytes writtenVersion (map (guardOf s C sets wire) ms)), guard-bytes m)
       (omega (arith, rests-few C sets m, guards-most ms))
 
   -- a guard costs 1
@@ -101,10 +103,10 @@ module _ (s : List ℕ) (C : Gates) (sets : List ℕ) (wire : ℕ → ℕ) where
         joined-count n op (map (guardOf s C sets wire) ms) (map (valuesAt s C sets wire ms) (upto a))
         ∙ ap₂ (λ (x y : ℕ). x + y + 1) (length-map ms (guardOf s C sets wire)) places
 
-    pub group-size : length (recordsBytes group) ≡ length (recordsBytes (map (guardOf s C sets wire) ms)) + a * (2 + 4 * length ms) + (1 + 2 * a)
+    pub group-size : length (recordsBytes writtenVersion group) ≡ length (recordsBytes writtenVersion (map (guardOf s C sets wire) ms)) + a * (2 + 4 * length ms) + (1 + 2 * a)
     group-size =
         joined-size n op (map (guardOf s C sets wire) ms) (map (valuesAt s C sets wire ms) (upto a)) (length ms) (values-each ms (upto a))
-        ∙ ap (λ (x : ℕ). length (recordsBytes (map (guardOf s C sets wire) ms)) + x * (2 + 4 * length ms) + (1 + 2 * x)) places
+        ∙ ap (λ (x : ℕ). length (recordsBytes writtenVersion (map (guardOf s C sets wire) ms)) + x * (2 + 4 * length ms) + (1 + 2 * x)) places
 
     pub group-cost : recordsCost group ≡ length ms + a * (2 * length ms) + entryOf op .cost
     group-cost =

@@ -23,6 +23,7 @@ use Rattle.plan.specs.Groups.{groupOf, members, restsOf}
 use Rattle.plan.specs.Rows.{planAnswer}
 use Rattle.plan.specs.AcceptedLaws.{plan-accepted}
 use Rattle.plan.specs.RestLaws.{rests-count}
+use Rattle.records.specs.Versions.{writtenVersion}
 use Rattle.records.specs.RecordLaws.{Along, along-map, along-at}
 use Rattle.records.specs.WireKinds.{recordKind, wireKind}
 use Rattle.records.specs.WireKindLaws.{kinds-right}
@@ -92,7 +93,7 @@ module _ (s p : List ℕ) (bytes : Bytes s) (h : planAnswer s p .number ≡ 0) w
         rw (output-at s p x v) (output-stands x v);
   }
 
-  pub fused-well-formed : WellFormed (variables s) (recordsOf s p) (outputWires s p)
+  pub fused-well-formed : WellFormed writtenVersion (variables s) (recordsOf s p) (outputWires s p)
   unfolding fusedFile
   fused-well-formed = record {
     some = rule-read s (accepted s (plan-accepted s p .0 h .0) .read) .header .some;
@@ -107,8 +108,8 @@ module _ (s p : List ℕ) (bytes : Bytes s) (h : planAnswer s p .number ≡ 0) w
   -- so no row of a circuit file refuses its file, and the file is that of these records and outputs
   pub fused-row : circuitRow (fusedFile s p) ≡ 0
   unfolding fusedFile
-  fused-row = well-row (variables s) (recordsOf s p) (outputWires s p) fused-well-formed
+  fused-row = well-row writtenVersion (variables s) (recordsOf s p) (outputWires s p) fused-well-formed
 
-pub fused-is : (s p : List ℕ) → fusedFile s p ≡ fileBytes (variables s) (recordsOf s p) (outputWires s p)
+pub fused-is : (s p : List ℕ) → fusedFile s p ≡ fileBytes writtenVersion (variables s) (recordsOf s p) (outputWires s p)
 unfolding fusedFile
 fused-is s p = refl

@@ -19,6 +19,7 @@ use Rattle.needed.specs.HeldLaws.{gates-at}
 use Rattle.needed.specs.QuadLaws.{KindIn, chooses, is-word, is-bit, applies, starts, kind-in, choice-in, word-in, bit-in, applied-in}
 use Rattle.plan.specs.PlanFile.{groupAt}
 use Rattle.plan.specs.RestLaws.{rests-held}
+use Rattle.records.specs.Versions.{writtenVersion}
 use Rattle.records.specs.Records.{Record, pick}
 use Rattle.records.specs.Records as records
 use Rattle.fused.specs.Emission as emission
@@ -28,7 +29,7 @@ use Rattle.joining.specs.Joined.{emitIn, guardIn, guardsIn, argumentAt, 
 
 -- the bytes of the two picks, and with the operation behind them: it reads the two picks, whose wires follow those of the k guards
 abbrev pub picksBytes : List ℕ → (ℕ → ℕ) → ℕ → List ℕ → List ℕ
-picksBytes quads wire n ms = recordBytes (pick (pairsIn quads wire n 0 ms)) ++ recordBytes (pick (pairsIn quads wire n 1 ms))
+picksBytes quads wire n ms = recordBytes writtenVersion (pick (pairsIn quads wire n 0 ms)) ++ recordBytes writtenVersion (pick (pairsIn quads wire n 1 ms))
 
 abbrev pub fusedBytes : List ℕ → (ℕ → ℕ) → ℕ → ℕ → List ℕ → List ℕ
 fusedBytes quads wire n k ms = picksBytes quads wire n ms ++ (codeAt quads (getD ms 0 0) ∷ wiresBytes ((n + k) ∷ (n + k + 1) ∷ []))
@@ -120,16 +121,16 @@ module _ (quads : List ℕ) (count : ℕ) (sets conds : List ℕ) (wire : ℕ �
       (length-map ms (λ m. guardIn conds wire (getD sets m 0)))
 
   -- its bytes: those of the guards, and what is behind them
-  pub joined-bytes : (ms : List ℕ) → Applies (codeAt quads (getD ms 0 0)) → recordsBytes (joinedIn ms) ≡ recordsBytes
+  pub joined-bytes : (ms : List ℕ) → Applies (codeAt quads (getD ms 0 0)) → recordsBytes writtenVersion (joinedIn ms) ≡ recordsBytes writtenVersion
       (guardsIn conds wire sets ms) ++ fusedBytes quads wire n (length ms) ms
   joined-bytes ms h =
-      let p : List ℕ = recordBytes (pick (pairsIn quads wire n 0 ms)) in
-      let q : List ℕ = recordBytes (pick (pairsIn quads wire n 1 ms)) in
+      let p : List ℕ = recordBytes writtenVersion (pick (pairsIn quads wire n 0 ms)) in
+      let q : List ℕ = recordBytes writtenVersion (pick (pairsIn quads wire n 1 ms)) in
       let more : suc (n + length ms) ≡ n + length ms + 1 = omega arith in
-      let o : recordBytes (records.operation (operationOf (codeAt quads (getD ms 0 0))) ((n + length ms) ∷ suc (n + length ms) ∷ [])) ≡ codeAt quads
+      let o : recordBytes writtenVersion (records.operation (operationOf (codeAt quads (getD ms 0 0))) ((n + length ms) ∷ suc (n + length ms) ∷ [])) ≡ codeAt quads
       (getD ms 0 0) ∷ wiresBytes ((n + length ms) ∷ (n + length ms + 1) ∷ []) =
       ap₂ (λ (b i : ℕ). b ∷ wiresBytes ((n + length ms) ∷ i ∷ [])) (byte-back (codeAt quads (getD ms 0 0)) (h .0) (h .1)) more in
-      bytes-append (guardsIn conds wire sets ms) _
-      ∙ ap (λ (r : List ℕ). recordsBytes (guardsIn conds wire sets ms) ++ r)
+      bytes-append writtenVersion (guardsIn conds wire sets ms) _
+      ∙ ap (λ (r : List ℕ). recordsBytes writtenVersion (guardsIn conds wire sets ms) ++ r)
       (ap (λ (r : List ℕ). p ++ (q ++ r)) (append-nil _ ∙ o) ∙ sym
       (append-assoc p q (codeAt quads (getD ms 0 0) ∷ wiresBytes ((n + length ms) ∷ (n + length ms + 1) ∷ []))))

@@ -10,6 +10,7 @@ use Rattle.words.specs.Buffers.{over}
 use Rattle.words.specs.BufferLaws.{length-over, room-rest}
 use Rattle.needed.specs.Held.{Applies, codeAt}
 use Rattle.plan.specs.PlanFile.{groupAt}
+use Rattle.records.specs.Versions.{writtenVersion}
 use Rattle.records.specs.Records.{Record, pick}
 use Rattle.records.specs.CircuitFile.{wiresBytes, recordBytes, recordsBytes}
 use Rattle.records.specs.SizeLaws.{wires-size, pick-size}
@@ -22,11 +23,11 @@ use Rattle.joining.specs.JoinLaws.{Fusing, picksBytes, fusedBytes, two-a
 -- The picks, and the operation behind them.
 
 module _ (quads : List ℕ) (wire : ℕ → ℕ) (n : ℕ) (p : List ℕ) (at : ℕ) where
-  pick-long : (k : ℕ) → length (recordBytes (pick (pairsIn quads wire n k (groupAt p at)))) ≡ 2 + 4 * getD p at 0
-  pick-long k = pick-size (pairsIn quads wire n k (groupAt p at)) ∙ ap (λ (i : ℕ). 2 + 4 * i) (pairs-count quads wire n k p at)
+  pick-long : (k : ℕ) → length (recordBytes writtenVersion (pick (pairsIn quads wire n k (groupAt p at)))) ≡ 2 + 4 * getD p at 0
+  pick-long k = pick-size writtenVersion (pairsIn quads wire n k (groupAt p at)) ∙ ap (λ (i : ℕ). 2 + 4 * i) (pairs-count quads wire n k p at)
 
   picks-long : length (picksBytes quads wire n (groupAt p at)) ≡ 4 + 8 * getD p at 0
-  picks-long = length-append (recordBytes (pick (pairsIn quads wire n 0 (groupAt p at)))) (recordBytes (pick (pairsIn quads wire n 1 (groupAt p at)))) ∙ omega
+  picks-long = length-append (recordBytes writtenVersion (pick (pairsIn quads wire n 0 (groupAt p at)))) (recordBytes writtenVersion (pick (pairsIn quads wire n 1 (groupAt p at)))) ∙ omega
       (arith, pick-long 0, pick-long 1)
 
   pub fused-long : (k : ℕ) → length (fusedBytes quads wire n k (groupAt p at)) ≡ 9 + 8 * getD p at 0
@@ -37,12 +38,12 @@ module _ (quads : List ℕ) (wire : ℕ → ℕ) (n : ℕ) (p : List ℕ) (at : 
       (arith, picks-long, z)
 
   pub picks-put : (k r : ℕ) (d e ys : List ℕ) → 4 + 8 * getD p at 0 ≤ length d → k ≡ 2 + 4 * getD p at 0 → r ≡ 2 + 4 * getD p at 0
-      → e ≡ over (recordBytes (pick (pairsIn quads wire n 0 (groupAt p at)))) d
-      → ys ≡ over (recordBytes (pick (pairsIn quads wire n 1 (groupAt p at)))) (take (length e - k) (drop k e))
+      → e ≡ over (recordBytes writtenVersion (pick (pairsIn quads wire n 0 (groupAt p at)))) d
+      → ys ≡ over (recordBytes writtenVersion (pick (pairsIn quads wire n 1 (groupAt p at)))) (take (length e - k) (drop k e))
       → (k + r ≡ 4 + 8 * getD p at 0) × (putMid k (length e - k) e ys ≡ over (picksBytes quads wire n (groupAt p at)) d)
   picks-put k r d e ys room q z w v = (
     omega (arith, q, z),
-    behind (recordBytes (pick (pairsIn quads wire n 0 (groupAt p at)))) (recordBytes (pick (pairsIn quads wire n 1 (groupAt p at))))
+    behind (recordBytes writtenVersion (pick (pairsIn quads wire n 0 (groupAt p at)))) (recordBytes writtenVersion (pick (pairsIn quads wire n 1 (groupAt p at))))
         (picksBytes quads wire n (groupAt p at)) d e ys k
         (q ∙ sym (pick-long 0)) refl (omega (arith, picks-long, room)) w v,
   )
@@ -87,43 +88,43 @@ fusing quads p conds group count at j =
 
 module _ (quads : List ℕ) (count : ℕ) (sets : List ℕ) (conds group : List ℕ) (wire : ℕ → ℕ) (n : ℕ) (p : List ℕ) (at : ℕ) where
   pub emit-bytes : JoinWritable quads p conds group count at
-      → recordsBytes (emitIn quads count sets wire n (groupAt p at)) ≡ recordsBytes (guardsIn conds wire sets (groupAt p at)) ++ fusedBytes quads wire n (getD p at 0)
+      → recordsBytes writtenVersion (emitIn quads count sets wire n (groupAt p at)) ≡ recordsBytes writtenVersion (guardsIn conds wire sets (groupAt p at)) ++ fusedBytes quads wire n (getD p at 0)
       (groupAt p at)
   emit-bytes j =
-      ap (λ (R : List Record). recordsBytes R)
+      ap (λ (R : List Record). recordsBytes writtenVersion R)
       (emit-joined quads count sets conds wire n (groupAt p at) (rw (length-group p at) (j .joinable .many)) (j .below) (j .joinable .two) (j .conditioned))
       ∙ joined-bytes quads count sets conds wire n (groupAt p at) (fusing quads p conds group count at j .coded)
-      ∙ ap (λ (k : ℕ). recordsBytes (guardsIn conds wire sets (groupAt p at)) ++ fusedBytes quads wire n k (groupAt p at)) (length-group p at)
+      ∙ ap (λ (k : ℕ). recordsBytes writtenVersion (guardsIn conds wire sets (groupAt p at)) ++ fusedBytes quads wire n k (groupAt p at)) (length-group p at)
 
   emit-long : JoinWritable quads p conds group count at
-      → length (recordsBytes (emitIn quads count sets wire n (groupAt p at))) ≡ length (recordsBytes (guardsIn conds wire sets (groupAt p at))) + (9 + 8 * getD p at 0)
+      → length (recordsBytes writtenVersion (emitIn quads count sets wire n (groupAt p at))) ≡ length (recordsBytes writtenVersion (guardsIn conds wire sets (groupAt p at))) + (9 + 8 * getD p at 0)
   emit-long j =
-      ap (λ (b : List ℕ). length b) (emit-bytes j) ∙ length-append (recordsBytes (guardsIn conds wire sets (groupAt p at)))
+      ap (λ (b : List ℕ). length b) (emit-bytes j) ∙ length-append (recordsBytes writtenVersion (guardsIn conds wire sets (groupAt p at)))
       (fusedBytes quads wire n (getD p at 0) (groupAt p at))
-      ∙ ap (λ (k : ℕ). length (recordsBytes (guardsIn conds wire sets (groupAt p at))) + k) (fused-long quads wire n p at (getD p at 0))
+      ∙ ap (λ (k : ℕ). length (recordsBytes writtenVersion (guardsIn conds wire sets (groupAt p at))) + k) (fused-long quads wire n p at (getD p at 0))
 
   -- the guards find room, and the rest behind them
-  pub joined-room : (k : ℕ) → JoinWritable quads p conds group count at → length (recordsBytes (emitIn quads count sets wire n (groupAt p at))) ≤ k
-      → length (recordsBytes (guardsIn conds wire sets (groupAt p at))) + (9 + 8 * getD p at 0) ≤ k
+  pub joined-room : (k : ℕ) → JoinWritable quads p conds group count at → length (recordsBytes writtenVersion (emitIn quads count sets wire n (groupAt p at))) ≤ k
+      → length (recordsBytes writtenVersion (guardsIn conds wire sets (groupAt p at))) + (9 + 8 * getD p at 0) ≤ k
   joined-room k j h = rw (emit-long j) at h
 
-  pub fused-room : (k : ℕ) (d e : List ℕ) → JoinWritable quads p conds group count at → length (recordsBytes (emitIn quads count sets wire n (groupAt p at))) ≤ length d
-      → k ≡ length (recordsBytes (guardsIn conds wire sets (groupAt p at))) → e ≡ over (recordsBytes (guardsIn conds wire sets (groupAt p at))) d
+  pub fused-room : (k : ℕ) (d e : List ℕ) → JoinWritable quads p conds group count at → length (recordsBytes writtenVersion (emitIn quads count sets wire n (groupAt p at))) ≤ length d
+      → k ≡ length (recordsBytes writtenVersion (guardsIn conds wire sets (groupAt p at))) → e ≡ over (recordsBytes writtenVersion (guardsIn conds wire sets (groupAt p at))) d
       → (k ≤ length e) × (9 + 8 * getD p at 0 ≤ length (take (length e - k) (drop k e)))
   fused-room k d e j h q w =
       let r = joined-room (length d) j h in
-      let l : length e ≡ length d = ap (λ (x : List ℕ). length x) w ∙ length-over (recordsBytes (guardsIn conds wire sets (groupAt p at))) d (omega (arith, r)) in
+      let l : length e ≡ length d = ap (λ (x : List ℕ). length x) w ∙ length-over (recordsBytes writtenVersion (guardsIn conds wire sets (groupAt p at))) d (omega (arith, r)) in
       (omega (arith, r, l, q), rw (room-rest e k) (omega (arith, r, l, q)))
 
   pub joined-put : (k r : ℕ) (d e ys : List ℕ) → JoinWritable quads p conds group count at → length
-      (recordsBytes (emitIn quads count sets wire n (groupAt p at))) ≤ length d
-      → k ≡ length (recordsBytes (guardsIn conds wire sets (groupAt p at))) → r ≡ 9 + 8 * getD p at 0 → e ≡ over
-      (recordsBytes (guardsIn conds wire sets (groupAt p at))) d
+      (recordsBytes writtenVersion (emitIn quads count sets wire n (groupAt p at))) ≤ length d
+      → k ≡ length (recordsBytes writtenVersion (guardsIn conds wire sets (groupAt p at))) → r ≡ 9 + 8 * getD p at 0 → e ≡ over
+      (recordsBytes writtenVersion (guardsIn conds wire sets (groupAt p at))) d
       → ys ≡ over (fusedBytes quads wire n (getD p at 0) (groupAt p at)) (take (length e - k) (drop k e))
-      → (k + r ≡ length (recordsBytes (emitIn quads count sets wire n (groupAt p at)))) ×
-      (putMid k (length e - k) e ys ≡ over (recordsBytes (emitIn quads count sets wire n (groupAt p at))) d)
+      → (k + r ≡ length (recordsBytes writtenVersion (emitIn quads count sets wire n (groupAt p at)))) ×
+      (putMid k (length e - k) e ys ≡ over (recordsBytes writtenVersion (emitIn quads count sets wire n (groupAt p at))) d)
   joined-put k r d e ys j h q z w v = (
     omega (arith, emit-long j, q, z),
-    behind (recordsBytes (guardsIn conds wire sets (groupAt p at))) (fusedBytes quads wire n (getD p at 0) (groupAt p at))
-        (recordsBytes (emitIn quads count sets wire n (groupAt p at))) d e ys k q (emit-bytes j) h w v,
+    behind (recordsBytes writtenVersion (guardsIn conds wire sets (groupAt p at))) (fusedBytes quads wire n (getD p at 0) (groupAt p at))
+        (recordsBytes writtenVersion (emitIn quads count sets wire n (groupAt p at))) d e ys k q (emit-bytes j) h w v,
   )

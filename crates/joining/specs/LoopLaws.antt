@@ -11,6 +11,7 @@ use Rattle.words.specs.Buffers.{over}
 use Rattle.settings.specs.Sets.{rests}
 use Rattle.gates.specs.Limits.{mostGates}
 use Rattle.plan.specs.PlanFile.{groupAt}
+use Rattle.records.specs.Versions.{writtenVersion}
 use Rattle.records.specs.Records.{pairWires}
 use Rattle.records.specs.CircuitFile.{wiresBytes, recordBytes, recordsBytes}
 use Rattle.records.specs.SizeLaws.{wires-size, pairs-size}
@@ -74,39 +75,39 @@ member-placed quads p group k at i g h e l = rw e (h .placed (getD (groupAt p at
 -- The guards of a group: piece i is that of member i.
 
 abbrev pub guardPiece : List ℕ → (ℕ → ℕ) → List ℕ → List ℕ → ℕ → List ℕ
-guardPiece conds wire sets ms i = recordBytes (guardIn conds wire (getD sets (getD ms i 0) 0))
+guardPiece conds wire sets ms i = recordBytes writtenVersion (guardIn conds wire (getD sets (getD ms i 0) 0))
 
 -- the guards of i members are written
 pub record GuardFilling (conds : List ℕ) (wire : ℕ → ℕ) (sets p : List ℕ) (place : ℕ) (out out₀ : List ℕ) (at i : ℕ) : Type 0 where
   pub filling : Filling (guardPiece conds wire sets (groupAt p place)) out out₀ (getD p place 0) at i
 
 module _ (conds : List ℕ) (wire : ℕ → ℕ) (sets p : List ℕ) (place : ℕ) where
-  whole : pieces (guardPiece conds wire sets (groupAt p place)) (getD p place 0) ≡ recordsBytes (guardsIn conds wire sets (groupAt p place))
+  whole : pieces (guardPiece conds wire sets (groupAt p place)) (getD p place 0) ≡ recordsBytes writtenVersion (guardsIn conds wire sets (groupAt p place))
   whole = ap (pieces (guardPiece conds wire sets (groupAt p place))) (sym (length-group p place)) ∙ record-pieces (λ m. guardIn conds wire (getD sets m 0))
       (groupAt p place)
 
-  pub guards-start : (out : List ℕ) → length (recordsBytes (guardsIn conds wire sets (groupAt p place))) ≤ length out → GuardFilling conds wire sets p place out out 0 0
+  pub guards-start : (out : List ℕ) → length (recordsBytes writtenVersion (guardsIn conds wire sets (groupAt p place))) ≤ length out → GuardFilling conds wire sets p place out out 0 0
   guards-start out h = record { filling = filling-start (guardPiece conds wire sets (groupAt p place)) out (getD p place 0) (rw whole h) }
 
   module _ (out out₀ : List ℕ) (at i g : ℕ) (l : GuardFilling conds wire sets p place out out₀ at i) (h : i < getD p place 0) (e : g ≡ getD (groupAt p place) i 0) where
-    pub guards-fits : (at + length (recordBytes (guardIn conds wire (getD sets g 0))) ≤ length out) × (length out ≡ length out₀)
+    pub guards-fits : (at + length (recordBytes writtenVersion (guardIn conds wire (getD sets g 0))) ≤ length out) × (length out ≡ length out₀)
     guards-fits = (
       rw e (filling-fits (guardPiece conds wire sets (groupAt p place)) out out₀ (getD p place 0) at i (l .filling) h),
       filling-length
           (guardPiece conds wire sets (groupAt p place)) out out₀ (getD p place 0) at i (l .filling) h,
     )
 
-    pub guards-room : length (recordBytes (guardIn conds wire (getD sets g 0))) ≤ length (take (length out - at) (drop at out))
+    pub guards-room : length (recordBytes writtenVersion (guardIn conds wire (getD sets g 0))) ≤ length (take (length out - at) (drop at out))
     guards-room = rw e (filling-room (guardPiece conds wire sets (groupAt p place)) out out₀ (getD p place 0) at i (l .filling) h)
 
-    pub guards-step : (k : ℕ) (ys : List ℕ) → k ≡ length (recordBytes (guardIn conds wire (getD sets g 0))) → ys ≡ over
-        (recordBytes (guardIn conds wire (getD sets g 0))) (take (length out - at) (drop at out))
+    pub guards-step : (k : ℕ) (ys : List ℕ) → k ≡ length (recordBytes writtenVersion (guardIn conds wire (getD sets g 0))) → ys ≡ over
+        (recordBytes writtenVersion (guardIn conds wire (getD sets g 0))) (take (length out - at) (drop at out))
         → GuardFilling conds wire sets p place (putMid at (length out - at) out ys) out₀ (at + k) (i + 1)
     guards-step k ys q r = record
         { filling = filling-step (guardPiece conds wire sets (groupAt p place)) out out₀ (getD p place 0) at i (l .filling) h k ys (rw e at q) (rw e at r) }
 
   pub guards-end : (out out₀ : List ℕ) (at i : ℕ) → GuardFilling conds wire sets p place out out₀ at i → getD p place 0 ≤ i
-      → (at ≡ length (recordsBytes (guardsIn conds wire sets (groupAt p place)))) × (out ≡ over (recordsBytes (guardsIn conds wire sets (groupAt p place))) out₀)
+      → (at ≡ length (recordsBytes writtenVersion (guardsIn conds wire sets (groupAt p place)))) × (out ≡ over (recordsBytes writtenVersion (guardsIn conds wire sets (groupAt p place))) out₀)
   guards-end out out₀ at i l h = rw whole at (filling-end (guardPiece conds wire sets (groupAt p place)) out out₀ (getD p place 0) at i (l .filling) h)
 
 -- The pairs of a pick: piece i is the pair of member i.

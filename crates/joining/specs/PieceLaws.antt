@@ -6,6 +6,7 @@ use native.Mathlib.Nat.{add-zero}
 use native.Mathlib.Omega.{arith}
 use lib.ListN.{length, getD}
 use Rattle.words.specs.Numbers.{bytesOf}
+use Rattle.records.specs.Versions.{writtenVersion}
 use Rattle.records.specs.Records.{Record, pairWires}
 use Rattle.fused.specs.Emission.{pairs}
 use Rattle.records.specs.CircuitFile.{wiresBytes, recordBytes, recordsBytes}
@@ -20,9 +21,9 @@ wire-pieces h (t ∷ l) = pieces-first (λ i. bytesOf 2 (h (getD (t ∷ l) i 0))
 
 -- The members of a group.
 
-pub record-pieces : (G : ℕ → Record) (ms : List ℕ) → pieces (λ i. recordBytes (G (getD ms i 0))) (length ms) ≡ recordsBytes (map G ms)
-record-pieces G [] = pieces-none (λ i. recordBytes (G (getD [] i 0)))
-record-pieces G (m ∷ ms) = pieces-first (λ i. recordBytes (G (getD (m ∷ ms) i 0))) (length ms) ∙ ap (λ (r : List ℕ). recordBytes (G m) ++ r) (record-pieces G ms)
+pub record-pieces : (G : ℕ → Record) (ms : List ℕ) → pieces (λ i. recordBytes writtenVersion (G (getD ms i 0))) (length ms) ≡ recordsBytes writtenVersion (map G ms)
+record-pieces G [] = pieces-none (λ i. recordBytes writtenVersion (G (getD [] i 0)))
+record-pieces G (m ∷ ms) = pieces-first (λ i. recordBytes writtenVersion (G (getD (m ∷ ms) i 0))) (length ms) ∙ ap (λ (r : List ℕ). recordBytes writtenVersion (G m) ++ r) (record-pieces G ms)
 
 pub pair-pieces : (value : ℕ → ℕ) (n : ℕ) (ms : List ℕ) → pieces (λ i. wiresBytes ((n + i) ∷ value (getD ms i 0) ∷ [])) (length ms) ≡ wiresBytes
     (pairWires (pairs n (map value ms)))

@@ -13,6 +13,7 @@ ghost use lib.ListN.{length, getD};
 ghost use Rattle.words.specs.Buffers.{over};
 ghost use Rattle.settings.specs.Listed.{conditionsIn, Lists};
 ghost use Rattle.plan.specs.PlanFile.{groupAt};
+ghost use Rattle.records.specs.Versions.{writtenVersion};
 ghost use Rattle.records.specs.Records.{pick, pairWires};
 ghost use Rattle.records.specs.CircuitFile.{wiresBytes, recordBytes, recordsBytes};
 ghost use Rattle.emitting.specs.Emitted.{wireIn};
@@ -56,9 +57,9 @@ fn put_guard(
     group: &[u16; 256],
     wires: &[u16; 256],
 ) -> usize
-    requires { ⌜ (length (recordBytes (guardIn (now conditions) (wireIn (now group) (now wires)) (setOf s))) ≤ length (now out)) × Guarded (now conditions) (now group) ⌝ }
-    ensures counted { λ r. ⌜ r ≡ length (recordBytes (guardIn (now (conditions .entry)) (wireIn (now (group .entry)) (now (wires .entry))) (setOf s))) ⌝ }
-    ensures written { λ r. ⌜ now (out .exit) ≡ over (recordBytes (guardIn (now (conditions .entry)) (wireIn (now (group .entry)) (now (wires .entry))) (setOf s))) (now (out .entry)) ⌝ }
+    requires { ⌜ (length (recordBytes writtenVersion (guardIn (now conditions) (wireIn (now group) (now wires)) (setOf s))) ≤ length (now out)) × Guarded (now conditions) (now group) ⌝ }
+    ensures counted { λ r. ⌜ r ≡ length (recordBytes writtenVersion (guardIn (now (conditions .entry)) (wireIn (now (group .entry)) (now (wires .entry))) (setOf s))) ⌝ }
+    ensures written { λ r. ⌜ now (out .exit) ≡ over (recordBytes writtenVersion (guardIn (now (conditions .entry)) (wireIn (now (group .entry)) (now (wires .entry))) (setOf s))) (now (out .entry)) ⌝ }
 {
     let r = settings::rested(s);
     let d = r.count;
@@ -66,7 +67,7 @@ fn put_guard(
     put_rested(&mut out[2..], r, conditions, group, wires);
     let n = 2 + 2 * (d as usize);
     settings::put_bytes(&mut out[n..], settings::table(s, r));
-    n + settings::BYTES
+    n + records::WRITTEN_TABLE
 }
 
 // The guards of a group, members rising; gives their bytes.
@@ -79,10 +80,10 @@ fn put_guards(
     group: &[u16; 256],
     wires: &[u16; 256],
 ) -> usize
-    requires { ⌜ (length (recordsBytes (guardsIn (now conditions) (wireIn (now group) (now wires)) (setsIn (now needs)) (groupAt (now plan) at))) ≤ length (now out))
+    requires { ⌜ (length (recordsBytes writtenVersion (guardsIn (now conditions) (wireIn (now group) (now wires)) (setsIn (now needs)) (groupAt (now plan) at))) ≤ length (now out))
         × (Lies (now plan) at × Guarded (now conditions) (now group)) ⌝ }
-    ensures counted { λ r. ⌜ r ≡ length (recordsBytes (guardsIn (now (conditions .entry)) (wireIn (now (group .entry)) (now (wires .entry))) (setsIn (now (needs .entry))) (groupAt (now (plan .entry)) at))) ⌝ }
-    ensures written { λ r. ⌜ now (out .exit) ≡ over (recordsBytes (guardsIn (now (conditions .entry)) (wireIn (now (group .entry)) (now (wires .entry))) (setsIn (now (needs .entry))) (groupAt (now (plan .entry)) at))) (now (out .entry)) ⌝ }
+    ensures counted { λ r. ⌜ r ≡ length (recordsBytes writtenVersion (guardsIn (now (conditions .entry)) (wireIn (now (group .entry)) (now (wires .entry))) (setsIn (now (needs .entry))) (groupAt (now (plan .entry)) at))) ⌝ }
+    ensures written { λ r. ⌜ now (out .exit) ≡ over (recordsBytes writtenVersion (guardsIn (now (conditions .entry)) (wireIn (now (group .entry)) (now (wires .entry))) (setsIn (now (needs .entry))) (groupAt (now (plan .entry)) at))) (now (out .entry)) ⌝ }
 {
     let size = plan[at] as usize;
     let mut n: usize = 0;
@@ -152,7 +153,7 @@ fn put_pick(
 ) -> usize
     requires { ⌜ (2 + 4 * getD (now plan) at 0 ≤ length (now out)) × (Paired (now quads) (now plan) (now group) k at × (first .0 + getD (now plan) at 0 < 65536)) ⌝ }
     ensures counted { λ r. ⌜ r ≡ 2 + 4 * getD (now (plan .entry)) at 0 ⌝ }
-    ensures written { λ r. ⌜ now (out .exit) ≡ over (recordBytes (pick (pairsIn (now (quads .entry)) (wireIn (now (group .entry)) (now (wires .entry))) (first .0) k (groupAt (now (plan .entry)) at)))) (now (out .entry)) ⌝ }
+    ensures written { λ r. ⌜ now (out .exit) ≡ over (recordBytes writtenVersion (pick (pairsIn (now (quads .entry)) (wireIn (now (group .entry)) (now (wires .entry))) (first .0) k (groupAt (now (plan .entry)) at)))) (now (out .entry)) ⌝ }
 {
     emitting::put_short(out, PICK, plan[at]);
     put_pairs(&mut out[2..], plan, at, first, quads, k, group, wires);
@@ -218,10 +219,10 @@ pub fn put_joined(
     group: &[u16; 256],
     wires: &[u16; 256],
 ) -> usize
-    requires { ⌜ (length (recordsBytes (emitIn (now quads) count (setsIn (now needs)) (wireIn (now group) (now wires)) (first .0) (groupAt (now plan) at))) ≤ length (now out))
+    requires { ⌜ (length (recordsBytes writtenVersion (emitIn (now quads) count (setsIn (now needs)) (wireIn (now group) (now wires)) (first .0) (groupAt (now plan) at))) ≤ length (now out))
         × (JoinWritable (now quads) (now plan) (now conditions) (now group) count at × (first .0 + getD (now plan) at 0 + 1 < 65536)) ⌝ }
-    ensures counted { λ r. ⌜ r ≡ length (recordsBytes (emitIn (now (quads .entry)) count (setsIn (now (needs .entry))) (wireIn (now (group .entry)) (now (wires .entry))) (first .0) (groupAt (now (plan .entry)) at))) ⌝ }
-    ensures written { λ r. ⌜ now (out .exit) ≡ over (recordsBytes (emitIn (now (quads .entry)) count (setsIn (now (needs .entry))) (wireIn (now (group .entry)) (now (wires .entry))) (first .0) (groupAt (now (plan .entry)) at))) (now (out .entry)) ⌝ }
+    ensures counted { λ r. ⌜ r ≡ length (recordsBytes writtenVersion (emitIn (now (quads .entry)) count (setsIn (now (needs .entry))) (wireIn (now (group .entry)) (now (wires .entry))) (first .0) (groupAt (now (plan .entry)) at))) ⌝ }
+    ensures written { λ r. ⌜ now (out .exit) ≡ over (recordsBytes writtenVersion (emitIn (now (quads .entry)) count (setsIn (now (needs .entry))) (wireIn (now (group .entry)) (now (wires .entry))) (first .0) (groupAt (now (plan .entry)) at))) (now (out .entry)) ⌝ }
 {
     let n = put_guards(out, plan, at, needs, conditions, group, wires);
     n + put_fused(&mut out[n..], plan, at, first, quads, group, wires)

@@ -1,13 +1,13 @@
 -- Laws of the rows 60 and 61, one for each step of the code. Assumes nothing.
 use Prim.Native.Nat.{ℕ, zero, suc, _+_, _*_, _-_, _≤_, _<_}
 use mathlib.Core.Path.{_≡_, refl, ap, _∙_}
-use mathlib.Core.Bool.{Bool, true, false, _&&_, cond}
+use mathlib.Core.Bool.{Bool, true, false, _&&_, _||_, cond, and-true}
 use mathlib.Core.List.{List, [], _∷_}
 use native.Mathlib.Omega.{arith}
 use lib.Dec.{eqb, leb}
-use lib.ListN.{length, take, getD}
+use lib.ListN.{length, getD}
 use borrow.Author.Tests.{ne-eqb, eq-eqb, eqb-true, le-leb, lt-leb}
-use Rattle.words.specs.Lists.{elem, same}
+use Rattle.words.specs.Lists.{elem}
 use Rattle.words.specs.MemberLaws.{∈→elem}
 use Rattle.words.specs.TestLaws.{split, same-test}
 use Rattle.codes.specs.Codes.{entryOf, byteOf, startCode}
@@ -15,27 +15,33 @@ use Rattle.codes.specs.declared.Kind.{Kind}
 use Rattle.codes.specs.declared.Kind.the-variants as kind
 use Rattle.codes.specs.declared.Operation.{Operation}
 use Rattle.records.specs.Records.{Record}
-use Rattle.records.specs.CircuitFile.{mark}
-use Rattle.records.specs.FileFigures.{recordAt, sizeAt, firstRecord, fileVariables, wireCount}
+use Rattle.records.specs.Versions.{mostGuardWires, tableBytes}
+use Rattle.records.specs.FileFigures.{versionIn, recordAt, sizeAt, firstRecord, fileVariables, wireCount}
 use Rattle.records.specs.FilePartLaws.{wires-length, pairs-length}
 use Rattle.records.specs.RecordBounds.{operation-code}
 use Rattle.records.specs.FoundForms.{form-input, form-word, form-bit, form-operation, form-choice, form-pick, form-guard, size-some}
 use Rattle.records.specs.LaidOut.{recordCodes}
-use Rattle.records.specs.Limits.{mostGuardWires}
-use Rattle.records.specs.CircuitRows.{bounded, wholeAt, laidFrom, laid}
+use Rattle.records.specs.CircuitRows.{marked, bounded, wholeAt, laidFrom, laid}
 use Rattle.records.specs.RowLaws.{whole-right}
 use Rattle.layout.specs.Said.{saidSize}
 
--- the first five bytes, each against the mark's
+-- the first five bytes, each against those of the mark; the last is one version's or the other's
 pub marked-by : (f : List ℕ) → firstRecord ≤ length f
-    → same (take (length mark) f) mark
-    ≡ (eqb (getD f 0 0) 0x43 && (eqb (getD f 1 0) 0x49 && (eqb (getD f 2 0) 0x52 && (eqb (getD f 3 0) 0x00 && (eqb (getD f 4 0) 0x01 && true)))))
+    → marked f
+    ≡ (eqb (getD f 0 0) 0x43 && (eqb (getD f 1 0) 0x49 && (eqb (getD f 2 0) 0x52 && (eqb (getD f 3 0) 0x00 && (eqb (getD f 4 0) 0x01 || eqb (getD f 4 0) 0x02)))))
 marked-by [] h = absurd (omega arith)
 marked-by (a ∷ []) h = absurd (omega arith)
 marked-by (a ∷ b ∷ []) h = absurd (omega arith)
 marked-by (a ∷ b ∷ c ∷ []) h = absurd (omega arith)
 marked-by (a ∷ b ∷ c ∷ d ∷ []) h = absurd (omega arith)
-marked-by (a ∷ b ∷ c ∷ d ∷ e ∷ l) h = refl
+marked-by (a ∷ b ∷ c ∷ d ∷ e ∷ l) h = go (eqb a 0x43) (eqb b 0x49) (eqb c 0x52) (eqb d 0x00) (eqb e 0x01) (eqb e 0x02)
+  where
+    go : (a b c d x y : Bool) → ((a && (b && (c && (d && (x && true))))) || (a && (b && (c && (d && (y && true)))))) ≡ (a && (b && (c && (d && (x || y)))))
+    go false b c d x y = refl
+    go true false c d x y = refl
+    go true true false d x y = refl
+    go true true true false x y = refl
+    go true true true true x y = rw (and-true x, and-true y)
 
 -- a byte that is none of a list, as the last arm of a decision over the bytes is told it
 abbrev NoneOf : Type 0 → ℕ → List ℕ → Type 0
@@ -52,7 +58,7 @@ none-elem N b (x ∷ l) h = rw (ne-eqb b x (told (N × (b ≡ x → ⊥)) b l h 
 
 module _ (f : List ℕ) (at : ℕ) where
   -- what a record says, by the byte that it begins with
-  said-by : (b n : ℕ) (r : Record) → getD f at 0 ≡ b → elem b recordCodes ≡ true → (recordAt f at ≡ r) × (sizeAt f at ≡ n) → saidSize f at ≡ cond (bounded r) n 0
+  said-by : (b n : ℕ) (r : Record) → getD f at 0 ≡ b → elem b recordCodes ≡ true → (recordAt f at ≡ r) × (sizeAt f at ≡ n) → saidSize f at ≡ cond (bounded (versionIn f) r) n 0
   unfolding saidSize
   said-by b n r e k (q, s) = rw (e, k, q, s)
 
@@ -75,8 +81,8 @@ module _ (f : List ℕ) (at : ℕ) where
   pub said-pick : (n : ℕ) → getD f at 0 ≡ 0x31 → n ≡ getD f (at + 1) 0 → saidSize f at ≡ cond (leb 1 n) (2 + 4 * n) 0
   said-pick n e q = said-by 0x31 (2 + 4 * getD f (at + 1) 0) _ e refl (form-pick f at e) ∙ rw (pairs-length (getD f (at + 1) 0) f (at + 2), q)
 
-  pub said-guard : (n : ℕ) → getD f at 0 ≡ 0x32 → n ≡ getD f (at + 1) 0 → saidSize f at ≡ cond (leb n mostGuardWires) (10 + 2 * n) 0
-  said-guard n e q = said-by 0x32 (10 + 2 * getD f (at + 1) 0) _ e refl (form-guard f at e) ∙ rw (wires-length (getD f (at + 1) 0) f (at + 2), q)
+  pub said-guard : (n : ℕ) → getD f at 0 ≡ 0x32 → n ≡ getD f (at + 1) 0 → saidSize f at ≡ cond (leb n (mostGuardWires (versionIn f))) (2 + 2 * n + tableBytes (versionIn f)) 0
+  said-guard n e q = said-by 0x32 (2 + 2 * getD f (at + 1) 0 + tableBytes (versionIn f)) _ e refl (form-guard f at e) ∙ rw (wires-length (getD f (at + 1) 0) f (at + 2), q)
 
   pub said-unknown : (b : ℕ) {N : Type 0} → getD f at 0 ≡ b → NoneOf N b recordCodes → saidSize f at ≡ 0
   unfolding saidSize
@@ -86,7 +92,7 @@ module _ (f : List ℕ) (at : ℕ) where
   module _ (l : at ≤ length f) where
     pub whole-said : saidSize f at ≤ length f - at → saidSize f at ≡ cond (wholeAt f at) (sizeAt f at) 0
     unfolding saidSize wholeAt
-    whole-said = go (elem (getD f at 0) recordCodes) (bounded (recordAt f at))
+    whole-said = go (elem (getD f at 0) recordCodes) (bounded (versionIn f) (recordAt f at))
       where
         go : (a b : Bool) → cond (a && b) (sizeAt f at) 0 ≤ length f - at
             → cond (a && b) (sizeAt f at) 0 ≡ cond (a && leb (at + sizeAt f at) (length f) && b) (sizeAt f at) 0
@@ -96,12 +102,21 @@ module _ (f : List ℕ) (at : ℕ) where
 
     pub whole-short : length f - at < saidSize f at → 0 ≡ cond (wholeAt f at) (sizeAt f at) 0
     unfolding saidSize wholeAt
-    whole-short = go (elem (getD f at 0) recordCodes) (bounded (recordAt f at))
+    whole-short = go (elem (getD f at 0) recordCodes) (bounded (versionIn f) (recordAt f at))
       where
         go : (a b : Bool) → length f - at < cond (a && b) (sizeAt f at) 0 → 0 ≡ cond (a && leb (at + sizeAt f at) (length f) && b) (sizeAt f at) 0
         go true true h = rw (lt-leb (at + sizeAt f at) (length f) (omega (arith, l, h)))
         go true false h = absurd (omega arith)
         go false b h = absurd (omega arith)
+
+-- the bytes of a guard of n wires; most and bytes: what the code was told of the file's version
+module _ (f : List ℕ) (n most : ℕ) (p : most ≡ mostGuardWires (versionIn f)) where
+  pub guard-few : (bytes : ℕ) → bytes ≡ tableBytes (versionIn f) → n ≤ most
+      → 2 + 2 * n + bytes ≡ cond (leb n (mostGuardWires (versionIn f))) (2 + 2 * n + tableBytes (versionIn f)) 0
+  guard-few bytes q h = rw (← p, le-leb n most h, q)
+
+  pub guard-many : most < n → 0 ≡ cond (leb n (mostGuardWires (versionIn f))) (2 + 2 * n + tableBytes (versionIn f)) 0
+  guard-many h = rw (← p, lt-leb n most h)
 
 -- the walk over the records: one that is not whole ends it, after a whole one it goes on, and the outputs end where the file ends
 pub laid-start : (f : List ℕ) → laid f ≡ laidFrom (wireCount f) f firstRecord

@@ -4,10 +4,10 @@ use mathlib.Core.Bool.{_&&_, cond}
 use mathlib.Core.List.{List}
 use lib.ListN.{getD}
 use Rattle.words.specs.Lists.{elem}
-use Rattle.records.specs.FileFigures.{recordAt, sizeAt}
+use Rattle.records.specs.FileFigures.{versionIn, recordAt, sizeAt}
 use Rattle.records.specs.LaidOut.{recordCodes}
 use Rattle.records.specs.CircuitRows.{bounded}
 
 -- 0 for a code that is unknown, or a record that has what it may not; every other has a byte at least
 unfoldable pub saidSize : List ℕ → ℕ → ℕ
-saidSize f at = cond (elem (getD f at 0) recordCodes && bounded (recordAt f at)) (sizeAt f at) 0
+saidSize f at = cond (elem (getD f at 0) recordCodes && bounded (versionIn f) (recordAt f at)) (sizeAt f at) 0

@@ -1,18 +1,18 @@
 // Document 02, C-11: rows 60 and 61 of a circuit file, as tests over its bytes: its head, and its records laid out one after another.
 ghost use mathlib.Core.Path.{_≡_};
 ghost use mathlib.Core.Bool.{cond};
-ghost use Prim.Native.Nat.{_≤_};
-ghost use lib.ListN.{length, take, getD};
-ghost use Rattle.words.specs.Lists.{same};
-ghost use Rattle.records.specs.CircuitFile.{mark};
-ghost use Rattle.records.specs.FileFigures.{sizeAt, firstRecord};
-ghost use Rattle.records.specs.CircuitRows.{headed, wholeAt, laid};
+ghost use Prim.Native.Nat.{_+_, _*_, _≤_, _<_};
+ghost use lib.Dec.{leb};
+ghost use lib.ListN.{length, getD};
+ghost use Rattle.records.specs.Versions.{mostGuardWires, tableBytes};
+ghost use Rattle.records.specs.FileFigures.{versionIn, sizeAt, firstRecord};
+ghost use Rattle.records.specs.CircuitRows.{marked, headed, wholeAt, laid};
 ghost use Rattle.layout.specs.Said.{saidSize};
 
-// The mark and version.
+// The mark and one of the two versions.
 fn marked(file: &[u8]) -> bool
     requires { ⌜ firstRecord ≤ length (now file) ⌝ }
-    ensures { λ r. ⌜ r ≡ same (take (length mark) (now (file .entry))) mark ⌝ }
+    ensures { λ r. ⌜ r ≡ marked (now (file .entry)) ⌝ }
 {
     if file[0] != 0x43 {
         return false;
@@ -26,7 +26,10 @@ fn marked(file: &[u8]) -> bool
     if file[3] != 0x00 {
         return false;
     }
-    file[4] == 0x01
+    if file[4] == 0x01 {
+        return true;
+    }
+    file[4] == 0x02
 }
 
 // Row 60: does none of it apply to the file?
@@ -48,7 +51,7 @@ pub fn headed(file: &[u8]) -> bool
     if 32 < file[5] {
         return false;
     }
-    words::read16(file, 6) <= 640
+    words::wide16(words::read16(file, 6)) <= records::MOST_WIRES
 }
 
 // The byte at a place; 0 past the end, where no record is whole.
@@ -58,9 +61,23 @@ fn byte_at(file: &[u8], at: usize) -> u8
     if at < file.len() { file[at] } else { 0 }
 }
 
-// The bytes that the record at a place says it has; 0 for an unknown code, a bit constant above 01, a pick with no pair or a guard of over 6 wires.
+// The bytes of a guard of so many wires; 0 for more wires than the file's version allows.
+fn guard_size(file: &[u8], wires: usize) -> usize
+    requires { ⌜ (firstRecord ≤ length (now file)) × (wires < 256) ⌝ }
+    ensures { λ r. ⌜ r ≡ cond (leb wires (mostGuardWires (versionIn (now (file .entry))))) (2 + 2 * wires + tableBytes (versionIn (now (file .entry)))) 0 ⌝ }
+{
+    let version = file[4];
+    if wires <= records::most_guard_wires(version) {
+        2 + 2 * wires + records::table_bytes(version)
+    } else {
+        0
+    }
+}
+
+// The bytes that the record at a place says it has; 0 for an unknown code, a bit constant above 01, a pick with no pair
+// or a guard of more wires than its version allows.
 fn said_size(file: &[u8], at: usize) -> usize
-    requires { ⌜ at ≤ length (now file) ⌝ }
+    requires { ⌜ (firstRecord ≤ length (now file)) × (at ≤ length (now file)) ⌝ }
     ensures { λ r. ⌜ r ≡ saidSize (now (file .entry)) at ⌝ }
 {
     match byte_at(file, at) {
@@ -81,17 +98,14 @@ fn said_size(file: &[u8], at: usize) -> usize
             let pairs = words::wide8(byte_at(file, at + 1));
             if 1 <= pairs { 2 + 4 * pairs } else { 0 }
         }
-        0x32 => {
-            let wires = words::wide8(byte_at(file, at + 1));
-            if wires <= 6 { 10 + 2 * wires } else { 0 }
-        }
+        0x32 => guard_size(file, words::wide8(byte_at(file, at + 1))),
         _ => 0,
     }
 }
 
 // The bytes of the record at a place; 0 where no whole one begins.
 fn whole_size(file: &[u8], at: usize) -> usize
-    requires { ⌜ at ≤ length (now file) ⌝ }
+    requires { ⌜ (firstRecord ≤ length (now file)) × (at ≤ length (now file)) ⌝ }
     ensures { λ r. ⌜ r ≡ cond (wholeAt (now (file .entry)) at) (sizeAt (now (file .entry)) at) 0 ⌝ }
 {
     let size = said_size(file, at);

@@ -15,6 +15,7 @@ use Rattle.gates.specs.Gates.{conditions}
 use Rattle.gates.specs.Limits.{mostConditions}
 use Rattle.needed.specs.Held.{Applies, gatesIn, codeAt}
 use Rattle.plan.specs.PlanFile.{groupAt}
+use Rattle.records.specs.Versions.{writtenVersion, tableBytes}
 use Rattle.records.specs.Records.{Record, recordsCost}
 use Rattle.records.specs.CircuitFile.{recordBytes, recordsBytes}
 use Rattle.records.specs.SizeLaws.{cost-none, cost-more, cost-one, cost-append}
@@ -28,13 +29,13 @@ use Rattle.joining.specs.JoinedLaws.{fused-long}
 
 -- Its size.
 
-guards-long : (conds : List ℕ) (wire : ℕ → ℕ) (sets ms : List ℕ) → length (recordsBytes (guardsIn conds wire sets ms)) ≡ (2 + setBytes) * length ms + 2 * restedBy sets ms
+guards-long : (conds : List ℕ) (wire : ℕ → ℕ) (sets ms : List ℕ) → length (recordsBytes writtenVersion (guardsIn conds wire sets ms)) ≡ (2 + tableBytes writtenVersion) * length ms + 2 * restedBy sets ms
 guards-long conds wire sets [] = omega arith
 guards-long conds wire sets (m ∷ ms) =
-    length-append (recordBytes (guardIn conds wire (getD sets m 0))) (recordsBytes (guardsIn conds wire sets ms))
-    ∙ (let a : length (recordBytes (guardIn conds wire (getD sets m 0))) ≡ 2 + setBytes + 2 * length (rests mostConditions (getD sets m 0)) = guard-size conds wire (getD sets m 0) in
-    let b : length (recordsBytes (guardsIn conds wire sets ms)) ≡ (2 + setBytes) * length ms + 2 * restedBy sets ms = guards-long conds wire sets ms in
-    let z : length (recordBytes (guardIn conds wire (getD sets m 0))) + length (recordsBytes (guardsIn conds wire sets ms)) ≡ (2 + setBytes) * suc (length ms) + 2 *
+    length-append (recordBytes writtenVersion (guardIn conds wire (getD sets m 0))) (recordsBytes writtenVersion (guardsIn conds wire sets ms))
+    ∙ (let a : length (recordBytes writtenVersion (guardIn conds wire (getD sets m 0))) ≡ 2 + tableBytes writtenVersion + 2 * length (rests mostConditions (getD sets m 0)) = guard-size conds wire (getD sets m 0) in
+    let b : length (recordsBytes writtenVersion (guardsIn conds wire sets ms)) ≡ (2 + tableBytes writtenVersion) * length ms + 2 * restedBy sets ms = guards-long conds wire sets ms in
+    let z : length (recordBytes writtenVersion (guardIn conds wire (getD sets m 0))) + length (recordsBytes writtenVersion (guardsIn conds wire sets ms)) ≡ (2 + tableBytes writtenVersion) * suc (length ms) + 2 *
     (length (rests mostConditions (getD sets m 0)) + restedBy sets ms) = omega (arith, a, b) in
     z)
 
@@ -57,13 +58,13 @@ module _ (quads : List ℕ) (count : ℕ) (sets conds : List ℕ) (wire : ℕ �
 -- the size of a joined group
 pub joined-sized : (quads sets p : List ℕ) (at g k : ℕ) (means : Code) → Joinable quads p at → k ≡ restedBy sets (groupAt p at) → g ≡ getD (groupAt p at) 0 0
     → means ≡ codeOf (codeAt quads g)
-    → Measured quads sets (groupAt p at) (getD p at 0 + 3) ((10 + setBytes) * getD p at 0 + 2 * k + 9) (5 * getD p at 0 + means .cost)
+    → Measured quads sets (groupAt p at) (getD p at 0 + 3) ((10 + tableBytes writtenVersion) * getD p at 0 + 2 * k + 9) (5 * getD p at 0 + means .cost)
 joined-sized quads sets p at g k means j kk gg rr =
     record {
       wired = λ count wire n below. sym
           (ap (λ (R : List Record). length R) (same count wire n below) ∙ joined-wires quads count sets (conditions (gatesIn quads count)) wire n (groupAt p at) ∙ ap
           (λ (i : ℕ). i + 3) (length-group p at));
-      long = λ count wire n below. sym (ap (λ (R : List Record). length (recordsBytes R)) (same count wire n below) ∙ bytes count wire n);
+      long = λ count wire n below. sym (ap (λ (R : List Record). length (recordsBytes writtenVersion R)) (same count wire n below) ∙ bytes count wire n);
       costs = λ count wire n below. sym
           (ap (λ (R : List Record). recordsCost R) (same count wire n below) ∙ joined-cost quads count sets (conditions (gatesIn quads count)) wire n (groupAt p at)
           ∙ cost);
@@ -80,9 +81,9 @@ joined-sized quads sets p at g k means j kk gg rr =
     same count wire n below = emit-joined quads count sets (conditions (gatesIn quads count)) wire n (groupAt p at) many below (j .two) (λ t l. refl)
 
     bytes : (count : ℕ) (wire : ℕ → ℕ) (n : ℕ) → length
-        (recordsBytes (joinedIn quads count sets (conditions (gatesIn quads count)) wire n (groupAt p at))) ≡ (10 + setBytes) * getD p at 0 + 2 * k + 9
+        (recordsBytes writtenVersion (joinedIn quads count sets (conditions (gatesIn quads count)) wire n (groupAt p at))) ≡ (10 + tableBytes writtenVersion) * getD p at 0 + 2 * k + 9
     bytes count wire n =
-        let G : List ℕ = recordsBytes (guardsIn (conditions (gatesIn quads count)) wire sets (groupAt p at)) in
+        let G : List ℕ = recordsBytes writtenVersion (guardsIn (conditions (gatesIn quads count)) wire sets (groupAt p at)) in
         ap (λ (b : List ℕ). length b) (joined-bytes quads count sets (conditions (gatesIn quads count)) wire n (groupAt p at) code)
         ∙ length-append G (fusedBytes quads wire n (length (groupAt p at)) (groupAt p at))
         ∙ omega (

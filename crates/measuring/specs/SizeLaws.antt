@@ -12,6 +12,7 @@ use Rattle.codes.specs.declared.Code.{Code}
 use Rattle.gates.specs.Gates.{Gate, start, word, bit, operation, choice, costOf}
 use Rattle.needed.specs.Held.{choiceCode, Applies, gateIn, codeAt, firstAt}
 use Rattle.needed.specs.QuadLaws.{KindIn, chooses, is-word, is-bit, applies, starts, kind-in, choice-in, word-in, bit-in, start-in, applied-in}
+use Rattle.records.specs.Versions.{writtenVersion}
 use Rattle.records.specs.Records.{recordCost}
 use Rattle.records.specs.CircuitFile.{recordBytes}
 use Rattle.records.specs.SizeLaws.{cost-one}
@@ -27,12 +28,12 @@ cost-same code wire (operation op l) = refl
 cost-same code wire (choice c a b) = refl
 
 module _ (quads : List ℕ) (g : ℕ) where
-  alone-sized : (bytes cost : ℕ) → ((wire : ℕ → ℕ) → length (recordBytes (aloneIn quads wire g)) ≡ bytes) → costOf (gateIn quads g) ≡ cost
+  alone-sized : (bytes cost : ℕ) → ((wire : ℕ → ℕ) → length (recordBytes writtenVersion (aloneIn quads wire g)) ≡ bytes) → costOf (gateIn quads g) ≡ cost
       → (sets : List ℕ) → Measured quads sets (g ∷ []) 1 bytes cost
   alone-sized bytes cost long costs sets =
       record {
         wired = λ count wire n below. refl;
-        long = λ count wire n below. sym (ap (λ (b : List ℕ). length b) (append-nil (recordBytes (aloneIn quads wire g))) ∙ long wire);
+        long = λ count wire n below. sym (ap (λ (b : List ℕ). length b) (append-nil (recordBytes writtenVersion (aloneIn quads wire g))) ∙ long wire);
         costs = λ count wire n below. sym (cost-one (aloneIn quads wire g) ∙ cost-same (codeAt quads g) wire (gateIn quads g) ∙ costs);
       }
 
@@ -89,7 +90,7 @@ module _ (quads : List ℕ) (g : ℕ) where
         go (inr (inl h)) = alone-sized 2 0 (λ wire. start-long quads g wire h) (ap costOf (start-in quads g (omega (arith, h))))
         go (inr (inr h)) = absurd (none (code-some h))
 
-    applied-long : Applies (codeAt quads g) → (code .arity ≡ 1) ⊎ (code .arity ≡ 2) → (wire : ℕ → ℕ) → length (recordBytes (aloneIn quads wire g)) ≡ 1 + 2 * code .arity
+    applied-long : Applies (codeAt quads g) → (code .arity ≡ 1) ⊎ (code .arity ≡ 2) → (wire : ℕ → ℕ) → length (recordBytes writtenVersion (aloneIn quads wire g)) ≡ 1 + 2 * code .arity
     applied-long h (inl e) wire = unary-long quads g wire h (ap (λ (c : Code). c .arity) (sym is) ∙ e) ∙ rw e
     applied-long h (inr e) wire = binary-long quads g wire h (λ z. let y : code .arity ≡ 1 = ap (λ (c : Code). c .arity) is ∙ z in omega (arith, e, y)) ∙ rw e
 

@@ -6,6 +6,7 @@ use lib.ListN.{length, getD}
 use Rattle.settings.specs.Sets.{rests}
 use Rattle.gates.specs.Limits.{mostConditions}
 use Rattle.words.specs.Lists.{Inside}
+use Rattle.records.specs.Versions.{writtenVersion}
 use Rattle.records.specs.Records.{recordsCost}
 use Rattle.records.specs.CircuitFile.{recordsBytes}
 use Rattle.joining.specs.Joined.{emitIn}
@@ -18,5 +19,5 @@ restedBy sets (m ∷ ms) = length (rests mostConditions (getD sets m 0)) + reste
 -- the records of a group with these members have these wires, bytes and cost, wherever they stand and whatever the wires that they read
 pub record Measured (quads sets ms : List ℕ) (wires bytes cost : ℕ) : Type 0 where
   pub wired : (count : ℕ) (wire : ℕ → ℕ) (n : ℕ) → Inside count ms → wires ≡ length (emitIn quads count sets wire n ms)
-  pub long : (count : ℕ) (wire : ℕ → ℕ) (n : ℕ) → Inside count ms → bytes ≡ length (recordsBytes (emitIn quads count sets wire n ms))
+  pub long : (count : ℕ) (wire : ℕ → ℕ) (n : ℕ) → Inside count ms → bytes ≡ length (recordsBytes writtenVersion (emitIn quads count sets wire n ms))
   pub costs : (count : ℕ) (wire : ℕ → ℕ) (n : ℕ) → Inside count ms → cost ≡ recordsCost (emitIn quads count sets wire n ms)

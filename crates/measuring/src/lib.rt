@@ -70,10 +70,10 @@ fn rested_by(plan: &[u8], at: usize, needs: &[u64; NEED_WORDS]) -> usize
     n
 }
 
-// What a member adds to the bytes of its group, but for the wires of its guard: the guard's head and table, and a pair of each of two picks.
-const MEMBER_BYTES: usize = 10 + settings::BYTES;
+// The bytes of a joined group for each member, but for the wires that its guard reads: two and the table of its guard, a pair in each of two picks.
+const MEMBER: usize = 10 + records::WRITTEN_TABLE;
 
-// The size of the joined group at the place `at` of the plan: a guard, its wires and its table for each member, two picks, the operation.
+// The size of the joined group at the place `at` of the plan: a guard and its wires for each member, two picks, the operation.
 pub fn size_joined(plan: &[u8], at: usize, quads: &[u32; 1024], needs: &[u64; NEED_WORDS]) -> Size
     requires { ⌜ Joinable (now quads) (now plan) at ⌝ }
     ensures { λ r. ⌜ Measured (now (quads .entry)) (setsIn (now (needs .entry))) (groupAt (now (plan .entry)) at) (r .wires) (r .bytes) (r .cost) ⌝ }
@@ -85,7 +85,7 @@ pub fn size_joined(plan: &[u8], at: usize, quads: &[u32; 1024], needs: &[u64; NE
     let means = codes::code_of(quads[4 * i] as u8);
     Size {
         wires: size + 3,
-        bytes: MEMBER_BYTES * size + 2 * n + 9,
+        bytes: MEMBER * size + 2 * n + 9,
         cost: 5 * size + (means.cost as usize),
     }
 }

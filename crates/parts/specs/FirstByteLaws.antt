@@ -3,9 +3,10 @@ use Prim.Native.Nat.{ℕ, _+_, _≤_, _<_}
 use mathlib.Core.Path.{_≡_}
 use mathlib.Core.List.{List}
 use native.Mathlib.Omega.{arith}
-use lib.ListN.{length}
-use Rattle.records.specs.FileFigures.{sizeAt}
-use Rattle.records.specs.FoundForms.{OtherByte, size-some}
+use lib.ListN.{length, getD}
+use Rattle.records.specs.FileFigures.{versionIn, sizeAt}
+use Rattle.records.specs.FoundForms.{OtherByte, form-guard, size-some}
+use Rattle.records.specs.VersionLaws.{table-few}
 
 -- any other byte, as the last arm of a decision over the bytes is told it
 pub other : (b : ℕ) {N : Type 0}
@@ -24,3 +25,7 @@ other b r = record {
 -- a record that is there has its first byte there
 pub first-inside : (f : List ℕ) (at : ℕ) → at + sizeAt f at ≤ length f → at < length f
 first-inside f at h = omega (arith, h, size-some f at)
+
+-- and where it is a guard, the version byte is there too
+pub version-inside : (f : List ℕ) (at : ℕ) → getD f at 0 ≡ 0x32 → at + sizeAt f at ≤ length f → 4 < length f
+version-inside f at e h = omega (arith, h, form-guard f at e .1, table-few (versionIn f))

@@ -14,7 +14,7 @@ use Rattle.codes.specs.declared.Kind.{Kind}
 use Rattle.codes.specs.declared.Kind.the-variants as kind
 use Rattle.records.specs.Records.{Record, pick, reads}
 use Rattle.records.specs.WireKinds.{recordKind}
-use Rattle.records.specs.FileFigures.{pairsAt, recordAt}
+use Rattle.records.specs.FileFigures.{versionIn, pairsAt, recordAt}
 use Rattle.records.specs.FilePartLaws.{pairs-length}
 use Rattle.records.specs.FoundForms.{form-input, form-word, form-bit, form-choice, form-pick, form-guard}
 use Rattle.records.specs.Limits.{mostWires}
@@ -57,7 +57,7 @@ module _ (f : List ℕ) (at : ℕ) (bits : List Bool) where
     -- a pick has a first pair
     module _ (h : getD f at 0 ≡ 0x31) where
       some-pair : 1 ≤ getD f (at + 1) 0
-      some-pair = rw (pairs-length (getD f (at + 1) 0) f (at + 2)) at (subst Bounded (form-pick f at h .0) (whole .bounded))
+      some-pair = rw (pairs-length (getD f (at + 1) 0) f (at + 2)) at (subst (Bounded (versionIn f)) (form-pick f at h .0) (whole .bounded))
 
       is-pick : recordAt f at ≡ pick (record { guarding = numberAt 2 f (at + 2); value = numberAt 2 f (at + 4) } ∷ pairsAt (getD f (at + 1) 0 - 1) f (at + 6))
       is-pick =

@@ -22,7 +22,8 @@ pub fn wire_at(file: &[u8], at: usize) -> WireId
     WireId(words::read16(file, at))
 }
 
-// The bytes of the record at a place. The arms are constants where they can be: this is asked once a record, by every pass over a file.
+// The bytes of the record at a place. The arms are constants where they can be: this is asked once a record, by every pass over a file;
+// a guard's table is by the file's version.
 pub fn record_size(file: &[u8], at: usize) -> usize
     requires { ⌜ WholeAt (now file) at ⌝ }
     ensures { λ r. ⌜ r ≡ sizeAt (now (file .entry)) at ⌝ }
@@ -35,13 +36,13 @@ pub fn record_size(file: &[u8], at: usize) -> usize
         0x27 => 3,
         0x30 => 7,
         0x31 => 2 + 4 * words::wide8(file[at + 1]),
-        0x32 => 10 + 2 * words::wide8(file[at + 1]),
+        0x32 => 2 + 2 * words::wide8(file[at + 1]) + records::table_bytes(file[4]),
         _ => 5,
     }
 }
 
 // Whether a wire is a bit, of the wires whose kinds are worked out.
-pub fn is_bit(bits: &[bool; 640], w: WireId) -> bool
+pub fn is_bit(bits: &[bool; records::MOST_WIRES], w: WireId) -> bool
     requires { ⌜ w .0 < mostWires ⌝ }
     ensures { λ r. ⌜ r ≡ getD (now (bits .entry)) (w .0) false ⌝ }
 {
@@ -49,7 +50,7 @@ pub fn is_bit(bits: &[bool; 640], w: WireId) -> bool
 }
 
 // Whether the wire of the record at a place is a bit: a choice is of its first value's kind, a pick of its first pair's.
-pub fn record_is_bit(file: &[u8], at: usize, bits: &[bool; 640]) -> bool
+pub fn record_is_bit(file: &[u8], at: usize, bits: &[bool; records::MOST_WIRES]) -> bool
     requires { ⌜ WholeAt (now file) at × Inside mostWires (reads (recordAt (now file) at)) ⌝ }
     ensures { λ r. ⌜ r ≡ isBit (recordKind (heldKind (now (bits .entry))) (recordAt (now (file .entry)) at)) ⌝ }
 {

@@ -11,8 +11,9 @@ use Rattle.words.specs.Numbers.{bytesOf, numberAt, Bytes}
 use Rattle.words.specs.NumberLaws.{number-small, number-back}
 use Rattle.codes.specs.Codes.{entryOf, byteOf, startCode}
 use Rattle.records.specs.Records.{Record, input, word, bit, operation, choice, pick, guard, pairWires}
+use Rattle.records.specs.Versions.{Version, tableBytes}
 use Rattle.records.specs.CircuitFile.{wiresBytes, recordBytes}
-use Rattle.records.specs.FileFigures.{wiresAt, pairsAt, recordAt, sizeAt}
+use Rattle.records.specs.FileFigures.{versionIn, wiresAt, pairsAt, recordAt, sizeAt}
 use Rattle.records.specs.LaidOut.{WholeAt}
 use Rattle.records.specs.FitRecords.{Wires, ReadsBack}
 use Rattle.records.specs.FilePartLaws.{wires-length, pairs-length}
@@ -29,6 +30,13 @@ pair-wires (suc n) f at =
     ∙ ap (λ (k : ℕ). wiresAt k f at) e
 
 module _ (f : List ℕ) (bytes : Bytes f) where
+  -- its version and the bytes of its tables
+  abbrev ver : Version
+  ver = versionIn f
+
+  abbrev T : ℕ
+  T = tableBytes ver
+
   -- the same bytes, then the rest from the same place
   at-place : (l : List ℕ) (a b : ℕ) → a ≡ b → l ++ drop a f ≡ l ++ drop b f
   at-place l a b e = ap (λ (k : ℕ). l ++ drop k f) e
@@ -52,7 +60,7 @@ module _ (f : List ℕ) (bytes : Bytes f) where
     two-back : (b : ℕ) → getD f at 0 ≡ b → at + 2 ≤ length f → drop at f ≡ b ∷ getD f (at + 1) 0 ∷ drop (at + 2) f
     two-back b e h = drop-two f at b (omega arith) e
 
-    word-back : getD f at 0 ≡ 0x11 → at + 5 ≤ length f → drop at f ≡ recordBytes (word (numberAt 4 f (at + 1))) ++ drop (at + 5) f
+    word-back : getD f at 0 ≡ 0x11 → at + 5 ≤ length f → drop at f ≡ recordBytes ver (word (numberAt 4 f (at + 1))) ++ drop (at + 5) f
     word-back e h =
         let p : at + 1 + 4 ≡ at + 5 = omega arith in
         drop-one f at 0x11 (omega arith) e
@@ -64,45 +72,45 @@ module _ (f : List ℕ) (bytes : Bytes f) where
         drop-one f at b (omega arith) e ∙ ap (λ (r : List ℕ). b ∷ r) (wires-back n (at + 1) (omega arith) ∙ at-place (wiresBytes (wiresAt n f (at + 1))) _ _ p)
 
     choice-back : getD f at 0 ≡ 0x30 → at + 7 ≤ length f
-        → drop at f ≡ recordBytes (choice (numberAt 2 f (at + 1)) (numberAt 2 f (at + 3)) (numberAt 2 f (at + 5))) ++ drop (at + 7) f
+        → drop at f ≡ recordBytes ver (choice (numberAt 2 f (at + 1)) (numberAt 2 f (at + 3)) (numberAt 2 f (at + 5))) ++ drop (at + 7) f
     choice-back e h =
         let p : at + 1 + 2 ≡ at + 3 = omega arith in
         let q : at + 1 + 2 + 2 ≡ at + 5 = omega arith in
         operation-back 0x30 3 e (omega arith)
-        ∙ ap₂ (λ (i j : ℕ). recordBytes (choice (numberAt 2 f (at + 1)) (numberAt 2 f i) (numberAt 2 f j)) ++ drop (at + 7) f) p q
+        ∙ ap₂ (λ (i j : ℕ). recordBytes ver (choice (numberAt 2 f (at + 1)) (numberAt 2 f i) (numberAt 2 f j)) ++ drop (at + 7) f) p q
 
     pick-back : (n : ℕ) → n ≡ getD f (at + 1) 0 → getD f at 0 ≡ 0x31 → at + (2 + 4 * n) ≤ length f
-        → drop at f ≡ recordBytes (pick (pairsAt n f (at + 2))) ++ drop (at + (2 + 4 * n)) f
+        → drop at f ≡ recordBytes ver (pick (pairsAt n f (at + 2))) ++ drop (at + (2 + 4 * n)) f
     pick-back n c e h =
         let p : at + 2 + 2 * (2 * n) ≡ at + (2 + 4 * n) = omega arith in
         two-back 0x31 e (omega arith)
         ∙ ap (λ (r : List ℕ). 0x31 ∷ getD f (at + 1) 0 ∷ r) (wires-back (2 * n) (at + 2) (omega arith) ∙ at-place (wiresBytes (wiresAt (2 * n) f (at + 2))) _ _ p)
         ∙ ap₂ (λ (k : ℕ) (l : List ℕ). 0x31 ∷ k ∷ (wiresBytes l ++ drop (at + (2 + 4 * n)) f)) (sym (pairs-length n f (at + 2) ∙ c)) (sym (pair-wires n f (at + 2)))
 
-    guard-back : (n : ℕ) → n ≡ getD f (at + 1) 0 → getD f at 0 ≡ 0x32 → at + (10 + 2 * n) ≤ length f
-        → drop at f ≡ recordBytes (guard (wiresAt n f (at + 2)) (numberAt 8 f (at + 2 + 2 * n))) ++ drop (at + (10 + 2 * n)) f
+    guard-back : (n : ℕ) → n ≡ getD f (at + 1) 0 → getD f at 0 ≡ 0x32 → at + (2 + 2 * n + T) ≤ length f
+        → drop at f ≡ recordBytes ver (guard (wiresAt n f (at + 2)) (numberAt T f (at + 2 + 2 * n))) ++ drop (at + (2 + 2 * n + T)) f
     guard-back n c e h =
-        let p : at + 2 + 2 * n + 8 ≡ at + (10 + 2 * n) = omega arith in
+        let p : at + 2 + 2 * n + T ≡ at + (2 + 2 * n + T) = omega arith in
         let w = wiresBytes (wiresAt n f (at + 2)) in
-        let t = bytesOf 8 (numberAt 8 f (at + 2 + 2 * n)) in
+        let t = bytesOf T (numberAt T f (at + 2 + 2 * n)) in
         two-back 0x32 e (omega arith)
         ∙ ap (λ (r : List ℕ). 0x32 ∷ getD f (at + 1) 0 ∷ r)
         (wires-back n (at + 2) (omega arith)
-        ∙ ap (λ (r : List ℕ). w ++ r) (number-back 8 f (at + 2 + 2 * n) bytes (omega arith) ∙ at-place t _ _ p)
-        ∙ sym (append-assoc w t (drop (at + (10 + 2 * n)) f)))
-        ∙ ap (λ (k : ℕ). 0x32 ∷ k ∷ ((w ++ t) ++ drop (at + (10 + 2 * n)) f)) (sym (wires-length n f (at + 2) ∙ c))
+        ∙ ap (λ (r : List ℕ). w ++ r) (number-back T f (at + 2 + 2 * n) bytes (omega arith) ∙ at-place t _ _ p)
+        ∙ sym (append-assoc w t (drop (at + (2 + 2 * n + T)) f)))
+        ∙ ap (λ (k : ℕ). 0x32 ∷ k ∷ ((w ++ t) ++ drop (at + (2 + 2 * n + T)) f)) (sym (wires-length n f (at + 2) ∙ c))
 
     -- a record r of n bytes that is read there
-    read-back : (r : Record) (n : ℕ) → (recordAt f at ≡ r) × (sizeAt f at ≡ n) → (at + n ≤ length f → drop at f ≡ recordBytes r ++ drop (at + n) f)
-        → at + sizeAt f at ≤ length f → drop at f ≡ recordBytes (recordAt f at) ++ drop (at + sizeAt f at) f
+    read-back : (r : Record) (n : ℕ) → (recordAt f at ≡ r) × (sizeAt f at ≡ n) → (at + n ≤ length f → drop at f ≡ recordBytes ver r ++ drop (at + n) f)
+        → at + sizeAt f at ≤ length f → drop at f ≡ recordBytes ver (recordAt f at) ++ drop (at + sizeAt f at) f
     read-back r n (e, s) back h =
-        back (subst (λ (k : ℕ). at + k ≤ length f) s h) ∙ ap₂ (λ (q : Record) (k : ℕ). recordBytes q ++ drop (at + k) f) (sym e) (sym s)
+        back (subst (λ (k : ℕ). at + k ≤ length f) s h) ∙ ap₂ (λ (q : Record) (k : ℕ). recordBytes ver q ++ drop (at + k) f) (sym e) (sym s)
 
     -- the bytes from a place on: those of the record that is read there, and the rest
-    pub record-rest : WholeAt f at → drop at f ≡ recordBytes (recordAt f at) ++ drop (at + sizeAt f at) f
+    pub record-rest : WholeAt f at → drop at f ≡ recordBytes ver (recordAt f at) ++ drop (at + sizeAt f at) f
     record-rest w = go (known-coded (getD f at 0) (w .known))
       where
-        go : Coded (getD f at 0) → drop at f ≡ recordBytes (recordAt f at) ++ drop (at + sizeAt f at) f
+        go : Coded (getD f at 0) → drop at f ≡ recordBytes ver (recordAt f at) ++ drop (at + sizeAt f at) f
         go (is-input k e) = read-back (input k (getD f (at + 1) 0)) 2 (form-input f at k e) (two-back (startCode k) e) (w .inside)
         go (is-word e) = read-back (word (numberAt 4 f (at + 1))) 5 (form-word f at e) (word-back e) (w .inside)
         go (is-bit e) = read-back (bit (getD f (at + 1) 0)) 2 (form-bit f at e) (two-back 0x12 e) (w .inside)
@@ -115,16 +123,16 @@ module _ (f : List ℕ) (bytes : Bytes f) where
             let n = getD f (at + 1) 0 in read-back (pick (pairsAt n f (at + 2))) (2 + 4 * n) (form-pick f at e) (pick-back n refl e) (w .inside)
         go (is-guard e) =
             let n = getD f (at + 1) 0 in
-            read-back (guard (wiresAt n f (at + 2)) (numberAt 8 f (at + 2 + 2 * n))) (10 + 2 * n) (form-guard f at e) (guard-back n refl e) (w .inside)
+            read-back (guard (wiresAt n f (at + 2)) (numberAt T f (at + 2 + 2 * n))) (2 + 2 * n + T) (form-guard f at e) (guard-back n refl e) (w .inside)
 
     -- and that record fits its bytes
-    pub record-fits : WholeAt f at → ReadsBack (recordAt f at)
+    pub record-fits : WholeAt f at → ReadsBack ver (recordAt f at)
     record-fits w = go (known-coded (getD f at 0) (w .known))
       where
-        fits : (r : Record) (n : ℕ) → (recordAt f at ≡ r) × (sizeAt f at ≡ n) → (at + n ≤ length f → ReadsBack r) → ReadsBack (recordAt f at)
-        fits r n (e, s) k = subst ReadsBack (sym e) (k (subst (λ (m : ℕ). at + m ≤ length f) s (w .inside)))
+        fits : (r : Record) (n : ℕ) → (recordAt f at ≡ r) × (sizeAt f at ≡ n) → (at + n ≤ length f → ReadsBack ver r) → ReadsBack ver (recordAt f at)
+        fits r n (e, s) k = subst (ReadsBack ver) (sym e) (k (subst (λ (m : ℕ). at + m ≤ length f) s (w .inside)))
 
-        go : Coded (getD f at 0) → ReadsBack (recordAt f at)
+        go : Coded (getD f at 0) → ReadsBack ver (recordAt f at)
         go (is-input k e) = fits (input k (getD f (at + 1) 0)) 2 (form-input f at k e) (λ h. bytes (at + 1) (omega arith))
         go (is-word e) = fits (word (numberAt 4 f (at + 1))) 5 (form-word f at e) (λ h. number-small 4 f (at + 1) bytes (omega arith))
         go (is-bit e) = fits (bit (getD f (at + 1) 0)) 2 (form-bit f at e) (λ h. bytes (at + 1) (omega arith))
@@ -146,9 +154,9 @@ module _ (f : List ℕ) (bytes : Bytes f) where
             ))
         go (is-guard e) =
             let n = getD f (at + 1) 0 in
-            fits (guard (wiresAt n f (at + 2)) (numberAt 8 f (at + 2 + 2 * n))) (10 + 2 * n) (form-guard f at e)
+            fits (guard (wiresAt n f (at + 2)) (numberAt T f (at + 2 + 2 * n))) (2 + 2 * n + T) (form-guard f at e)
             (λ h. (
               rw (wires-length n f (at + 2)) (bytes (at + 1) (omega arith)),
               wires-small n (at + 2) (omega arith),
-              number-small 8 f (at + 2 + 2 * n) bytes (omega arith),
+              number-small T f (at + 2 + 2 * n) bytes (omega arith),
             ))

@@ -9,30 +9,39 @@ use Rattle.codes.specs.Codes.{sameKind, entryOf}
 use Rattle.codes.specs.declared.Kind.{Kind}
 use Rattle.codes.specs.declared.Kind.the-variants as kind
 use Rattle.records.specs.Records.{Record, input, word, bit, operation, choice, pick, guard, reads}
+use Rattle.records.specs.Versions.{Version, one, two, mostGuardWires}
 use Rattle.records.specs.WireKinds.{guardsOf, valuesOf, recordKind, wireKind}
 use Rattle.records.specs.CircuitFile.{mark, noWire}
-use Rattle.records.specs.FileFigures.{recordAt, sizeAt, firstRecord, fileVariables, wireCount, fileRecords, fileOutputs}
-use Rattle.records.specs.Limits.{mostFileBytes, mostFileVariables, mostWires, mostGuardWires}
+use Rattle.records.specs.FileFigures.{versionIn, recordAt, sizeAt, firstRecord, fileVariables, wireCount, fileRecords, fileOutputs}
+use Rattle.records.specs.Limits.{mostFileBytes, mostFileVariables, mostWires}
 use Rattle.records.specs.LaidOut.{recordCodes}
+
+-- the file begins with the mark of a version; of either, since "the reader takes both versions" (C-17)
+abbrev pub markedAs : Version → List ℕ → Bool
+markedAs ver f = same (take (length (mark ver)) f) (mark ver)
+
+abbrev pub marked : List ℕ → Bool
+marked f = markedAs one f || markedAs two f
 
 -- "60 when the file is under 8 or over 16,384 bytes, has another mark or version, V outside 1 to 32 or over 640 wires": none of it
 unfoldable pub headed : List ℕ → Bool
 headed f =
-    leb firstRecord (length f) && leb (length f) mostFileBytes && same (take (length mark) f) mark
+    leb firstRecord (length f) && leb (length f) mostFileBytes && marked f
     && leb 1 (fileVariables f) && leb (fileVariables f) mostFileVariables && leb (wireCount f) mostWires
 
--- "61 when a code is unknown, a record or the outputs run past the end, bytes are left, a bit constant is above 01, a guard has over 6 wires or a pick has no pair": none of it
-abbrev pub bounded : Record → Bool
-bounded (input k x) = true
-bounded (word n) = true
-bounded (bit b) = leb b 1
-bounded (operation op l) = true
-bounded (choice c a b) = true
-bounded (pick l) = leb 1 (length l)
-bounded (guard cs t) = leb (length cs) mostGuardWires
+-- "61 when a code is unknown, a record or the outputs run past the end, bytes are left, a bit constant is above 01, a guard has over 6 wires or a pick has no pair": none of it;
+-- C-17: "61 allows 8 guard wires in version 2"
+abbrev pub bounded : Version → Record → Bool
+bounded ver (input k x) = true
+bounded ver (word n) = true
+bounded ver (bit b) = leb b 1
+bounded ver (operation op l) = true
+bounded ver (choice c a b) = true
+bounded ver (pick l) = leb 1 (length l)
+bounded ver (guard cs t) = leb (length cs) (mostGuardWires ver)
 
 unfoldable pub wholeAt : List ℕ → ℕ → Bool
-wholeAt f at = elem (getD f at 0) recordCodes && leb (at + sizeAt f at) (length f) && bounded (recordAt f at)
+wholeAt f at = elem (getD f at 0) recordCodes && leb (at + sizeAt f at) (length f) && bounded (versionIn f) (recordAt f at)
 
 -- n records from the place at on, and then the outputs
 abbrev pub laidFrom : ℕ → List ℕ → ℕ → Bool

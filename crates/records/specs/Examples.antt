@@ -1,11 +1,16 @@
--- Document 01, "Examples": 3, the file of R1 with P1: no row refuses it, and its figures, computed from its bytes; document 02, C-11: picks with several guards at 1; C-13: outputs that name no wire.
-use Prim.Native.Nat.{ℕ}
+-- Document 01, "Examples": 3, the file of R1 with P1: no row refuses it, and its figures, computed from its bytes; document 02, C-11: picks with several guards at 1; C-13: outputs that name no wire;
+-- C-17: guards in both versions.
+use Prim.Native.Nat.{ℕ, _^_}
 use mathlib.Core.Path.{_≡_, refl}
-use mathlib.Core.List.{List, [], _∷_, map}
-use lib.ListN.{set}
+use mathlib.Core.List.{List, [], _∷_, _++_, map}
+use lib.ListN.{length, set, replicate}
 use Rattle.words.specs.Numbers.{number, bytesOf}
 use Rattle.codes.specs.Results.{resultOf}
 use Rattle.codes.specs.Codes.{operationOf, codeOf}
+use Rattle.codes.specs.declared.Kind.the-variants as kind
+use Rattle.records.specs.Versions.{Version, one, two}
+use Rattle.records.specs.Records.{input, guard}
+use Rattle.records.specs.CircuitFile.{fileBytes}
 use Rattle.records.specs.WireKinds.{wireKind}
 use Rattle.records.specs.WireFigures.{wireFigure}
 use Rattle.records.specs.FileFigures.{recordAt, sizeAt, fileRecords, fileOutputs, fileFigures}
@@ -36,6 +41,42 @@ example-3-run = refl
 pub example-3-row : circuitRow file3 ≡ 0
 unfolding number bytesOf operationOf codeOf recordAt sizeAt fileRecords fileOutputs wireKind headed wholeAt laid stands standing circuitRow
 example-3-row = refl
+
+-- Document 02, C-17: "example 3 becomes 124 bytes": the same circuit as version 2 writes it, a guard's table on two lines of its own
+abbrev pub file3InTwo : List ℕ
+file3InTwo =
+    0x43 ∷ 0x49 ∷ 0x52 ∷ 0x00 ∷ 0x02 ∷ 0x03 ∷ 0x00 ∷ 0x09
+    ∷ 0x01 ∷ 0x00
+    ∷ 0x00 ∷ 0x01
+    ∷ 0x00 ∷ 0x02
+    ∷ 0x32 ∷ 0x01 ∷ 0x00 ∷ 0x00
+    ∷ 0x00 ∷ 0x00 ∷ 0x00 ∷ 0x00 ∷ 0x00 ∷ 0x00 ∷ 0x00 ∷ 0x00 ∷ 0x00 ∷ 0x00 ∷ 0x00 ∷ 0x00 ∷ 0x00 ∷ 0x00 ∷ 0x00 ∷ 0x00
+    ∷ 0x00 ∷ 0x00 ∷ 0x00 ∷ 0x00 ∷ 0x00 ∷ 0x00 ∷ 0x00 ∷ 0x00 ∷ 0x00 ∷ 0x00 ∷ 0x00 ∷ 0x00 ∷ 0x00 ∷ 0x00 ∷ 0x00 ∷ 0x02
+    ∷ 0x32 ∷ 0x01 ∷ 0x00 ∷ 0x00
+    ∷ 0x00 ∷ 0x00 ∷ 0x00 ∷ 0x00 ∷ 0x00 ∷ 0x00 ∷ 0x00 ∷ 0x00 ∷ 0x00 ∷ 0x00 ∷ 0x00 ∷ 0x00 ∷ 0x00 ∷ 0x00 ∷ 0x00 ∷ 0x00
+    ∷ 0x00 ∷ 0x00 ∷ 0x00 ∷ 0x00 ∷ 0x00 ∷ 0x00 ∷ 0x00 ∷ 0x00 ∷ 0x00 ∷ 0x00 ∷ 0x00 ∷ 0x00 ∷ 0x00 ∷ 0x00 ∷ 0x00 ∷ 0x01
+    ∷ 0x31 ∷ 0x02 ∷ 0x00 ∷ 0x03 ∷ 0x00 ∷ 0x01 ∷ 0x00 ∷ 0x04 ∷ 0x00 ∷ 0x02
+    ∷ 0x31 ∷ 0x02 ∷ 0x00 ∷ 0x03 ∷ 0x00 ∷ 0x02 ∷ 0x00 ∷ 0x04 ∷ 0x00 ∷ 0x02
+    ∷ 0x22 ∷ 0x00 ∷ 0x05 ∷ 0x00 ∷ 0x06
+    ∷ 0x30 ∷ 0x00 ∷ 0x00 ∷ 0x00 ∷ 0x07 ∷ 0x00 ∷ 0x07
+    ∷ 0x00 ∷ 0x00 ∷ 0x00 ∷ 0x08 ∷ 0x00 ∷ 0x02
+    ∷ []
+
+pub example-3-two-size : length file3InTwo ≡ 124
+example-3-two-size = refl
+
+-- the same records and outputs are read from both, no row refuses either, and both give the same figures
+pub example-3-two : (fileRecords file3InTwo ≡ fileRecords file3) × (fileOutputs file3InTwo ≡ fileOutputs file3)
+unfolding number bytesOf operationOf codeOf recordAt sizeAt fileRecords fileOutputs
+example-3-two = (refl, refl)
+
+pub example-3-two-row : circuitRow file3InTwo ≡ 0
+unfolding number bytesOf operationOf codeOf recordAt sizeAt fileRecords fileOutputs wireKind headed wholeAt laid stands standing circuitRow
+example-3-two-row = refl
+
+pub example-3-two-run : map (λ x. fileFigures file3InTwo (x ∷ 6 ∷ 7 ∷ [])) (0 ∷ 1 ∷ []) ≡ (0 ∷ 49 ∷ 7 ∷ []) ∷ (1 ∷ 42 ∷ 7 ∷ []) ∷ []
+unfolding number bytesOf operationOf codeOf resultOf recordAt sizeAt fileRecords fileOutputs wireKind wireFigure fileFigures
+example-3-two-run = refl
 
 -- Document 02, C-11: "A pick with several guards at 1". A file made by hand, a record a line: a bit, two words, a pick of both words and a pick of the bit twice, each under the bit.
 abbrev pub fileOfSums : List ℕ
@@ -84,3 +125,29 @@ scraps-run = refl
 pub scraps-other : circuitRow (set fileOfScraps 22 0xFE) ≡ 62
 unfolding number bytesOf operationOf codeOf recordAt sizeAt fileRecords fileOutputs wireKind headed wholeAt laid stands standing circuitRow
 scraps-other = refl
+
+-- Document 02, C-17: "the reader takes both versions, each with its own guard size". The file of a bit, and of a guard of n wires, each of them the bit's, with a table.
+abbrev pub fileOfGuard : Version → ℕ → ℕ → List ℕ
+fileOfGuard ver n table = fileBytes ver 1 (input kind.Bit 0 ∷ guard (replicate n 0) table ∷ []) (1 ∷ [])
+
+-- six wires in version 1 and eight in version 2 are let through, one more is 61; a version 3 is 60
+pub guards-row : map (λ n. circuitRow (fileOfGuard one n 1)) (6 ∷ 7 ∷ []) ++ map (λ n. circuitRow (fileOfGuard two n 1)) (6 ∷ 7 ∷ 8 ∷ 9 ∷ [])
+    ≡ (0 ∷ 61 ∷ []) ++ (0 ∷ 0 ∷ 0 ∷ 61 ∷ [])
+unfolding number bytesOf operationOf codeOf recordAt sizeAt fileRecords fileOutputs wireKind headed wholeAt laid stands standing circuitRow
+guards-row = refl
+
+pub version-row : circuitRow (set (fileOfGuard two 6 1) 4 3) ≡ 60
+unfolding number bytesOf operationOf codeOf recordAt sizeAt fileRecords fileOutputs wireKind headed wholeAt laid stands standing circuitRow
+version-row = refl
+
+-- a table of d wires with its bit 2^d - 1 set is let through, with bit 2^d set it is 62, for one wire and for seven
+pub tables-row : map (λ ver. circuitRow (fileOfGuard ver 1 (2 ^ 1)) ∷ circuitRow (fileOfGuard ver 1 (2 ^ 2)) ∷ []) (one ∷ two ∷ [])
+    ++ (circuitRow (fileOfGuard two 7 (2 ^ 127)) ∷ circuitRow (fileOfGuard two 7 (2 ^ 128)) ∷ []) ∷ []
+    ≡ (0 ∷ 62 ∷ []) ∷ (0 ∷ 62 ∷ []) ∷ (0 ∷ 62 ∷ []) ∷ []
+unfolding number bytesOf operationOf codeOf recordAt sizeAt fileRecords fileOutputs wireKind headed wholeAt laid stands standing circuitRow
+tables-row = refl
+
+-- eight wires at 1 are setting 255, "lowest setting in the lowest bit"
+pub guards-run : map (λ t. fileFigures (fileOfGuard two 8 (2 ^ t)) (1 ∷ [])) (254 ∷ 255 ∷ []) ≡ (0 ∷ []) ∷ (1 ∷ []) ∷ []
+unfolding number bytesOf operationOf codeOf resultOf recordAt sizeAt fileRecords fileOutputs wireKind wireFigure fileFigures
+guards-run = refl

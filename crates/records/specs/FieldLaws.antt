@@ -5,32 +5,33 @@ use mathlib.Core.List.{List, [], _∷_}
 use lib.ListN.{length}
 use Rattle.codes.specs.Codes.{entryOf}
 use Rattle.records.specs.Records.{Record, input, word, bit, operation, choice, pick, guard, reads, recordIn}
+use Rattle.records.specs.Versions.{Version, tableBytes}
 use Rattle.records.specs.RecordLaws.{Along}
 use Rattle.records.specs.FitRecords.{Wires, ReadsBack, AllReadBack}
 
 -- what a record needs besides the wires that it reads
-abbrev pub FieldsFit : Record → Type 0
-FieldsFit (input k x) = x < 256
-FieldsFit (word n) = n < 256 ^ 4
-FieldsFit (bit b) = b < 256
-FieldsFit (operation op l) = length l ≡ entryOf op .arity
-FieldsFit (choice c a b) = Unit {0}
-FieldsFit (pick l) = length l < 256
-FieldsFit (guard cs t) = (length cs < 256) × (t < 256 ^ 8)
+abbrev pub FieldsFit : Version → Record → Type 0
+FieldsFit ver (input k x) = x < 256
+FieldsFit ver (word n) = n < 256 ^ 4
+FieldsFit ver (bit b) = b < 256
+FieldsFit ver (operation op l) = length l ≡ entryOf op .arity
+FieldsFit ver (choice c a b) = Unit {0}
+FieldsFit ver (pick l) = length l < 256
+FieldsFit ver (guard cs t) = (length cs < 256) × (t < 256 ^ tableBytes ver)
 
-abbrev pub AllFieldsFit : ℕ → List Record → Type 0
-AllFieldsFit n R = Along (λ i. FieldsFit) n R
+abbrev pub AllFieldsFit : Version → ℕ → List Record → Type 0
+AllFieldsFit ver n R = Along (λ i. FieldsFit ver) n R
 
 -- with wires of two bytes it fits
-sized-fits : (r : Record) → FieldsFit r → Wires (reads r) → ReadsBack r
-sized-fits (input k x) h w = h
-sized-fits (word n) h w = h
-sized-fits (bit b) h w = h
-sized-fits (operation op l) h w = (h, w)
-sized-fits (choice c a b) h w = w
-sized-fits (pick l) h w = (h, w)
-sized-fits (guard cs t) (h, k) w = (h, w, k)
+sized-fits : (ver : Version) (r : Record) → FieldsFit ver r → Wires (reads r) → ReadsBack ver r
+sized-fits ver (input k x) h w = h
+sized-fits ver (word n) h w = h
+sized-fits ver (bit b) h w = h
+sized-fits ver (operation op l) h w = (h, w)
+sized-fits ver (choice c a b) h w = w
+sized-fits ver (pick l) h w = (h, w)
+sized-fits ver (guard cs t) (h, k) w = (h, w, k)
 
-pub all-fit : (R : List Record) (n : ℕ) → AllFieldsFit n R → ((i : ℕ) → Wires (reads (recordIn R i))) → AllReadBack R
-all-fit [] n h w = tt
-all-fit (r ∷ R) n (h, k) w = (sized-fits r h (w 0), all-fit R (suc n) k (λ i. w (suc i)))
+pub all-fit : (ver : Version) (R : List Record) (n : ℕ) → AllFieldsFit ver n R → ((i : ℕ) → Wires (reads (recordIn R i))) → AllReadBack ver R
+all-fit ver [] n h w = tt
+all-fit ver (r ∷ R) n (h, k) w = (sized-fits ver r h (w 0), all-fit ver R (suc n) k (λ i. w (suc i)))

@@ -21,6 +21,7 @@ use Rattle.codes.specs.ResultLaws.{result-fits}
 use Rattle.codes.specs.declared.Kind.{Kind}
 use Rattle.codes.specs.declared.Kind.the-variants as kind
 use Rattle.records.specs.Records.{Pair, Record, input, word, bit, operation, choice, pick, guard, reads, recordIn, ReadsEarlier, pickFigure, recordFigure}
+use Rattle.records.specs.Versions.{Version}
 use Rattle.records.specs.WireKinds.{valuesOf, recordKind, wireKind, AllOf, RecordFits}
 use Rattle.records.specs.WireFigures.{figuresIn, sumFigure, pickSum, wireFigure}
 use Rattle.records.specs.FitRecords.{ReadsBack, AllReadBack}
@@ -61,16 +62,16 @@ module _ (k : ℕ → Kind) (W : ℕ → ℕ) where
       ap (λ (n : ℕ). n % figuresIn j) (sum-pick W l one) ∙ pick-whole j l a f
 
   -- a record's figure is of its kind, if those that it reads are of theirs
-  record-fits : (inputs : List ℕ) (r : Record) → RecordFits k r → Bounded r → ReadsBack r → ((j : Kind) (x : ℕ) → r ≡ input j x → Fits j (getD inputs x 0))
+  record-fits : (ver : Version) (inputs : List ℕ) (r : Record) → RecordFits k r → Bounded ver r → ReadsBack ver r → ((j : Kind) (x : ℕ) → r ≡ input j x → Fits j (getD inputs x 0))
       → ((a : ℕ) → a ∈ reads r → Fits (k a) (W a)) → Fits (recordKind k r) (recordFigure inputs (pickSum k) W r)
-  record-fits inputs (input j x) h b n i f = i j x refl
-  record-fits inputs (word c) h b n i f = n
-  record-fits inputs (bit c) h b n i f = b
-  record-fits inputs (operation op l) h b n i f = result-fits op _ _
-  record-fits inputs (choice c x y) (_, e) b n i f =
+  record-fits ver inputs (input j x) h b n i f = i j x refl
+  record-fits ver inputs (word c) h b n i f = n
+  record-fits ver inputs (bit c) h b n i f = b
+  record-fits ver inputs (operation op l) h b n i f = result-fits op _ _
+  record-fits ver inputs (choice c x y) (_, e) b n i f =
       split (isOne (W c)) (λ t. rw t (f x (inr (inl refl)))) (λ t. rw t (subst (λ (j : Kind). Fits j (W y)) e (f y (inr (inr (inl refl))))))
-  record-fits inputs (pick l) h b n i f = modulo-fits (recordKind k (pick l)) (sumFigure W l)
-  record-fits inputs (guard cs t) h b n i f = bit-fits (has t (numberOf cs (λ c. isOne (W c))))
+  record-fits ver inputs (pick l) h b n i f = modulo-fits (recordKind k (pick l)) (sumFigure W l)
+  record-fits ver inputs (guard cs t) h b n i f = bit-fits (has t (numberOf cs (λ c. isOne (W c))))
 
   -- and where a pick has at most one guard at 1, it is the figure that document 01 gives
   record-picked : (inputs : List ℕ) (i : ℕ) (r : Record) → RecordFits k r → OneGuard W i r → ((a : ℕ) → Fits (k a) (W a))
@@ -83,13 +84,13 @@ module _ (k : ℕ → Kind) (W : ℕ → ℕ) where
   record-picked inputs i (pick l) h o f = sum-value l o h (λ w _. f w)
   record-picked inputs i (guard cs t) h o f = refl
 
-back-at : (R : List Record) → AllReadBack R → (i : ℕ) → i < length R → ReadsBack (recordIn R i)
-back-at [] h i l = absurd (omega arith)
-back-at (r ∷ R) (h, _) zero l = h
-back-at (r ∷ R) (_, h) (suc i) l = back-at R h i (omega arith)
+back-at : (ver : Version) (R : List Record) → AllReadBack ver R → (i : ℕ) → i < length R → ReadsBack ver (recordIn R i)
+back-at ver [] h i l = absurd (omega arith)
+back-at ver (r ∷ R) (h, _) zero l = h
+back-at ver (r ∷ R) (_, h) (suc i) l = back-at ver R h i (omega arith)
 
-module _ (inputs : List ℕ) (R : List Record) (earlier : ReadsEarlier R) (kinds : (i : ℕ) → i < length R → RecordFits (wireKind R) (recordIn R i))
-    (bounded : (i : ℕ) → i < length R → Bounded (recordIn R i)) (back : AllReadBack R)
+module _ (ver : Version) (inputs : List ℕ) (R : List Record) (earlier : ReadsEarlier R) (kinds : (i : ℕ) → i < length R → RecordFits (wireKind R) (recordIn R i))
+    (bounded : (i : ℕ) → i < length R → Bounded ver (recordIn R i)) (back : AllReadBack ver R)
     (given : (i : ℕ) (k : Kind) (x : ℕ) → recordIn R i ≡ input k x → Fits k (getD inputs x 0)) where
   -- past the last record: 0, a word
   past-fits : (i : ℕ) → length R ≤ i → Fits (wireKind R i) (wireFigure inputs R i)
@@ -100,7 +101,7 @@ module _ (inputs : List ℕ) (R : List Record) (earlier : ReadsEarlier R) (kinds
   here-fits : (i : ℕ) → i < length R → ((a : ℕ) → a ∈ reads (recordIn R i) → Fits (wireKind R a) (wireFigure inputs R a)) → Fits (wireKind R i) (wireFigure inputs R i)
   here-fits i l f =
       rw (kinds-right R earlier i l, wires-right inputs R earlier i l)
-      (record-fits (wireKind R) (wireFigure inputs R) inputs (recordIn R i) (kinds i l) (bounded i l) (back-at R back i l) (given i) f)
+      (record-fits (wireKind R) (wireFigure inputs R) ver inputs (recordIn R i) (kinds i l) (bounded i l) (back-at ver R back i l) (given i) f)
 
   below-fits : (n i : ℕ) → i < n → Fits (wireKind R i) (wireFigure inputs R i)
   below-fits zero i h = absurd (omega arith)

@@ -9,7 +9,12 @@ use Rattle.codes.specs.Codes.{operationOf, codeOf}
 use Rattle.codes.specs.declared.Kind.the-variants as kind
 use Rattle.records.specs.Records.{Pair, Record, input, word, bit, operation, choice, pick, guard}
 use Rattle.records.specs.WireFigures.{wireFigure}
+use Rattle.records.specs.Versions.{Version, versionOf, tableBytes}
 use Rattle.records.specs.CircuitFile.{recordBytes, noWire}
+
+-- the version of a file, by its fifth byte: a guard is read as that version writes it
+abbrev pub versionIn : List ℕ → Version
+versionIn f = versionOf (getD f 4 0)
 
 -- n two-byte wires from the place at on
 abbrev pub wiresAt : ℕ → List ℕ → ℕ → List ℕ
@@ -31,12 +36,12 @@ recordAt f at =
     (cond (eqb b 0x12) (bit (getD f (at + 1) 0))
     (cond (eqb b 0x30) (choice (numberAt 2 f (at + 1)) (numberAt 2 f (at + 3)) (numberAt 2 f (at + 5)))
     (cond (eqb b 0x31) (pick (pairsAt (getD f (at + 1) 0) f (at + 2)))
-    (cond (eqb b 0x32) (guard (wiresAt (getD f (at + 1) 0) f (at + 2)) (numberAt 8 f (at + 2 + 2 * getD f (at + 1) 0)))
+    (cond (eqb b 0x32) (guard (wiresAt (getD f (at + 1) 0) f (at + 2)) (numberAt (tableBytes (versionIn f)) f (at + 2 + 2 * getD f (at + 1) 0)))
     (operation (operationOf b) (wiresAt (codeOf b .arity) f (at + 1)))))))))
 
 -- how many bytes it has: those of the record that is read there
 unfoldable pub sizeAt : List ℕ → ℕ → ℕ
-sizeAt f at = length (recordBytes (recordAt f at))
+sizeAt f at = length (recordBytes (versionIn f) (recordAt f at))
 
 -- n records from the place at on, and the place after them
 abbrev pub recordsFrom : ℕ → List ℕ → ℕ → List Record

@@ -6,29 +6,30 @@ use lib.ListN.{length}
 use Rattle.words.specs.Lists.{_∈_}
 use Rattle.codes.specs.Codes.{entryOf}
 use Rattle.records.specs.Records.{Record, input, word, bit, operation, choice, pick, guard, pairWires}
+use Rattle.records.specs.Versions.{Version, tableBytes}
 
 -- every wire fits two bytes
 abbrev pub Wires : List ℕ → Type 0
 Wires l = (w : ℕ) → w ∈ l → w < 256 ^ 2
 
--- a record that is read back from its bytes
-abbrev pub ReadsBack : Record → Type 0
-ReadsBack (input k x) = x < 256
-ReadsBack (word n) = n < 256 ^ 4
-ReadsBack (bit b) = b < 256
-ReadsBack (operation op l) = (length l ≡ entryOf op .arity) × Wires l
-ReadsBack (choice c a b) = Wires (c ∷ a ∷ b ∷ [])
-ReadsBack (pick l) = (length l < 256) × Wires (pairWires l)
-ReadsBack (guard cs t) = (length cs < 256) × Wires cs × (t < 256 ^ 8)
+-- a record that is read back from its bytes, as a version writes them
+abbrev pub ReadsBack : Version → Record → Type 0
+ReadsBack ver (input k x) = x < 256
+ReadsBack ver (word n) = n < 256 ^ 4
+ReadsBack ver (bit b) = b < 256
+ReadsBack ver (operation op l) = (length l ≡ entryOf op .arity) × Wires l
+ReadsBack ver (choice c a b) = Wires (c ∷ a ∷ b ∷ [])
+ReadsBack ver (pick l) = (length l < 256) × Wires (pairWires l)
+ReadsBack ver (guard cs t) = (length cs < 256) × Wires cs × (t < 256 ^ tableBytes ver)
 
 -- every record of a list is one
-abbrev pub AllReadBack : List Record → Type 0
-AllReadBack [] = Unit {0}
-AllReadBack (r ∷ R) = ReadsBack r × AllReadBack R
+abbrev pub AllReadBack : Version → List Record → Type 0
+AllReadBack ver [] = Unit {0}
+AllReadBack ver (r ∷ R) = ReadsBack ver r × AllReadBack ver R
 
 -- a file of them, with v variables, is read back: the wire count and the output wires fit two bytes, and there is an output for each variable
-pub record FileFits (v : ℕ) (R : List Record) (outputs : List ℕ) : Type 0 where
-  pub each : AllReadBack R
+pub record FileFits (ver : Version) (v : ℕ) (R : List Record) (outputs : List ℕ) : Type 0 where
+  pub each : AllReadBack ver R
   pub few : length R < 256 ^ 2
   pub wires : Wires outputs
   pub count : length outputs ≡ v

@@ -1,4 +1,5 @@
--- Laws for document 02, C-11: a file passes the rows 60 to 62 exactly when it is the bytes of a well-formed list of records and outputs. Assumes nothing.
+-- Laws for document 02, C-11: a file passes the rows 60 to 62 exactly when it is the bytes, in one of the two versions, of a list of records and outputs that is
+-- well-formed for that version. Assumes nothing.
 use Prim.Native.Nat.{ℕ, _≤_}
 use mathlib.Core.Path.{_≡_, refl, subst, subst⁻¹}
 use mathlib.Core.List.{List}
@@ -8,8 +9,9 @@ use native.Mathlib.Omega.{arith}
 use lib.ListN.{length}
 use Rattle.words.specs.Numbers.{Bytes}
 use Rattle.records.specs.Records.{Record}
+use Rattle.records.specs.Versions.{Version}
 use Rattle.records.specs.CircuitFile.{fileBytes}
-use Rattle.records.specs.FileFigures.{fileVariables, fileRecords, fileOutputs}
+use Rattle.records.specs.FileFigures.{versionIn, fileVariables, fileRecords, fileOutputs}
 use Rattle.records.specs.Limits.{mostFileBytes}
 use Rattle.records.specs.FilePartLaws.{file-count}
 use Rattle.records.specs.FileLaws.{file-found}
@@ -55,11 +57,11 @@ unfolding circuitRow
 passed-row f p = rw (headed-right f .1 (p .head), laid-right f (p .head) .1 (p .layout), standing-right f .1 (p .stand))
 
 -- the file of a well-formed circuit passes
-pub well-row : (v : ℕ) (R : List Record) (outputs : List ℕ) → WellFormed v R outputs → circuitRow (fileBytes v R outputs) ≡ 0
-well-row v R outputs w =
-    let f = fileBytes v R outputs in
-    let (records, outs, count, wires) = file-found v R outputs (w .fits) in
-    let layout = file-laid v R outputs (w .fits) (w .bounded) in
+pub well-row : (ver : Version) (v : ℕ) (R : List Record) (outputs : List ℕ) → WellFormed ver v R outputs → circuitRow (fileBytes ver v R outputs) ≡ 0
+well-row ver v R outputs w =
+    let f = fileBytes ver v R outputs in
+    let (records, outs, count, wires) = file-found ver v R outputs (w .fits) in
+    let layout = file-laid ver v R outputs (w .fits) (w .bounded) in
     passed-row f (record {
       head = record {
         long = layout .headed;
@@ -74,7 +76,7 @@ well-row v R outputs w =
     })
 
 -- what passes is the file of a well-formed circuit: the one that is read from it
-pub row-well : (f : List ℕ) → Bytes f → circuitRow f ≡ 0 → WellFormed (fileVariables f) (fileRecords f) (fileOutputs f)
+pub row-well : (f : List ℕ) → Bytes f → circuitRow f ≡ 0 → WellFormed (versionIn f) (fileVariables f) (fileRecords f) (fileOutputs f)
 row-well f bytes h =
     let p = row-passed f h in
     record {
@@ -87,9 +89,10 @@ row-well f bytes h =
       standing = p .stand;
     }
 
+-- so a file passes exactly when it is the bytes, in a version, of a circuit that is well-formed for that version
 pub circuit-format : (f : List ℕ) → Bytes f
-    → (circuitRow f ≡ 0) ↔ ((v : ℕ) × (R : List Record) × (outputs : List ℕ) × WellFormed v R outputs × (f ≡ fileBytes v R outputs))
+    → (circuitRow f ≡ 0) ↔ ((ver : Version) × (v : ℕ) × (R : List Record) × (outputs : List ℕ) × WellFormed ver v R outputs × (f ≡ fileBytes ver v R outputs))
 circuit-format f bytes = (
-  λ h. (fileVariables f, fileRecords f, fileOutputs f, row-well f bytes h, file-back f bytes (row-passed f h .layout)),
-  λ w. subst⁻¹ (λ (x : List ℕ). circuitRow x ≡ 0) (w .4) (well-row (w .0) (w .1) (w .2) (w .3)),
+  λ h. (versionIn f, fileVariables f, fileRecords f, fileOutputs f, row-well f bytes h, file-back f bytes (row-passed f h .layout)),
+  λ w. subst⁻¹ (λ (x : List ℕ). circuitRow x ≡ 0) (w .5) (well-row (w .0) (w .1) (w .2) (w .3) (w .4)),
 )

@@ -14,7 +14,8 @@ use Rattle.codes.specs.declared.Operation.{Operation}
 use Rattle.codes.specs.declared.Code.{Code}
 use Rattle.codes.specs.CodeLaws.{byte-operation, code-back}
 use Rattle.records.specs.Records.{Record, input, word, bit, operation, choice, pick, guard}
-use Rattle.records.specs.FileFigures.{wiresAt, pairsAt, recordAt, sizeAt}
+use Rattle.records.specs.Versions.{tableBytes}
+use Rattle.records.specs.FileFigures.{versionIn, wiresAt, pairsAt, recordAt, sizeAt}
 use Rattle.records.specs.CircuitFile.{recordBytes}
 use Rattle.records.specs.SizeLaws.{input-size, word-size, bit-size, operation-size, choice-size, pick-size, guard-size}
 use Rattle.records.specs.FilePartLaws.{wires-length, pairs-length}
@@ -61,49 +62,49 @@ operation-byte b m o = go (known-coded b m)
 
 module _ (x : List ℕ) (at : ℕ) where
   -- the record that is read, and how many bytes it has
-  read-as : (r : Record) (n : ℕ) → recordAt x at ≡ r → length (recordBytes r) ≡ n → (recordAt x at ≡ r) × (sizeAt x at ≡ n)
+  read-as : (r : Record) (n : ℕ) → recordAt x at ≡ r → length (recordBytes (versionIn x) r) ≡ n → (recordAt x at ≡ r) × (sizeAt x at ≡ n)
   unfolding sizeAt
-  read-as r n e s = (e, ap (λ (q : Record). length (recordBytes q)) e ∙ s)
+  read-as r n e s = (e, ap (λ (q : Record). length (recordBytes (versionIn x) q)) e ∙ s)
 
   operation-as : (op : Operation) (n : ℕ) → recordAt x at ≡ operation op (wiresAt n x (at + 1))
       → (recordAt x at ≡ operation op (wiresAt n x (at + 1))) × (sizeAt x at ≡ 1 + 2 * n)
   operation-as op n e =
-      read-as (operation op (wiresAt n x (at + 1))) (1 + 2 * n) e (operation-size op (wiresAt n x (at + 1)) ∙ ap (λ (k : ℕ). 1 + 2 * k) (wires-length n x (at + 1)))
+      read-as (operation op (wiresAt n x (at + 1))) (1 + 2 * n) e (operation-size (versionIn x) op (wiresAt n x (at + 1)) ∙ ap (λ (k : ℕ). 1 + 2 * k) (wires-length n x (at + 1)))
 
   pub form-input : (k : Kind) → getD x at 0 ≡ startCode k → (recordAt x at ≡ input k (getD x (at + 1) 0)) × (sizeAt x at ≡ 2)
   unfolding recordAt
-  form-input kind.Word h = read-as (input kind.Word (getD x (at + 1) 0)) 2 (rw h) (input-size kind.Word (getD x (at + 1) 0))
-  form-input kind.Bit h = read-as (input kind.Bit (getD x (at + 1) 0)) 2 (rw h) (input-size kind.Bit (getD x (at + 1) 0))
+  form-input kind.Word h = read-as (input kind.Word (getD x (at + 1) 0)) 2 (rw h) (input-size (versionIn x) kind.Word (getD x (at + 1) 0))
+  form-input kind.Bit h = read-as (input kind.Bit (getD x (at + 1) 0)) 2 (rw h) (input-size (versionIn x) kind.Bit (getD x (at + 1) 0))
 
   pub form-word : getD x at 0 ≡ 0x11 → (recordAt x at ≡ word (numberAt 4 x (at + 1))) × (sizeAt x at ≡ 5)
   unfolding recordAt
-  form-word h = read-as (word (numberAt 4 x (at + 1))) 5 (rw h) (word-size (numberAt 4 x (at + 1)))
+  form-word h = read-as (word (numberAt 4 x (at + 1))) 5 (rw h) (word-size (versionIn x) (numberAt 4 x (at + 1)))
 
   pub form-bit : getD x at 0 ≡ 0x12 → (recordAt x at ≡ bit (getD x (at + 1) 0)) × (sizeAt x at ≡ 2)
   unfolding recordAt
-  form-bit h = read-as (bit (getD x (at + 1) 0)) 2 (rw h) (bit-size (getD x (at + 1) 0))
+  form-bit h = read-as (bit (getD x (at + 1) 0)) 2 (rw h) (bit-size (versionIn x) (getD x (at + 1) 0))
 
   pub form-choice : getD x at 0 ≡ 0x30
       → (recordAt x at ≡ choice (numberAt 2 x (at + 1)) (numberAt 2 x (at + 3)) (numberAt 2 x (at + 5))) × (sizeAt x at ≡ 7)
   unfolding recordAt
   form-choice h =
       read-as (choice (numberAt 2 x (at + 1)) (numberAt 2 x (at + 3)) (numberAt 2 x (at + 5))) 7 (rw h)
-      (choice-size (numberAt 2 x (at + 1)) (numberAt 2 x (at + 3)) (numberAt 2 x (at + 5)))
+      (choice-size (versionIn x) (numberAt 2 x (at + 1)) (numberAt 2 x (at + 3)) (numberAt 2 x (at + 5)))
 
   pub form-pick : getD x at 0 ≡ 0x31 → (recordAt x at ≡ pick (pairsAt (getD x (at + 1) 0) x (at + 2))) × (sizeAt x at ≡ 2 + 4 * getD x (at + 1) 0)
   unfolding recordAt
   form-pick h =
       let n = getD x (at + 1) 0 in
-      read-as (pick (pairsAt n x (at + 2))) (2 + 4 * n) (rw h) (pick-size (pairsAt n x (at + 2)) ∙ ap (λ (k : ℕ). 2 + 4 * k) (pairs-length n x (at + 2)))
+      read-as (pick (pairsAt n x (at + 2))) (2 + 4 * n) (rw h) (pick-size (versionIn x) (pairsAt n x (at + 2)) ∙ ap (λ (k : ℕ). 2 + 4 * k) (pairs-length n x (at + 2)))
 
   pub form-guard : getD x at 0 ≡ 0x32
-      → (recordAt x at ≡ guard (wiresAt (getD x (at + 1) 0) x (at + 2)) (numberAt 8 x (at + 2 + 2 * getD x (at + 1) 0)))
-      × (sizeAt x at ≡ 10 + 2 * getD x (at + 1) 0)
+      → (recordAt x at ≡ guard (wiresAt (getD x (at + 1) 0) x (at + 2)) (numberAt (tableBytes (versionIn x)) x (at + 2 + 2 * getD x (at + 1) 0)))
+      × (sizeAt x at ≡ 2 + 2 * getD x (at + 1) 0 + tableBytes (versionIn x))
   unfolding recordAt
   form-guard h =
       let n = getD x (at + 1) 0 in
-      read-as (guard (wiresAt n x (at + 2)) (numberAt 8 x (at + 2 + 2 * n))) (10 + 2 * n) (rw h)
-      (guard-size (wiresAt n x (at + 2)) (numberAt 8 x (at + 2 + 2 * n)) ∙ ap (λ (k : ℕ). 10 + 2 * k) (wires-length n x (at + 2)))
+      read-as (guard (wiresAt n x (at + 2)) (numberAt (tableBytes (versionIn x)) x (at + 2 + 2 * n))) (2 + 2 * n + tableBytes (versionIn x)) (rw h)
+      (guard-size (versionIn x) (wiresAt n x (at + 2)) (numberAt (tableBytes (versionIn x)) x (at + 2 + 2 * n)) ∙ ap (λ (k : ℕ). 2 + 2 * k + tableBytes (versionIn x)) (wires-length n x (at + 2)))
 
   pub form-other : OtherByte (getD x at 0)
       → (recordAt x at ≡ operation (operationOf (getD x at 0)) (wiresAt (codeOf (getD x at 0) .arity) x (at + 1))) × (sizeAt x at ≡ 1 + 2 * codeOf (getD x at 0) .arity)
@@ -130,4 +131,4 @@ module _ (x : List ℕ) (at : ℕ) where
 -- every record has a byte at least
 pub size-some : (x : List ℕ) (at : ℕ) → 1 ≤ sizeAt x at
 unfolding sizeAt
-size-some x at = some-byte (recordAt x at)
+size-some x at = some-byte (versionIn x) (recordAt x at)

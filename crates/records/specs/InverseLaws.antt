@@ -15,51 +15,52 @@ use Rattle.words.specs.Numbers.{bytesOf, Bytes}
 use Rattle.words.specs.NumberLaws.{number-small, number-back}
 use Rattle.words.specs.ListLaws.{drop-one}
 use Rattle.records.specs.Records.{Record, recordIn}
+use Rattle.records.specs.Versions.{Version}
 use Rattle.records.specs.CircuitFile.{mark, wiresBytes, recordBytes, recordsBytes, fileBytes}
-use Rattle.records.specs.FileFigures.{recordAt, sizeAt, recordsFrom, placeAfter, firstRecord, fileVariables, wireCount, fileRecords, fileOutputs}
+use Rattle.records.specs.FileFigures.{versionIn, recordAt, sizeAt, recordsFrom, placeAfter, firstRecord, fileVariables, wireCount, fileRecords, fileOutputs}
 use Rattle.records.specs.LaidOut.{recordCodes, recordPlace, Bounded, WholeAt, LaidOut}
 use Rattle.records.specs.FitRecords.{AllReadBack, FileFits}
 use Rattle.records.specs.SizeLaws.{file-size}
 use Rattle.records.specs.FilePartLaws.{wires-length, records-length, file-count, record-of}
 use Rattle.records.specs.RecordBounds.{known-byte, some-byte}
-use Rattle.records.specs.FileLaws.{variables-found, count-found, file-place, file-record, file-byte, file-inside}
+use Rattle.records.specs.FileLaws.{version-found, variables-found, count-found, file-place, file-record, file-byte, file-inside}
 use Rattle.records.specs.BackLaws.{wires-back, wires-small, record-rest, record-fits}
 
 -- a record has the bytes that it is written with, and n records end where theirs do
-pub size-is : (f : List ℕ) (at : ℕ) → sizeAt f at ≡ length (recordBytes (recordAt f at))
+pub size-is : (f : List ℕ) (at : ℕ) → sizeAt f at ≡ length (recordBytes (versionIn f) (recordAt f at))
 unfolding sizeAt
 size-is f at = refl
 
-pub place-is : (n : ℕ) (f : List ℕ) (at : ℕ) → placeAfter n f at ≡ at + length (recordsBytes (recordsFrom n f at))
+pub place-is : (n : ℕ) (f : List ℕ) (at : ℕ) → placeAfter n f at ≡ at + length (recordsBytes (versionIn f) (recordsFrom n f at))
 place-is zero f at = omega arith
 place-is (suc n) f at =
     place-is n f (at + sizeAt f at)
-    ∙ rw (size-is f at, length-append (recordBytes (recordAt f at)) (recordsBytes (recordsFrom n f (at + length (recordBytes (recordAt f at)))))) (omega arith)
+    ∙ rw (size-is f at, length-append (recordBytes (versionIn f) (recordAt f at)) (recordsBytes (versionIn f) (recordsFrom n f (at + length (recordBytes (versionIn f) (recordAt f at)))))) (omega arith)
 
 module _ (f : List ℕ) (bytes : Bytes f) where
   -- the part of a file that holds a whole record is the bytes of the record that is read there
-  pub record-back : (at : ℕ) → WholeAt f at → take (sizeAt f at) (drop at f) ≡ recordBytes (recordAt f at)
+  pub record-back : (at : ℕ) → WholeAt f at → take (sizeAt f at) (drop at f) ≡ recordBytes (versionIn f) (recordAt f at)
   record-back at w =
       ap (take (sizeAt f at)) (record-rest f bytes at w)
-      ∙ take-at (recordBytes (recordAt f at)) (drop (at + sizeAt f at) f) (sizeAt f at) (sym (size-is f at))
+      ∙ take-at (recordBytes (versionIn f) (recordAt f at)) (drop (at + sizeAt f at) f) (sizeAt f at) (sym (size-is f at))
 
   -- so is the part that holds n whole records, one after another
-  records-rest : (n at : ℕ) → ((i : ℕ) → i < n → WholeAt f (placeAfter i f at)) → drop at f ≡ recordsBytes (recordsFrom n f at) ++ drop (placeAfter n f at) f
+  records-rest : (n at : ℕ) → ((i : ℕ) → i < n → WholeAt f (placeAfter i f at)) → drop at f ≡ recordsBytes (versionIn f) (recordsFrom n f at) ++ drop (placeAfter n f at) f
   records-rest zero at h = refl
   records-rest (suc n) at h =
       let next = at + sizeAt f at in
       record-rest f bytes at (h 0 (omega arith))
-      ∙ ap (λ (r : List ℕ). recordBytes (recordAt f at) ++ r) (records-rest n next (λ i l. h (suc i) (omega arith)))
-      ∙ sym (append-assoc (recordBytes (recordAt f at)) (recordsBytes (recordsFrom n f next)) (drop (placeAfter n f next) f))
+      ∙ ap (λ (r : List ℕ). recordBytes (versionIn f) (recordAt f at) ++ r) (records-rest n next (λ i l. h (suc i) (omega arith)))
+      ∙ sym (append-assoc (recordBytes (versionIn f) (recordAt f at)) (recordsBytes (versionIn f) (recordsFrom n f next)) (drop (placeAfter n f next) f))
 
   pub records-back : (n at : ℕ) → ((i : ℕ) → i < n → WholeAt f (placeAfter i f at))
-      → take (placeAfter n f at - at) (drop at f) ≡ recordsBytes (recordsFrom n f at)
+      → take (placeAfter n f at - at) (drop at f) ≡ recordsBytes (versionIn f) (recordsFrom n f at)
   records-back n at h =
       ap (take (placeAfter n f at - at)) (records-rest n at h)
-      ∙ take-at (recordsBytes (recordsFrom n f at)) (drop (placeAfter n f at) f) (placeAfter n f at - at) (omega (arith, place-is n f at))
+      ∙ take-at (recordsBytes (versionIn f) (recordsFrom n f at)) (drop (placeAfter n f at) f) (placeAfter n f at - at) (omega (arith, place-is n f at))
 
   -- a file that is laid out is, byte for byte, its variables, records and output wires put together
-  pub file-back : LaidOut f → f ≡ fileBytes (fileVariables f) (fileRecords f) (fileOutputs f)
+  pub file-back : LaidOut f → f ≡ fileBytes (versionIn f) (fileVariables f) (fileRecords f) (fileOutputs f)
   unfolding fileRecords fileOutputs
   file-back l =
       let end = recordPlace f (wireCount f) in
@@ -71,17 +72,17 @@ module _ (f : List ℕ) (bytes : Bytes f) where
       (number-back 2 f 6 bytes (omega (arith, l .headed))
       ∙ ap₂ (λ (n : ℕ) (r : List ℕ). bytesOf 2 n ++ r) (sym (records-length (wireCount f) f firstRecord))
       (records-rest (wireCount f) firstRecord (l .whole)
-      ∙ ap (λ (r : List ℕ). recordsBytes R ++ r)
+      ∙ ap (λ (r : List ℕ). recordsBytes (versionIn f) R ++ r)
       (wires-back f bytes (fileVariables f) end (omega (arith, l .ended))
       ∙ ap (λ (r : List ℕ). wiresBytes (fileOutputs f) ++ r) (ap (λ (k : ℕ). drop k f) (l .ended) ∙ drop-length f)
       ∙ append-nil (wiresBytes (fileOutputs f))))))
 
   -- and these fit their bytes
-  records-fit : (n at : ℕ) → ((i : ℕ) → i < n → WholeAt f (placeAfter i f at)) → AllReadBack (recordsFrom n f at)
+  records-fit : (n at : ℕ) → ((i : ℕ) → i < n → WholeAt f (placeAfter i f at)) → AllReadBack (versionIn f) (recordsFrom n f at)
   records-fit zero at h = tt
   records-fit (suc n) at h = (record-fits f bytes at (h 0 (omega arith)), records-fit n (at + sizeAt f at) (λ i l. h (suc i) (omega arith)))
 
-  pub laid-fits : LaidOut f → FileFits (fileVariables f) (fileRecords f) (fileOutputs f)
+  pub laid-fits : LaidOut f → FileFits (versionIn f) (fileVariables f) (fileRecords f) (fileOutputs f)
   unfolding fileRecords fileOutputs
   laid-fits l = record {
     each = records-fit (wireCount f) firstRecord (l .whole);
@@ -91,37 +92,38 @@ module _ (f : List ℕ) (bytes : Bytes f) where
   }
 
 -- what is written is laid out
-pub file-laid : (v : ℕ) (R : List Record) (outputs : List ℕ) → FileFits v R outputs → ((i : ℕ) → i < length R → Bounded (recordIn R i)) → LaidOut (fileBytes v R outputs)
-file-laid v R outputs fits bound =
-    let f = fileBytes v R outputs in
-    let n : wireCount f ≡ length R = count-found v R outputs (fits .few) in
-    let e = file-place v R outputs (fits .each) (length R) (omega arith) in
-    let t : length (recordsBytes (take (length R) R)) ≡ length (recordsBytes R) = ap (λ (Q : List Record). length (recordsBytes Q)) (take-length R) in
+pub file-laid : (ver : Version) (v : ℕ) (R : List Record) (outputs : List ℕ) → FileFits ver v R outputs → ((i : ℕ) → i < length R → Bounded ver (recordIn R i)) → LaidOut (fileBytes ver v R outputs)
+file-laid ver v R outputs fits bound =
+    let f = fileBytes ver v R outputs in
+    let n : wireCount f ≡ length R = count-found ver v R outputs (fits .few) in
+    let e = file-place ver v R outputs (fits .each) (length R) (omega arith) in
+    let t : length (recordsBytes ver (take (length R) R)) ≡ length (recordsBytes ver R) = ap (λ (Q : List Record). length (recordsBytes ver Q)) (take-length R) in
     record {
-      headed = omega (arith, file-size v R outputs);
-      marked = refl;
+      headed = omega (arith, file-size ver v R outputs);
+      marked = ap mark (sym (version-found ver v R outputs));
       whole = λ i l.
           let k : i < length R = omega (arith, n, l) in
-          let b : getD f (recordPlace f i) 0 ≡ getD (recordBytes (recordIn R i)) 0 0 =
-          ap (λ (at : ℕ). getD f at 0) (sym (add-zero (recordPlace f i))) ∙ file-byte v R outputs (fits .each) i 0 k (some-byte (recordIn R i)) in
+          let b : getD f (recordPlace f i) 0 ≡ getD (recordBytes ver (recordIn R i)) 0 0 =
+          ap (λ (at : ℕ). getD f at 0) (sym (add-zero (recordPlace f i))) ∙ file-byte ver v R outputs (fits .each) i 0 k (some-byte ver (recordIn R i)) in
           record {
-            known = subst (λ (c : ℕ). c ∈ recordCodes) (sym b) (known-byte (recordIn R i));
-            inside = omega (arith, file-inside v R outputs (fits .each) i k);
-            bounded = subst⁻¹ Bounded (file-record v R outputs (fits .each) i k .0) (bound i k);
+            known = subst (λ (c : ℕ). c ∈ recordCodes) (sym b) (known-byte ver (recordIn R i));
+            inside = omega (arith, file-inside ver v R outputs (fits .each) i k);
+            bounded = rw (version-found ver v R outputs, file-record ver v R outputs (fits .each) i k .0) (bound i k);
           };
-      ended = rw n (omega (arith, e, t, file-size v R outputs, fits .count, variables-found v R outputs));
+      ended = rw n (omega (arith, e, t, file-size ver v R outputs, fits .count, variables-found ver v R outputs));
     }
 
 -- the records that are read from a file that is laid out keep within their bounds
-pub laid-bounded : (f : List ℕ) → LaidOut f → (i : ℕ) → i < length (fileRecords f) → Bounded (recordIn (fileRecords f) i)
+pub laid-bounded : (f : List ℕ) → LaidOut f → (i : ℕ) → i < length (fileRecords f) → Bounded (versionIn f) (recordIn (fileRecords f) i)
 laid-bounded f l i h =
     let k : i < wireCount f = omega (arith, h, file-count f) in
-    subst⁻¹ Bounded (record-of f i k) (l .whole i k .bounded)
+    subst⁻¹ (Bounded (versionIn f)) (record-of f i k) (l .whole i k .bounded)
 
--- so bytes are laid out as a circuit file exactly when they are the file of records and outputs that fit, the records within their bounds
+-- so bytes are laid out as a circuit file exactly when they are the file, in a version, of records and outputs that fit, the records within their bounds
 pub file-format : (f : List ℕ) → Bytes f
-    → LaidOut f ↔ ((v : ℕ) × (R : List Record) × (outputs : List ℕ) × FileFits v R outputs × ((i : ℕ) → i < length R → Bounded (recordIn R i)) × (f ≡ fileBytes v R outputs))
+    → LaidOut f
+    ↔ ((ver : Version) × (v : ℕ) × (R : List Record) × (outputs : List ℕ) × FileFits ver v R outputs × ((i : ℕ) → i < length R → Bounded ver (recordIn R i)) × (f ≡ fileBytes ver v R outputs))
 file-format f bytes = (
-  λ l. (fileVariables f, fileRecords f, fileOutputs f, laid-fits f bytes l, laid-bounded f l, file-back f bytes l),
-  λ w. subst⁻¹ LaidOut (w .5) (file-laid (w .0) (w .1) (w .2) (w .3) (w .4)),
+  λ l. (versionIn f, fileVariables f, fileRecords f, fileOutputs f, laid-fits f bytes l, laid-bounded f l, file-back f bytes l),
+  λ w. subst⁻¹ LaidOut (w .6) (file-laid (w .0) (w .1) (w .2) (w .3) (w .4) (w .5)),
 )

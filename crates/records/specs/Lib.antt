@@ -1,3 +1,4 @@
+pub mod Versions
 pub mod Records
 pub mod WireKinds
 pub mod WireFigures
@@ -9,6 +10,7 @@ pub mod LaidOut
 pub mod CircuitRows
 pub mod WellFormed
 pub mod Sums
+pub mod VersionLaws
 pub mod RecordLaws
 pub mod WireKindLaws
 pub mod FieldLaws

@@ -1,5 +1,5 @@
--- Document 01, "The fused circuit file", and document 02, C-11: the limits of a circuit file, all in this place. They are the file's own: how many conditions a rule may have
--- is another limit, and a writer shows that its guards keep within the file's.
+-- Document 01, "The fused circuit file", and document 02, C-11: the limits of a circuit file, all in this place but for a guard's, which are by version (Versions). They are the file's own: how many
+-- conditions a rule may have is another limit, and a writer shows that its guards keep within the file's.
 use Prim.Native.Nat.{ℕ}
 
 -- 16,384 bytes
@@ -13,7 +13,3 @@ mostFileVariables = 32
 -- at most 640 wires
 abbrev pub mostWires : ℕ
 mostWires = 640
-
--- a guard reads at most 6 wires, so that its table of 2 ^ 6 bits has its 8 bytes
-abbrev pub mostGuardWires : ℕ
-mostGuardWires = 6

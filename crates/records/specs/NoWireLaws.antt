@@ -10,6 +10,7 @@ use lib.Seq.{getD-set-same, getD-set-other}
 use Rattle.words.specs.MemberLaws.{inside-set}
 use Rattle.words.specs.TestLaws.{same?}
 use Rattle.records.specs.Records.{Record}
+use Rattle.records.specs.Versions.{Version}
 use Rattle.records.specs.WireKinds.{wireKind}
 use Rattle.records.specs.CircuitFile.{fileBytes, noWire}
 use Rattle.records.specs.FileFigures.{outputFigure, fileFigures}
@@ -19,7 +20,7 @@ use Rattle.records.specs.SizeLaws.{file-size}
 use Rattle.records.specs.StandLaws.{Out}
 use Rattle.records.specs.WellFormed.{WellFormed}
 
-module _ (v : ℕ) (R : List Record) (outputs : List ℕ) (x : ℕ) where
+module _ (ver : Version) (v : ℕ) (R : List Record) (outputs : List ℕ) (x : ℕ) where
   abbrev less : List ℕ
   less = set outputs x noWire
 
@@ -31,7 +32,7 @@ module _ (v : ℕ) (R : List Record) (outputs : List ℕ) (x : ℕ) where
       go (inl e) = inl (rw e (getD-set-same outputs x noWire 0 (rw e at l)))
       go (inr n) = rw (getD-set-other outputs x y noWire 0 n) (h y l)
 
-  fits-less : FileFits v R outputs → FileFits v R less
+  fits-less : FileFits ver v R outputs → FileFits ver v R less
   fits-less f = record {
     each = f .each;
     few = f .few;
@@ -39,12 +40,12 @@ module _ (v : ℕ) (R : List Record) (outputs : List ℕ) (x : ℕ) where
     count = length-set outputs x noWire ∙ f .count;
   }
 
-  pub well-less : WellFormed v R outputs → WellFormed v R (set outputs x noWire)
+  pub well-less : WellFormed ver v R outputs → WellFormed ver v R (set outputs x noWire)
   well-less w = record {
     some = w .some;
     few = w .few;
     wires = w .wires;
-    size = let n = length-set outputs x noWire in omega (arith, w .size, file-size v R outputs, file-size v R less, n);
+    size = let n = length-set outputs x noWire in omega (arith, w .size, file-size ver v R outputs, file-size ver v R less, n);
     fits = fits-less (w .fits);
     bounded = w .bounded;
     standing = record {
@@ -57,11 +58,11 @@ module _ (v : ℕ) (R : List Record) (outputs : List ℕ) (x : ℕ) where
     };
   }
 
-  pub figures-less : FileFits v R outputs → (inputs : List ℕ)
-      → fileFigures (fileBytes v R (set outputs x noWire)) inputs ≡ set (fileFigures (fileBytes v R outputs) inputs) x 0
+  pub figures-less : FileFits ver v R outputs → (inputs : List ℕ)
+      → fileFigures (fileBytes ver v R (set outputs x noWire)) inputs ≡ set (fileFigures (fileBytes ver v R outputs) inputs) x 0
   figures-less f inputs =
-      file-figures v R less (fits-less f) inputs ∙ none outputs x
-      ∙ ap (λ (l : List ℕ). set l x 0) (sym (file-figures v R outputs f inputs))
+      file-figures ver v R less (fits-less f) inputs ∙ none outputs x
+      ∙ ap (λ (l : List ℕ). set l x 0) (sym (file-figures ver v R outputs f inputs))
     where
       none : (l : List ℕ) (i : ℕ) → map (outputFigure inputs R) (set l i noWire) ≡ set (map (outputFigure inputs R) l) i 0
       none [] i = refl

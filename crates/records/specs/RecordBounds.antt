@@ -11,6 +11,7 @@ use Rattle.codes.specs.declared.Kind.the-variants as kind
 use Rattle.codes.specs.declared.Operation.{Operation}
 use Rattle.codes.specs.declared.Operation.the-variants.{Sum, Difference, Product, LessThan, Equal, And, Or, Not}
 use Rattle.records.specs.Records.{Record, input, word, bit, operation, choice, pick, guard}
+use Rattle.records.specs.Versions.{Version}
 use Rattle.records.specs.CircuitFile.{recordBytes}
 use Rattle.records.specs.LaidOut.{recordCodes}
 
@@ -25,15 +26,15 @@ operation-code And = (inr (inr (inr (inr (inr (inr (inr (inr (inr (inl refl)))))
 operation-code Or = (inr (inr (inr (inr (inr (inr (inr (inr (inr (inr (inl refl)))))))))), omega arith, omega arith)
 operation-code Not = (inr (inr (inr (inr (inr (inr (inr (inr (inr (inr (inr (inl refl))))))))))), omega arith, omega arith)
 
-pub known-byte : (r : Record) → getD (recordBytes r) 0 0 ∈ recordCodes
-known-byte (input kind.Word x) = inl refl
-known-byte (input kind.Bit x) = inr (inl refl)
-known-byte (word n) = inr (inr (inl refl))
-known-byte (bit b) = inr (inr (inr (inl refl)))
-known-byte (operation op l) = operation-code op .0
-known-byte (choice c a b) = inr (inr (inr (inr (inr (inr (inr (inr (inr (inr (inr (inr (inl refl))))))))))))
-known-byte (pick l) = inr (inr (inr (inr (inr (inr (inr (inr (inr (inr (inr (inr (inr (inl refl)))))))))))))
-known-byte (guard cs t) = inr (inr (inr (inr (inr (inr (inr (inr (inr (inr (inr (inr (inr (inr (inl refl))))))))))))))
+pub known-byte : (ver : Version) (r : Record) → getD (recordBytes ver r) 0 0 ∈ recordCodes
+known-byte ver (input kind.Word x) = inl refl
+known-byte ver (input kind.Bit x) = inr (inl refl)
+known-byte ver (word n) = inr (inr (inl refl))
+known-byte ver (bit b) = inr (inr (inr (inl refl)))
+known-byte ver (operation op l) = operation-code op .0
+known-byte ver (choice c a b) = inr (inr (inr (inr (inr (inr (inr (inr (inr (inr (inr (inr (inl refl))))))))))))
+known-byte ver (pick l) = inr (inr (inr (inr (inr (inr (inr (inr (inr (inr (inr (inr (inr (inl refl)))))))))))))
+known-byte ver (guard cs t) = inr (inr (inr (inr (inr (inr (inr (inr (inr (inr (inr (inr (inr (inr (inl refl))))))))))))))
 
 -- what a record can be, by the byte that it begins with
 pub data Coded (b : ℕ) : Type 0 where
@@ -63,11 +64,11 @@ known-coded b (inr (inr (inr (inr (inr (inr (inr (inr (inr (inr (inr (inr (inr (
 known-coded b (inr (inr (inr (inr (inr (inr (inr (inr (inr (inr (inr (inr (inr (inr (inl e))))))))))))))) = is-guard e
 known-coded b (inr (inr (inr (inr (inr (inr (inr (inr (inr (inr (inr (inr (inr (inr (inr e))))))))))))))) = absurd e
 
-pub some-byte : (r : Record) → 1 ≤ length (recordBytes r)
-some-byte (input k x) = omega arith
-some-byte (word n) = omega arith
-some-byte (bit b) = omega arith
-some-byte (operation op l) = omega arith
-some-byte (choice c a b) = omega arith
-some-byte (pick l) = omega arith
-some-byte (guard cs t) = omega arith
+pub some-byte : (ver : Version) (r : Record) → 1 ≤ length (recordBytes ver r)
+some-byte ver (input k x) = omega arith
+some-byte ver (word n) = omega arith
+some-byte ver (bit b) = omega arith
+some-byte ver (operation op l) = omega arith
+some-byte ver (choice c a b) = omega arith
+some-byte ver (pick l) = omega arith
+some-byte ver (guard cs t) = omega arith

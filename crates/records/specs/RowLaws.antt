@@ -1,33 +1,52 @@
 -- Laws of the rows 60 to 62: what each test says. Assumes nothing.
 use Prim.Native.Nat.{ℕ, zero, suc, _+_, _*_, _^_, _≤_, _<_}
-use mathlib.Core.Path.{_≡_, refl, _∙_}
+use mathlib.Core.Path.{_≡_, refl, sym, ap, _∙_}
 use mathlib.Core.List.{List, [], _∷_}
 use mathlib.Core.Bool.{true, _&&_}
-use mathlib.Core.Logic.{_↔_}
+use mathlib.Core.Logic.{_↔_, ⊎-elim}
 use native.Mathlib.Omega.{arith}
 use lib.Dec.{eqb, leb}
 use lib.ListN.{length, take, getD}
+use lib.Seq.{getD-take}
 use borrow.Author.Tests.{eqb-true, eq-eqb, leb-true, le-leb}
 use Rattle.words.specs.Lists.{_∈_, elem, same}
 use Rattle.words.specs.MemberLaws.{elem→∈, ∈→elem, same-right}
-use Rattle.words.specs.TestLaws.{both, and}
+use Rattle.words.specs.TestLaws.{both, and, either, or-left, or-right}
 use Rattle.codes.specs.declared.Kind.{Kind}
 use Rattle.codes.specs.declared.Kind.the-variants as kind
 use Rattle.records.specs.Records.{Record, input, word, bit, operation, choice, pick, guard}
+use Rattle.records.specs.Versions.{Version, one, two, versionOf, mostGuardWires}
 use Rattle.records.specs.CircuitFile.{mark}
-use Rattle.records.specs.FileFigures.{recordAt, sizeAt, placeAfter, firstRecord, fileVariables, wireCount}
-use Rattle.records.specs.Limits.{mostFileBytes, mostFileVariables, mostWires, mostGuardWires}
+use Rattle.records.specs.FileFigures.{versionIn, recordAt, sizeAt, placeAfter, firstRecord, fileVariables, wireCount}
+use Rattle.records.specs.Limits.{mostFileBytes, mostFileVariables, mostWires}
 use Rattle.records.specs.LaidOut.{recordCodes, Bounded, WholeAt, LaidOut}
-use Rattle.records.specs.CircuitRows.{headed, bounded, wholeAt, laidFrom, laid}
+use Rattle.records.specs.CircuitRows.{markedAs, marked, headed, bounded, wholeAt, laidFrom, laid}
 
 -- 60: the limits of a file's head
 pub record Headed (f : List ℕ) : Type 0 where
   pub long : firstRecord ≤ length f
   pub short : length f ≤ mostFileBytes
-  pub marked : take (length mark) f ≡ mark
+  pub marked : take (length (mark (versionIn f))) f ≡ mark (versionIn f)
   pub some : 1 ≤ fileVariables f
   pub few : fileVariables f ≤ mostFileVariables
   pub wires : wireCount f ≤ mostWires
+
+-- the mark is that of a version exactly when it is that of the version which its last byte names
+marked-as : (ver : Version) (f : List ℕ) → versionOf (getD (mark ver) 4 0) ≡ ver → markedAs ver f ≡ true → take 5 f ≡ mark (versionIn f)
+marked-as ver f e h =
+    let q : take 5 f ≡ mark ver = same-right (take 5 f) (mark ver) .0 h in
+    let n : versionIn f ≡ ver = ap versionOf (sym (getD-take 5 f 4 0 (omega arith)) ∙ ap (λ (l : List ℕ). getD l 4 0) q) ∙ e in
+    q ∙ ap mark (sym n)
+
+marked-to : (f : List ℕ) → marked f ≡ true → take 5 f ≡ mark (versionIn f)
+marked-to f h = ⊎-elim (marked-as one f refl) (marked-as two f refl) (either (markedAs one f) (markedAs two f) h)
+
+marked-back : (f : List ℕ) → take 5 f ≡ mark (versionIn f) → marked f ≡ true
+marked-back f h = go (versionIn f) h
+  where
+    go : (ver : Version) → take 5 f ≡ mark ver → marked f ≡ true
+    go one e = or-left (markedAs one f) (markedAs two f) (same-right (take 5 f) (mark one) .1 e)
+    go two e = or-right (markedAs one f) (markedAs two f) (same-right (take 5 f) (mark two) .1 e)
 
 headed-to : (f : List ℕ) → headed f ≡ true → Headed f
 unfolding headed
@@ -35,12 +54,12 @@ headed-to f h =
     let (h4, w) = both _ (leb (wireCount f) mostWires) h in
     let (h3, e) = both _ (leb (fileVariables f) mostFileVariables) h4 in
     let (h2, d) = both _ (leb 1 (fileVariables f)) h3 in
-    let (h1, c) = both _ (same (take (length mark) f) mark) h2 in
+    let (h1, c) = both _ (marked f) h2 in
     let (a, b) = both (leb firstRecord (length f)) (leb (length f) mostFileBytes) h1 in
     record {
       long = leb-true _ _ a;
       short = leb-true _ _ b;
-      marked = same-right (take (length mark) f) mark .0 c;
+      marked = marked-to f c;
       some = leb-true _ _ d;
       few = leb-true _ _ e;
       wires = leb-true _ _ w;
@@ -49,32 +68,32 @@ headed-to f h =
 headed-back : (f : List ℕ) → Headed f → headed f ≡ true
 unfolding headed
 headed-back f h =
-    and (and (and (and (and (le-leb _ _ (h .long)) (le-leb _ _ (h .short))) (same-right (take (length mark) f) mark .1 (h .marked)))
+    and (and (and (and (and (le-leb _ _ (h .long)) (le-leb _ _ (h .short))) (marked-back f (h .marked)))
     (le-leb _ _ (h .some))) (le-leb _ _ (h .few))) (le-leb _ _ (h .wires))
 
 pub headed-right : (f : List ℕ) → (headed f ≡ true) ↔ Headed f
 headed-right f = (headed-to f, headed-back f)
 
 -- 61: what a record may have, a whole record, all of them and the outputs
-bounded-right : (r : Record) → (bounded r ≡ true) ↔ Bounded r
-bounded-right (input k x) = (λ h. tt, λ h. refl)
-bounded-right (word n) = (λ h. tt, λ h. refl)
-bounded-right (bit b) = (leb-true b 1, le-leb b 1)
-bounded-right (operation op l) = (λ h. tt, λ h. refl)
-bounded-right (choice c a b) = (λ h. tt, λ h. refl)
-bounded-right (pick l) = (leb-true 1 (length l), le-leb 1 (length l))
-bounded-right (guard cs t) = (leb-true (length cs) mostGuardWires, le-leb (length cs) mostGuardWires)
+bounded-right : (ver : Version) (r : Record) → (bounded ver r ≡ true) ↔ Bounded ver r
+bounded-right ver (input k x) = (λ h. tt, λ h. refl)
+bounded-right ver (word n) = (λ h. tt, λ h. refl)
+bounded-right ver (bit b) = (leb-true b 1, le-leb b 1)
+bounded-right ver (operation op l) = (λ h. tt, λ h. refl)
+bounded-right ver (choice c a b) = (λ h. tt, λ h. refl)
+bounded-right ver (pick l) = (leb-true 1 (length l), le-leb 1 (length l))
+bounded-right ver (guard cs t) = (leb-true (length cs) (mostGuardWires ver), le-leb (length cs) (mostGuardWires ver))
 
 whole-to : (f : List ℕ) (at : ℕ) → wholeAt f at ≡ true → WholeAt f at
 unfolding wholeAt
 whole-to f at h =
-    let (g, c) = both _ (bounded (recordAt f at)) h in
+    let (g, c) = both _ (bounded (versionIn f) (recordAt f at)) h in
     let (a, b) = both (elem (getD f at 0) recordCodes) (leb (at + sizeAt f at) (length f)) g in
-    record { known = elem→∈ (getD f at 0) recordCodes a; inside = leb-true _ _ b; bounded = bounded-right (recordAt f at) .0 c }
+    record { known = elem→∈ (getD f at 0) recordCodes a; inside = leb-true _ _ b; bounded = bounded-right (versionIn f) (recordAt f at) .0 c }
 
 whole-back : (f : List ℕ) (at : ℕ) → WholeAt f at → wholeAt f at ≡ true
 unfolding wholeAt
-whole-back f at w = and (and (∈→elem (getD f at 0) recordCodes (w .known)) (le-leb _ _ (w .inside))) (bounded-right (recordAt f at) .1 (w .bounded))
+whole-back f at w = and (and (∈→elem (getD f at 0) recordCodes (w .known)) (le-leb _ _ (w .inside))) (bounded-right (versionIn f) (recordAt f at) .1 (w .bounded))
 
 pub whole-right : (f : List ℕ) (at : ℕ) → (wholeAt f at ≡ true) ↔ WholeAt f at
 whole-right f at = (whole-to f at, whole-back f at)

@@ -11,6 +11,7 @@ use Rattle.words.specs.NumberLaws.{length-bytes}
 use Rattle.codes.specs.declared.Kind.{Kind}
 use Rattle.codes.specs.declared.Operation.{Operation}
 use Rattle.records.specs.Records.{Pair, Record, input, word, bit, operation, choice, pick, guard, pairWires, recordCost, recordsCost}
+use Rattle.records.specs.Versions.{Version, tableBytes}
 use Rattle.records.specs.CircuitFile.{wiresBytes, recordBytes, recordsBytes, fileBytes}
 
 -- two bytes a wire, two wires a pair
@@ -33,34 +34,34 @@ wires-more l i h =
     ∙ ap (λ (r : List ℕ). wiresBytes (take i l) ++ r) (append-nil (bytesOf 2 (getD l i 0)))
 
 -- each form of record
-pub input-size : (k : Kind) (x : ℕ) → length (recordBytes (input k x)) ≡ 2
-input-size k x = refl
+pub input-size : (ver : Version) (k : Kind) (x : ℕ) → length (recordBytes ver (input k x)) ≡ 2
+input-size ver k x = refl
 
-pub word-size : (n : ℕ) → length (recordBytes (word n)) ≡ 5
-word-size n = rw length-bytes
+pub word-size : (ver : Version) (n : ℕ) → length (recordBytes ver (word n)) ≡ 5
+word-size ver n = rw length-bytes
 
-pub bit-size : (b : ℕ) → length (recordBytes (bit b)) ≡ 2
-bit-size b = refl
+pub bit-size : (ver : Version) (b : ℕ) → length (recordBytes ver (bit b)) ≡ 2
+bit-size ver b = refl
 
-pub operation-size : (op : Operation) (l : List ℕ) → length (recordBytes (operation op l)) ≡ 1 + 2 * length l
-operation-size op l = rw (wires-size l) (omega arith)
+pub operation-size : (ver : Version) (op : Operation) (l : List ℕ) → length (recordBytes ver (operation op l)) ≡ 1 + 2 * length l
+operation-size ver op l = rw (wires-size l) (omega arith)
 
-pub choice-size : (c a b : ℕ) → length (recordBytes (choice c a b)) ≡ 7
-choice-size c a b = ap suc (wires-size (c ∷ a ∷ b ∷ []))
+pub choice-size : (ver : Version) (c a b : ℕ) → length (recordBytes ver (choice c a b)) ≡ 7
+choice-size ver c a b = ap suc (wires-size (c ∷ a ∷ b ∷ []))
 
-pub pick-size : (l : List Pair) → length (recordBytes (pick l)) ≡ 2 + 4 * length l
-pick-size l = rw (wires-size (pairWires l), pairs-size l) (omega arith)
+pub pick-size : (ver : Version) (l : List Pair) → length (recordBytes ver (pick l)) ≡ 2 + 4 * length l
+pick-size ver l = rw (wires-size (pairWires l), pairs-size l) (omega arith)
 
-pub guard-size : (cs : List ℕ) (t : ℕ) → length (recordBytes (guard cs t)) ≡ 10 + 2 * length cs
-guard-size cs t = rw (length-append, wires-size cs, length-bytes) (omega arith)
+pub guard-size : (ver : Version) (cs : List ℕ) (t : ℕ) → length (recordBytes ver (guard cs t)) ≡ 2 + 2 * length cs + tableBytes ver
+guard-size ver cs t = rw (length-append, wires-size cs, length-bytes) (omega arith)
 
 -- records one after another: their bytes, how many bytes, their cost
-pub bytes-append : (A B : List Record) → recordsBytes (A ++ B) ≡ recordsBytes A ++ recordsBytes B
-bytes-append [] B = refl
-bytes-append (r ∷ A) B = rw (bytes-append A B) (sym (append-assoc (recordBytes r) (recordsBytes A) (recordsBytes B)))
+pub bytes-append : (ver : Version) (A B : List Record) → recordsBytes ver (A ++ B) ≡ recordsBytes ver A ++ recordsBytes ver B
+bytes-append ver [] B = refl
+bytes-append ver (r ∷ A) B = rw (bytes-append ver A B) (sym (append-assoc (recordBytes ver r) (recordsBytes ver A) (recordsBytes ver B)))
 
-pub size-append : (A B : List Record) → length (recordsBytes (A ++ B)) ≡ length (recordsBytes A) + length (recordsBytes B)
-size-append A B = rw (bytes-append A B, length-append)
+pub size-append : (ver : Version) (A B : List Record) → length (recordsBytes ver (A ++ B)) ≡ length (recordsBytes ver A) + length (recordsBytes ver B)
+size-append ver A B = rw (bytes-append ver A B, length-append)
 
 pub cost-none : recordsCost [] ≡ 0
 unfolding recordsCost
@@ -74,18 +75,18 @@ pub cost-append : (A B : List Record) → recordsCost (A ++ B) ≡ recordsCost A
 cost-append [] B = omega (arith, cost-none)
 cost-append (r ∷ A) B = omega (arith, cost-more r (A ++ B), cost-more r A, cost-append A B)
 
-pub size-one : (r : Record) → length (recordsBytes (r ∷ [])) ≡ length (recordBytes r)
-size-one r = rw length-append (omega arith)
+pub size-one : (ver : Version) (r : Record) → length (recordsBytes ver (r ∷ [])) ≡ length (recordBytes ver r)
+size-one ver r = rw length-append (omega arith)
 
 pub cost-one : (r : Record) → recordsCost (r ∷ []) ≡ recordCost r
 cost-one r = omega (arith, cost-more r [], cost-none)
 
 -- a file: 8 bytes, its records, two bytes an output
-pub file-size : (v : ℕ) (R : List Record) (outputs : List ℕ) → length (fileBytes v R outputs) ≡ 8 + length (recordsBytes R) + 2 * length outputs
-file-size v R outputs =
+pub file-size : (ver : Version) (v : ℕ) (R : List Record) (outputs : List ℕ) → length (fileBytes ver v R outputs) ≡ 8 + length (recordsBytes ver R) + 2 * length outputs
+file-size ver v R outputs =
     rw (
-      length-append (bytesOf 2 (length R)) (recordsBytes R ++ wiresBytes outputs),
-      length-append (recordsBytes R)
+      length-append (bytesOf 2 (length R)) (recordsBytes ver R ++ wiresBytes outputs),
+      length-append (recordsBytes ver R)
           (wiresBytes outputs),
       length-bytes,
       wires-size outputs,

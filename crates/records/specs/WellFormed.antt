@@ -1,4 +1,5 @@
--- Document 02, C-11: the circuits whose files are read, said without a reader: a list of records and outputs for v variables that rows 60 to 62 find no fault with.
+-- Document 02, C-11: the circuits whose files are read, said without a reader: a list of records and outputs for v variables that rows 60 to 62 find no fault with,
+-- as the file of a version.
 -- That a file passes the rows exactly when it is the bytes of one: `circuit-format` (FormatLaws).
 use Prim.Native.Nat.{ℕ, _^_, _≤_, _<_}
 use mathlib.Core.Path.{_≡_}
@@ -11,6 +12,7 @@ use Rattle.records.specs.WireKinds.{wireKind, RecordFits}
 use Rattle.records.specs.CircuitFile.{fileBytes, noWire}
 use Rattle.records.specs.FitRecords.{FileFits}
 use Rattle.records.specs.LaidOut.{Bounded}
+use Rattle.records.specs.Versions.{Version}
 use Rattle.records.specs.Limits.{mostFileBytes, mostFileVariables, mostWires}
 
 -- a guard's table has no bit set from 2^d up
@@ -35,14 +37,14 @@ pub record Standing (v : ℕ) (R : List Record) (outputs : List ℕ) : Type 0 wh
   -- an output is no wire, FF FF (C-13), or a wire of its variable's kind, which is that of its input's wire
   pub outs : (x : ℕ) → x < length outputs → (getD outputs x 0 ≡ noWire) ⊎ ((getD outputs x 0 < length R) × (wireKind R (getD outputs x 0) ≡ wireKind R x))
 
-pub record WellFormed (v : ℕ) (R : List Record) (outputs : List ℕ) : Type 0 where
+pub record WellFormed (ver : Version) (v : ℕ) (R : List Record) (outputs : List ℕ) : Type 0 where
   -- 60: 1 to 32 variables, at most 640 wires and 16,384 bytes
   pub some : 1 ≤ v
   pub few : v ≤ mostFileVariables
   pub wires : length R ≤ mostWires
-  pub size : length (fileBytes v R outputs) ≤ mostFileBytes
+  pub size : length (fileBytes ver v R outputs) ≤ mostFileBytes
   -- 61: numbers that fit their bytes, an operation's wires and an output for each variable; bits, pairs and guards within their bounds
-  pub fits : FileFits v R outputs
-  pub bounded : (i : ℕ) → i < length R → Bounded (recordIn R i)
+  pub fits : FileFits ver v R outputs
+  pub bounded : (i : ℕ) → i < length R → Bounded ver (recordIn R i)
   -- 62
   pub standing : Standing v R outputs

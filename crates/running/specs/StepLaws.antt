@@ -15,11 +15,12 @@ use Rattle.reading.specs.FirstStatement.{rule-read}
 use Rattle.circuit.specs.WholeLaws.{accepted}
 use Rattle.plan.specs.Rows.{planAnswer}
 use Rattle.plan.specs.AcceptedLaws.{plan-accepted}
+use Rattle.fused.specs.SizeLimits.{mostFusedBytes}
 use Rattle.fused.specs.FusedCircuit.{fusedFile}
 use Rattle.records.specs.CircuitRows.{circuitRow}
 use Rattle.records.specs.FileFigures.{fileVariables, fileFigures}
 use Rattle.fused.specs.Answers.{fusedAnswer}
-use Rattle.fused.specs.SizeBounds.{plan-most, outputs-count, fused-size}
+use Rattle.fused.specs.SizeBounds.{bytes-most}
 use Rattle.fused.specs.AnswerLaws.{fused-plan, answer-bytes}
 use Rattle.fused.specs.FitPlan.{fused-found}
 use Rattle.fused.specs.FusedFigures.{reads-earlier, output-earlier}
@@ -72,8 +73,8 @@ module _ (s p : List ℕ) (a : Answer) (answer-is : a ≡ fusedAnswer s p) where
     size-is : a .bytes ≡ length (fusedFile s p)
     size-is = ap (λ (b : Answer). b .bytes) answer-is ∙ answer-bytes s p taken
 
-    pub size-inside : a .bytes ≤ 8904
-    size-inside = omega (arith, size-is, plan-most s p taken .1, fused-size s p taken, outputs-count s p taken .1)
+    pub size-inside : a .bytes ≤ mostFusedBytes
+    size-inside = omega (arith, size-is, bytes-most s p taken)
 
     -- file: the bytes z once it is written into them
     module _ (z : List ℕ) (file : List ℕ) (w : file ≡ over (fusedFile s p) z) where

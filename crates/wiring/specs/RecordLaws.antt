@@ -16,12 +16,12 @@ use Rattle.codes.specs.declared.Kind.the-variants as kind
 use Rattle.codes.specs.declared.Code.{Code}
 use Rattle.records.specs.Records.{Record, pick}
 use Rattle.records.specs.WireKinds.{recordKind}
-use Rattle.records.specs.FileFigures.{wiresAt, pairsAt, recordAt}
+use Rattle.records.specs.FileFigures.{versionIn, wiresAt, pairsAt, recordAt}
 use Rattle.records.specs.FilePartLaws.{wires-length, pairs-length}
 use Rattle.records.specs.FoundForms.{OtherByte, operation-byte, form-input, form-word, form-bit, form-choice, form-pick, form-guard, form-other, form-operation}
 use Rattle.records.specs.RecordBounds.{Coded, is-input, is-word, is-bit, is-operation, is-choice, is-pick, is-guard, known-coded}
 use Rattle.records.specs.LaidOut.{Bounded, WholeAt}
-use Rattle.records.specs.Limits.{mostGuardWires}
+use Rattle.records.specs.Versions.{mostGuardWires, tableBytes}
 use Rattle.records.specs.CircuitRows.{stands}
 use Rattle.wiring.specs.Wires.{fits, wiresBy}
 use Rattle.wiring.specs.FormLaws.{input-stands, word-stands, bit-stands, operation-stands, choice-stands, pick-stands, guard-stands, wires-by, guards-by, values-by}
@@ -42,13 +42,13 @@ module _ (f : List ℕ) (at : ℕ) (whole : WholeAt f at) where
   pub pick-takes : getD f at 0 ≡ 0x31 → (at + 2 + 4 * getD f (at + 1) 0 ≤ length f) × (1 ≤ getD f (at + 1) 0)
   pick-takes h = (
     omega (arith, whole .inside, form-pick f at h .1),
-    rw (pairs-length (getD f (at + 1) 0) f (at + 2)) at (subst Bounded (form-pick f at h .0) (whole .bounded)),
+    rw (pairs-length (getD f (at + 1) 0) f (at + 2)) at (subst (Bounded (versionIn f)) (form-pick f at h .0) (whole .bounded)),
   )
 
-  pub guard-takes : getD f at 0 ≡ 0x32 → (at + 2 + 2 * getD f (at + 1) 0 + 8 ≤ length f) × (getD f (at + 1) 0 ≤ mostGuardWires)
+  pub guard-takes : getD f at 0 ≡ 0x32 → (at + 2 + 2 * getD f (at + 1) 0 + tableBytes (versionIn f) ≤ length f) × (getD f (at + 1) 0 ≤ mostGuardWires (versionIn f))
   guard-takes h = (
     omega (arith, whole .inside, form-guard f at h .1),
-    rw (wires-length (getD f (at + 1) 0) f (at + 2)) at (subst Bounded (form-guard f at h .0) (whole .bounded)),
+    rw (wires-length (getD f (at + 1) 0) f (at + 2)) at (subst (Bounded (versionIn f)) (form-guard f at h .0) (whole .bounded)),
   )
 
   pub operation-takes : OtherByte (getD f at 0) → at + (1 + 2 * codeOf (getD f at 0) .arity) ≤ length f
@@ -117,11 +117,11 @@ module _ (f : List ℕ) (at : ℕ) (whole : WholeAt f at) where
           (late (rw (guards-by N f (at + 2), values-by N f (at + 2), ← first-kind N (at + 2) (pick-takes h .1)) (rw e at q)))
 
       pub guard-in : getD f at 0 ≡ 0x32
-          → (b : Bool) → b ≡ (every (fits i k kind.Bit) (wiresBy 2 (getD f (at + 1) 0) f (at + 2)) && ltb (numberAt 8 f (at + 2 + 2 * getD f (at + 1) 0)) (2 ^ 2 ^ getD f (at + 1) 0))
+          → (b : Bool) → b ≡ (every (fits i k kind.Bit) (wiresBy 2 (getD f (at + 1) 0) f (at + 2)) && ltb (numberAt (tableBytes (versionIn f)) f (at + 2 + 2 * getD f (at + 1) 0)) (2 ^ 2 ^ getD f (at + 1) 0))
           → b ≡ stands v k i (recordAt f at)
       guard-in h b q =
           let N = getD f (at + 1) 0 in
-          by _ _ _ (form-guard f at h .0) (guard-stands v k i (wiresAt N f (at + 2)) (numberAt 8 f (at + 2 + 2 * N)))
+          by _ _ _ (form-guard f at h .0) (guard-stands v k i (wiresAt N f (at + 2)) (numberAt (tableBytes (versionIn f)) f (at + 2 + 2 * N)))
           (late (rw (wires-length N f (at + 2), wires-by N f (at + 2)) q))
 
       pub operation-in : OtherByte (getD f at 0)

@@ -1,4 +1,4 @@
--- Laws of row 62, one for each step of the code: a wire, an output, wires at equal distances, a guard's table. Assumes nothing.
+-- Laws of row 62, one for each step of the code: a wire, an output, wires at equal distances. Assumes nothing.
 use Prim.Native.Nat.{ℕ, zero, suc, _+_, _-_, _*_, _^_, _≤_, _<_}
 use mathlib.Core.Path.{_≡_, refl, sym, ap, _∙_}
 use mathlib.Core.List.{List}
@@ -96,11 +96,3 @@ both-none a b t q h = rw (← q, h)
 pub by-test : (k : Kind) (b : Bool) → b ≡ sameKind k kind.Bit → kindBy b ≡ k
 by-test kind.Word b e = ap kindBy e
 by-test kind.Bit b e = ap kindBy e
-
--- a guard's table, by the number of its wires as the code has it
-pub table-of : (d n t : ℕ) → d ≡ n → ltb t (2 ^ 2 ^ n) ≡ ltb t (2 ^ 2 ^ d)
-table-of d n t e = rw e
-
--- a table of 64 bits is never too large
-pub table-whole : (d t : ℕ) → d ≤ 6 → (d ≡ 0 → ⊥) → (d ≡ 1 → ⊥) → (d ≡ 2 → ⊥) → (d ≡ 3 → ⊥) → (d ≡ 4 → ⊥) → (d ≡ 5 → ⊥) → t < 18446744073709551616 → true ≡ ltb t (2 ^ 2 ^ d)
-table-whole d t h a b c e f g l = let six : d ≡ 6 = omega arith in sym (ap (λ (n : ℕ). ltb t (2 ^ 2 ^ n)) six ∙ lt-ltb t 18446744073709551616 l)

@@ -4,23 +4,30 @@ use codes::Kind;
 ghost use mathlib.Core.Path.{_≡_};
 ghost use mathlib.Core.Bool.{true, cond, _&&_};
 ghost use Prim.Native.Nat.{_+_, _*_, _^_, _<_, _≤_};
-ghost use lib.Dec.{ltb};
+ghost use lib.Dec.{eqb, ltb};
 ghost use lib.ListN.{length, getD};
 ghost use Rattle.words.specs.Lists.{every};
 ghost use Rattle.words.specs.Numbers.{numberAt};
 ghost use Rattle.codes.specs.Codes.{codeOf};
+ghost use Rattle.records.specs.Versions.{two, mostGuardWires, tableBytes};
 ghost use Rattle.records.specs.WireKinds.{wireKind};
-ghost use Rattle.records.specs.FileFigures.{wiresAt, recordAt, fileVariables, wireCount, fileRecords};
-ghost use Rattle.records.specs.Limits.{mostFileBytes, mostWires, mostGuardWires};
+ghost use Rattle.records.specs.FileFigures.{versionIn, wiresAt, recordAt, fileVariables, wireCount, fileRecords};
+ghost use Rattle.records.specs.Limits.{mostFileBytes, mostWires};
 ghost use Rattle.records.specs.LaidOut.{recordPlace, WholeAt, LaidOut};
 ghost use Rattle.records.specs.CircuitRows.{headed, laid, stands, allStand, outputStands, outputsStand, standing};
 ghost use Rattle.records.specs.RowLaws.{Headed};
 ghost use Rattle.parts.specs.HeldKinds.{kindBy, heldKind};
 ghost use Rattle.parts.specs.TableLaws.{HoldsKinds};
-ghost use Rattle.wiring.specs.Wires.{fits, wiresBy};
+ghost use Rattle.wiring.specs.Wires.{fits, wiresBy, usedBytes, topByte};
 
 // A wire that record i may read as a bit, or as a word.
-fn wire_fits(file: &[u8], at: usize, i: usize, bits: &[bool; 640], want: bool) -> bool
+fn wire_fits(
+    file: &[u8],
+    at: usize,
+    i: usize,
+    bits: &[bool; records::MOST_WIRES],
+    want: bool,
+) -> bool
     requires { ⌜ (at + 2 ≤ length (now file)) × (i ≤ mostWires) ⌝ }
     ensures { λ r. ⌜ r ≡ fits i (heldKind (now (bits .entry))) (kindBy want) (numberAt 2 (now (file .entry)) at) ⌝ }
 {
@@ -40,7 +47,7 @@ fn all_fit(
     step: usize,
     count: usize,
     i: usize,
-    bits: &[bool; 640],
+    bits: &[bool; records::MOST_WIRES],
     want: bool,
 ) -> bool
     requires { ⌜
@@ -70,7 +77,7 @@ fn all_alike(
     step: usize,
     count: usize,
     i: usize,
-    bits: &[bool; 640],
+    bits: &[bool; records::MOST_WIRES],
 ) -> bool
     requires { ⌜
         (length (now file) ≤ mostFileBytes)
@@ -90,24 +97,58 @@ fn all_alike(
     }
 }
 
-// A table of 2^d bits: none is set from 2^d up.
-fn table_fits(table: u64, d: u8) -> bool
-    requires { ⌜ d ≤ mostGuardWires ⌝ }
-    ensures { λ r. ⌜ r ≡ ltb table (2 ^ 2 ^ d) ⌝ }
+// So many bytes from `at` on are all 0.
+fn none_set(file: &[u8], at: usize, count: usize) -> bool
+    requires { ⌜ at + count ≤ length (now file) ⌝ }
+    ensures { λ r. ⌜ r ≡ eqb (numberAt count (now (file .entry)) at) 0 ⌝ }
+{
+    let mut here = at;
+    let mut left = count;
+    while 0 < left {
+        if file[here] != 0 {
+            return false;
+        }
+        here = here + 1;
+        left = left - 1;
+    }
+    true
+}
+
+// The 2^d bits of a table stand in its last bytes: in so many.
+fn used_bytes(d: u8) -> usize
+    requires { ⌜ d ≤ mostGuardWires two ⌝ }
+    ensures { λ r. ⌜ r ≡ usedBytes d ⌝ }
+{
+    if d < 3 { 1 } else { 1 << (d - 3) }
+}
+
+// The first of them is this at most.
+fn top_byte(d: u8) -> u8
+    ensures { λ r. ⌜ r ≡ topByte d ⌝ }
 {
     match d {
-        0 => table < 2,
-        1 => table < 4,
-        2 => table < 16,
-        3 => table < 256,
-        4 => table < 65536,
-        5 => table < 4294967296,
-        _ => true,
+        0 => 1,
+        1 => 3,
+        2 => 15,
+        _ => 255,
+    }
+}
+
+// A table of `size` bytes from `at` on has 2^d bits: none is set from 2^d up.
+fn table_fits(file: &[u8], at: usize, size: usize, d: u8) -> bool
+    requires { ⌜ (at + size ≤ length (now file)) × (d ≤ mostGuardWires two) × (usedBytes d ≤ size) ⌝ }
+    ensures { λ r. ⌜ r ≡ ltb (numberAt size (now (file .entry)) at) (2 ^ 2 ^ d) ⌝ }
+{
+    let high = size - used_bytes(d);
+    if none_set(file, at, high) {
+        file[at + high] <= top_byte(d)
+    } else {
+        false
     }
 }
 
 // An operation, 20 to 27: its one or two wires are of the kind that it takes.
-fn operation_wires(file: &[u8], at: usize, i: usize, bits: &[bool; 640]) -> bool
+fn operation_wires(file: &[u8], at: usize, i: usize, bits: &[bool; records::MOST_WIRES]) -> bool
     requires { ⌜
         (length (now file) ≤ mostFileBytes)
         × (at + (1 + 2 * codeOf (getD (now file) at 0) .arity) ≤ length (now file))
@@ -122,7 +163,7 @@ fn operation_wires(file: &[u8], at: usize, i: usize, bits: &[bool; 640]) -> bool
 }
 
 // A choice, 30: its condition is a bit, its two values are alike.
-fn choice_wires(file: &[u8], at: usize, i: usize, bits: &[bool; 640]) -> bool
+fn choice_wires(file: &[u8], at: usize, i: usize, bits: &[bool; records::MOST_WIRES]) -> bool
     requires { ⌜ (length (now file) ≤ mostFileBytes) × (at + 7 ≤ length (now file)) × (i ≤ mostWires) ⌝ }
     ensures { λ r. ⌜ r ≡ (fits i (heldKind (now (bits .entry))) (kindBy true) (numberAt 2 (now (file .entry)) (at + 1))
         && every (fits i (heldKind (now (bits .entry))) (heldKind (now (bits .entry)) (numberAt 2 (now (file .entry)) (at + 3)))) (wiresBy 2 2 (now (file .entry)) (at + 3))) ⌝ }
@@ -135,7 +176,13 @@ fn choice_wires(file: &[u8], at: usize, i: usize, bits: &[bool; 640]) -> bool
 }
 
 // A pick, 31, of `count` pairs from `at` on: its guards are bits, its values are alike.
-fn pick_wires(file: &[u8], at: usize, count: usize, i: usize, bits: &[bool; 640]) -> bool
+fn pick_wires(
+    file: &[u8],
+    at: usize,
+    count: usize,
+    i: usize,
+    bits: &[bool; records::MOST_WIRES],
+) -> bool
     requires { ⌜ (length (now file) ≤ mostFileBytes) × (at + 4 * count ≤ length (now file)) × (1 ≤ count) × (i ≤ mostWires) ⌝ }
     ensures { λ r. ⌜ r ≡ (every (fits i (heldKind (now (bits .entry))) (kindBy true)) (wiresBy 4 count (now (file .entry)) at)
         && every (fits i (heldKind (now (bits .entry))) (heldKind (now (bits .entry)) (numberAt 2 (now (file .entry)) (at + 2)))) (wiresBy 4 count (now (file .entry)) (at + 2))) ⌝ }
@@ -148,21 +195,38 @@ fn pick_wires(file: &[u8], at: usize, count: usize, i: usize, bits: &[bool; 640]
 }
 
 // A guard, 32, of `count` wires from `at` on: they are bits, and its table is no larger than they ask.
-fn guard_wires(file: &[u8], at: usize, count: u8, i: usize, bits: &[bool; 640]) -> bool
-    requires { ⌜ (length (now file) ≤ mostFileBytes) × (at + 2 * count + 8 ≤ length (now file)) × (count ≤ mostGuardWires) × (i ≤ mostWires) ⌝ }
+fn guard_wires(
+    file: &[u8],
+    at: usize,
+    count: u8,
+    i: usize,
+    bits: &[bool; records::MOST_WIRES],
+) -> bool
+    requires { ⌜
+        (length (now file) ≤ mostFileBytes)
+        × (at + 2 * count + tableBytes (versionIn (now file)) ≤ length (now file))
+        × (count ≤ mostGuardWires (versionIn (now file)))
+        × (i ≤ mostWires)
+        ⌝ }
     ensures { λ r. ⌜ r ≡ (every (fits i (heldKind (now (bits .entry))) (kindBy true)) (wiresBy 2 count (now (file .entry)) at)
-        && ltb (numberAt 8 (now (file .entry)) (at + 2 * count)) (2 ^ 2 ^ count)) ⌝ }
+        && ltb (numberAt (tableBytes (versionIn (now (file .entry)))) (now (file .entry)) (at + 2 * count)) (2 ^ 2 ^ count)) ⌝ }
 {
     let d = words::wide8(count);
     if all_fit(file, at, 2, d, i, bits, true) {
-        table_fits(words::read64(file, at + 2 * d), count)
+        table_fits(file, at + 2 * d, records::table_bytes(file[4]), count)
     } else {
         false
     }
 }
 
 // The record at a place, as record i of a file of v variables.
-fn record_stands(file: &[u8], at: usize, i: usize, v: usize, bits: &[bool; 640]) -> bool
+fn record_stands(
+    file: &[u8],
+    at: usize,
+    i: usize,
+    v: usize,
+    bits: &[bool; records::MOST_WIRES],
+) -> bool
     requires { ⌜ (length (now file) ≤ mostFileBytes) × WholeAt (now file) at × (i ≤ mostWires) ⌝ }
     ensures { λ r. ⌜ r ≡ stands v (heldKind (now (bits .entry))) i (recordAt (now (file .entry)) at) ⌝ }
 {
@@ -184,7 +248,12 @@ fn record_stands(file: &[u8], at: usize, i: usize, v: usize, bits: &[bool; 640])
 }
 
 // Every record in its turn, and its kind into the table; the place after the records, or 0 where one does not stand.
-fn records_stand(file: &[u8], v: usize, count: usize, bits: &mut [bool; 640]) -> usize
+fn records_stand(
+    file: &[u8],
+    v: usize,
+    count: usize,
+    bits: &mut [bool; records::MOST_WIRES],
+) -> usize
     requires { ⌜ (Headed (now file) × LaidOut (now file)) × (v ≡ fileVariables (now file)) × (count ≡ wireCount (now file)) × (length (now bits) ≡ mostWires) ⌝ }
     ensures place { λ r. ⌜ r ≡ cond (allStand v (wireKind (fileRecords (now (file .entry)))) 0 (fileRecords (now (file .entry)))) (recordPlace (now (file .entry)) count) 0 ⌝ }
     ensures kinds { λ r. ⌜ (0 < r → HoldsKinds (fileRecords (now (file .entry))) (now (bits .exit)) count) ⌝ }
@@ -204,7 +273,13 @@ fn records_stand(file: &[u8], v: usize, count: usize, bits: &mut [bool; 640]) ->
 }
 
 // The output of variable x, which stands at a place: no wire, or a wire of its kind.
-fn output_stands(file: &[u8], at: usize, x: usize, count: usize, bits: &[bool; 640]) -> bool
+fn output_stands(
+    file: &[u8],
+    at: usize,
+    x: usize,
+    count: usize,
+    bits: &[bool; records::MOST_WIRES],
+) -> bool
     requires { ⌜ (at + 2 ≤ length (now file)) × (x < mostWires) × (count ≤ mostWires) ⌝ }
     ensures { λ r. ⌜ r ≡ outputStands count (heldKind (now (bits .entry))) x (numberAt 2 (now (file .entry)) at) ⌝ }
 {
@@ -216,7 +291,13 @@ fn output_stands(file: &[u8], at: usize, x: usize, count: usize, bits: &[bool; 6
 }
 
 // The outputs of the variables, which stand from `at` on.
-fn outputs_stand(file: &[u8], at: usize, v: usize, count: usize, bits: &[bool; 640]) -> bool
+fn outputs_stand(
+    file: &[u8],
+    at: usize,
+    v: usize,
+    count: usize,
+    bits: &[bool; records::MOST_WIRES],
+) -> bool
     requires { ⌜ (at + 2 * v ≤ length (now file)) × (v ≤ count) × (count ≤ mostWires) ⌝ }
     ensures { λ r. ⌜ r ≡ outputsStand count (heldKind (now (bits .entry))) 0 (wiresAt v (now (file .entry)) at) ⌝ }
 {
@@ -240,7 +321,7 @@ pub fn standing(file: &[u8]) -> bool
     if count < v {
         return false;
     }
-    let mut bits = [false; 640];
+    let mut bits = [false; records::MOST_WIRES];
     let at = records_stand(file, v, count, &mut bits);
     if at == 0 {
         return false;

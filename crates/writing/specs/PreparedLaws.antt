@@ -24,6 +24,7 @@ use Rattle.plan.specs.AcceptedLaws.{answer-accepted, plan-accepted, row-right}
 use Rattle.checking.specs.Checked.{writingOrder}
 use Rattle.checking.specs.Handed.{Handed}
 use Rattle.checking.specs.CheckedLaws.{accepted-lists}
+use Rattle.records.specs.Versions.{writtenVersion}
 use Rattle.records.specs.Records.{Record, recordsCost}
 use Rattle.fused.specs.FusedCircuit.{recordsOf, outputWires, costAfter, fusedFile}
 use Rattle.records.specs.CircuitFile.{recordsBytes, fileBytes}
@@ -106,7 +107,7 @@ module _ (s p : List ℕ) (taken : planAnswer s p .number ≡ 0) (quads needs ou
   -- the file that the arrays give is the one that the rules fix
   pub file-is : fileIn s p quads count needs group places ord groups outputs ≡ fusedFile s p
   unfolding fusedFile
-  file-is = ap₂ (fileBytes (variables s)) records-are outputs-are
+  file-is = ap₂ (fileBytes writtenVersion (variables s)) records-are outputs-are
 
   outputs-held : length outputs ≡ 32
   outputs-held =
@@ -138,7 +139,7 @@ module _ (s p : List ℕ) (taken : planAnswer s p .number ≡ 0) (quads needs ou
   module _ (wires bytes cost : ℕ) (m : Sum p quads count needs group places ord groups wires bytes cost) where
     size-is : 8 + bytes + 2 * variables s ≡ length (fusedFile s p)
     size-is =
-        let e : bytes ≡ length (recordsBytes (recordsOf s p)) = m .long ∙ ap (λ (R : List Record). length (recordsBytes R)) records-are in
+        let e : bytes ≡ length (recordsBytes writtenVersion (recordsOf s p)) = m .long ∙ ap (λ (R : List Record). length (recordsBytes writtenVersion R)) records-are in
         omega (arith, e, fused-size s p taken)
 
     pub bytes-few : bytes ≤ 16384

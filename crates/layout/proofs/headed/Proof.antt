@@ -49,12 +49,12 @@ returns-6 : tie.Need-returns-6
 unfolding headed
 returns-6 c =
     rw (
-      le-leb _ _ (c .before .before .before .before .before .before .before .before .if1 .left),
-      le-leb _ _ (c .before .before .before .before .before .before .before .if2 .left),
-      sym (c .before .before .before .before .before .before .marked .ensures) ∙ not-false _ (c .before .before .before .before .before .if3 .left),
-      le-leb _ _ (c .before .before .before .if4 .left),
-      le-leb _ _ (c .before .if5 .left),
-      c .read16 .ensures,
+      le-leb _ _ (c .before .before .before .before .before .before .before .before .before .if1 .left),
+      le-leb _ _ (c .before .before .before .before .before .before .before .before .if2 .left),
+      sym (c .before .before .before .before .before .before .before .marked .ensures) ∙ not-false _ (c .before .before .before .before .before .before .if3 .left),
+      le-leb _ _ (c .before .before .before .before .if4 .left),
+      le-leb _ _ (c .before .before .if5 .left),
+      c .wide16 .ensures .0 ∙ c .before .read16 .ensures,
     )
 
 pub headed-spec : {M : Type 1} → statement M
@@ -69,5 +69,6 @@ headed-spec =
     returns-4
     (λ c. search needs)
     returns-5
+    (λ c κs. search needs)
     (λ c κs. search needs)
     returns-6)

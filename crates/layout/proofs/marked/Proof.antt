@@ -1,5 +1,4 @@
 use mathlib.Core.Path.{sym, _∙_}
-use mathlib.Core.Bool.{and-true}
 use denote.Ref.{now}
 use borrow.Author.Needs.{needs}
 use borrow.Author.Tests.{eq-eqb, ne-eqb}
@@ -35,14 +34,26 @@ returns-4 c =
 
 returns-5 : tie.Need-returns-5
 returns-5 c =
-    let d = c .before .before .before .before .before .before .before .before .before in
+    let d = c .before .before .before .before .before .before .before .before .before .before in
     sym (marked-by (now (d .args .file)) (d .pre)
     ∙ rw (
-      eq-eqb _ _ (c .before .before .before .before .before .before .before .if1 .left),
-      eq-eqb _ _ (c .before .before .before .before .before .if2 .left),
-      eq-eqb _ _ (c .before .before .before .if3 .left),
-      eq-eqb _ _ (c .before .if4 .left),
-      and-true,
+      eq-eqb _ _ (c .before .before .before .before .before .before .before .before .if1 .left),
+      eq-eqb _ _ (c .before .before .before .before .before .before .if2 .left),
+      eq-eqb _ _ (c .before .before .before .before .if3 .left),
+      eq-eqb _ _ (c .before .before .if4 .left),
+      eq-eqb _ _ (c .if5 .taken),
+    ))
+
+returns-6 : tie.Need-returns-6
+returns-6 c =
+    let d = c .before .before .before .before .before .before .before .before .before .before .before in
+    sym (marked-by (now (d .args .file)) (d .pre)
+    ∙ rw (
+      eq-eqb _ _ (c .before .before .before .before .before .before .before .before .before .if1 .left),
+      eq-eqb _ _ (c .before .before .before .before .before .before .before .if2 .left),
+      eq-eqb _ _ (c .before .before .before .before .before .if3 .left),
+      eq-eqb _ _ (c .before .before .before .if4 .left),
+      ne-eqb _ _ (c .before .if5 .left),
     ))
 
 pub marked-spec : {M : Type 1} → statement M
@@ -58,4 +69,6 @@ marked-spec =
     (λ c. search needs)
     returns-4
     (λ c. search needs)
-    returns-5)
+    returns-5
+    (λ c. search needs)
+    returns-6)

@@ -3,7 +3,6 @@ use borrow.Author.Needs.{needs}
 use borrow.Author.Tests.{le-leb, lt-leb}
 use Rattle.codes.specs.declared.Kind.the-variants as kind
 use Rattle.codes.specs.declared.Operation.the-variants.{Sum, Difference, Product, LessThan, Equal, And, Or, Not}
-use Rattle.records.specs.Limits.{mostGuardWires}
 use Rattle.layout.specs.LayoutLaws.{said-input, said-word, said-bit, said-operation, said-choice, said-pick, said-guard, said-unknown}
 use Rattle.layout.proofs.said_size.Statement.{statement}
 use Rattle.layout.proofs.said_size.Tie as tie
@@ -64,16 +63,12 @@ returns-16 c =
 
 returns-17 : tie.Need-returns-17
 returns-17 c =
-    sym (said-guard _ _ _ (sym (c .before .before .before .before .byte-at .ensures) ∙ c .before .before .before .match .keys15)
-    (c .before .wide82 .ensures .0 ∙ c .before .before .byte-at4 .ensures) ∙ rw (le-leb _ mostGuardWires (c .if3 .taken)))
+    c .guard-size .ensures
+    ∙ sym (said-guard _ _ _ (sym (c .before .before .before .before .byte-at .ensures) ∙ c .before .before .before .match .keys15)
+    (c .before .wide82 .ensures .0 ∙ c .before .before .byte-at4 .ensures))
 
 returns-18 : tie.Need-returns-18
-returns-18 c =
-    sym (said-guard _ _ _ (sym (c .before .before .before .before .byte-at .ensures) ∙ c .before .before .before .match .keys15)
-    (c .before .wide82 .ensures .0 ∙ c .before .before .byte-at4 .ensures) ∙ rw (lt-leb _ mostGuardWires (c .if3 .left)))
-
-returns-19 : tie.Need-returns-19
-returns-19 c = sym (said-unknown _ _ _ (sym (c .before .byte-at .ensures)) (c .match .rest))
+returns-18 c = sym (said-unknown _ _ _ (sym (c .before .byte-at .ensures)) (c .match .rest))
 
 pub said-size-spec : {M : Type 1} → statement M
 said-size-spec =
@@ -90,8 +85,7 @@ said-size-spec =
     (λ c. search needs)
     (λ c κs. search needs)
     (λ c κs. search needs)
-    (λ c. search needs)
-    (λ c. search needs)
+    (λ c κs. search needs)
     returns
     returns-2
     returns-3
@@ -109,5 +103,4 @@ said-size-spec =
     returns-15
     returns-16
     returns-17
-    returns-18
-    returns-19)
+    returns-18)

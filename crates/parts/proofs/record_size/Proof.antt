@@ -4,7 +4,7 @@ use native.Mathlib.Omega.{arith}
 use borrow.Author.Needs.{needs}
 use Rattle.codes.specs.declared.Kind.the-variants as kind
 use Rattle.records.specs.FoundForms.{form-input, form-word, form-bit, form-choice, form-pick, form-guard}
-use Rattle.parts.specs.FirstByteLaws.{first-inside}
+use Rattle.parts.specs.FirstByteLaws.{first-inside, version-inside}
 use Rattle.parts.specs.OperationLaws.{not-size, two-size}
 use Rattle.parts.proofs.record_size.Statement.{statement}
 use Rattle.parts.proofs.record_size.Tie as tie
@@ -21,6 +21,11 @@ shared-slice-read-wide8-2 : tie.Need-shared-slice-read-wide8-2
 shared-slice-read-wide8-2 c =
     let d = c .before .before .before .before in
     omega (arith, d .pre .inside, form-guard (now (d .args .file)) (d .args .at) (c .before .match .keys8) .1)
+
+shared-slice-read-table-bytes : tie.Need-shared-slice-read-table-bytes
+shared-slice-read-table-bytes c =
+    let d = c .before .before .before .before .before .before in
+    omega (arith, version-inside (now (d .args .file)) (d .args .at) (c .before .before .before .match .keys8) (d .pre .inside))
 
 returns : tie.Need-returns
 returns c = sym (form-input _ _ kind.Word (c .match .keys1) .1)
@@ -47,8 +52,8 @@ returns-7 c =
 
 returns-8 : tie.Need-returns-8
 returns-8 c =
-    let d = c .before .before .before .before .before in
-    omega (arith, c .wide82 .ensures .0, form-guard (now (d .args .file)) (d .args .at) (c .before .before .match .keys8) .1)
+    let d = c .before .before .before .before .before .before .before in
+    omega (arith, c .before .before .wide82 .ensures .0, c .table-bytes .ensures .0, form-guard (now (d .args .file)) (d .args .at) (c .before .before .before .before .match .keys8) .1)
 
 returns-9 : tie.Need-returns-9
 returns-9 c = let d = c .before .before .before in two-size (now (d .args .file)) (d .args .at) (d .pre) (c .match .rest)
@@ -67,6 +72,9 @@ record-size-spec =
     shared-slice-read-wide8-2
     (λ c κs. search needs)
     (λ c. search needs)
+    (λ c. search needs)
+    shared-slice-read-table-bytes
+    (λ c κs. search needs)
     (λ c. search needs)
     returns
     returns-2

@@ -1,29 +1,38 @@
-use Rattle.wiring.specs.StepLaws.{table-of, table-whole}
+use denote.Ref.{now}
+use native.Mathlib.Omega.{arith}
+use borrow.Author.Needs.{needs}
+use Rattle.wiring.specs.TableLaws.{used-some, table-high, table-low}
 use Rattle.wiring.proofs.table_fits.Statement.{statement}
 use Rattle.wiring.proofs.table_fits.Tie as tie
 
+shared-slice-read-result : tie.Need-shared-slice-read-result
+shared-slice-read-result c =
+    let d = c .before .before .before .before .before in
+    omega (arith, d .pre .0, d .pre .2, c .before .before .before .used-bytes .ensures, used-some (d .args .d))
+
 returns : tie.Need-returns
-returns c = table-of _ _ _ (c .match .keys1)
+returns c =
+    let d = c .before .before .before .before .before .before in
+    let u = c .before .before .before .before .used-bytes .ensures in
+    rw (c .top-byte .ensures, u)
+    (table-low (now (d .args .file)) (d .args .at) (d .args .size) (d .args .d) (d .pre .0) (d .pre .2) _ (rw u at (c .before .before .before .none-set .ensures))
+    (c .before .before .if1 .taken) (λ i _. c .before .shared-slice-known2 .given i .fits))
 
 returns-2 : tie.Need-returns-2
-returns-2 c = table-of _ _ _ (c .match .keys2)
-
-returns-3 : tie.Need-returns-3
-returns-3 c = table-of _ _ _ (c .match .keys3)
-
-returns-4 : tie.Need-returns-4
-returns-4 c = table-of _ _ _ (c .match .keys4)
-
-returns-5 : tie.Need-returns-5
-returns-5 c = table-of _ _ _ (c .match .keys5)
-
-returns-6 : tie.Need-returns-6
-returns-6 c = table-of _ _ _ (c .match .keys6)
-
-returns-7 : tie.Need-returns-7
-returns-7 c =
-    let r = c .match .rest in
-    table-whole _ _ (c .before .pre) (r .0 .0 .0 .0 .0 .1) (r .0 .0 .0 .0 .1) (r .0 .0 .0 .1) (r .0 .0 .1) (r .0 .1) (r .1) (c .before .fits .table .fits)
+returns-2 c =
+    let d = c .before .before .before .before in
+    table-high (now (d .args .file)) (d .args .at) (d .args .size) (d .args .d) (d .pre .0) (d .pre .2) _
+    (rw (c .before .before .used-bytes .ensures) at (c .before .none-set .ensures)) (c .if1 .left)
 
 pub table-fits-spec : {M : Type 1} → statement M
-table-fits-spec = tie.close (tie.spec returns returns-2 returns-3 returns-4 returns-5 returns-6 returns-7)
+table-fits-spec =
+    tie.close
+    (tie.spec
+    (λ c κs. search needs)
+    (λ c. search needs)
+    (λ c κs. search needs)
+    (λ c. search needs)
+    shared-slice-read-result
+    (λ c κs. search needs)
+    returns
+    returns-2)
