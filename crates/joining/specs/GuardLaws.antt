@@ -9,7 +9,6 @@ use Rattle.words.specs.Numbers.{bytesOf}
 use Rattle.words.specs.NumberLaws.{length-bytes}
 use Rattle.words.specs.Buffers.{over}
 use Rattle.words.specs.BufferLaws.{length-over, room-rest}
-use Rattle.settings.specs.Limits.{setBytes}
 use Rattle.settings.specs.Sets.{rests}
 use Rattle.settings.specs.Guards.{table}
 use Rattle.gates.specs.Limits.{mostConditions}

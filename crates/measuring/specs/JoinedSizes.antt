@@ -5,7 +5,6 @@ use mathlib.Core.List.{List, [], _∷_, map}
 use native.Mathlib.Omega.{arith}
 use lib.ListN.{length, getD, length-append, length-map}
 use Rattle.words.specs.Lists.{_∈_, Inside}
-use Rattle.settings.specs.Limits.{setBytes}
 use Rattle.settings.specs.Sets.{rests}
 use Rattle.settings.specs.PlaceLaws.{few-rests}
 use Rattle.codes.specs.Codes.{entryOf, operationOf, codeOf}
