@@ -29,22 +29,22 @@ use Rattle.records.specs.Records.{recordsCost}
 use Rattle.records.specs.Examples.{file3}
 use Rattle.fused.specs.Answers.{fusedCounts, writeAnswer}
 
--- example 3, whole
+-- example 3, whole, in version 00 02 (document 02, C-17)
 pub example-3 : fusedFile r1 p1 ≡ file3
 unfolding number kindOf workingOf operationOf codeOf readMark readCount readKinds readHeader readVariable readWord readBit operationWith exprWith readExpr readAssign branchWith
     statementWith blockWith blockFuel readBlock readRule applyGate makeExpr assignsIn assigns choices makeStatement makeBlock plainCircuit conditions collect numbers
     preconditions preconditionSets restsOn rests groupsIn groups restsOf waitsFor order bytesOf spread tableOver table written fused fusedFile
 example-3 = refl
 
--- its counts: 6 gates, 9 wires, 76 bytes, cost 33 before and 28 after; a buffer of 75: 50
-pub example-3-answer : writeAnswer r1 p1 76 ≡ success 6 9 76 33 28
+-- its counts: 6 gates, 9 wires, 124 bytes, cost 33 before and 28 after; a buffer of 123: 50
+pub example-3-answer : writeAnswer r1 p1 124 ≡ success 6 9 124 33 28
 unfolding number kindOf workingOf operationOf codeOf readMark readCount readKinds readHeader readVariable readWord readBit operationWith exprWith readExpr readAssign branchWith
     statementWith blockWith blockFuel readBlock readRule applyGate makeExpr assignsIn assigns choices makeStatement makeBlock plainCircuit conditions collect numbers
     preconditions preconditionSets costs wholeWithin ruleAnswer restsOn rests groupsIn groups restsOf waitsFor order planRow planAnswer bytesOf spread tableOver table
     written fused fusedFile recordsCost fusedCounts writeAnswer
 example-3-answer = refl
 
-pub example-3-short : writeAnswer r1 p1 75 ≡ refusal 50 0
+pub example-3-short : writeAnswer r1 p1 123 ≡ refusal 50 0
 unfolding number kindOf workingOf operationOf codeOf readMark readCount readKinds readHeader readVariable readWord readBit operationWith exprWith readExpr readAssign branchWith
     statementWith blockWith blockFuel readBlock readRule applyGate makeExpr assignsIn assigns choices makeStatement makeBlock plainCircuit conditions collect numbers
     preconditions preconditionSets costs wholeWithin ruleAnswer restsOn rests groupsIn groups restsOf waitsFor order planRow planAnswer bytesOf spread tableOver table
@@ -63,7 +63,7 @@ working-plan = 0x50 ∷ 0x4C ∷ 0x4E ∷ 0x00 ∷ 0x01 ∷ 0x00 ∷ 0x05 ∷ 0x
 
 -- its file, a record a line: the inputs have the codes of words and bits, the outputs of the working variables are FF FF
 pub example-working : fusedFile working-rule working-plan ≡
-    0x43 ∷ 0x49 ∷ 0x52 ∷ 0x00 ∷ 0x01 ∷ 0x03 ∷ 0x00 ∷ 0x05
+    0x43 ∷ 0x49 ∷ 0x52 ∷ 0x00 ∷ 0x02 ∷ 0x03 ∷ 0x00 ∷ 0x05
     ∷ 0x00 ∷ 0x00
     ∷ 0x00 ∷ 0x01
     ∷ 0x01 ∷ 0x02

@@ -16,35 +16,9 @@ use Rattle.records.specs.WireFigures.{wireFigure}
 use Rattle.records.specs.FileFigures.{recordAt, sizeAt, fileRecords, fileOutputs, fileFigures}
 use Rattle.records.specs.CircuitRows.{headed, wholeAt, laid, stands, standing, circuitRow}
 
--- the file of R1 with P1, a record a line
+-- the file of R1 with P1, a record a line, a guard's table on two lines of its own; document 02, C-17: "example 3 becomes 124 bytes"
 abbrev pub file3 : List ℕ
 file3 =
-    0x43 ∷ 0x49 ∷ 0x52 ∷ 0x00 ∷ 0x01 ∷ 0x03 ∷ 0x00 ∷ 0x09
-    ∷ 0x01 ∷ 0x00
-    ∷ 0x00 ∷ 0x01
-    ∷ 0x00 ∷ 0x02
-    ∷ 0x32 ∷ 0x01 ∷ 0x00 ∷ 0x00 ∷ 0x00 ∷ 0x00 ∷ 0x00 ∷ 0x00 ∷ 0x00 ∷ 0x00 ∷ 0x00 ∷ 0x02
-    ∷ 0x32 ∷ 0x01 ∷ 0x00 ∷ 0x00 ∷ 0x00 ∷ 0x00 ∷ 0x00 ∷ 0x00 ∷ 0x00 ∷ 0x00 ∷ 0x00 ∷ 0x01
-    ∷ 0x31 ∷ 0x02 ∷ 0x00 ∷ 0x03 ∷ 0x00 ∷ 0x01 ∷ 0x00 ∷ 0x04 ∷ 0x00 ∷ 0x02
-    ∷ 0x31 ∷ 0x02 ∷ 0x00 ∷ 0x03 ∷ 0x00 ∷ 0x02 ∷ 0x00 ∷ 0x04 ∷ 0x00 ∷ 0x02
-    ∷ 0x22 ∷ 0x00 ∷ 0x05 ∷ 0x00 ∷ 0x06
-    ∷ 0x30 ∷ 0x00 ∷ 0x00 ∷ 0x00 ∷ 0x07 ∷ 0x00 ∷ 0x07
-    ∷ 0x00 ∷ 0x00 ∷ 0x00 ∷ 0x08 ∷ 0x00 ∷ 0x02
-    ∷ []
-
--- its figures, from its bytes
-pub example-3-run : map (λ x. fileFigures file3 (x ∷ 6 ∷ 7 ∷ [])) (0 ∷ 1 ∷ []) ≡ (0 ∷ 49 ∷ 7 ∷ []) ∷ (1 ∷ 42 ∷ 7 ∷ []) ∷ []
-unfolding number bytesOf operationOf codeOf resultOf recordAt sizeAt fileRecords fileOutputs wireKind wireFigure fileFigures
-example-3-run = refl
-
--- no row refuses it
-pub example-3-row : circuitRow file3 ≡ 0
-unfolding number bytesOf operationOf codeOf recordAt sizeAt fileRecords fileOutputs wireKind headed wholeAt laid stands standing circuitRow
-example-3-row = refl
-
--- Document 02, C-17: "example 3 becomes 124 bytes": the same circuit as version 2 writes it, a guard's table on two lines of its own
-abbrev pub file3InTwo : List ℕ
-file3InTwo =
     0x43 ∷ 0x49 ∷ 0x52 ∷ 0x00 ∷ 0x02 ∷ 0x03 ∷ 0x00 ∷ 0x09
     ∷ 0x01 ∷ 0x00
     ∷ 0x00 ∷ 0x01
@@ -62,21 +36,48 @@ file3InTwo =
     ∷ 0x00 ∷ 0x00 ∷ 0x00 ∷ 0x08 ∷ 0x00 ∷ 0x02
     ∷ []
 
-pub example-3-two-size : length file3InTwo ≡ 124
-example-3-two-size = refl
+pub example-3-size : length file3 ≡ 124
+example-3-size = refl
 
--- the same records and outputs are read from both, no row refuses either, and both give the same figures
-pub example-3-two : (fileRecords file3InTwo ≡ fileRecords file3) × (fileOutputs file3InTwo ≡ fileOutputs file3)
-unfolding number bytesOf operationOf codeOf recordAt sizeAt fileRecords fileOutputs
-example-3-two = (refl, refl)
-
-pub example-3-two-row : circuitRow file3InTwo ≡ 0
+-- no row refuses it, and its figures, from its bytes
+pub example-3-row : circuitRow file3 ≡ 0
 unfolding number bytesOf operationOf codeOf recordAt sizeAt fileRecords fileOutputs wireKind headed wholeAt laid stands standing circuitRow
-example-3-two-row = refl
+example-3-row = refl
 
-pub example-3-two-run : map (λ x. fileFigures file3InTwo (x ∷ 6 ∷ 7 ∷ [])) (0 ∷ 1 ∷ []) ≡ (0 ∷ 49 ∷ 7 ∷ []) ∷ (1 ∷ 42 ∷ 7 ∷ []) ∷ []
+pub example-3-run : map (λ x. fileFigures file3 (x ∷ 6 ∷ 7 ∷ [])) (0 ∷ 1 ∷ []) ≡ (0 ∷ 49 ∷ 7 ∷ []) ∷ (1 ∷ 42 ∷ 7 ∷ []) ∷ []
 unfolding number bytesOf operationOf codeOf resultOf recordAt sizeAt fileRecords fileOutputs wireKind wireFigure fileFigures
-example-3-two-run = refl
+example-3-run = refl
+
+-- the same circuit in version 00 01, as it was written before C-17: 76 bytes
+abbrev pub file3InOne : List ℕ
+file3InOne =
+    0x43 ∷ 0x49 ∷ 0x52 ∷ 0x00 ∷ 0x01 ∷ 0x03 ∷ 0x00 ∷ 0x09
+    ∷ 0x01 ∷ 0x00
+    ∷ 0x00 ∷ 0x01
+    ∷ 0x00 ∷ 0x02
+    ∷ 0x32 ∷ 0x01 ∷ 0x00 ∷ 0x00 ∷ 0x00 ∷ 0x00 ∷ 0x00 ∷ 0x00 ∷ 0x00 ∷ 0x00 ∷ 0x00 ∷ 0x02
+    ∷ 0x32 ∷ 0x01 ∷ 0x00 ∷ 0x00 ∷ 0x00 ∷ 0x00 ∷ 0x00 ∷ 0x00 ∷ 0x00 ∷ 0x00 ∷ 0x00 ∷ 0x01
+    ∷ 0x31 ∷ 0x02 ∷ 0x00 ∷ 0x03 ∷ 0x00 ∷ 0x01 ∷ 0x00 ∷ 0x04 ∷ 0x00 ∷ 0x02
+    ∷ 0x31 ∷ 0x02 ∷ 0x00 ∷ 0x03 ∷ 0x00 ∷ 0x02 ∷ 0x00 ∷ 0x04 ∷ 0x00 ∷ 0x02
+    ∷ 0x22 ∷ 0x00 ∷ 0x05 ∷ 0x00 ∷ 0x06
+    ∷ 0x30 ∷ 0x00 ∷ 0x00 ∷ 0x00 ∷ 0x07 ∷ 0x00 ∷ 0x07
+    ∷ 0x00 ∷ 0x00 ∷ 0x00 ∷ 0x08 ∷ 0x00 ∷ 0x02
+    ∷ []
+
+-- its figures, from its bytes
+pub example-3-one-run : map (λ x. fileFigures file3InOne (x ∷ 6 ∷ 7 ∷ [])) (0 ∷ 1 ∷ []) ≡ (0 ∷ 49 ∷ 7 ∷ []) ∷ (1 ∷ 42 ∷ 7 ∷ []) ∷ []
+unfolding number bytesOf operationOf codeOf resultOf recordAt sizeAt fileRecords fileOutputs wireKind wireFigure fileFigures
+example-3-one-run = refl
+
+-- no row refuses it
+pub example-3-one-row : circuitRow file3InOne ≡ 0
+unfolding number bytesOf operationOf codeOf recordAt sizeAt fileRecords fileOutputs wireKind headed wholeAt laid stands standing circuitRow
+example-3-one-row = refl
+
+-- the same records and outputs are read from both
+pub example-3-same : (fileRecords file3 ≡ fileRecords file3InOne) × (fileOutputs file3 ≡ fileOutputs file3InOne)
+unfolding number bytesOf operationOf codeOf recordAt sizeAt fileRecords fileOutputs
+example-3-same = (refl, refl)
 
 -- Document 02, C-11: "A pick with several guards at 1". A file made by hand, a record a line: a bit, two words, a pick of both words and a pick of the bit twice, each under the bit.
 abbrev pub fileOfSums : List ℕ

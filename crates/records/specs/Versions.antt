@@ -28,4 +28,4 @@ tableBytes two = 32
 
 -- the version that is written
 abbrev pub writtenVersion : Version
-writtenVersion = one
+writtenVersion = two

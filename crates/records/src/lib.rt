@@ -13,9 +13,9 @@ pub const NO_WIRE: u16 = 0xFFFF;
 pub const MOST_WIRES: usize = 640;
 
 // The version byte of a file that is written, and the bytes of a guard's table there.
-pub const WRITTEN_VERSION: u8 = 1;
+pub const WRITTEN_VERSION: u8 = 2;
 
-pub const WRITTEN_TABLE: usize = 8;
+pub const WRITTEN_TABLE: usize = 32;
 
 // The wires of a guard, at most, in a file whose version byte is `version`.
 pub fn most_guard_wires(version: u8) -> usize

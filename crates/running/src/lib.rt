@@ -16,7 +16,7 @@ ghost use Rattle.running.specs.FusedRun.{fusedResults};
 ghost use Rattle.settings.specs.Held.{setsIn};
 
 // The bytes that suffice for every fused circuit; and those that a small one is given, so that less is cleared for it.
-const MOST_BYTES: usize = 8904;
+const MOST_BYTES: usize = 16072;
 
 const FEW_BYTES: usize = 1024;
 
