@@ -103,7 +103,7 @@ late =
 abbrev pub late-plan : List ℕ
 late-plan = 0x50 ∷ 0x4C ∷ 0x4E ∷ 0x00 ∷ 0x01 ∷ 0x00 ∷ 0x0B ∷ 0x00 ∷ 0x01 ∷ 0x02 ∷ 0x00 ∷ 0x03 ∷ 0x00 ∷ 0x07 ∷ []
 
-pub late-accepted : writeAnswer late late-plan 107 ≡ success 11 14 107 79 74
+pub late-accepted : writeAnswer late late-plan 155 ≡ success 11 14 155 79 74
 unfolding number kindOf workingOf operationOf codeOf readMark readCount readKinds readHeader readVariable readWord readBit operationWith exprWith readExpr readAssign branchWith
     statementWith blockWith blockFuel readBlock readRule applyGate makeExpr assignsIn assigns choices makeStatement makeBlock plainCircuit conditions collect numbers
     preconditions preconditionSets costs wholeWithin ruleAnswer restsOn rests groupsIn groups restsOf waitsFor order planRow planAnswer bytesOf spread tableOver table

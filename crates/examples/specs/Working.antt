@@ -64,7 +64,7 @@ unfolding number kindOf workingOf operationOf codeOf readMark readCount readKind
 needed-then = refl
 
 -- so the plan is refused 29, and accepted: it saves 5 of 33
-pub plan-then : map (λ k. writeAnswer (scraps k) products 104) (0x00 ∷ 0x02 ∷ []) ≡ refusal 29 0 ∷ success 10 13 92 33 28 ∷ []
+pub plan-then : map (λ k. writeAnswer (scraps k) products 152) (0x00 ∷ 0x02 ∷ []) ≡ refusal 29 0 ∷ success 10 13 140 33 28 ∷ []
 unfolding number kindOf workingOf operationOf codeOf readMark readCount readKinds readHeader readVariable readWord readBit operationWith exprWith readExpr readAssign branchWith
     statementWith blockWith blockFuel readBlock readRule applyGate makeExpr assignsIn assigns choices makeStatement makeBlock plainCircuit conditions collect numbers
     preconditions preconditionSets costs wholeWithin ruleAnswer restsOn rests groupsIn groups restsOf waitsFor order planRow planAnswer bytesOf spread tableOver table

@@ -15,7 +15,7 @@ unfolding decimal digits
 ten = refl
 
 -- R1 with P1: `accepted 6 9 33 28`
-r1-p1 : lineOf (success 6 9 76 33 28) ≡ accepted ++ (32 ∷ 54 ∷ 32 ∷ 57 ∷ 32 ∷ 51 ∷ 51 ∷ 32 ∷ 50 ∷ 56 ∷ 10 ∷ [])
+r1-p1 : lineOf (success 6 9 124 33 28) ≡ accepted ++ (32 ∷ 54 ∷ 32 ∷ 57 ∷ 32 ∷ 51 ∷ 51 ∷ 32 ∷ 50 ∷ 56 ∷ 10 ∷ [])
 unfolding lineOf line spaced decimal digits
 r1-p1 = refl
 
