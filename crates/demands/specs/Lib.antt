@@ -5,6 +5,7 @@ pub mod OrderLaws
 pub mod ForeignLaws
 pub mod WorkingLaws
 pub mod BatchLaws
+pub mod EightLaws
 pub mod Demands
 pub mod C11
 pub mod C12
@@ -12,3 +13,4 @@ pub mod C13
 pub mod C14
 pub mod C15
 pub mod C16
+pub mod C17

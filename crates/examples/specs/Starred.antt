@@ -35,7 +35,7 @@ use Rattle.fused.specs.Answers.{writeAnswer, writtenOver}
 use Rattle.records.specs.Examples.{file3}
 use Rattle.direct.specs.Direct.{runAnswer, runResults}
 
--- the precondition of gate g of the rule s, held as 64 bits: bit j is 1 exactly when setting j needs the gate
+-- the precondition of gate g of the rule s, held as 256 bits: bit j is 1 exactly when setting j needs the gate
 abbrev pub Precondition : List ℕ → ℕ → ℕ → Type 0
 Precondition s g bits =
     (getD (rulePreconditions s) g 0 ≡ bits)

@@ -73,6 +73,6 @@ preconditionSets n C wanted = preconditions (numbers (2 ^ n) (conditions C)) C w
 abbrev pub preconditionOf : ℕ → Gates → List ℕ → ℕ → ℕ
 preconditionOf n C wanted g = getD (preconditionSets n C wanted) g 0
 
--- the preconditions of a rule's gates, held as 64 bits
+-- the preconditions of a rule's gates, held as numbers of 256 bits (document 02, C-17)
 abbrev pub rulePreconditions : List ℕ → List ℕ
 rulePreconditions s = preconditionSets mostConditions (gatesOf s) (wantedOf s)

@@ -43,7 +43,7 @@ ReachingGates C n M₀ k M = Reaching (numbers mostSettings (conditions C)) C n 
 unfoldable pub handGatesFrom : Gates → List ℕ → ℕ → List ℕ → List ℕ
 handGatesFrom C F k M = handFrom (numbers mostSettings (conditions C)) C F k M
 
--- what the pass is given: gates in quads, at most 256, arguments before their gates, at most six conditions, and their numbers
+-- what the pass is given: gates in quads, at most 256, arguments before their gates, no more conditions than there may be, and their numbers
 pub record Passable (quads ranks : List ℕ) (count : ℕ) : Type 0 where
   pub room : count ≤ mostGates
   pub earlier : Earlier (gatesIn quads count)

@@ -26,7 +26,7 @@ module _ {J : Type 0} {setting : J → Setting} {S : Type 0} {has : S → J → 
   handFrom C F zero M = M
   handFrom C F (suc i) M = handFrom C F i (hand 𝓢 (gateAt C i) (getD F i empty) M)
 
--- the pass over a rule's gates, sets held as 64 bits
+-- the pass over a rule's gates, sets held as numbers
 abbrev pub RuleReaching : List ℕ → ℕ → List ℕ → Type 0
 RuleReaching s k M =
     let S = numbers (2 ^ mostConditions) (conditions (gatesOf s)) in

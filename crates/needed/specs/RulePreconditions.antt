@@ -1,4 +1,4 @@
--- Needed gates of a rule: for every rule that is read with at most six conditions, setting j is in a gate's precondition exactly when the gate is needed under it,
+-- Needed gates of a rule: for every rule that is read with at most as many conditions as it may have, setting j is in a gate's precondition exactly when the gate is needed under it,
 -- and two gates exclude each other exactly when their preconditions have no bit in common.
 use Prim.Native.Nat.{ℕ, suc, _^_, _≤_, _<_}
 use mathlib.Core.Path.{_≡_}

@@ -17,9 +17,6 @@ ghost use Rattle.ordering.specs.Row.{orderOf, orderRow};
 ghost use Rattle.ordering.specs.Search.{nextReady, placeOf, lowered, Holding};
 ghost use Rattle.settings.specs.Held.{setsIn};
 
-// The words of a set of groups.
-const WORDS: usize = 4;
-
 // Gates for which a table of 128 words is enough.
 const FEW: usize = 32;
 // What is noted at a group that holds up none: no group comes behind this one, so that a note of it changes nothing.
@@ -96,7 +93,7 @@ fn next_ready(
         if waiting::has(left, 0, GateId(p as u16)) {
             let mut w = words::wide8(seen[p]);
             'waits: loop {
-                if w >= WORDS {
+                if w >= bitsets::WORDS {
                     break 'search Next::Group(GateId(p as u16));
                 }
                 let both = waits[4 * p + w] & left[w];
@@ -137,7 +134,7 @@ fn order_in(
     ensures written { λ r. ⌜ now (order .exit) ≡ over (reverse (plan.order (gatesIn (now (quads .entry)) count) (setsIn (now (needs .entry))) (λ x. getD (now (group .entry)) x 0))) (now (order .entry)) ⌝ }
 {
     waiting::find_waits(quads, count, needs, conditions, group, places, waits);
-    let mut left = [0u64; 4];
+    let mut left = [0u64; bitsets::WORDS];
     let n = waiting::find_left(group, count, &mut left);
     let mut watch = [NONE; 256];
     let mut seen = [0u8; 256];

@@ -78,7 +78,7 @@ pub record WellFormed (kinds : List ℕ) (b : Block) : Type 0 where
   pub typed : TypedBlock (length kinds) (kindIn kinds) b
   -- a word is 32 bits
   pub words : WordsBlock (length kinds) (kindIn kinds) b
-  -- expressions are at most 8 deep, ifs nest at most 6 deep
+  -- expressions are at most 8 deep, ifs nest at most 8 deep (C-17)
   pub shallow : EachExpr (length kinds) (kindIn kinds) Shallow b
   pub nests : nesting b ≤ nested
   -- at most 4,096 bytes

@@ -1,6 +1,5 @@
-use Rattle.filing.specs.OutputLaws.{headStores, head-length, head-room, head-same, head-put}
-use lib.ListN.{length, length-set}
-use Prim.Native.Nat.{_≤_}
+use Rattle.filing.specs.OutputLaws.{head-room, head-same, head-put}
+use lib.ListN.{length-set}
 use native.Mathlib.Omega.{arith}
 use borrow.Author.Needs.{needs}
 use Rattle.filing.proofs.put_head.Statement.{statement}
@@ -25,9 +24,7 @@ sub-put16 : tie.Need-sub-put16
 sub-put16 c = simp length-set (omega (arith, c .before .pre))
 
 part-put16-start : tie.Need-part-put16-start
-part-put16-start c =
-    let z : 6 ≤ length (headStores (c .before .args .out .now) (c .before .args .v)) = omega
-    (arith, head-length (c .before .args .out .now) (c .before .args .v) (c .before .pre), c .before .pre) in search needs
+part-put16-start c = simp length-set (omega (arith, c .before .pre))
 
 put16-requires : tie.Need-put16-requires
 put16-requires c κs = head-room (c .before .before .args .out .now) (c .before .before .args .v) (c .before .before .pre)

@@ -1,0 +1,120 @@
+-- Document 02, C-17, "Eight conditions": its sentences, each quoted above its theorems. s is a rule's bytes, p a plan's, f a circuit file's.
+use Prim.Native.Nat.{ℕ, _+_, _-_, _*_, _/_, _%_, _^_, _≤_, _<_}
+use mathlib.Core.Path.{_≡_, refl}
+use mathlib.Core.Bool.{true}
+use mathlib.Core.List.{List, [], _∷_, _++_}
+use mathlib.Core.Logic.{_↔_}
+use lib.ListN.{length, take, getD}
+use Rattle.words.specs.Lists.{_∈_}
+use Rattle.words.specs.Numbers.{bytesOf, numberAt, Bytes}
+use Rattle.bitsets.specs.Bits.{bit}
+use Rattle.answers.specs.Answers.{refusal}
+use Rattle.answers.specs.Parsing.{IsRead}
+use Rattle.settings.specs.Settings.{settingOf, numberOf}
+use Rattle.settings.specs.Sets.{has, rests}
+use Rattle.settings.specs.Guards.{table}
+use Rattle.settings.specs.GuardLaws as guards
+use Rattle.reading.specs.Tree.{Block}
+use Rattle.reading.specs.Rule.{readRule}
+use Rattle.reading.specs.Format.{WellFormed, nesting}
+use Rattle.gates.specs.Gates.{Gates, Earlier, conditions}
+use Rattle.gates.specs.PlainCircuit.{gatesOf}
+use Rattle.needed.specs.Needed.{Needed}
+use Rattle.needed.specs.Pass.{preconditionOf}
+use Rattle.needed.specs.PreconditionLaws as preconditions
+use Rattle.circuit.specs.Whole.{ruleAnswer}
+use Rattle.plan.specs.Rows.{planAnswer}
+use Rattle.records.specs.Versions.{one, two, mostGuardWires}
+use Rattle.records.specs.Records.{Record, guard, recordIn}
+use Rattle.records.specs.CircuitFile.{mark, wiresBytes, recordBytes, fileBytes}
+use Rattle.records.specs.FileFigures.{recordAt, versionIn, wireCount, fileRecords, fileFigures}
+use Rattle.records.specs.LaidOut.{recordPlace}
+use Rattle.records.specs.CircuitRows.{headed}
+use Rattle.records.specs.WellFormed as circuits
+use Rattle.figures.specs.BitLaws as tables
+use Rattle.fused.specs.FusedCircuit.{fused, fusedFile}
+use Rattle.fused.specs.SizeBounds as sizes
+use Rattle.fused.specs.Answers.{fusedAnswer, writeAnswer}
+use Rattle.fused.specs.AnswerLaws as answers
+use Rattle.foreign.specs.Foreign.{circuitAnswer}
+use Rattle.demands.specs.EightLaws as laws
+
+-- "Conditions go to 8 .. Refusals 8 and 11 move to the ninth nested if and the ninth condition": a rule that is read and has no gate too many is taken exactly when it has
+-- at most eight conditions, and is 11 at its length else;
+pub eight-taken : (s : List ℕ) → IsRead (readRule s) → length (gatesOf s) ≤ 256 → (ruleAnswer s .number ≡ 0) ↔ (length (conditions (gatesOf s)) ≤ 8)
+eight-taken = laws.conditions-taken
+
+pub ninth-condition : (s : List ℕ) → IsRead (readRule s) → length (gatesOf s) ≤ 256 → 8 < length (conditions (gatesOf s)) → ruleAnswer s ≡ refusal 11 (length s)
+ninth-condition = laws.conditions-refused
+
+-- "and ifs nest to 8": the trees of the rules that are read, which are the well-formed ones (`rule-format`, Demands), nest no deeper. (Eight and nine nested: example 10.)
+pub eight-nested : (kinds : List ℕ) (b : Block) → WellFormed kinds b → nesting b ≤ 8
+eight-nested kinds b w = w .nests
+
+-- "so a precondition is a set of 256 settings. .. Facts about sets of settings are to be shown for any number of conditions and used at six and eight": for any number n, of
+-- gates that have no more conditions, setting j is in a gate's precondition exactly when the gate is needed under it,
+pub any-precondition : (C : Gates) (wanted : List ℕ) → Earlier C → ((g : ℕ) → g ∈ wanted → g < length C) → (n : ℕ) → length (conditions C) ≤ n → (g j : ℕ) → j < 2 ^ n
+    → (has (preconditionOf n C wanted g) j ≡ true) ↔ Needed C wanted (settingOf (conditions C) j) g
+any-precondition = preconditions.precondition-right
+
+-- and a guard's table has, at what its wires hold, the bit of the set;
+pub any-guard : (n s j : ℕ) → j < 2 ^ n → has (table n s) (numberOf (rests n s) (bit j)) ≡ has s j
+any-guard = guards.guard-right
+
+pub six-guard : (s j : ℕ) → j < 64 → has (table 6 s) (numberOf (rests 6 s) (bit j)) ≡ has s j
+six-guard = any-guard 6
+
+pub eight-guard : (s j : ℕ) → j < 256 → has (table 8 s) (numberOf (rests 8 s) (bit j)) ≡ has s j
+eight-guard = any-guard 8
+
+-- "example 1's patterns go on over 256 bits": of gates that have at most six conditions, the precondition over eight repeats that over six.
+pub patterns-go-on : (C : Gates) (wanted : List ℕ) → Earlier C → ((g : ℕ) → g ∈ wanted → g < length C) → length (conditions C) ≤ 6 → (g j : ℕ) → j < 256
+    → has (preconditionOf 8 C wanted g) j ≡ has (preconditionOf 6 C wanted g) (j % 64)
+patterns-go-on C wanted earlier inside few = laws.pattern-repeats C wanted earlier inside 6 2 few
+
+-- "A guard has up to 8 wires and a table of 32 bytes": its record in version 2,
+pub guard-bytes : (cs : List ℕ) (t : ℕ) → recordBytes two (guard cs t) ≡ 0x32 ∷ length cs ∷ (wiresBytes cs ++ bytesOf 32 t)
+guard-bytes cs t = refl
+
+-- "lowest setting in the lowest bit": bit j of a table of 32 bytes that begins at a place is bit j % 8 of the byte that j / 8 bytes follow.
+pub lowest-last : (f : List ℕ) → Bytes f → (at j : ℕ) → at + 32 ≤ length f → j < 8 * 32
+    → has (getD f (at + (32 - 1 - j / 8)) 0) (j % 8) ≡ has (numberAt 32 f at) j
+lowest-last f bytes at j inside l = tables.bit-byte f bytes at 32 j inside l
+
+-- "Circuits are written as version 00 02":
+pub written-two : (s p : List ℕ) → take 5 (fusedFile s p) ≡ mark two
+unfolding fusedFile
+written-two s p = refl
+
+-- "and the reader takes both versions" (`circuit-format`, C11): any other is 60,
+pub other-version : (f : List ℕ) → (take 5 f ≡ mark one → ⊥) → (take 5 f ≡ mark two → ⊥) → circuitAnswer f ≡ refusal 60 0
+other-version = laws.other-version
+
+-- "each with its own guard size .. 61 allows 8 guard wires in version 2": six in version 1, eight in version 2,
+pub guard-sizes : (mostGuardWires one ≡ 6) × (mostGuardWires two ≡ 8)
+guard-sizes = (refl, refl)
+
+-- one more is 61, and the guards of a file that is read keep within them.
+pub over-guard : (f : List ℕ) → headed f ≡ true → (i : ℕ) → i < wireCount f → (cs : List ℕ) (t : ℕ) → recordAt f (recordPlace f i) ≡ guard cs t
+    → mostGuardWires (versionIn f) < length cs → circuitAnswer f ≡ refusal 61 0
+over-guard = laws.over-guard
+
+pub guards-within : (f : List ℕ) → circuitAnswer f .number ≡ 0 → (i : ℕ) → i < length (fileRecords f) → (cs : List ℕ) (t : ℕ) → recordIn (fileRecords f) i ≡ guard cs t
+    → length cs ≤ mostGuardWires (versionIn f)
+guards-within = laws.guards-within
+
+-- (So a file of version 1 is read as it was. What version 1 holds, version 2 holds too, where its longer tables leave it at most 16,384 bytes, and gives the same figures.)
+pub one-in-two : (v : ℕ) (R : List Record) (outputs : List ℕ) → circuits.WellFormed one v R outputs → length (fileBytes two v R outputs) ≤ 16384
+    → circuits.WellFormed two v R outputs
+one-in-two = laws.one-in-two
+
+pub same-figures : (v : ℕ) (R : List Record) (outputs : List ℕ) → circuits.WellFormed one v R outputs → circuits.WellFormed two v R outputs → (inputs : List ℕ)
+    → fileFigures (fileBytes one v R outputs) inputs ≡ fileFigures (fileBytes two v R outputs) inputs
+same-figures = laws.same-figures
+
+-- "A file still fits in 16,384 bytes": at most 125 bytes to two gates, 16,072 in all, so a buffer of 16,384 is never too short.
+pub file-bytes : (s p : List ℕ) → planAnswer s p .number ≡ 0 → length (fusedFile s p) ≤ 16072
+file-bytes = sizes.bytes-most
+
+pub room-enough : (s p : List ℕ) → writeAnswer s p 16384 ≡ fusedAnswer s p
+room-enough = answers.room-enough
