@@ -174,3 +174,13 @@ no-word = together bitOr 0 (omega arith) or-lt refl (λ a b h k e. (omega (arith
 pub every-word : (w : ℕ) (l : List ℕ) → w < 2 ^ 64 → Fit l
     → eqb (folded bitAnd w l) (2 ^ 64 - 1) ≡ eqb (joined (w ∷ l)) (joined (replicate (suc (length l)) (2 ^ 64 - 1)))
 every-word = together bitAnd (2 ^ 64 - 1) (omega arith) and-lt refl (λ a b h k e. (omega (arith, and-le-l a b), omega (arith, and-le-r a b)))
+
+-- a number has its words once: as many words with the same number are the same
+pub joined-once : (a b : List ℕ) → length a ≡ length b → Fit a → Fit b → joined a ≡ joined b → a ≡ b
+joined-once [] [] e h k q = refl
+joined-once [] (y ∷ b) e h k q = absurd (omega (arith, e))
+joined-once (x ∷ a) [] e h k q = absurd (omega (arith, e))
+joined-once (x ∷ a) (y ∷ b) e h k q =
+    let low : x ≡ y = sym (joined-low x a (h 0)) ∙ ap (λ (n : ℕ). n % 2 ^ 64) q ∙ joined-low y b (k 0) in
+    let high : joined a ≡ joined b = sym (joined-high x a (h 0)) ∙ ap (λ (n : ℕ). n / 2 ^ 64) q ∙ joined-high y b (k 0) in
+    ap₂ (λ (w : ℕ) (l : List ℕ). w ∷ l) low (joined-once a b (omega (arith, e)) (λ i. h (suc i)) (λ i. k (suc i)) high)

@@ -1,4 +1,4 @@
--- Sets of numbers as bits of words, in the form that code keeps them: number q is bit q % 64 of the word q / 64 after the set's first, which is at `base`.
+-- Document 02, C-17, "a set of 256 settings", and sets of groups: sets of numbers as bits of words, as code keeps them: number q is bit q % 64 of the word q / 64 after the set's first, which is at `base`.
 use Prim.Native.Nat.{ℕ, _+_, _*_, _/_, _%_, _^_, _<_}
 use mathlib.Core.Path.{_≡_}
 use mathlib.Core.Bool.{Bool}

@@ -32,7 +32,7 @@ use Rattle.records.specs.LaidOut.{recordPlace}
 use Rattle.records.specs.CircuitRows.{headed}
 use Rattle.records.specs.WellFormed as circuits
 use Rattle.figures.specs.BitLaws as tables
-use Rattle.fused.specs.FusedCircuit.{fused, fusedFile}
+use Rattle.fused.specs.FusedCircuit.{fusedFile}
 use Rattle.fused.specs.SizeBounds as sizes
 use Rattle.fused.specs.Answers.{fusedAnswer, writeAnswer}
 use Rattle.fused.specs.AnswerLaws as answers
@@ -83,8 +83,7 @@ lowest-last f bytes at j inside l = tables.bit-byte f bytes at 32 j inside l
 
 -- "Circuits are written as version 00 02":
 pub written-two : (s p : List ℕ) → take 5 (fusedFile s p) ≡ mark two
-unfolding fusedFile
-written-two s p = refl
+written-two = laws.written-two
 
 -- "and the reader takes both versions" (`circuit-format`, C11): any other is 60,
 pub other-version : (f : List ℕ) → (take 5 f ≡ mark one → ⊥) → (take 5 f ≡ mark two → ⊥) → circuitAnswer f ≡ refusal 60 0

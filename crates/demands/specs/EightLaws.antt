@@ -34,6 +34,8 @@ use Rattle.records.specs.WellFormed.{WellFormed}
 use Rattle.records.specs.RowLaws.{headed-right, laid-right}
 use Rattle.records.specs.FormatLaws.{row-passed}
 use Rattle.records.specs.InverseLaws.{laid-bounded}
+use Rattle.fused.specs.FusedCircuit.{fusedFile}
+use Rattle.fused.specs.WellFormedLaws.{fused-is}
 use Rattle.foreign.specs.Foreign.{circuitAnswer}
 use Rattle.foreign.specs.ReadLaws.{refused-answer, answer-number}
 
@@ -61,6 +63,10 @@ module _ (C : Gates) (wanted : List ℕ) (earlier : Earlier C) (inside : (g : �
       ∙ sym (L .holds i low)
       ∙ ap (has (preconditionOf m C wanted g)) (sym same)
       ∙ sym (holds-repeats m _ cs _ L (j % 2 ^ m) (mod-lt j (pow-pos m)))
+
+-- what is written has the mark and version of the second
+pub written-two : (s p : List ℕ) → take 5 (fusedFile s p) ≡ mark two
+written-two s p = ap (take 5) (fused-is s p)
 
 -- another mark or version is 60
 pub other-version : (f : List ℕ) → (take 5 f ≡ mark one → ⊥) → (take 5 f ≡ mark two → ⊥) → circuitAnswer f ≡ refusal 60 0

@@ -1,4 +1,4 @@
--- A set of settings as code holds it: a `Set` in hand, and in a lent array so many words a set, the lowest word first.
+-- Document 02, C-17, "a precondition is a set of 256 settings": a set as code holds it: a `Set` in hand, and in a lent array so many words a set, the lowest word first.
 use Prim.Native.Nat.{ℕ, _*_, _/_}
 use mathlib.Core.List.{List, [], _∷_, map}
 use lib.ListN.{length, take, drop}

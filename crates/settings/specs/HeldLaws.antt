@@ -2,17 +2,16 @@
 use mathlib.Core.Path.{_≡_, refl, sym, ap, _∙_}
 use mathlib.Core.List.{List, [], _∷_, _++_, map, append-assoc}
 use mathlib.Core.Logic.{_⊎_, inl, inr}
-use Prim.Native.Nat.{ℕ, zero, suc, _+_, _*_, _/_, _^_, _≤_, _<_}
+use Prim.Native.Nat.{ℕ, zero, suc, _+_, _*_, _/_, _%_, _^_, _≤_, _<_}
 use native.Mathlib.Omega.{arith}
-use lib.ListN.{length, getD, take, drop, set, replicate, length-map, length-set, length-drop, length-replicate, List·getD-eq-default}
+use lib.ListN.{length, getD, take, drop, set, replicate, length-map, length-set, length-drop, length-replicate}
 use lib.Seq.{sets, length-sets, sets-eq, ext-getD, getD-take, getD-drop, getD-set-same, getD-set-other, length-take-le, take-all, take-at, drop-at}
-use lib.Pow.{pow-pos}
 use Rattle.words.specs.Lists.{upto}
-use Rattle.words.specs.ListLaws.{length-from, getD-upto, getD-zeros, map-same, inside-list}
+use Rattle.words.specs.ListLaws.{length-from, getD-upto, getD-zeros, map-same}
 use Rattle.words.specs.MemberLaws.{from-below}
 use Rattle.words.specs.TestLaws.{same?}
 use Rattle.bitsets.specs.Words.{joined, Fit}
-use Rattle.bitsets.specs.JoinedLaws.{fit-none, fit-cons, fit-map, joined-below}
+use Rattle.bitsets.specs.JoinedLaws.{fit-none, fit-cons, fit-map, joined-below, joined-once}
 use Rattle.settings.specs.Limits.{setSettings, setWords}
 use Rattle.settings.specs.Held.{wordsOf, setOf, setAt, setsIn}
 use Rattle.settings.specs.declared.Set.{Set}
@@ -118,14 +117,19 @@ sets-clear n = ext-getD 0 _ _ (long ∙ sym (length-replicate n 0)) (λ k m. eac
         ∙ ap joined (map-same _ (λ a. 0) (upto setWords) (λ a b. getD-zeros (setWords * n) (setWords * k + a)))
         ∙ (unfold joined in sym (getD-zeros n k))
 
--- what lies in words is a set of so many settings
-pub sets-below : (words : List ℕ) → Fit words → (i : ℕ) → getD (setsIn words) i 0 < 2 ^ setSettings
-sets-below words h i = go (inside-list (setsIn words) i)
-  where
-    go : (i < length (setsIn words)) ⊎ (length (setsIn words) ≤ i) → getD (setsIn words) i 0 < 2 ^ setSettings
-    go (inl b) =
-        let r : setWords * i + setWords ≤ length words = omega (arith, sets-length words) in
-        rw (sets-words words i r)
-        (joined-below (map (λ k. getD words (setWords * i + k) 0) (upto setWords))
-        (fit-map (λ k. getD words (setWords * i + k) 0) (upto setWords) (λ k. h (setWords * i + k))))
-    go (inr b) = rw (List·getD-eq-default (setsIn words) 0 b) (pow-pos setSettings)
+-- lent words are known by their sets: a promise of the sets leaves one possible array
+pub sets-once : (a b : List ℕ) (n : ℕ) → length a ≡ setWords * n → length b ≡ setWords * n → Fit a → Fit b → setsIn a ≡ setsIn b → a ≡ b
+sets-once a b n la lb fa fb e =
+    ext-getD 0 a b (la ∙ sym lb)
+    (λ i l.
+    let j : ℕ = i / setWords in
+    let r : ℕ = i % setWords in
+    let room : setWords * j + setWords ≤ setWords * n = omega (arith, l, la) in
+    let words : List ℕ → List ℕ = λ w. map (λ k. getD w (setWords * j + k) 0) (upto setWords) in
+    let same : words a ≡ words b =
+    joined-once (words a) (words b) (length-map (upto setWords) _ ∙ sym (length-map (upto setWords) _)) (fit-map _ (upto setWords) (λ k. fa (setWords * j + k)))
+    (fit-map _ (upto setWords) (λ k. fb (setWords * j + k)))
+    (sym (sets-words a j (omega (arith, room, la))) ∙ ap (λ (w : List ℕ). getD w j 0) e ∙ sets-words b j (omega (arith, room, lb))) in
+    let at : (w : List ℕ) → getD w i 0 ≡ getD (words w) r 0 =
+    λ w. ap (λ (k : ℕ). getD w k 0) (omega arith) ∙ sym (getD-upto (λ k. getD w (setWords * j + k) 0) 0 setWords r (omega arith)) in
+    at a ∙ ap (λ (w : List ℕ). getD w r 0) same ∙ sym (at b))
