@@ -83,7 +83,7 @@ fn main() -> io::Result<()> {
         let (number, place) = answer(&bytes);
         writeln!(out, "deep {d} {number} {place}")?;
     }
-    for d in 1..=8 {
+    for d in 1..=10 {
         let mut bytes = one_variable(0x01);
         for _ in 0..d {
             bytes.extend([0x03, 0x10, 0x00]);

@@ -216,7 +216,7 @@ fn deep(d: usize)
 
 // Ifs on v0, d deep, each in the first block of the one before.
 fn nested(d: usize)
-    requires { ⌜ (1 ≤ d) × (d ≤ 8) ⌝ }
+    requires { ⌜ (1 ≤ d) × (d ≤ 10) ⌝ }
 {
     let codes = every(header(1), 7, 3, d, 0x03);
     let whole = every(codes, 8, 3, d, 0x10);
@@ -232,9 +232,9 @@ fn deeps() {
 }
 
 fn nests() {
-    let mut left: usize = 8;
+    let mut left: usize = 10;
     while 0 < left {
-        nested(9 - left);
+        nested(11 - left);
         left -= 1;
     }
 }

@@ -9,9 +9,13 @@ setConditions = 8
 abbrev pub setSettings : ℕ
 setSettings = 2 ^ setConditions
 
--- in so many words of 64 bits
+-- a word of 64 bits tells the settings of so many conditions apart
+abbrev pub wordConditions : ℕ
+wordConditions = 6
+
+-- so the settings of a set stand in so many words
 abbrev pub setWords : ℕ
-setWords = setSettings / 64
+setWords = setSettings / 2 ^ wordConditions
 
 -- and so many bytes
 abbrev pub setBytes : ℕ

@@ -11,11 +11,14 @@ ghost use Rattle.bitsets.specs.Bits.{collect};
 ghost use Rattle.bitsets.specs.Words.{joined};
 ghost use Rattle.settings.specs.Sets as sets;
 ghost use Rattle.settings.specs.Guards as guards;
-ghost use Rattle.settings.specs.Limits.{setConditions, setSettings, setWords, setBytes};
+ghost use Rattle.settings.specs.Limits.{wordConditions, setConditions, setSettings, setWords, setBytes};
 ghost use Rattle.settings.specs.Held.{wordsOf, setOf, setsIn};
 
 // The conditions, at most.
 pub const CONDITIONS: u8 = 8;
+
+// The settings of so many conditions.
+const SETTINGS: u16 = 256;
 
 // The places of a list of conditions.
 pub const ROOM: usize = 8;
@@ -25,6 +28,9 @@ pub const WORDS: usize = 4;
 
 // The bytes of a set.
 pub const BYTES: usize = 8 * WORDS;
+
+// The conditions whose settings a word tells apart.
+const WORD_CONDITIONS: u8 = 6;
 
 // A word of which every bit is 1.
 const ONES: u64 = 0xFFFFFFFFFFFFFFFF;
@@ -210,8 +216,8 @@ fn power(t: u8) -> u8
 
 // The movers of condition t below 6 within one word: the settings j that give t the bit 0 and of which just one of j and j + 2^t is in it.
 fn word_movers(w: u64, t: u8) -> u64
-    requires { ⌜ t < 6 ⌝ }
-    ensures { λ r. ⌜ r ≡ sets.movers 6 w t ⌝ }
+    requires { ⌜ t < wordConditions ⌝ }
+    ensures { λ r. ⌜ r ≡ sets.movers wordConditions w t ⌝ }
 {
     let far = power(t);
     let m = giving(t);
@@ -223,7 +229,7 @@ fn movers(s: Set, t: u8) -> Set
     requires { ⌜ t < setConditions ⌝ }
     ensures { λ r. ⌜ setOf r ≡ sets.movers setConditions (setOf s) t ⌝ }
 {
-    if t < 6 {
+    if t < WORD_CONDITIONS {
         return Set {
             w0: word_movers(s.w0, t),
             w1: word_movers(s.w1, t),
@@ -231,7 +237,7 @@ fn movers(s: Set, t: u8) -> Set
             w3: word_movers(s.w3, t),
         };
     }
-    if t == 6 {
+    if t == WORD_CONDITIONS {
         return Set {
             w0: s.w1 ^ s.w0,
             w1: 0,
@@ -302,7 +308,7 @@ fn next_setting(on: u16, setting: u16) -> u16
     requires { ⌜ (on < setSettings) × (setting < setSettings) ⌝ }
     ensures { λ r. ⌜ r ≡ bitAnd (setting + (setSettings - on)) on ⌝ }
 {
-    (setting + (256 - on)) & on
+    (setting + (SETTINGS - on)) & on
 }
 
 // The guard's table of s: over the conditions that s rests on, which r lists. Bit j says whether the setting that gives them the bits of j is in s.

@@ -4,7 +4,7 @@ use Rattle.reading_cases.proofs.nests.Statement.{statement}
 use Rattle.reading_cases.proofs.nests.Tie as tie
 
 abbrev Inv-loop : tie.InvT-loop
-Inv-loop left₀ left = left ≤ 8
+Inv-loop left₀ left = left ≤ 10
 
 abbrev μ-loop : tie.MeasureT-loop
 μ-loop left₀ left = left
