@@ -1,6 +1,6 @@
 /* Calls every operation of linnet.h on examples of document 01, on one with a working variable and on a
  * file as another house may write it; the exit status is 0 when each answer, byte and untouched place is
- * as documents 01 and 02 (C-11, C-13, C-15) say. */
+ * as documents 01 and 02 (C-11, C-13, C-15, C-17) say. */
 #include <stdio.h>
 #include <string.h>
 
