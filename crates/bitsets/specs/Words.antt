@@ -1,4 +1,5 @@
--- Document 02, C-17, "a set of 256 settings", and sets of groups: sets of numbers as bits of words, as code keeps them: number q is bit q % 64 of the word q / 64 after the set's first, which is at `base`.
+-- Document 02, C-17, "a set of 256 settings", and sets of groups: sets of numbers as bits of words, as code keeps them:
+-- number q is bit q % 64 of the word q / 64 after the set's first, which is at `base`.
 use Prim.Native.Nat.{ℕ, _+_, _*_, _/_, _%_, _^_, _<_}
 use mathlib.Core.Path.{_≡_}
 use mathlib.Core.Bool.{Bool}
@@ -45,7 +46,7 @@ abbrev pub folded : (ℕ → ℕ → ℕ) → ℕ → List ℕ → ℕ
 folded f w [] = w
 folded f w (v ∷ l) = folded f (f w v) l
 
--- so many of them
+-- n words
 pub record HasWords (n : ℕ) (words : List ℕ) : Type 0 where
   pub size : length words ≡ n
   pub fits : Fit words

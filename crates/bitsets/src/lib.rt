@@ -29,7 +29,7 @@ pub fn has(words: &[u64], base: usize, q: u16) -> bool
     ensures { λ r. ⌜ r ≡ bitIn base (now (words .entry)) q ⌝ }
 {
     let i = base + (q / 64) as usize;
-    (words[i] >> (q % 64)) % 2 == 1
+    bit_of(words[i], (q % 64) as u8)
 }
 
 // Number q is put in the set from word `base` on.

@@ -142,11 +142,11 @@ fn print_hex(n: u64, width: usize)
 fn print_set(needs: &[u64; NEED_WORDS], g: usize)
     requires { ⌜ g < 256 ⌝ }
 {
-    let mut left = settings::WORDS;
-    while 0 < left {
-        left -= 1;
-        print_hex(needs[settings::WORDS * g + left], 16);
-    }
+    let s = settings::load(needs, g);
+    print_hex(s.w3, 16);
+    print_hex(s.w2, 16);
+    print_hex(s.w1, 16);
+    print_hex(s.w0, 16);
 }
 
 // A gate: CODE.A.B.C.NEEDS.

@@ -6,6 +6,7 @@ pub mod ForeignLaws
 pub mod WorkingLaws
 pub mod BatchLaws
 pub mod EightLaws
+pub mod VersionLaws
 pub mod Demands
 pub mod C11
 pub mod C12

@@ -180,7 +180,7 @@ fn work_out(file: &[u8], inputs: &[u32], figures: &mut [u32; records::MOST_WIRES
 {
     let count = words::wide16(words::read16(file, 6));
     let mut bits = [false; records::MOST_WIRES];
-    let mut at: usize = 8;
+    let mut at = records::FIRST_RECORD;
     let mut i: usize = 0;
     while i < count {
         let bit = parts::record_is_bit(file, at, &bits);

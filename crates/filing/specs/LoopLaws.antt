@@ -19,6 +19,7 @@ use Rattle.fused.specs.SizeLimits.{mostRecordBytes}
 use Rattle.filing.specs.Staged.{Stage, membersOf, turnRecords, stage, Turnable}
 use Rattle.filing.specs.Turns.{wiresOf, Measurable, Measures, Sum}
 use Rattle.filing.specs.TurnLaws.{stage-more, turn-is, turn-measurable, turn-wires, turn-length, turn-sum, turn-small}
+use Rattle.records.specs.Limits.{mostWires}
 
 -- Measuring.
 
@@ -48,7 +49,7 @@ module _ (p quads needs places ord : List ℕ) (groups : ℕ) where
           turn-measurable p quads (m .count) needs (m .group) places ord (m .conds) groups (m .turnable) i g at h eg ea
 
       module _ (a b c : ℕ) (z : Measured quads needs (membersOf p at (getD ord i 0)) a b c) where
-        pub measuring-small : (wires + a ≤ 640) × (bytes + b ≤ mostRecordBytes) × (cost + c ≤ 10240)
+        pub measuring-small : (wires + a ≤ mostWires) × (bytes + b ≤ mostRecordBytes) × (cost + c ≤ 10240)
         measuring-small =
             let m = l .measures in
             turn-small p quads (m .count) needs (m .group) places ord (m .conds) groups (m .turnable) i g at h eg ea wires bytes cost a b c

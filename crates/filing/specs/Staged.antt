@@ -13,6 +13,7 @@ use Rattle.records.specs.CircuitFile.{recordsBytes}
 use Rattle.fused.specs.SizeLimits.{mostRecordBytes}
 use Rattle.emitting.specs.Emitted.{wireIn, Writable}
 use Rattle.joining.specs.Joined.{emitIn, JoinWritable}
+use Rattle.records.specs.Limits.{mostWires}
 
 -- after some turns: the records written, and the wire of each group written, at the place of its name
 pub record Stage : Type 0 where
@@ -49,6 +50,6 @@ module _ (p quads : List ℕ) (count : ℕ) (needs group places : List ℕ) wher
     pub joins : (i : ℕ) → i < groups → (getD places (getD ord i 0) 0 ≡ 0 → ⊥) → JoinWritable quads p conds group count (getD places (getD ord i 0) 0)
     pub below : count ≤ mostGates
     pub member : (i : ℕ) → i < groups → getD ord i 0 < count
-    pub wired : (i : ℕ) → i ≤ groups → length (stage ord i .records) ≤ 640
+    pub wired : (i : ℕ) → i ≤ groups → length (stage ord i .records) ≤ mostWires
     pub long : (i : ℕ) → i ≤ groups → length (recordsBytes writtenVersion (stage ord i .records)) ≤ mostRecordBytes
     pub costs : (i : ℕ) → i ≤ groups → recordsCost (stage ord i .records) ≤ 10240

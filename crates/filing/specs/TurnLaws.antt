@@ -23,6 +23,7 @@ use Rattle.measuring.specs.JoinedSizes.{joined-sized}
 use Rattle.fused.specs.SizeLimits.{mostRecordBytes}
 use Rattle.filing.specs.Staged.{Stage, membersOf, turnRecords, turn, stage, Turnable}
 use Rattle.filing.specs.Turns.{wiresOf, Measurable, Puttable, Sum}
+use Rattle.records.specs.Limits.{mostWires}
 
 -- a group by its place
 pub members-alone : (p : List ℕ) (at q : ℕ) → at ≡ 0 → membersOf p at q ≡ q ∷ []
@@ -139,7 +140,7 @@ module _ (p quads : List ℕ) (count : ℕ) (needs group places ord : List ℕ) 
         go (inl e) = rw (wires-alone p at e) (omega arith)
         go (inr m) = rw (wires-joined p at m) (omega arith)
 
-    pub turn-fits : (n : ℕ) → n ≡ length (stage p quads count needs group places ord i .records) → (1 ≤ wiresOf p at) × (n + wiresOf p at ≤ 640)
+    pub turn-fits : (n : ℕ) → n ≡ length (stage p quads count needs group places ord i .records) → (1 ≤ wiresOf p at) × (n + wiresOf p at ≤ mostWires)
     turn-fits n e = (some, omega (arith, e, turn-length, t .wired (i + 1) (omega (arith, h))))
 
     pub turn-puttable : (n : ℕ) → n ≡ length (stage p quads count needs group places ord i .records) → Puttable quads p conds group count at (getD ord i 0) n
@@ -169,7 +170,7 @@ module _ (p quads : List ℕ) (count : ℕ) (needs group places ord : List ℕ) 
 
     pub turn-small : (wires bytes cost a b c : ℕ) → Sum p quads count needs group places ord i wires bytes cost → Measured quads needs
         (membersOf p at (getD ord i 0)) a b c
-        → (wires + a ≤ 640) × (bytes + b ≤ mostRecordBytes) × (cost + c ≤ 10240)
+        → (wires + a ≤ mostWires) × (bytes + b ≤ mostRecordBytes) × (cost + c ≤ 10240)
     turn-small wires bytes cost a b c s z =
         let n = turn-sum wires bytes cost a b c s z in
         let l : i + 1 ≤ groups = omega (arith, h) in

@@ -17,6 +17,7 @@ use Rattle.plan.specs.AcceptedLaws.{plan-accepted}
 use Rattle.fused.specs.FusedCircuit.{fusedFile}
 use Rattle.fused.specs.Answers.{fusedCounts, fusedAnswer, writeAnswer}
 use Rattle.fused.specs.SizeBounds.{bytes-bound, plan-most}
+use Rattle.records.specs.Limits.{mostFileBytes}
 
 module _ (s p : List ℕ) where
   -- a refused plan has the plan's answer
@@ -63,8 +64,8 @@ module _ (s p : List ℕ) where
     write-taken h l = rw (eq-eqb _ _ h, le-leb _ _ l)
 
   -- 16,384 bytes always suffice
-  pub room-enough : writeAnswer s p 16384 ≡ fusedAnswer s p
+  pub room-enough : writeAnswer s p mostFileBytes ≡ fusedAnswer s p
   room-enough =
       split (eqb (planAnswer s p .number) 0)
-      (λ t. let h = eqb-true _ _ t in write-taken 16384 h (bytes-bound s p h))
-      (λ t. let n = eqb-false _ _ t in write-refused 16384 n ∙ sym (fused-refused n))
+      (λ t. let h = eqb-true _ _ t in write-taken mostFileBytes h (bytes-bound s p h))
+      (λ t. let n = eqb-false _ _ t in write-refused mostFileBytes n ∙ sym (fused-refused n))

@@ -37,6 +37,7 @@ use Rattle.fused.specs.OutputLaws.{outputs-length}
 use Rattle.fused.specs.SizeLimits.{mostBytesOfTwo, mostRecordBytes, mostFusedBytes}
 use Rattle.fused.specs.SizeEmit.{emit-most}
 use Rattle.fused.specs.SizeTotal.{total, total-le}
+use Rattle.records.specs.Limits.{mostFileBytes, mostWires}
 
 -- the groups written so far: five wires to two gates at most, `mostBytesOfTwo` bytes to two, 40 of cost to one
 module _ (s : List ℕ) (C : Gates) (shaped : Shaped C) (sets : List ℕ) (group : ℕ → ℕ)
@@ -69,7 +70,7 @@ module _ (s : List ℕ) (C : Gates) (shaped : Shaped C) (sets : List ℕ) (group
 -- of an accepted plan, whatever groups are written, each once
 pub plan-written : (s p : List ℕ) → planAnswer s p .number ≡ 0 → (done : List ℕ) → Once done
     → let R = written s (gatesOf s) (rulePreconditions s) (groupOf (groupsIn p)) done .records in
-    (length R ≤ 640) × (length (recordsBytes writtenVersion R) ≤ mostRecordBytes) × (recordsCost R ≤ 10240)
+    (length R ≤ mostWires) × (length (recordsBytes writtenVersion R) ≤ mostRecordBytes) × (recordsCost R ≤ 10240)
 plan-written s p h done once =
     let (r, x) = plan-accepted s p .0 h in
     let a = accepted s r in
@@ -77,14 +78,14 @@ plan-written s p h done once =
     let m = written-most s (gatesOf s) (rule-shaped s b n read) (rulePreconditions s) (groupOf (groupsIn p)) (members-costly s p x) done once in
     (omega (arith, m .0, a .gates), omega (arith, m .1, a .gates), omega (arith, m .2, a .gates))
 
-pub plan-most : (s p : List ℕ) → planAnswer s p .number ≡ 0 → (length (recordsOf s p) ≤ 640) × (length (recordsBytes writtenVersion (recordsOf s p)) ≤ mostRecordBytes) × (costAfter s p ≤ 10240)
+pub plan-most : (s p : List ℕ) → planAnswer s p .number ≡ 0 → (length (recordsOf s p) ≤ mostWires) × (length (recordsBytes writtenVersion (recordsOf s p)) ≤ mostRecordBytes) × (costAfter s p ≤ 10240)
 unfolding fused
 plan-most s p h =
     plan-written s p h (order (gatesOf s) (rulePreconditions s) (groupOf (groupsIn p)))
     (order-once (gatesOf s) (rulePreconditions s) (groupOf (groupsIn p)))
 
 -- at most 640 wires
-pub wires-bound : (s p : List ℕ) → planAnswer s p .number ≡ 0 → length (recordsOf s p) ≤ 640
+pub wires-bound : (s p : List ℕ) → planAnswer s p .number ≡ 0 → length (recordsOf s p) ≤ mostWires
 wires-bound s p h = plan-most s p h .0
 
 -- an output for each of at most 32 variables
@@ -101,9 +102,9 @@ fused-size s p h =
     file-size writtenVersion (variables s) (recordsOf s p) (outputWires s p)
     ∙ ap (λ (k : ℕ). 8 + length (recordsBytes writtenVersion (recordsOf s p)) + 2 * k) (outputs-length s p)
 
--- at most 16,384 bytes
+-- at most so many bytes, and so at most 16,384
 pub bytes-most : (s p : List ℕ) → planAnswer s p .number ≡ 0 → length (fusedFile s p) ≤ mostFusedBytes
 bytes-most s p h = omega (arith, plan-most s p h .1, fused-size s p h, outputs-count s p h .1)
 
-pub bytes-bound : (s p : List ℕ) → planAnswer s p .number ≡ 0 → length (fusedFile s p) ≤ 16384
+pub bytes-bound : (s p : List ℕ) → planAnswer s p .number ≡ 0 → length (fusedFile s p) ≤ mostFileBytes
 bytes-bound s p h = omega (arith, bytes-most s p h)

@@ -1,4 +1,4 @@
--- Inner, for document 01, "The fused circuit file", and document 02, C-17, "A file still fits in 16,384 bytes": what records come to at most, in the version that is written.
+-- Document 02, C-17, "A file still fits in 16,384 bytes": what records come to at most, in the version that is written.
 use Prim.Native.Nat.{ℕ, _+_, _*_, _/_}
 use Rattle.reading.specs.Limits.{mostVariables}
 use Rattle.gates.specs.Limits.{mostGates}
@@ -11,7 +11,7 @@ mostGuardBytes = 2 + 2 * mostGuardWires writtenVersion + tableBytes writtenVersi
 
 -- those of two gates that are joined: two guards, two picks of two pairs and an operation; a larger group has no more to two gates
 abbrev pub mostBytesOfTwo : ℕ
-mostBytesOfTwo = 2 * mostGuardBytes + 25
+mostBytesOfTwo = 2 * mostGuardBytes + 2 * (2 + 2 * 4) + 5
 
 -- those of the most gates
 abbrev pub mostRecordBytes : ℕ

@@ -36,10 +36,10 @@ fn marked(file: &[u8]) -> bool
 pub fn headed(file: &[u8]) -> bool
     ensures { λ r. ⌜ r ≡ headed (now (file .entry)) ⌝ }
 {
-    if file.len() < 8 {
+    if file.len() < records::FIRST_RECORD {
         return false;
     }
-    if 16384 < file.len() {
+    if records::MOST_BYTES < file.len() {
         return false;
     }
     if !marked(file) {
@@ -48,7 +48,7 @@ pub fn headed(file: &[u8]) -> bool
     if file[5] < 1 {
         return false;
     }
-    if 32 < file[5] {
+    if records::MOST_VARIABLES < file[5] {
         return false;
     }
     words::wide16(words::read16(file, 6)) <= records::MOST_WIRES
@@ -118,7 +118,7 @@ pub fn laid(file: &[u8]) -> bool
     ensures { λ r. ⌜ r ≡ laid (now (file .entry)) ⌝ }
 {
     let mut left = words::read16(file, 6);
-    let mut at: usize = 8;
+    let mut at = records::FIRST_RECORD;
     while 0 < left {
         let size = whole_size(file, at);
         if size == 0 {

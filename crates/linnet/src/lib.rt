@@ -51,7 +51,7 @@ pub extern "C" fn linnet_show_plain(rule: &[u8]) -> Shown
         rows: [0u32; 1024],
         needs: [0u64; NEED_WORDS],
     };
-    // One call cannot be lent two fields of a struct to fill: the smaller is copied in.
+    // One call cannot be lent two fields of a struct to fill: one of the two is copied in.
     let mut needs = [0u64; NEED_WORDS];
     let mut outputs = [0u16; 32];
     let mut conditions = [0u16; MOST_CONDITIONS];

@@ -9,7 +9,13 @@ pub struct WireId(pub u16);
 // As an output it names no wire.
 pub const NO_WIRE: u16 = 0xFFFF;
 
-// The wires of a file, at most.
+// A file has its first record at this place, and at most so many bytes, variables and wires.
+pub const FIRST_RECORD: usize = 8;
+
+pub const MOST_BYTES: usize = 16384;
+
+pub const MOST_VARIABLES: u8 = 32;
+
 pub const MOST_WIRES: usize = 640;
 
 // The version byte of a file that is written, and the bytes of a guard's table there.

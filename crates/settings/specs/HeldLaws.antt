@@ -125,11 +125,12 @@ sets-once a b n la lb fa fb e =
     let j : ℕ = i / setWords in
     let r : ℕ = i % setWords in
     let room : setWords * j + setWords ≤ setWords * n = omega (arith, l, la) in
-    let words : List ℕ → List ℕ = λ w. map (λ k. getD w (setWords * j + k) 0) (upto setWords) in
-    let same : words a ≡ words b =
-    joined-once (words a) (words b) (length-map (upto setWords) _ ∙ sym (length-map (upto setWords) _)) (fit-map _ (upto setWords) (λ k. fa (setWords * j + k)))
-    (fit-map _ (upto setWords) (λ k. fb (setWords * j + k)))
+    let word : List ℕ → ℕ → ℕ = λ w k. getD w (setWords * j + k) 0 in
+    let same : map (word a) (upto setWords) ≡ map (word b) (upto setWords) =
+    joined-once (map (word a) (upto setWords)) (map (word b) (upto setWords)) (length-map (upto setWords) (word a) ∙ sym (length-map (upto setWords) (word b)))
+    (fit-map (word a) (upto setWords) (λ k. fa (setWords * j + k))) (fit-map (word b) (upto setWords) (λ k. fb (setWords * j + k)))
     (sym (sets-words a j (omega (arith, room, la))) ∙ ap (λ (w : List ℕ). getD w j 0) e ∙ sets-words b j (omega (arith, room, lb))) in
-    let at : (w : List ℕ) → getD w i 0 ≡ getD (words w) r 0 =
-    λ w. ap (λ (k : ℕ). getD w k 0) (omega arith) ∙ sym (getD-upto (λ k. getD w (setWords * j + k) 0) 0 setWords r (omega arith)) in
+    let place : i ≡ setWords * j + r = omega arith in
+    let at : (w : List ℕ) → getD w i 0 ≡ getD (map (word w) (upto setWords)) r 0 =
+    λ w. ap (λ (k : ℕ). getD w k 0) place ∙ sym (getD-upto (word w) 0 setWords r (omega arith)) in
     at a ∙ ap (λ (w : List ℕ). getD w r 0) same ∙ sym (at b))

@@ -1,4 +1,4 @@
--- Document 01, "The plain circuit", what it asks of sets of settings in code: how large they are, all in this place.
+-- Document 02, C-17, "a precondition is a set of 256 settings": how large sets of settings are in code, all in this place.
 use Prim.Native.Nat.{ℕ, _*_, _/_, _^_}
 
 -- the conditions that a set has room for: as many as a plain circuit may have

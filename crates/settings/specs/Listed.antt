@@ -1,4 +1,4 @@
--- The conditions that a set rests on, as code holds them: a list in hand, so many of them and zeros after them.
+-- Inner, for document 01, "The fused circuit file": the conditions that a member rests on, as code holds them: a list in hand, so many of them and zeros after them.
 use mathlib.Core.Path.{_≡_}
 use mathlib.Core.List.{List}
 use Prim.Native.Nat.{ℕ, _≤_}

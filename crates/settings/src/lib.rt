@@ -1,5 +1,5 @@
-// Document 01, "Needed gates" and "The fused circuit file", at eight conditions: a set of settings is 256 bits, bit j for setting j, in four words, the lowest first.
-// A set in hand is a `Set`; lent arrays hold plain words, so many a set, which `load` and `store` alone look at.
+// Document 01, "Needed gates" and "The fused circuit file", at the eight conditions of document 02's C-17: a set of settings is 256 bits, bit j for setting j, in four words, the lowest first.
+// A set in hand is a `Set`; lent arrays hold plain words, so many a set, which `load` and `store` look at.
 ghost use mathlib.Core.Path.{_≡_};
 ghost use Prim.Native.Nat.{_+_, _-_, _*_, _<_, _≤_, _^_};
 ghost use lib.ListN.{length, getD, set, replicate};
@@ -24,7 +24,7 @@ const SETTINGS: u16 = 256;
 pub const ROOM: usize = 8;
 
 // The words of a set in a lent array.
-pub const WORDS: usize = 4;
+pub const WORDS: usize = bitsets::WORDS;
 
 // The bytes of a set.
 pub const BYTES: usize = 8 * WORDS;
@@ -149,7 +149,7 @@ pub fn excludes(a: Set, b: Set) -> bool
     (a.w0 & b.w0) | (a.w1 & b.w1) | (a.w2 & b.w2) | (a.w3 & b.w3) == 0
 }
 
-// The settings that give condition t the bit 1: below 6 the same in each word, from 6 on whole words.
+// The settings that give condition t the bit 1: the same in each word for a condition within a word, else whole words.
 fn giving(t: u8) -> Set
     requires { ⌜ t < setConditions ⌝ }
     ensures { λ r. ⌜ setOf r ≡ sets.giving setSettings t ⌝ }
@@ -214,7 +214,7 @@ fn power(t: u8) -> u8
     1 << t
 }
 
-// The movers of condition t below 6 within one word: the settings j that give t the bit 0 and of which just one of j and j + 2^t is in it.
+// The movers of a condition within one word: the settings j that give t the bit 0 and of which just one of j and j + 2^t is in it.
 fn word_movers(w: u64, t: u8) -> u64
     requires { ⌜ t < wordConditions ⌝ }
     ensures { λ r. ⌜ r ≡ sets.movers wordConditions w t ⌝ }
@@ -224,7 +224,7 @@ fn word_movers(w: u64, t: u8) -> u64
     ((w >> far) ^ w) & !m.w0
 }
 
-// The movers of condition t: below 6 j and j + 2^t are in one word, from 6 on they are the same bit of two words.
+// The movers of condition t: j and j + 2^t are in one word, or the same bit of two words.
 fn movers(s: Set, t: u8) -> Set
     requires { ⌜ t < setConditions ⌝ }
     ensures { λ r. ⌜ setOf r ≡ sets.movers setConditions (setOf s) t ⌝ }

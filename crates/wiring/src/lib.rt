@@ -258,7 +258,7 @@ fn records_stand(
     ensures place { λ r. ⌜ r ≡ cond (allStand v (wireKind (fileRecords (now (file .entry)))) 0 (fileRecords (now (file .entry)))) (recordPlace (now (file .entry)) count) 0 ⌝ }
     ensures kinds { λ r. ⌜ (0 < r → HoldsKinds (fileRecords (now (file .entry))) (now (bits .exit)) count) ⌝ }
 {
-    let mut at: usize = 8;
+    let mut at = records::FIRST_RECORD;
     let mut i: usize = 0;
     while i < count {
         if !record_stands(file, at, i, v, bits) {

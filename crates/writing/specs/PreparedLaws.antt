@@ -35,6 +35,7 @@ use Rattle.filing.specs.Staged.{stage, Turnable}
 use Rattle.filing.specs.Turns.{Sum, OutputsPlaced, outputIn, fileIn}
 use Rattle.writing.specs.ArrayLaws.{rule-taken}
 use Rattle.writing.specs.TopLaws.{plan-turnable, last-records, last-outputs, table-named}
+use Rattle.records.specs.Limits.{mostFileBytes, mostWires}
 
 -- a rule with an accepted plan has its kind bytes, and before them V
 kinds-there : (s p : List ℕ) → planAnswer s p .number ≡ 0 → HasKinds s
@@ -80,7 +81,7 @@ module _ (s p : List ℕ) (a : Answer) (e : a ≡ fusedAnswer s p) (zero : a .nu
   unfolding fusedCounts
   prepared-wires = ap (λ (b : Answer). b .wires) (e ∙ counts)
 
-  pub prepared-few : a .wires ≤ 640
+  pub prepared-few : a .wires ≤ mostWires
   prepared-few = omega (arith, prepared-wires, wires-bound s p prepared-taken)
 
   pub prepared-fits : (room : ℕ) → a .bytes ≤ room → length (fusedFile s p) ≤ room
@@ -142,7 +143,7 @@ module _ (s p : List ℕ) (taken : planAnswer s p .number ≡ 0) (quads needs ou
         let e : bytes ≡ length (recordsBytes writtenVersion (recordsOf s p)) = m .long ∙ ap (λ (R : List Record). length (recordsBytes writtenVersion R)) records-are in
         omega (arith, e, fused-size s p taken)
 
-    pub bytes-few : bytes ≤ 16384
+    pub bytes-few : bytes ≤ mostFileBytes
     bytes-few = omega (arith, size-is, bytes-bound s p taken)
 
     pub counts-are : (before : ℕ) → before ≡ costBefore s → success count wires (8 + bytes + 2 * variables s) before cost ≡ fusedAnswer s p

@@ -1,4 +1,3 @@
-use mathlib.Core.Path.{refl}
 use borrow.Author.Needs.{needs}
 use Rattle.bitsets.specs.Words.{bitIn}
 use Rattle.bitsets.proofs.has.Statement.{statement}
@@ -6,8 +5,8 @@ use Rattle.bitsets.proofs.has.Tie as tie
 
 returns : tie.Need-returns
 unfolding bitIn
-returns c = refl
+returns c = c .bit-of .ensures
 
 pub has-spec : {M : Type 1} → statement M
 has-spec =
-    tie.close (tie.spec (λ c. search needs) (λ c. search needs) (λ c. search needs) (λ c. search needs) (λ c. search needs) (λ c. search needs) returns)
+    tie.close (tie.spec (λ c. search needs) (λ c. search needs) (λ c. search needs) (λ c. search needs) (λ c. search needs) (λ c κs. search needs) returns)

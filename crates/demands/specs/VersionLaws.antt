@@ -1,0 +1,115 @@
+-- Laws for document 02, C-17: both versions of a circuit file: what is written, what is refused, what both hold. Assumes nothing.
+use Prim.Native.Nat.{ℕ, _+_, _-_, _%_, _^_, _≤_, _<_}
+use native.Mathlib.Omega.{arith}
+use mathlib.Core.Path.{_≡_, sym, ap, subst, _∙_}
+use mathlib.Core.Bool.{true, false, true≢false}
+use mathlib.Core.List.{List, [], _∷_}
+use mathlib.Core.Logic.{_↔_}
+use lib.ListN.{length, take}
+use lib.Pow.{pow-mono}
+use native.Mathlib.Nat.{lt-of-lt-of-le}
+use Rattle.words.specs.TestLaws.{split}
+use Rattle.words.specs.Lists.{_∈_}
+use Rattle.words.specs.Numbers.{Bytes}
+use Rattle.answers.specs.Answers.{refusal}
+use Rattle.records.specs.Limits.{mostFileBytes}
+use Rattle.records.specs.Versions.{Version, one, two, mostGuardWires}
+use Rattle.records.specs.VersionLaws.{bits-bytes}
+use Rattle.records.specs.Records.{Record, input, word, bit, operation, choice, pick, guard, recordIn}
+use Rattle.records.specs.CircuitFile.{mark, fileBytes}
+use Rattle.records.specs.FileFigures.{recordAt, versionIn, wireCount, fileRecords, fileFigures}
+use Rattle.records.specs.FileLaws.{file-figures}
+use Rattle.records.specs.LaidOut.{Bounded, recordPlace, LaidOut}
+use Rattle.records.specs.FitRecords.{ReadsBack, AllReadBack}
+use Rattle.records.specs.CircuitRows.{headed, laid, circuitRow}
+use Rattle.records.specs.WellFormed.{WellFormed}
+use Rattle.records.specs.RowLaws.{headed-right, laid-right}
+use Rattle.records.specs.FormatLaws.{row-passed}
+use Rattle.records.specs.InverseLaws.{laid-bounded}
+use Rattle.plan.specs.Rows.{planAnswer}
+use Rattle.fused.specs.FusedCircuit.{recordsOf, fusedFile}
+use Rattle.fused.specs.BoundLaws.{fused-bounded}
+use Rattle.fused.specs.WellFormedLaws.{fused-is}
+use Rattle.foreign.specs.Foreign.{circuitAnswer}
+use Rattle.foreign.specs.ReadLaws.{refused-answer, answer-number}
+
+-- what is written has the mark and version of the second
+pub written-two : (s p : List ℕ) → take 5 (fusedFile s p) ≡ mark two
+written-two s p = ap (take 5) (fused-is s p)
+
+-- another mark or version is 60
+pub other-version : (f : List ℕ) → (take 5 f ≡ mark one → ⊥) → (take 5 f ≡ mark two → ⊥) → circuitAnswer f ≡ refusal 60 0
+unfolding circuitRow
+other-version f a b = split (headed f) (λ t. absurd (go (versionIn f) (headed-right f .0 t .marked))) (λ t. refused-answer f (λ z. sixty z t) ∙ rw t)
+  where
+    go : (ver : Version) → take 5 f ≡ mark ver → ⊥
+    go one e = a e
+    go two e = b e
+
+    sixty : circuitRow f ≡ 0 → headed f ≡ false → ⊥
+    sixty z t = true≢false (sym (headed-right f .1 (row-passed f z .head)) ∙ t)
+
+-- a guard of more wires than the file's version admits is 61; so of a file that is read each guard keeps within them
+pub over-guard : (f : List ℕ) → headed f ≡ true → (i : ℕ) → i < wireCount f → (cs : List ℕ) (t : ℕ) → recordAt f (recordPlace f i) ≡ guard cs t
+    → mostGuardWires (versionIn f) < length cs → circuitAnswer f ≡ refusal 61 0
+unfolding circuitRow
+over-guard f h i l cs t e more = split (laid f) (λ y. absurd (full (laid-right f (headed-right f .0 h) .0 y))) (λ y. refused-answer f (λ z. sixty-one z y) ∙ rw (h, y))
+  where
+    full : LaidOut f → ⊥
+    full o = let k : length cs ≤ mostGuardWires (versionIn f) = subst (Bounded (versionIn f)) e (o .whole i l .bounded) in omega arith
+
+    sixty-one : circuitRow f ≡ 0 → laid f ≡ false → ⊥
+    sixty-one z y = true≢false (sym (laid-right f (headed-right f .0 h) .1 (row-passed f z .layout)) ∙ y)
+
+pub guards-within : (f : List ℕ) → circuitAnswer f .number ≡ 0 → (i : ℕ) → i < length (fileRecords f) → (cs : List ℕ) (t : ℕ) → recordIn (fileRecords f) i ≡ guard cs t
+    → length cs ≤ mostGuardWires (versionIn f)
+guards-within f h i l cs t e =
+    subst (Bounded (versionIn f)) e (laid-bounded f (row-passed f (sym (answer-number f) ∙ h) .layout) i l)
+
+-- and so do those that are written
+pub own-guards : (s p : List ℕ) → Bytes s → planAnswer s p .number ≡ 0 → (i : ℕ) → i < length (recordsOf s p) → (cs : List ℕ) (t : ℕ) → recordIn (recordsOf s p) i ≡ guard cs t
+    → length cs ≤ mostGuardWires two
+own-guards s p bytes h i l cs t e = subst (Bounded two) e (fused-bounded s p bytes h i l)
+
+-- what version 1 holds, version 2 holds, where its file is not too long
+bounded-more : (r : Record) → Bounded one r → Bounded two r
+bounded-more (input k x) b = b
+bounded-more (word n) b = b
+bounded-more (bit c) b = b
+bounded-more (operation op l) b = b
+bounded-more (choice c x y) b = b
+bounded-more (pick l) b = b
+bounded-more (guard cs t) b = omega (arith, b)
+
+reads-more : (r : Record) → ReadsBack one r → ReadsBack two r
+reads-more (input k x) b = b
+reads-more (word n) b = b
+reads-more (bit c) b = b
+reads-more (operation op l) b = b
+reads-more (choice c x y) b = b
+reads-more (pick l) b = b
+reads-more (guard cs t) (a, w, b) = (a, w, lt-of-lt-of-le b (pow-mono-base))
+  where
+    pow-mono-base : 256 ^ 8 ≤ 256 ^ 32
+    pow-mono-base = rw (← bits-bytes 8, ← bits-bytes 32) (pow-mono {i = 64} {j = 256} (omega arith))
+
+all-more : (R : List Record) → AllReadBack one R → AllReadBack two R
+all-more [] u = u
+all-more (r ∷ R) (a, b) = (reads-more r a, all-more R b)
+
+pub one-in-two : (v : ℕ) (R : List Record) (outputs : List ℕ) → WellFormed one v R outputs → length (fileBytes two v R outputs) ≤ mostFileBytes → WellFormed two v R outputs
+one-in-two v R outputs w size =
+    record {
+      some = w .some;
+      few = w .few;
+      wires = w .wires;
+      size = size;
+      fits = record { each = all-more R (w .fits .each); few = w .fits .few; wires = w .fits .wires; count = w .fits .count };
+      bounded = λ i l. bounded-more (recordIn R i) (w .bounded i l);
+      standing = w .standing;
+    }
+
+-- and a circuit gives the same figures in both
+pub same-figures : (v : ℕ) (R : List Record) (outputs : List ℕ) → WellFormed one v R outputs → WellFormed two v R outputs → (inputs : List ℕ)
+    → fileFigures (fileBytes one v R outputs) inputs ≡ fileFigures (fileBytes two v R outputs) inputs
+same-figures v R outputs a b inputs = file-figures one v R outputs (a .fits) inputs ∙ sym (file-figures two v R outputs (b .fits) inputs)
