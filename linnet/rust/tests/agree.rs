@@ -4,6 +4,9 @@
 const RATTLE: &str = include_str!("../../../crates/linnet/src/lib.rt");
 const ANSWERS: &str = include_str!("../../../crates/answers/src/lib.rt");
 const FOREIGN: &str = include_str!("../../../crates/foreign/src/lib.rt");
+const NEEDED: &str = include_str!("../../../crates/needed/src/lib.rt");
+const SETTINGS: &str = include_str!("../../../crates/settings/src/lib.rt");
+const BITSETS: &str = include_str!("../../../crates/bitsets/src/lib.rt");
 const HEADER: &str = include_str!("../../linnet.h");
 const WRAPPER: &str = include_str!("../src/lib.rs");
 
@@ -205,6 +208,15 @@ fn every_function_of_the_wrapper_passes_its_parameters_on() {
     }
 }
 
+/// What `NEED_WORDS` stands for: so many words for each of 256 gates.
+fn need_words() -> usize {
+    assert!(NEEDED.contains("pub const NEED_WORDS: usize = settings::WORDS * 256;"));
+    assert!(SETTINGS.contains("pub const WORDS: usize = bitsets::WORDS;"));
+    let (words, _) =
+        between(BITSETS, "pub const WORDS: usize = ", ";").expect("the words of a set");
+    words.parse::<usize>().expect("a number") * 256
+}
+
 #[test]
 fn all_structs_are_the_same_in_all_texts() {
     for (name, c) in [("Answer", "answer"), ("Shown", "shown"), ("Part", "part")] {
@@ -215,7 +227,9 @@ fn all_structs_are_the_same_in_all_texts() {
             .filter_map(|text| between(text, &open, "}"));
         let (fields, _) = found.next().expect("the Rattle struct");
         assert!(found.next().is_none(), "{name} stands twice");
-        let fields: Vec<Named> = parts(fields, ',').iter().map(|part| named(part)).collect();
+        // The archive's text has a name for the words of all gates' sets.
+        let fields = fields.replace("NEED_WORDS", &need_words().to_string());
+        let fields: Vec<Named> = parts(&fields, ',').iter().map(|part| named(part)).collect();
 
         let text = without_comments(HEADER);
         let (of_c, _) =
