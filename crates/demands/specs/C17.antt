@@ -9,6 +9,7 @@ use lib.ListN.{length, take, getD}
 use Rattle.words.specs.Lists.{_∈_}
 use Rattle.words.specs.Numbers.{bytesOf, numberAt, Bytes}
 use Rattle.bitsets.specs.Bits.{bit}
+use Rattle.bitsets.specs.ByteLaws as tables
 use Rattle.answers.specs.Answers.{refusal}
 use Rattle.answers.specs.Parsing.{stepOf, IsRead}
 use Rattle.answers.specs.declared.Step.the-variants.{Refused}
@@ -34,7 +35,6 @@ use Rattle.records.specs.FileFigures.{recordAt, versionIn, wireCount, fileRecor
 use Rattle.records.specs.LaidOut.{recordPlace}
 use Rattle.records.specs.CircuitRows.{headed}
 use Rattle.records.specs.WellFormed as circuits
-use Rattle.figures.specs.BitLaws as tables
 use Rattle.fused.specs.FusedCircuit.{recordsOf, fusedFile}
 use Rattle.fused.specs.SizeLimits.{mostBytesOfTwo}
 use Rattle.fused.specs.SizeBounds as sizes

@@ -1,6 +1,5 @@
 pub mod Working
 pub mod AcceptedLaws
-pub mod BitLaws
 pub mod StepLaws
 pub mod OperationLaws
 pub mod RecordLaws

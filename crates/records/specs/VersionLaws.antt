@@ -1,9 +1,9 @@
 -- Laws of the versions of a circuit file, each for any version. Assumes nothing.
-use Prim.Native.Nat.{ℕ, zero, suc, _+_, _*_, _^_, _≤_, _<_}
+use Prim.Native.Nat.{ℕ, _+_, _*_, _^_, _≤_, _<_}
 use mathlib.Core.Path.{_≡_, refl, sym, ap, _∙_}
-use native.Mathlib.Nat.{pow-succ'}
 use native.Mathlib.Omega.{arith}
-use lib.Pow.{pow-add}
+use lib.Pow.{pow-mono}
+use Rattle.words.specs.NumberLaws.{bits-bytes}
 use Rattle.records.specs.Versions.{Version, one, two, versionByte, versionOf, mostGuardWires, tableBytes}
 
 -- the byte of a version names it, and is a byte
@@ -20,22 +20,19 @@ pub table-bits : (ver : Version) → 8 * tableBytes ver ≡ 2 ^ mostGuardWires v
 table-bits one = refl
 table-bits two = refl
 
--- k bytes have 8 k bits
-pub bits-bytes : (k : ℕ) → 2 ^ (8 * k) ≡ 256 ^ k
-bits-bytes zero = refl
-bits-bytes (suc k) =
-    let e : 8 * suc k ≡ 8 + 8 * k = omega arith in
-    ap (λ (n : ℕ). 2 ^ n) e ∙ pow-add 2 8 (8 * k) ∙ ap (λ (n : ℕ). 256 * n) (bits-bytes k) ∙ sym (pow-succ' 256 k)
-
 -- so a table of the most wires has its bytes, and no bit is left
 pub table-room : (ver : Version) → 256 ^ tableBytes ver ≡ 2 ^ 2 ^ mostGuardWires ver
 table-room ver = sym (bits-bytes (tableBytes ver)) ∙ ap (λ (n : ℕ). 2 ^ n) (table-bits ver)
 
--- how few the wires and the table's bytes are
-pub wires-few : (ver : Version) → mostGuardWires ver ≤ 8
+-- the number of a guard's wires is that of a bit of its table
+pub number-bit : (ver : Version) (j n : ℕ) → n ≤ mostGuardWires ver → j < 2 ^ n → j < 8 * tableBytes ver
+number-bit ver j n h l = let k : 2 ^ n ≤ 2 ^ mostGuardWires ver = pow-mono h in rw (table-bits ver) (omega (arith, l, k))
+
+-- how few the wires and the table's bytes are: the first version has the fewest, the second the most
+pub wires-few : (ver : Version) → mostGuardWires ver ≤ mostGuardWires two
 wires-few one = omega arith
 wires-few two = omega arith
 
-pub table-few : (ver : Version) → (8 ≤ tableBytes ver) × (tableBytes ver ≤ 32)
+pub table-few : (ver : Version) → (tableBytes one ≤ tableBytes ver) × (tableBytes ver ≤ tableBytes two)
 table-few one = (omega arith, omega arith)
 table-few two = (omega arith, omega arith)

@@ -18,10 +18,10 @@ ghost use Rattle.settings.specs.Held.{wordsOf, setOf, setsIn};
 pub const CONDITIONS: u8 = 8;
 
 // The settings of so many conditions.
-const SETTINGS: u16 = 256;
+const SETTINGS: u16 = 1 << CONDITIONS;
 
 // The places of a list of conditions.
-pub const ROOM: usize = 8;
+pub const ROOM: usize = CONDITIONS as usize;
 
 // The words of a set in a lent array.
 pub const WORDS: usize = bitsets::WORDS;

@@ -10,10 +10,10 @@ use lib.Pow.{pow-pos, pow-add, pow-mono}
 use lib.ListN.{length, getD}
 use borrow.Author.Tests.{eq-eqb, ne-eqb, eqb-true, eqb-false, leb-true, leb-false, le-leb, ltb-true, lt-ltb, le-ltb}
 use Rattle.words.specs.Numbers.{number, numberAt, Bytes}
-use Rattle.words.specs.NumberLaws.{number-one, number-split, number-small}
+use Rattle.words.specs.NumberLaws.{number-one, number-split, number-small, bits-bytes}
 use Rattle.words.specs.TestLaws.{split, same-test}
 use Rattle.records.specs.Versions.{Version, one, two, mostGuardWires, tableBytes}
-use Rattle.records.specs.VersionLaws.{bits-bytes, table-few}
+use Rattle.records.specs.VersionLaws.{table-few}
 use Rattle.wiring.specs.Wires.{usedBytes, topByte}
 
 -- bytes that are 0, one after another: those that are left decide

@@ -129,3 +129,10 @@ pub number-split : (v w : ℕ) (s : List ℕ) (at : ℕ) → at + (v + w) ≤ le
 number-split v w s at h =
     let l : length (take w (drop (at + v) s)) ≡ w = length-take-le w _ (simp length-drop (omega arith)) in
     rw (take-add, number-append, drop-drop, l)
+
+-- k bytes have 8 k bits
+pub bits-bytes : (k : ℕ) → 2 ^ (8 * k) ≡ 256 ^ k
+bits-bytes zero = refl
+bits-bytes (suc k) =
+    let e : 8 * suc k ≡ 8 + 8 * k = omega arith in
+    ap (λ (n : ℕ). 2 ^ n) e ∙ pow-add 2 8 (8 * k) ∙ ap (λ (n : ℕ). 256 * n) (bits-bytes k) ∙ sym (pow-succ' 256 k)

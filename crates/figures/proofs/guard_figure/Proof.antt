@@ -4,8 +4,7 @@ use native.Mathlib.Omega.{arith}
 use borrow.Author.Needs.{needs}
 use Rattle.bitsets.specs.Bits.{bitOf}
 use Rattle.records.specs.FileFigures.{versionIn}
-use Rattle.records.specs.VersionLaws.{wires-few, table-few}
-use Rattle.figures.specs.BitLaws.{number-bit}
+use Rattle.records.specs.VersionLaws.{number-bit, wires-few, table-few}
 use Rattle.figures.specs.StepLaws.{table-bit}
 use Rattle.figures.proofs.guard_figure.Statement.{statement}
 use Rattle.figures.proofs.guard_figure.Tie as tie

@@ -1,6 +1,6 @@
 use denote.Ref.{now}
 use borrow.Author.Needs.{needs}
-use Rattle.figures.specs.BitLaws.{bit-byte}
+use Rattle.bitsets.specs.ByteLaws.{bit-byte}
 use Rattle.figures.proofs.table_has.Statement.{statement}
 use Rattle.figures.proofs.table_has.Tie as tie
 
