@@ -3,12 +3,10 @@
 use Prim.Native.Nat.{ℕ, _*_, _≤_, _<_}
 use mathlib.Core.Path.{_≡_, refl, sym, ap, ap₂, _∙_}
 use mathlib.Core.List.{List}
-use mathlib.Core.Logic.{inl, inr}
 use native.Mathlib.Nat.{add-zero}
 use native.Mathlib.Omega.{arith}
 use lib.ListN.{length, getD, take}
 use Rattle.words.specs.Lists.{_∈_}
-use Rattle.words.specs.ListLaws.{map-same}
 use Rattle.codes.specs.Codes.{startCode}
 use Rattle.codes.specs.CodeLaws.{start-kind}
 use Rattle.codes.specs.declared.Kind.{Kind}
@@ -38,15 +36,6 @@ module _ (s quads : List ℕ) (C : Gates) (shaped : Shaped C) (held : take (4 * 
 
   pub alone-held : (wire : ℕ → ℕ) (i : ℕ) → i < length C → aloneIn quads wire i ≡ alone s wire (gateAt C i)
   alone-held wire i h = ap₂ (λ (code : ℕ) (k : Gate). aloneOf code wire k) (code-held i h) (gate-held s quads C shaped held i h) ∙ alone-back s wire (gateAt C i)
-
--- Two maps to wires that agree on what a gate reads.
-
-pub alone-same : (s : List ℕ) (f h : ℕ → ℕ) (k : Gate) → ((a : ℕ) → a ∈ arguments k → f a ≡ h a) → alone s f k ≡ alone s h k
-alone-same s f h (start x) e = refl
-alone-same s f h (word n) e = refl
-alone-same s f h (bit b) e = refl
-alone-same s f h (operation op l) e = ap (records.operation op) (map-same f h l e)
-alone-same s f h (choice c a b) e = rw (e c (inl refl), e a (inr (inl refl)), e b (inr (inr (inl refl))))
 
 -- What the writer asks.
 

@@ -3,6 +3,7 @@ pub mod FusedCircuit
 pub mod Answers
 pub mod OutputLaws
 pub mod EmitLaws
+pub mod EmitSame
 pub mod WrittenLaws
 pub mod PickLaws
 pub mod JoinedLaws
@@ -10,6 +11,7 @@ pub mod GuardLaws
 pub mod RightLaws
 pub mod SumLaws
 pub mod PlannedLaws
+pub mod GroupStands
 pub mod Examples
 pub mod SizeLimits
 pub mod SizeJoined

@@ -18,7 +18,7 @@ use Rattle.reading.specs.Tree.{Block}
 use Rattle.reading.specs.Rule.{readRule}
 use Rattle.gates.specs.Gates.{Gate, operation, gateAt, arguments, Earlier, conditions}
 use Rattle.gates.specs.Limits.{mostConditions}
-use Rattle.gates.specs.PlainCircuit.{gatesOf, outputsOf}
+use Rattle.gates.specs.PlainCircuit.{gatesOf, outputsOf, gateCount}
 use Rattle.gates.specs.StartLaws.{plain-sound}
 use Rattle.needed.specs.Held.{ShapedGate}
 use Rattle.needed.specs.Needed.{wantedOf}
@@ -27,7 +27,7 @@ use Rattle.needed.specs.RulePreconditions.{rule-earlier, wanted-inside}
 use Rattle.needed.specs.ShapedLaws.{rule-shaped}
 use Rattle.circuit.specs.WholeLaws.{Accepted, accepted}
 use Rattle.plan.specs.PlanFile.{groupsIn}
-use Rattle.plan.specs.Groups.{Named, groupOf, groups}
+use Rattle.plan.specs.Groups.{Named, groupOf, groups, members}
 use Rattle.plan.specs.Order.{order}
 use Rattle.plan.specs.Rows.{planAnswer}
 use Rattle.plan.specs.Accepted.{Acceptable}
@@ -43,6 +43,7 @@ use Rattle.fused.specs.WrittenLaws.{Level, wire-below, written-earlier}
 use Rattle.fused.specs.JoinedLaws.{Joined}
 use Rattle.records.specs.SumLaws.{GivesGuard, OneGuard}
 use Rattle.fused.specs.SumLaws.{written-one}
+use Rattle.fused.specs.SizeEmit.{costly-two}
 
 -- gates of one operation have equally many arguments, where the table says how many
 pub same-arity : (op : Operation) (a b : Gate) (l m : List ℕ) → ShapedGate a → ShapedGate b → a ≡ operation op l → b ≡ operation op m → length l ≡ length m
@@ -106,6 +107,15 @@ module _ (s p : List ℕ) (h : planAnswer s p .number ≡ 0) where
             );
         exclude = λ q t. members-exclude s p plan q t;
       }
+
+  -- the gates of a group of two or more have two arguments each
+  pub planned-two : (q : ℕ) → 2 ≤ length (members (gateCount s) (groupOf (groupsIn p)) q) → (m : ℕ) → m ∈ members (gateCount s) (groupOf (groupsIn p)) q
+      → length (arguments (gateAt (gatesOf s) m)) ≡ 2
+  planned-two q many m i =
+      let (op, c, f) = members-costly s p plan q many in
+      let (l, e) = f m i in
+      let t : length l ≡ 2 = rw e at (rule-shaped s (planned-read .0) (planned-read .1) (planned-read .2) m) ∙ costly-two op c in
+      ap (λ (g : Gate). length (arguments g)) e ∙ t
 
   pub planned-level : Level (gatesOf s) (groupOf (groupsIn p))
   planned-level q t m k i j =

@@ -7,7 +7,7 @@ use lib.ListN.{length, getD, take}
 use lib.Seq.{take-at}
 use Rattle.words.specs.Lists.{_∈_}
 use Rattle.words.specs.TestLaws.{same?}
-use Rattle.gates.specs.Gates.{Gate, gateAt, arguments}
+use Rattle.gates.specs.Gates.{Gate}
 use Rattle.gates.specs.Limits.{mostGates}
 use Rattle.gates.specs.PlainCircuit.{gatesOf, gateCount}
 use Rattle.gates.specs.Quads.{quadsOf}
@@ -23,12 +23,10 @@ use Rattle.plan.specs.Groups.{groupOf, members}
 use Rattle.plan.specs.Rows.{planAnswer}
 use Rattle.plan.specs.Accepted.{Acceptable}
 use Rattle.plan.specs.AcceptedLaws.{plan-accepted}
-use Rattle.plan.specs.JoinedLaws.{members-costly}
 use Rattle.plan.specs.Places.{placeOf}
 use Rattle.plan.specs.PlaceLaws.{group-alone, group-listed}
 use Rattle.checking.specs.Checked.{checkedPlaces}
 use Rattle.checking.specs.CheckedLaws.{place-is}
-use Rattle.fused.specs.SizeEmit.{costly-two}
 use Rattle.fused.specs.PlannedLaws.{planned-read}
 use Rattle.filing.specs.Staged.{membersOf}
 use Rattle.filing.specs.TurnLaws.{members-alone, members-joined}
@@ -57,12 +55,3 @@ module _ (s p : List ℕ) (h : planAnswer s p .number ≡ 0) where
       go : (placeOf p q ≡ 0) ⊎ (placeOf p q ≡ 0 → ⊥) → membersOf p (getD (checkedPlaces s p) q 0) q ≡ members (gateCount s) (groupOf (groupsIn p)) q
       go (inl z) = rw (place-is s p h q l, members-alone p (placeOf p q) q z) (sym (group-alone s p plan-taken q l z))
       go (inr z) = rw (place-is s p h q l, members-joined p (placeOf p q) q z) (sym (group-listed s p plan-taken q e z .listed))
-
-  -- the gates of a group of two or more have two arguments each
-  pub members-two : (q : ℕ) → 2 ≤ length (members (gateCount s) (groupOf (groupsIn p)) q) → (m : ℕ) → m ∈ members (gateCount s) (groupOf (groupsIn p)) q
-      → length (arguments (gateAt (gatesOf s) m)) ≡ 2
-  members-two q many m i =
-      let (op, c, f) = members-costly s p plan-taken q many in
-      let (l, e) = f m i in
-      let t : length l ≡ 2 = rw e at (gates-shaped m) ∙ costly-two op c in
-      ap (λ (k : Gate). length (arguments k)) e ∙ t

@@ -1,12 +1,12 @@
 -- What the arrays hold after i turns is what is written of the fused circuit after i groups. Assumes nothing.
 use Prim.Native.Nat.{ℕ, zero, suc, _+_, _-_, _≤_, _<_}
 use native.Mathlib.Omega.{arith}
-use mathlib.Core.Path.{_≡_, refl, sym, ap, ap₂, subst, _∙_}
-use mathlib.Core.List.{List, [], _∷_, _++_, map}
+use mathlib.Core.Path.{_≡_, sym, ap, ap₂, subst, _∙_}
+use mathlib.Core.List.{List, [], _∷_, _++_}
 use mathlib.Core.Logic.{inl, inr}
 use lib.ListN.{length, getD, set, length-append, length-set, length-replicate}
 use lib.Seq.{getD-set-same, getD-set-other}
-use Rattle.words.specs.Lists.{_∈_, upto, Inside}
+use Rattle.words.specs.Lists.{_∈_, Inside}
 use Rattle.gates.specs.Gates.{Gates, gateAt, arguments}
 use Rattle.gates.specs.Limits.{mostGates}
 use Rattle.gates.specs.PlainCircuit.{gatesOf, gateCount}
@@ -19,33 +19,21 @@ use Rattle.plan.specs.GroupLaws.{of-member}
 use Rattle.plan.specs.Rows.{planAnswer}
 use Rattle.plan.specs.RestLaws.{rests-inside}
 use Rattle.plan.specs.ReadsLaws.{waits-argument, waits-rests}
-use Rattle.plan.specs.SameLaws.{rests-same}
 use Rattle.checking.specs.Checked.{writingOrder, checkedGroups, checkedPlaces, checkedOrder}
 use Rattle.checking.specs.CheckedLaws.{group-is, turn-is}
 use Rattle.records.specs.Records.{Record}
-use Rattle.fused.specs.Emission.{gateOperation, joined, guardOf, valuesAt, emit}
+use Rattle.fused.specs.Emission.{emit}
 use Rattle.fused.specs.FusedCircuit.{Written, groupRecords, written}
+use Rattle.fused.specs.EmitSame.{emit-same, emit-alike}
+use Rattle.fused.specs.PlannedLaws.{planned-level}
 use Rattle.fused.specs.WrittenLaws.{written-none, written-more, wire-last, wire-old}
 use Rattle.emitting.specs.Emitted.{wireIn}
 use Rattle.joining.specs.Joined.{emitIn}
-use Rattle.joining.specs.EmitLaws.{emit-in, emit-same}
+use Rattle.joining.specs.EmitLaws.{emit-in}
 use Rattle.filing.specs.Staged.{Stage, turnRecords, turn, stage}
 use Rattle.filing.specs.TurnLaws.{stage-none, stage-next}
-use Rattle.writing.specs.ArrayLaws.{rule-taken, gates-shaped, quads-held, members-are, members-two}
+use Rattle.writing.specs.ArrayLaws.{rule-taken, gates-shaped, quads-held, members-are}
 use Rattle.writing.specs.DoneLaws.{doneAt, done-next, next-group, next-waits, next-once}
-
--- preconditions that two lists give alike emit the same records
-module _ (s : List ℕ) (C : Gates) (sets tabs : List ℕ) (e : (g : ℕ) → getD sets g 0 ≡ getD tabs g 0) (wire : ℕ → ℕ) where
-  guards-alike : (ms : List ℕ) → map (guardOf s C sets wire) ms ≡ map (guardOf s C tabs wire) ms
-  guards-alike [] = refl
-  guards-alike (m ∷ ms) = rw (rests-same C sets tabs e m, e m, guards-alike ms)
-
-  emit-alike : (n : ℕ) (ms : List ℕ) → emit s C sets wire n ms ≡ emit s C tabs wire n ms
-  emit-alike n [] = refl
-  emit-alike n (m ∷ []) = refl
-  emit-alike n (m ∷ k ∷ l) =
-      ap (λ (g : List Record). joined n (gateOperation (gateAt C m)) g (map (valuesAt s C sets wire (m ∷ k ∷ l)) (upto (length (arguments (gateAt C m))))))
-      (guards-alike (m ∷ k ∷ l))
 
 -- what stands in the arrays of a checked plan after i turns
 abbrev pub checkedStage : List ℕ → List ℕ → ℕ → Stage
@@ -94,7 +82,7 @@ module _ (s p : List ℕ) (h : planAnswer s p .number ≡ 0) where
       ∙ emit-in s (builtQuads s) C (gates-shaped s p h) (quads-held s p h) (builtNeeds s) (wireIn table (turned i .wires)) (length (after i .records)) ms
       (members-below q)
       ∙ emit-alike s C (builtNeeds s) sets (built-need s (rule-taken s p h)) (wireIn table (turned i .wires)) (length (after i .records)) ms
-      ∙ emit-same s C sets (wireIn table (turned i .wires)) (λ a. after i .wire (group a)) (length (after i .records)) ms arguing resting (members-two s p h q)
+      ∙ emit-same s C sets (wireIn table (turned i .wires)) (λ a. after i .wire (group a)) (length (after i .records)) ms arguing resting (planned-level s p h q)
     where
       q : ℕ
       q = getD (writingOrder s p) i 0

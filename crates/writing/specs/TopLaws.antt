@@ -32,7 +32,7 @@ use Rattle.checking.specs.Checked.{writingOrder, checkedGroups, checkedPlaces, 
 use Rattle.checking.specs.CheckedLaws.{group-is, place-is, turn-is}
 use Rattle.records.specs.CircuitFile.{noWire}
 use Rattle.fused.specs.FusedCircuit.{written, fused, recordsOf, wireOf, outputWire, outputWires}
-use Rattle.fused.specs.PlannedLaws.{planned-read, planned-named, planned-group}
+use Rattle.fused.specs.PlannedLaws.{planned-read, planned-named, planned-group, planned-two}
 use Rattle.fused.specs.SizeBounds.{plan-written}
 use Rattle.emitting.specs.Emitted.{wireIn, Writable}
 use Rattle.joining.specs.Joined.{JoinWritable}
@@ -41,7 +41,7 @@ use Rattle.joining.specs.HeldLaws.{joining-held}
 use Rattle.plan.specs.NumberLaws.{length-group}
 use Rattle.filing.specs.Staged.{Turnable}
 use Rattle.filing.specs.Turns.{outputIn}
-use Rattle.writing.specs.ArrayLaws.{rule-taken, plan-taken, gates-shaped, quads-held, members-two}
+use Rattle.writing.specs.ArrayLaws.{rule-taken, plan-taken, gates-shaped, quads-held}
 use Rattle.writing.specs.DoneLaws.{doneAt, done-once, done-all, next-group}
 use Rattle.writing.specs.StageLaws.{checkedStage, stage-same}
 
@@ -83,7 +83,7 @@ module _ (s p : List ℕ) (h : planAnswer s p .number ≡ 0) where
         let taken = rule-taken s p h in
         joining-held s (builtQuads s) (gatesOf s) (gates-shaped s p h) (quads-held s p h) (built-room s taken) (built-earlier s taken) (checkedGroups s p) table-named
         p (placeOf p q) (builtConditions s) (r .lies) (rw (sym (length-group p (placeOf p q))) (r .two)) (r .exist)
-        (λ m i. members-two s p h q (rw (r .listed) (r .two)) m (rw (r .listed) i)) (λ t _. built-condition s taken t)
+        (λ m i. planned-two s p h q (rw (r .listed) (r .two)) m (rw (r .listed) i)) (λ t _. built-condition s taken t)
 
 module _ (s p : List ℕ) (h : planAnswer s p .number ≡ 0) where
   abbrev last : ℕ
