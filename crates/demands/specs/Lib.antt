@@ -15,3 +15,4 @@ pub mod C14
 pub mod C15
 pub mod C16
 pub mod C17
+pub mod C18

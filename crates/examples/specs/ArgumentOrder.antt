@@ -31,6 +31,7 @@ use Rattle.plan.specs.Rows.{planRow, planAnswer}
 use Rattle.plan.specs.Examples.{p1}
 use Rattle.records.specs.Records.{recordsCost}
 use Rattle.records.specs.Records as records
+use Rattle.fused.specs.Emission.{oneWire}
 use Rattle.fused.specs.FusedCircuit.{written, fused, recordsOf, fusedFile}
 use Rattle.fused.specs.Answers.{fusedCounts, writeAnswer}
 use Rattle.records.specs.Examples.{file3}
@@ -71,19 +72,19 @@ pub ordered-accepted : map (λ s. writeAnswer s no-groups 25) (from-two 0x21 0x0
 unfolding number kindOf workingOf operationOf codeOf readMark readCount readKinds readHeader readVariable readWord readBit operationWith exprWith readExpr readAssign branchWith
     statementWith blockWith blockFuel readBlock readRule applyGate makeExpr assignsIn assigns choices makeStatement makeBlock plainCircuit conditions collect numbers
     preconditions preconditionSets costs wholeWithin ruleAnswer restsOn rests groupsIn groups restsOf waitsFor order planRow planAnswer bytesOf spread tableOver table
-    written fused fusedFile recordsCost fusedCounts writeAnswer
+    oneWire written fused fusedFile recordsCost fusedCounts writeAnswer
 ordered-accepted = refl
 
 pub difference-ordered : fusedFile (from-two 0x21 0x00 0 1) no-groups ≡ fusedFile (from-two 0x21 0x00 1 0) no-groups → ⊥
 unfolding number kindOf workingOf operationOf codeOf readMark readCount readKinds readHeader readVariable readWord readBit operationWith exprWith readExpr readAssign branchWith
     statementWith blockWith blockFuel readBlock readRule applyGate makeExpr assignsIn assigns choices makeStatement makeBlock plainCircuit conditions collect numbers
-    preconditions preconditionSets restsOn rests groupsIn groups restsOf waitsFor order bytesOf spread tableOver table written fused fusedFile
+    preconditions preconditionSets restsOn rests groupsIn groups restsOf waitsFor order bytesOf spread tableOver table oneWire written fused fusedFile
 difference-ordered e = omega (arith, ap (λ (f : List ℕ). getD f 16 0) e)
 
 pub less-than-ordered : fusedFile (from-two 0x23 0x01 0 1) no-groups ≡ fusedFile (from-two 0x23 0x01 1 0) no-groups → ⊥
 unfolding number kindOf workingOf operationOf codeOf readMark readCount readKinds readHeader readVariable readWord readBit operationWith exprWith readExpr readAssign branchWith
     statementWith blockWith blockFuel readBlock readRule applyGate makeExpr assignsIn assigns choices makeStatement makeBlock plainCircuit conditions collect numbers
-    preconditions preconditionSets restsOn rests groupsIn groups restsOf waitsFor order bytesOf spread tableOver table written fused fusedFile
+    preconditions preconditionSets restsOn rests groupsIn groups restsOf waitsFor order bytesOf spread tableOver table oneWire written fused fusedFile
 less-than-ordered e = omega (arith, ap (λ (f : List ℕ). getD f 16 0) e)
 
 -- By gate, not by wire. A bit and two words: if v0 then (v1 := v1 × v2; v2 := v2 + v2; v1 := v2 + v1) else (if v1 < v2 then v1 := v2 × v2).
@@ -103,22 +104,22 @@ late =
 abbrev pub late-plan : List ℕ
 late-plan = 0x50 ∷ 0x4C ∷ 0x4E ∷ 0x00 ∷ 0x01 ∷ 0x00 ∷ 0x0B ∷ 0x00 ∷ 0x01 ∷ 0x02 ∷ 0x00 ∷ 0x03 ∷ 0x00 ∷ 0x07 ∷ []
 
-pub late-accepted : writeAnswer late late-plan 155 ≡ success 11 14 155 79 74
+pub late-accepted : writeAnswer late late-plan 145 ≡ success 11 13 145 79 70
 unfolding number kindOf workingOf operationOf codeOf readMark readCount readKinds readHeader readVariable readWord readBit operationWith exprWith readExpr readAssign branchWith
     statementWith blockWith blockFuel readBlock readRule applyGate makeExpr assignsIn assigns choices makeStatement makeBlock plainCircuit conditions collect numbers
     preconditions preconditionSets costs wholeWithin ruleAnswer restsOn rests groupsIn groups restsOf waitsFor order planRow planAnswer bytesOf spread tableOver table
-    written fused fusedFile recordsCost fusedCounts writeAnswer
+    oneWire written fused fusedFile recordsCost fusedCounts writeAnswer
 late-accepted = refl
 
--- gate 5 takes gate 3 first, and its record gate 3's wire, which is 9, before gate 4's, which is 3
+-- gate 5 takes gate 3 first, and its record gate 3's wire, which is 8, before gate 4's, which is 3
 pub late-gate : gateAt (gatesOf late) 5 ≡ gate.operation Sum (3 ∷ 4 ∷ [])
 unfolding number kindOf operationOf codeOf readMark readCount readKinds readHeader readVariable readWord readBit operationWith exprWith readExpr readAssign branchWith
     statementWith blockWith blockFuel readBlock readRule applyGate makeExpr assignsIn assigns choices makeStatement makeBlock plainCircuit costs conditions wholeWithin
     ruleAnswer
 late-gate = refl
 
-pub late-record : getD (recordsOf late late-plan) 10 (records.word 0) ≡ records.operation Sum (9 ∷ 3 ∷ [])
+pub late-record : getD (recordsOf late late-plan) 9 (records.word 0) ≡ records.operation Sum (8 ∷ 3 ∷ [])
 unfolding number kindOf workingOf operationOf codeOf readMark readCount readKinds readHeader readVariable readWord readBit operationWith exprWith readExpr readAssign branchWith
     statementWith blockWith blockFuel readBlock readRule applyGate makeExpr assignsIn assigns choices makeStatement makeBlock plainCircuit conditions collect numbers
-    preconditions preconditionSets restsOn rests groupsIn groups restsOf waitsFor order bytesOf spread tableOver table written fused fusedFile
+    preconditions preconditionSets restsOn rests groupsIn groups restsOf waitsFor order bytesOf spread tableOver table oneWire written fused fusedFile
 late-record = refl

@@ -25,6 +25,7 @@ use Rattle.plan.specs.Order.{order}
 use Rattle.plan.specs.Rows.{planRow, planAnswer}
 use Rattle.plan.specs.Examples.{p1}
 use Rattle.records.specs.Records.{recordsCost}
+use Rattle.fused.specs.Emission.{oneWire}
 use Rattle.fused.specs.FusedCircuit.{written, fused, fusedFile}
 use Rattle.fused.specs.Answers.{fusedCounts, fusedAnswer}
 use Rattle.lines.specs.Line.{digits, decimal, spaced, line, accepted, refused, placed, lineOf}
@@ -40,9 +41,9 @@ no-groups = 0x50 ∷ 0x4C ∷ 0x4E ∷ 0x00 ∷ 0x01 ∷ 0x00 ∷ 0x06 ∷ 0x00 
 abbrev pub two-of-r1 : List ℕ
 two-of-r1 = batchOf (record { rule = r1; plan = p1 } ∷ record { rule = r1; plan = no-groups } ∷ [])
 
--- the lines `accepted 6 9 33 28` and `accepted 6 6 33 33`
+-- the lines `accepted 6 8 33 24` and `accepted 6 6 33 33`
 abbrev pub first-line : List ℕ
-first-line = accepted ++ (32 ∷ 54 ∷ 32 ∷ 57 ∷ 32 ∷ 51 ∷ 51 ∷ 32 ∷ 50 ∷ 56 ∷ 10 ∷ [])
+first-line = accepted ++ (32 ∷ 54 ∷ 32 ∷ 56 ∷ 32 ∷ 51 ∷ 51 ∷ 32 ∷ 50 ∷ 52 ∷ 10 ∷ [])
 
 abbrev pub second-line : List ℕ
 second-line = accepted ++ (32 ∷ 54 ∷ 32 ∷ 54 ∷ 32 ∷ 51 ∷ 51 ∷ 32 ∷ 51 ∷ 51 ∷ 10 ∷ [])
@@ -51,14 +52,14 @@ second-line = accepted ++ (32 ∷ 54 ∷ 32 ∷ 54 ∷ 32 ∷ 51 ∷ 51 ∷ 32 �
 abbrev pub refused-75 : List ℕ
 refused-75 = refused ++ (32 ∷ 55 ∷ 53 ∷ 10 ∷ [])
 
--- it "ends `total 2 0 66 61 5`"
-pub saved-five : reportOf two-of-r1 ≡ first-line ++ (second-line ++ (total ++ (32 ∷ 50 ∷ 32 ∷ 48 ∷ 32 ∷ 54 ∷ 54 ∷ 32 ∷ 54 ∷ 49 ∷ 32 ∷ 53 ∷ 10 ∷ [])))
+-- C-18: "the batch above ends `total 2 0 66 57 9`"
+pub saved-nine : reportOf two-of-r1 ≡ first-line ++ (second-line ++ (total ++ (32 ∷ 50 ∷ 32 ∷ 48 ∷ 32 ∷ 54 ∷ 54 ∷ 32 ∷ 53 ∷ 55 ∷ 32 ∷ 57 ∷ 10 ∷ [])))
 unfolding number kindOf workingOf operationOf codeOf readMark readCount readKinds readHeader readVariable readWord readBit operationWith exprWith readExpr readAssign branchWith
     statementWith blockWith blockFuel readBlock readRule applyGate makeExpr assignsIn assigns choices makeStatement makeBlock plainCircuit conditions collect numbers
     preconditions preconditionSets costs wholeWithin ruleAnswer restsOn rests groupsIn groups restsOf waitsFor order planRow planAnswer bytesOf spread tableOver table
-    written fused fusedFile recordsCost fusedCounts fusedAnswer digits decimal spaced line placed lineOf spacedLess totalLine flatMap headed hasPart hasEntry entryAnswer plus
+    oneWire written fused fusedFile recordsCost fusedCounts fusedAnswer digits decimal spaced line placed lineOf spacedLess totalLine flatMap headed hasPart hasEntry entryAnswer plus
     reportFrom reportOf
-saved-five = refl
+saved-nine = refl
 
 -- the folder examples/dearer-plan: two ands, which the plan joins; the picks for them cost more than an and
 abbrev pub dearer : Entry
@@ -72,7 +73,7 @@ pub lost-nine : reportOf (batchOf (dearer ∷ [])) ≡ accepted ++ (32 ∷ 56 �
 unfolding number kindOf workingOf operationOf codeOf readMark readCount readKinds readHeader readVariable readWord readBit operationWith exprWith readExpr readAssign branchWith
     statementWith blockWith blockFuel readBlock readRule applyGate makeExpr assignsIn assigns choices makeStatement makeBlock plainCircuit conditions collect numbers
     preconditions preconditionSets costs wholeWithin ruleAnswer restsOn rests groupsIn groups restsOf waitsFor order planRow planAnswer bytesOf spread tableOver table
-    written fused fusedFile recordsCost fusedCounts fusedAnswer digits decimal spaced line placed lineOf spacedLess totalLine flatMap headed hasPart hasEntry entryAnswer plus
+    oneWire written fused fusedFile recordsCost fusedCounts fusedAnswer digits decimal spaced line placed lineOf spacedLess totalLine flatMap headed hasPart hasEntry entryAnswer plus
     reportFrom reportOf
 lost-nine = refl
 
@@ -82,7 +83,7 @@ pub not-whole : map reportOf ((two-of-r1 ++ (0x00 ∷ [])) ∷ take 95 two-of-r1
 unfolding number kindOf workingOf operationOf codeOf readMark readCount readKinds readHeader readVariable readWord readBit operationWith exprWith readExpr readAssign branchWith
     statementWith blockWith blockFuel readBlock readRule applyGate makeExpr assignsIn assigns choices makeStatement makeBlock plainCircuit conditions collect numbers
     preconditions preconditionSets costs wholeWithin ruleAnswer restsOn rests groupsIn groups restsOf waitsFor order planRow planAnswer bytesOf spread tableOver table
-    written fused fusedFile recordsCost fusedCounts fusedAnswer digits decimal spaced line placed lineOf spacedLess totalLine flatMap headed hasPart hasEntry entryAnswer plus
+    oneWire written fused fusedFile recordsCost fusedCounts fusedAnswer digits decimal spaced line placed lineOf spacedLess totalLine flatMap headed hasPart hasEntry entryAnswer plus
     reportFrom reportOf
 not-whole = refl
 

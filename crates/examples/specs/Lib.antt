@@ -5,3 +5,4 @@ pub mod ArgumentOrder
 pub mod Working
 pub mod GroupOrder
 pub mod Batches
+pub mod EqualWires

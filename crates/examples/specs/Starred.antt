@@ -67,15 +67,15 @@ pub record Starred : Type 0 where
       × (map (λ x. runAnswer (ruleAnswer r1) r1 (x ∷ 6 ∷ 7 ∷ []) 3) (1 ∷ 0 ∷ 2 ∷ []) ≡ success 6 0 0 33 0 ∷ success 6 0 0 33 0 ∷ refusal 41 0 ∷ [])
       × ((a b c : ℕ) → map (λ x. runResults (ruleAnswer r1) r1 (x ∷ 6 ∷ 7 ∷ []) (a ∷ b ∷ c ∷ [])) (1 ∷ 0 ∷ 2 ∷ [])
       ≡ (1 ∷ 42 ∷ 7 ∷ []) ∷ (0 ∷ 49 ∷ 7 ∷ []) ∷ (a ∷ b ∷ c ∷ []) ∷ [])
-  -- 3. R1 with P1, whole, with document 02's C-17: 43 49 52 00 02 03 00 09; 01 00; 00 01; 00 02; 32 01 00 00 and a table of 32 bytes that ends 02; the same ending 01; 31 02 00 03 00 01 00 04 00 02;
-  -- 31 02 00 03 00 02 00 04 00 02; 22 00 05 00 06; 30 00 00 00 07 00 07; 00 00 00 08 00 02 (file3). 124 bytes; a buffer of 123: 50.
+  -- 3. R1 with P1, whole, with document 02's C-17 and C-18: 43 49 52 00 02 03 00 08; 01 00; 00 01; 00 02; 32 01 00 00 and a table of 32 bytes that ends 02; the same ending 01; 31 02 00 03 00 01 00 04 00 02;
+  -- 22 00 05 00 02; 30 00 00 00 06 00 06; 00 00 00 07 00 02 (file3). 114 bytes; a buffer of 113: 50.
   pub example-3 :
       (fusedFile r1 p1 ≡ file3)
-      × (length file3 ≡ 124)
-      × (writeAnswer r1 p1 124 ≡ success 6 9 124 33 28)
-      × (writeAnswer r1 p1 123 ≡ refusal 50 0)
-      × ((d : List ℕ) → length d ≡ 124 → writtenOver r1 p1 d ≡ file3)
-      × ((d : List ℕ) → length d ≡ 123 → writtenOver r1 p1 d ≡ d)
+      × (length file3 ≡ 114)
+      × (writeAnswer r1 p1 114 ≡ success 6 8 114 33 24)
+      × (writeAnswer r1 p1 113 ≡ refusal 50 0)
+      × ((d : List ℕ) → length d ≡ 114 → writtenOver r1 p1 d ≡ file3)
+      × ((d : List ℕ) → length d ≡ 113 → writtenOver r1 p1 d ≡ d)
   -- 4. R1 cut by one byte: 4 at 28; one 00 more: 9 at 29. Byte 11 made 03: 6 at 11; made 01: 7 at 11. Byte 14 made 28: 5 at 14; made 23: 7 at 14.
   pub example-4 :
       (ruleAnswer (take 28 r1) ≡ refusal 4 28)

@@ -48,7 +48,7 @@ starred =
         example-3-answer,
         example-3-short,
         λ d l. written-whole r1 p1 file3 d example-3 (ap (λ (a : Answer). a .number) example-3-answer) l,
-        λ d l. written-short r1 p1 d 123 example-3-short l,
+        λ d l. written-short r1 p1 d 113 example-3-short l,
       );
       example-4 = (refl, refl, refl, refl, refl, refl);
       example-5 = example-5;

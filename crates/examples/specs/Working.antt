@@ -30,6 +30,7 @@ use Rattle.plan.specs.Groups.{groups, restsOf, waitsFor}
 use Rattle.plan.specs.Order.{order}
 use Rattle.plan.specs.Rows.{planRow, planAnswer}
 use Rattle.records.specs.Records.{recordsCost}
+use Rattle.fused.specs.Emission.{oneWire}
 use Rattle.fused.specs.FusedCircuit.{written, fused, fusedFile}
 use Rattle.fused.specs.Answers.{fusedCounts, writeAnswer}
 use Rattle.direct.specs.Inputs.{inputRow}
@@ -63,12 +64,12 @@ unfolding number kindOf workingOf operationOf codeOf readMark readCount readKind
     preconditions preconditionSets
 needed-then = refl
 
--- so the plan is refused 29, and accepted: it saves 5 of 33
-pub plan-then : map (λ k. writeAnswer (scraps k) products 152) (0x00 ∷ 0x02 ∷ []) ≡ refusal 29 0 ∷ success 10 13 140 33 28 ∷ []
+-- so the plan is refused 29, and accepted: it saves 9 of 33
+pub plan-then : map (λ k. writeAnswer (scraps k) products 152) (0x00 ∷ 0x02 ∷ []) ≡ refusal 29 0 ∷ success 10 12 130 33 24 ∷ []
 unfolding number kindOf workingOf operationOf codeOf readMark readCount readKinds readHeader readVariable readWord readBit operationWith exprWith readExpr readAssign branchWith
     statementWith blockWith blockFuel readBlock readRule applyGate makeExpr assignsIn assigns choices makeStatement makeBlock plainCircuit conditions collect numbers
     preconditions preconditionSets costs wholeWithin ruleAnswer restsOn rests groupsIn groups restsOf waitsFor order planRow planAnswer bytesOf spread tableOver table
-    written fused fusedFile recordsCost fusedCounts writeAnswer
+    oneWire written fused fusedFile recordsCost fusedCounts writeAnswer
 plan-then = refl
 
 -- a direct run writes 0 for them

@@ -30,7 +30,7 @@ use Rattle.records.specs.LaidOut.{Bounded}
 use Rattle.fused.specs.Emission.{alone, gateOperation, guardOf, valuesAt, emit}
 use Rattle.fused.specs.FusedCircuit.{groupRecords, written, fused, recordsOf}
 use Rattle.records.specs.RecordLaws.{Along, along-append, along-at, along-map}
-use Rattle.fused.specs.EmitLaws.{joined-along}
+use Rattle.fused.specs.JoinedParts.{joined-along}
 use Rattle.fused.specs.WrittenLaws.{written-none, written-more}
 use Rattle.plan.specs.RestLaws.{rests-few}
 
@@ -71,7 +71,7 @@ emit-bounded kinds s C sets fits wire n (m ∷ k ∷ l) =
     (upto (length (arguments (gateAt C m))))
     (along-map (λ i. Bounded writtenVersion) (guardOf s C sets wire) (m ∷ k ∷ l) n n (omega arith)
     (λ i _ _ _. let few : length (map wire (restsOf C sets i)) ≤ mostGuardWires writtenVersion = omega (arith, length-map (restsOf C sets i) wire, rests-few C sets i) in few))
-    (λ _ _ _ _. omega arith) tt
+    (λ _ _ _ _ _. omega arith) tt
 
 -- every record of the fused circuit of an accepted plan
 pub fused-bounded : (s p : List ℕ) → Bytes s → planAnswer s p .number ≡ 0 → (i : ℕ) → i < length (recordsOf s p) → Bounded writtenVersion (recordIn (recordsOf s p) i)

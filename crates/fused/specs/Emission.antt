@@ -1,9 +1,13 @@
 -- Document 01, "The fused circuit file": the records of a group. "A group alone is one record. A larger one is: for each member, rising, a guard
--- over the conditions it rests on; a pick for each argument place, members rising; the operation, whose wire stands for every member."
+-- over the conditions it rests on; a pick for each argument place, members rising; the operation, whose wire stands for every member." Document 02, C-18, "No pick
+-- between equal wires": "When all members of a group have the same wire of the fused circuit at an argument place, write no pick there and use the wire. If no
+-- pick remains, write no guards for the group."
 use Prim.Native.Nat.{ℕ, suc, _+_}
 use mathlib.Core.List.{List, [], _∷_, _++_, map}
+use mathlib.Core.Bool.{Bool, false, cond}
+use lib.Dec.{eqb}
 use lib.ListN.{length, getD}
-use Rattle.words.specs.Lists.{from, upto}
+use Rattle.words.specs.Lists.{upto, every}
 use Rattle.settings.specs.Guards.{table}
 use Rattle.codes.specs.declared.Operation.{Operation}
 use Rattle.codes.specs.declared.Operation.the-variants as operations
@@ -35,10 +39,32 @@ abbrev pub pairs : ℕ → List ℕ → List Pair
 pairs n [] = []
 pairs n (w ∷ values) = record { guarding = n; value = w } ∷ pairs (suc n) values
 
+-- all members have the same wire at an argument place, these being their wires at it
+unfoldable pub oneWire : List ℕ → Bool
+oneWire [] = false
+oneWire (w ∷ values) = every (λ v. eqb v w) values
+
+-- the places that have a pick: those at which the members' wires differ
+abbrev pub picked : List (List ℕ) → List (List ℕ)
+picked [] = []
+picked (values ∷ places) = cond (oneWire values) (picked places) (values ∷ picked places)
+
+-- the guards that are written: all, or none where no place has a pick
+abbrev pub guarded : List (List ℕ) → List Record → List Record
+guarded [] guards = []
+guarded (values ∷ picks) guards = guards
+
+-- what the operation reads at each place, n being the first pick's wire: the next pick, or the wire that all members have
+abbrev pub argumentWires : ℕ → List (List ℕ) → List ℕ
+argumentWires n [] = []
+argumentWires n (values ∷ places) = cond (oneWire values) (getD values 0 0 ∷ argumentWires n places) (n ∷ argumentWires (suc n) places)
+
 -- a joined group, from its members' guards and, for each argument place, its members' wires at that place: n is the first guard's wire.
--- The one place that says which picks there are and what the operation reads.
+-- The one place that says which guards and picks there are and what the operation reads.
 abbrev pub joined : ℕ → Operation → List Record → List (List ℕ) → List Record
-joined n op guards places = guards ++ (map (λ values. pick (pairs n values)) places ++ (operation op (from (n + length guards) (length places)) ∷ []))
+joined n op guards places =
+    let kept = guarded (picked places) guards in
+    kept ++ (map (λ values. pick (pairs n values)) (picked places) ++ (operation op (argumentWires (n + length kept) places) ∷ []))
 
 -- over the gates C of the rule s with their preconditions; wire: the wire that stands for a gate
 module _ (s : List ℕ) (C : Gates) (sets : List ℕ) (wire : ℕ → ℕ) where

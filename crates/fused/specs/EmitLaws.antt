@@ -1,19 +1,20 @@
 -- Laws of a group's records: there is one at least, and they read only earlier wires when what the group reads is earlier. Assumes nothing.
 use Prim.Native.Nat.{ℕ, suc, _+_, _≤_, _<_}
 use mathlib.Core.Path.{_≡_, refl, sym, _∙_}
-use mathlib.Core.List.{List, [], _∷_, map, map-map}
+use mathlib.Core.List.{List, [], _∷_, map}
 use mathlib.Core.Logic.{inl, inr}
 use native.Mathlib.Omega.{arith}
 use lib.ListN.{length, getD, length-map}
-use Rattle.words.specs.Lists.{_∈_, from, upto}
+use Rattle.words.specs.Lists.{_∈_, upto}
 use Rattle.words.specs.MemberLaws.{from-below, map-in, getD-in}
 use Rattle.codes.specs.declared.Operation.{Operation}
-use Rattle.records.specs.Records.{Record, operation, pick, pairWires, reads}
-use Rattle.records.specs.RecordLaws.{Along, ReadsBefore, Below, along-append, along-map}
+use Rattle.records.specs.Records.{Record, pairWires, reads}
+use Rattle.records.specs.RecordLaws.{ReadsBefore, Below, along-map}
 use Rattle.gates.specs.Gates.{Gate, Gates, gateAt, arguments}
 use Rattle.gates.specs.Gates as gate
 use Rattle.plan.specs.Groups.{restsOf}
-use Rattle.fused.specs.Emission.{alone, gateOperation, pairs, joined, guardOf, valuesAt, emit}
+use Rattle.fused.specs.Emission.{alone, gateOperation, pairs, picked, joined, guardOf, valuesAt, emit}
+use Rattle.fused.specs.JoinedParts.{Argument, arguments-from, behindGuards, operationWire, joined-count, joined-along}
 
 -- a gate alone reads the wires of its arguments
 pub alone-reads : (s : List ℕ) (wire : ℕ → ℕ) (k : Gate) → reads (alone s wire k) ≡ map wire (arguments k)
@@ -33,32 +34,25 @@ pairs-below N (v ∷ values) n h b a (inl e) = omega arith
 pairs-below N (v ∷ values) n h b a (inr (inl e)) = rw e (b v (inl refl))
 pairs-below N (v ∷ values) n h b a (inr (inr m)) = pairs-below N values (suc n) (omega arith) (λ w q. b w (inr q)) a m
 
--- what holds of a joined group's guards, of its picks and of its operation holds along the group; F i: the values at place i
-pub joined-along : (P : ℕ → Record → Type 0) (n : ℕ) (op : Operation) (guards : List Record) (F : ℕ → List ℕ) (ks : List ℕ) → Along P n guards
-    → ((i : ℕ) → i ∈ ks → (j : ℕ) → n + length guards ≤ j → P j (pick (pairs n (F i))))
-    → P (n + length guards + length ks) (operation op (from (n + length guards) (length ks)))
-    → Along P n (joined n op guards (map F ks))
-joined-along P n op guards F ks g h o =
-    along-append P guards _ n g
-    (along-append P (map (λ values. pick (pairs n values)) (map F ks)) _ (n + length guards)
-    (rw (map-map (λ values. pick (pairs n values)) F ks) (along-map P (λ i. pick (pairs n (F i))) ks (n + length guards) (n + length guards) (omega arith) h))
-    (rw (length-map (map F ks) (λ values. pick (pairs n values)), length-map ks F) (o, tt)))
-
 -- a joined group whose guards and values are earlier
 joined-below : (n : ℕ) (op : Operation) (guards : List Record) (F : ℕ → List ℕ) (ks : List ℕ) → Below n guards
     → ((i : ℕ) → i ∈ ks → (length (F i) ≡ length guards) × ((w : ℕ) → w ∈ F i → w < n))
     → Below n (joined n op guards (map F ks))
 joined-below n op guards F ks g h =
     joined-along ReadsBefore n op guards F ks g
-    (λ i m j b a k. omega (arith, pairs-below (n + length guards) (F i) n (omega (arith, h i m .0)) (λ w q. omega (arith, h i m .1 w q)) a k))
-    (λ a m. from-below (n + length guards) (length ks) a m .1)
+    (λ i m f j b a k. omega (arith, pairs-below (n + length guards) (F i) n (omega (arith, h i m .0)) (λ w q. omega (arith, h i m .1 w q)) a k))
+    (λ a m. reads a (arguments-from F ks (behindGuards n guards (map F ks)) a m))
+  where
+    reads : (a : ℕ) → Argument F ks (behindGuards n guards (map F ks)) (length (picked (map F ks))) a → a < operationWire n guards (map F ks)
+    reads a (inl (_, b)) = b
+    reads a (inr (i, m, q)) = omega (arith, h i m .1 a q)
 
 module _ (s : List ℕ) (C : Gates) (sets : List ℕ) (wire : ℕ → ℕ) where
   -- a group with members has a record
   pub emit-some : (n : ℕ) (ms : List ℕ) → 0 < length ms → 0 < length (emit s C sets wire n ms)
   emit-some n [] h = h
   emit-some n (m ∷ []) h = omega arith
-  emit-some n (m ∷ k ∷ l) h = omega arith
+  emit-some n (m ∷ k ∷ l) h = rw joined-count (omega arith)
 
   -- its records read only earlier wires
   pub emit-below : (n : ℕ) (ms : List ℕ)

@@ -31,7 +31,7 @@ use Rattle.plan.specs.RestLaws.{rests-few}
 use Rattle.plan.specs.Accepted.{OneCostly}
 use Rattle.fused.specs.Emission.{alone, joined, guardOf, valuesAt, emit}
 use Rattle.fused.specs.SizeJoined.{length-pairs}
-use Rattle.fused.specs.EmitLaws.{joined-along}
+use Rattle.fused.specs.JoinedParts.{arguments-count, joined-along}
 
 -- a table has no bit past the settings of the conditions that it is over
 pub table-below : (n s : ℕ) → table n s < 2 ^ 2 ^ length (rests n s)
@@ -67,8 +67,9 @@ module _ (s : List ℕ) (C : Gates) (sets : List ℕ) (wire : ℕ → ℕ) where
       joined-along (λ i. FieldsFit writtenVersion) n op (map (guardOf s C sets wire) ms) (valuesAt s C sets wire ms) (upto (entryOf op .arity))
       (along-map (λ i. FieldsFit writtenVersion) (guardOf s C sets wire) ms n n (omega arith)
       (λ m _ _ _. (omega (arith, length-map (restsOf C sets m) wire, rests-few C sets m), table-small (getD sets m 0))))
-      (λ k _ _ _. omega (arith, length-pairs n (valuesAt s C sets wire ms k), length-map ms (λ m. wire (getD (arguments (gateAt C m)) k 0))))
-      (length-from _ _ ∙ length-from 0 (entryOf op .arity))
+      (λ k _ _ _ _. omega (arith, length-pairs n (valuesAt s C sets wire ms k), length-map ms (λ m. wire (getD (arguments (gateAt C m)) k 0))))
+      (arguments-count (map (valuesAt s C sets wire ms) (upto (entryOf op .arity))) _
+      ∙ length-map (upto (entryOf op .arity)) (valuesAt s C sets wire ms) ∙ length-from 0 (entryOf op .arity))
 
   -- any group whose gates fit
   pub emit-sized : (kinds : ℕ → Kind) (v : ℕ) → v ≤ 32 → ((i : ℕ) → GateFits kinds (gateAt C i)) → ((i : ℕ) → StartGate v (gateAt C i))

@@ -32,7 +32,7 @@ use Rattle.records.specs.Records.{Record, input, word, recordIn, NotInput}
 use Rattle.records.specs.RecordLaws.{Along, along-append, along-map, along-any}
 use Rattle.fused.specs.Emission.{alone, gateOperation, guardOf, valuesAt, emit}
 use Rattle.fused.specs.FusedCircuit.{groupRecords, written, fused, recordsOf}
-use Rattle.fused.specs.EmitLaws.{joined-along}
+use Rattle.fused.specs.JoinedParts.{joined-along}
 use Rattle.fused.specs.WrittenLaws.{written-none, written-more}
 use Rattle.fused.specs.PlannedLaws.{planned-read}
 
@@ -93,7 +93,7 @@ module _ (s : List ℕ) (C : Gates) (sets : List ℕ) (group : ℕ → ℕ) wher
       joined-along (λ i. NotInput) n (gateOperation (gateAt C m)) (map (guardOf s C sets wire) (m ∷ k ∷ l)) (valuesAt s C sets wire (m ∷ k ∷ l))
       (upto (length (arguments (gateAt C m))))
       (along-map (λ i. NotInput) (guardOf s C sets wire) (m ∷ k ∷ l) n n (omega arith) (λ _ _ _ _. tt))
-      (λ _ _ _ _. tt) tt
+      (λ _ _ _ _ _. tt) tt
 
 module _ (s p : List ℕ) (h : planAnswer s p .number ≡ 0) where
   abbrev group : ℕ → ℕ

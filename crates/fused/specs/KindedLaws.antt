@@ -1,10 +1,11 @@
--- Laws of the kinds of a group's records: a gate alone is of its gate's kind; in a joined group guards are bits and picks what the operation takes. Assumes nothing.
+-- Laws of the kinds of a group's records: a gate alone is of its gate's kind; in a joined group guards are bits, and picks and wires that all members have what the operation takes. Assumes nothing.
 use Prim.Native.Nat.{ℕ, suc, _+_, _-_}
 use mathlib.Core.Path.{_≡_, refl, sym, ap, _∙_}
-use mathlib.Core.List.{List, [], _∷_, _++_, map, map-map}
+use mathlib.Core.Bool.{false}
+use mathlib.Core.List.{List, [], _∷_, map}
 use mathlib.Core.Logic.{inl, inr}
 use native.Mathlib.Omega.{arith}
-use lib.ListN.{length, length-append}
+use lib.ListN.{length, getD, drop}
 use Rattle.words.specs.Lists.{_∈_, from}
 use Rattle.words.specs.MemberLaws.{map-in}
 use Rattle.codes.specs.Codes.{entryOf}
@@ -18,9 +19,10 @@ use Rattle.gates.specs.GateKinds.{gateKind, GateFits}
 use Rattle.records.specs.Records.{Record, operation, pick}
 use Rattle.records.specs.WireKinds.{guardsOf, valuesOf, recordKind, AllOf, RecordFits}
 use Rattle.records.specs.WireKindLaws.{GivesKind, KindsGiven}
-use Rattle.records.specs.RecordLaws.{Along, along-left, along-right, along-map}
-use Rattle.fused.specs.Emission.{alone, pairs, joined}
-use Rattle.fused.specs.EmitLaws.{joined-along}
+use Rattle.records.specs.RecordLaws.{Along, along-map}
+use Rattle.fused.specs.Emission.{alone, pairs, oneWire, joined}
+use Rattle.fused.specs.JoinedParts.{behindGuards, operationReads, joined-along, joined-guards, joined-picks, joined-last, arguments-hold}
+use Rattle.fused.specs.PlaceLaws.{one-wire-in}
 
 -- record i fits the kinds k, wherever it stands
 abbrev pub FitsAt : (ℕ → Kind) → ℕ → Record → Type 0
@@ -51,7 +53,7 @@ pairs-guards : (n : ℕ) (values : List ℕ) → guardsOf (pairs n values) ≡ f
 pairs-guards n [] = refl
 pairs-guards n (w ∷ values) = ap (λ (l : List ℕ). n ∷ l) (pairs-guards (suc n) values)
 
-pairs-values : (n : ℕ) (values : List ℕ) → valuesOf (pairs n values) ≡ values
+pub pairs-values : (n : ℕ) (values : List ℕ) → valuesOf (pairs n values) ≡ values
 pairs-values n [] = refl
 pairs-values n (w ∷ values) = ap (λ (l : List ℕ). w ∷ l) (pairs-values (suc n) values)
 
@@ -62,39 +64,36 @@ given-each k j F [] n h g w m = absurd m
 given-each k j F (i ∷ l) n h (e, g) w (inl q) = ap k q ∙ e ∙ h i (inl refl)
 given-each k j F (i ∷ l) n h (e, g) w (inr m) = given-each k j F l (suc n) (λ a b. h a (inr b)) g w m
 
+-- wires that are each of one kind, one for each number of a list
+all-same : (k : ℕ → Kind) (j : Kind) (l ks : List ℕ) → map k l ≡ map (λ _. j) ks → AllOf k j l
+all-same k j [] ks e w m = absurd m
+all-same k j (a ∷ l) [] e w m = absurd (let z : suc (length (map k l)) ≡ 0 = ap (λ (x : List Kind). length x) e in omega (arith, z))
+all-same k j (a ∷ l) (i ∷ ks) e w (inl q) = ap k q ∙ ap (λ (x : List Kind). getD x 0 j) e
+all-same k j (a ∷ l) (i ∷ ks) e w (inr m) = all-same k j l ks (ap (λ (x : List Kind). drop 1 x) e) w m
+
 -- a joined group: guards G over members ms, values F at the places ks; its guards are bits, its values what the operation takes
 module _ (k : ℕ → Kind) (n : ℕ) (op : Operation) (G : ℕ → Record) (ms : List ℕ) (F : ℕ → List ℕ) (ks : List ℕ)
     (guards : (m : ℕ) → m ∈ ms → (recordKind k (G m) ≡ kind.Bit) × RecordFits k (G m))
     (values : (i : ℕ) → i ∈ ks → (length (F i) ≡ length ms) × AllOf k (entryOf op .takes) (F i) × (recordKind k (pick (pairs n (F i))) ≡ entryOf op .takes))
     (given : KindsGiven k n (joined n op (map G ms) (map F ks))) where
-  abbrev picks : List Record
-  picks = map (λ l. pick (pairs n l)) (map F ks)
+  -- a pick's guards, where there is one
+  bits : (i : ℕ) → i ∈ ks → oneWire (F i) ≡ false → AllOf k kind.Bit (from n (length ms))
+  bits i m f = given-each k kind.Bit G ms n (λ m q. guards m q .0) (joined-guards (GivesKind k) n op (map G ms) F ks given i m f)
 
-  abbrev last : List Record
-  last = operation op (from (n + length (map G ms)) (length (map F ks))) ∷ []
-
-  after : KindsGiven k (n + length (map G ms)) (picks ++ last)
-  after = along-right (GivesKind k) (map G ms) (picks ++ last) n given
-
-  bits : AllOf k kind.Bit (from n (length ms))
-  bits = given-each k kind.Bit G ms n (λ m q. guards m q .0) (along-left (GivesKind k) (map G ms) (picks ++ last) n given)
-
-  taken : AllOf k (entryOf op .takes) (from (n + length (map G ms)) (length ks))
+  taken : AllOf k (entryOf op .takes) (operationReads n (map G ms) (map F ks))
   taken =
-      given-each k (entryOf op .takes) (λ i. pick (pairs n (F i))) ks (n + length (map G ms)) (λ i m. values i m .2)
-      (rw (map-map (λ l. pick (pairs n l)) F ks) at (along-left (GivesKind k) picks last (n + length (map G ms)) after))
+      all-same k (entryOf op .takes) (operationReads n (map G ms) (map F ks)) ks
+      (arguments-hold k (λ _. entryOf op .takes) (GivesKind k) n F ks (behindGuards n (map G ms) (map F ks))
+      (λ i m t. values i m .1 (getD (F i) 0 0) (one-wire-in (F i) t)) (λ i j m f e. e ∙ values i m .2) (joined-picks (GivesKind k) n op (map G ms) F ks given))
 
   pub joined-kind : k (n + length (joined n op (map G ms) (map F ks)) - 1) ≡ entryOf op .gives
-  joined-kind = ap k at-end ∙ along-right (GivesKind k) picks last (n + length (map G ms)) after .0
-    where
-      at-end : n + length (map G ms ++ (picks ++ last)) - 1 ≡ n + length (map G ms) + length picks
-      at-end = rw (length-append (map G ms) (picks ++ last), length-append picks last) (omega arith)
+  joined-kind = joined-last (GivesKind k) n op (map G ms) F ks given
 
   pub joined-fits : Along (FitsAt k) n (joined n op (map G ms) (map F ks))
   joined-fits =
       joined-along (FitsAt k) n op (map G ms) F ks (along-map (FitsAt k) G ms n n (omega arith) (λ m q j o. guards m q .1))
-      (λ i m j o. (
-        rw (pairs-guards n (F i), values i m .0) bits,
+      (λ i m f j o. (
+        rw (pairs-guards n (F i), values i m .0) (bits i m f),
         λ w q. values i m .1 w (rw (pairs-values n (F i)) at q) ∙ sym (values i m .2),
       ))
       taken

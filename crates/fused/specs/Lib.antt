@@ -1,4 +1,6 @@
 pub mod Emission
+pub mod PlaceLaws
+pub mod JoinedParts
 pub mod FusedCircuit
 pub mod Answers
 pub mod OutputLaws
@@ -24,6 +26,8 @@ pub mod FitLaws
 pub mod FitPlan
 pub mod OnlyOrderLaws
 pub mod KindedLaws
+pub mod JoinedShapes
+pub mod EqualWireLaws
 pub mod KindWritten
 pub mod FusedKinds
 pub mod InputLaws

@@ -2,21 +2,22 @@
 use Prim.Native.Nat.{ℕ, suc, _+_, _-_, _<_}
 use mathlib.Core.Path.{_≡_, refl, sym, ap, _∙_}
 use mathlib.Core.Bool.{Bool, true, false}
-use mathlib.Core.List.{List, [], _∷_, _++_, map, map-map}
+use mathlib.Core.List.{List, [], _∷_, map, map-map}
 use mathlib.Core.Logic.{_⊎_, inl, inr}
 use native.Mathlib.Nat.{add-zero, zero-add}
 use native.Mathlib.Omega.{arith}
-use lib.ListN.{length, getD, length-append}
+use lib.ListN.{length, getD}
 use Rattle.words.specs.Lists.{_∈_, from, upto}
 use Rattle.words.specs.TestLaws.{same?}
 use Rattle.bitsets.specs.Bits.{bitOf}
 use Rattle.codes.specs.declared.Operation.{Operation}
 use Rattle.codes.specs.Results.{isOne, resultOn}
-use Rattle.records.specs.Records.{Record, operation, pick, pickFigure, recordFigure}
-use Rattle.records.specs.RecordLaws.{Along, GivesFigure, Figured, along-left, along-right}
+use Rattle.records.specs.Records.{Record, pickFigure, recordFigure}
+use Rattle.records.specs.RecordLaws.{Along, GivesFigure, Figured}
 use Rattle.gates.specs.Gates.{Gate, figure}
 use Rattle.gates.specs.Gates as gate
-use Rattle.fused.specs.Emission.{alone, pairs, joined}
+use Rattle.fused.specs.Emission.{alone, pairs, oneWire, joined}
+use Rattle.fused.specs.JoinedParts.{behindGuards, joined-picks, joined-last, arguments-hold}
 
 -- a list by its places
 pub places-map : (f v : ℕ → ℕ) (l : List ℕ) → ((k : ℕ) → k < length l → f k ≡ v (getD l k 0)) → map f (upto (length l)) ≡ map v l
@@ -68,33 +69,13 @@ module _ (W : ℕ → ℕ) (bit : ℕ → Bool) where
       go (inr f) (inl e) ih = absurd (f e)
       go (inr f) (inr k) ih = let u : isOne (W n) ≡ false = first ∙ others j (inl refl) f in rw u (ih k)
 
--- what holds along a joined group holds along its guards
-pub joined-guards : (P : ℕ → Record → Type 0) (n : ℕ) (op : Operation) (guards : List Record) (places : List (List ℕ)) → Along P n (joined n op guards places)
-    → Along P n guards
-joined-guards P n op guards places h = along-left P guards _ n h
-
-module _ (inputs : List ℕ) (W : ℕ → ℕ) where
-  picks-figured : (n : ℕ) (places : List (List ℕ)) (at : ℕ) → Figured inputs W at (map (λ values. pick (pairs n values)) places)
-      → map W (from at (length places)) ≡ map (λ values. pickFigure W (pairs n values)) places
-  picks-figured n [] at h = refl
-  picks-figured n (values ∷ places) at (h, r) = cc (h, picks-figured n places (suc at) r)
-
-  module _ (n : ℕ) (op : Operation) (guards : List Record) (places : List (List ℕ)) (h : Figured inputs W n (joined n op guards places)) where
-    abbrev P : List Record
-    P = map (λ values. pick (pairs n values)) places
-
-    abbrev O : List Record
-    O = operation op (from (n + length guards) (length places)) ∷ []
-
-    -- a joined group's last record is the operation's result on the figures of its picks
-    pub joined-figure : W (n + length (joined n op guards places) - 1) ≡ resultOn op (map (λ values. pickFigure W (pairs n values)) places)
-    joined-figure =
-        ap W at-end
-        ∙ along-right (GivesFigure inputs W) P O (n + length guards) after .0
-        ∙ ap (resultOn op) (picks-figured n places (n + length guards) (along-left (GivesFigure inputs W) P O (n + length guards) after))
-      where
-        after : Figured inputs W (n + length guards) (P ++ O)
-        after = along-right (GivesFigure inputs W) guards (P ++ O) n h
-
-        at-end : n + length (guards ++ (P ++ O)) - 1 ≡ n + length guards + length P
-        at-end = rw (length-append guards (P ++ O), length-append P O) (omega arith)
+-- a joined group's last record is the operation's result on what each place gives: its pick, or the wire that all members have
+pub joined-figure : (inputs : List ℕ) (W : ℕ → ℕ) (n : ℕ) (op : Operation) (guards : List Record) (F : ℕ → List ℕ) (ks : List ℕ) (g : ℕ → ℕ)
+    → ((i : ℕ) → i ∈ ks → oneWire (F i) ≡ true → W (getD (F i) 0 0) ≡ g i)
+    → ((i : ℕ) → i ∈ ks → oneWire (F i) ≡ false → pickFigure W (pairs n (F i)) ≡ g i)
+    → Figured inputs W n (joined n op guards (map F ks)) → W (n + length (joined n op guards (map F ks)) - 1) ≡ resultOn op (map g ks)
+joined-figure inputs W n op guards F ks g one other h =
+    joined-last (GivesFigure inputs W) n op guards F ks h
+    ∙ ap (resultOn op)
+    (arguments-hold W g (GivesFigure inputs W) n F ks (behindGuards n guards (map F ks)) one (λ i j m f e. e ∙ other i m f)
+    (joined-picks (GivesFigure inputs W) n op guards F ks h))

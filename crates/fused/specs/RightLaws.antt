@@ -1,13 +1,14 @@
 -- The fused circuit gives every needed gate its plain figure, group by group in the order of writing. Assumes nothing.
 use Prim.Native.Nat.{ℕ, _+_, _-_, _≤_, _<_}
 use mathlib.Core.Path.{_≡_, refl, sym, ap, _∙_, subst}
-use mathlib.Core.List.{List, [], _∷_, _++_, map, map-map}
+use mathlib.Core.Bool.{true, false}
+use mathlib.Core.List.{List, [], _∷_, _++_, map}
 use mathlib.Core.Logic.{inl, inr}
 use native.Mathlib.Nat.{zero-add}
 use native.Mathlib.Omega.{arith}
 use lib.ListN.{length, getD}
 use Rattle.words.specs.Lists.{_∈_, upto}
-use Rattle.words.specs.MemberLaws.{getD-in}
+use Rattle.words.specs.MemberLaws.{getD-in, from-below, in-map}
 use Rattle.words.specs.TestLaws.{split}
 use Rattle.words.specs.ListLaws.{map-same}
 use Rattle.settings.specs.Settings.{Setting, Once}
@@ -26,9 +27,11 @@ use Rattle.plan.specs.Groups.{members, waitsFor}
 use Rattle.plan.specs.Order.{Ordered}
 use Rattle.plan.specs.GroupLaws.{member-of}
 use Rattle.plan.specs.ReadsLaws.{waits-argument, waits-rests}
-use Rattle.fused.specs.Emission.{gateOperation, pairs, joined, guardOf, valuesAt, emit}
+use Rattle.fused.specs.Emission.{gateOperation, pairs, oneWire, joined, guardOf, valuesAt, emit}
+use Rattle.fused.specs.PlaceLaws.{one-wire-each}
+use Rattle.fused.specs.JoinedParts.{joined-guards}
 use Rattle.fused.specs.FusedCircuit.{Written, groupRecords, written}
-use Rattle.fused.specs.PickLaws.{places-map, alone-figure, Guarding, guards-hold, pick-one, joined-guards, joined-figure}
+use Rattle.fused.specs.PickLaws.{places-map, alone-figure, Guarding, guards-hold, pick-one, joined-figure}
 use Rattle.fused.specs.JoinedLaws.{Joined, joined-one}
 use Rattle.fused.specs.GuardLaws.{guard-figure, guard-needed}
 use Rattle.fused.specs.WrittenLaws.{written-more, written-length, wire-last, wire-old}
@@ -92,30 +95,40 @@ module _ (s : List ℕ) (C : Gates) (wanted : List ℕ) (earlier : Earlier C) (i
           (guards-right m h ∙ needed-complete C wanted actual earlier inside m d) (λ i q f. guards-right i q ∙ joined-one C wanted group joins p two m i h q f actual d)
           ∙ rw e (argument-right m (getD l j 0) h d (rw e (getD-in l j b)))
 
+      -- and a wire that all members have at a place has it
+      wire-right : (m : ℕ) → m ∈ of p → Needed C wanted actual m → (op : Operation) (l : List ℕ) → gateAt C m ≡ operation op l
+          → (j : ℕ) → j < length l → oneWire (valuesAt s C sets (λ a. wire (group a)) (of p) j) ≡ true
+          → W (getD (valuesAt s C sets (λ a. wire (group a)) (of p) j) 0 0) ≡ v (getD l j 0)
+      wire-right m h d op l e j b t =
+          ap W (sym (one-wire-each (valuesAt s C sets (λ a. wire (group a)) (of p) j) t (wire (group (getD (arguments (gateAt C m)) j 0)))
+          (in-map (λ i. wire (group (getD (arguments (gateAt C i)) j 0))) m (of p) h)))
+          ∙ rw e (argument-right m (getD l j 0) h d (rw e (getD-in l j b)))
+
       -- the guards and the places of a group whose first member is a
       abbrev guards : List ℕ → List Record
       guards ms = map (guardOf s C sets (λ c. wire (group c))) ms
 
-      abbrev places : ℕ → List ℕ → List (List ℕ)
-      places a ms = map (valuesAt s C sets (λ c. wire (group c)) ms) (upto (length (arguments (gateAt C a))))
+      abbrev places : ℕ → List ℕ
+      places a = upto (length (arguments (gateAt C a)))
 
       abbrev larger : ℕ → List ℕ → List Record
-      larger a ms = joined n (gateOperation (gateAt C a)) (guards ms) (places a ms)
+      larger a ms = joined n (gateOperation (gateAt C a)) (guards ms) (map (valuesAt s C sets (λ c. wire (group c)) ms) (places a))
 
       many-gates : (a : ℕ) → a ∈ of p → (m : ℕ) → m < length C → m ∈ of p → Needed C wanted actual m → Figured inputs W n (larger a (of p))
           → W (n + length (larger a (of p)) - 1) ≡ v m
       many-gates a k m b h d f =
           let op = gateOperation (gateAt C a) in
+          let F = valuesAt s C sets (λ c. wire (group c)) (of p) in
           let r = joins .alike p two a m k h in
-          let g = guards-hold W (λ i. needed C wanted i wired) (GivesFigure inputs W) (guardOf s C sets (λ c. wire (group c)))
-          (λ i q e. e ∙ guard-figure C wanted earlier inside few W (λ c. wire (group c)) q) (of p) n
-          (joined-guards (GivesFigure inputs W) n op (guards (of p)) (places a (of p)) f) in
-          let at-place : ℕ → ℕ = λ j. pickFigure W (pairs n (valuesAt s C sets (λ c. wire (group c)) (of p) j)) in
-          let values : resultOn op (map at-place (upto (length (arguments (gateAt C a))))) ≡ resultOn (r .0) (map v (r .1)) =
-          rw (r .3, r .4) (ap (resultOn (r .0)) (places-map at-place v (r .1) (pick-right m h d (r .0) (r .1) (r .2) g))) in
-          joined-figure inputs W n op (guards (of p)) (places a (of p)) f
-          ∙ ap (resultOn op)
-          (map-map (λ values. pickFigure W (pairs n values)) (valuesAt s C sets (λ c. wire (group c)) (of p)) (upto (length (arguments (gateAt C a)))))
+          let below : (j : ℕ) → j ∈ places a → j < length (r .1) = λ j q. omega (arith, from-below 0 (length (arguments (gateAt C a))) j q .1, r .4) in
+          let g : (j : ℕ) → j ∈ places a → oneWire (F j) ≡ false → Guarding W (λ i. needed C wanted i wired) n (of p) = λ j q o. guards-hold W (λ i. needed C wanted i wired) (GivesFigure inputs W)
+          (guardOf s C sets (λ c. wire (group c))) (λ i q e. e ∙ guard-figure C wanted earlier inside few W (λ c. wire (group c)) q) (of p) n
+          (joined-guards (GivesFigure inputs W) n op (guards (of p)) F (places a) f j q o) in
+          let values : resultOn op (map (λ j. v (getD (r .1) j 0)) (places a)) ≡ resultOn (r .0) (map v (r .1)) =
+          rw (r .3, r .4) (ap (resultOn (r .0)) (places-map (λ j. v (getD (r .1) j 0)) v (r .1) (λ j q. refl))) in
+          joined-figure inputs W n op (guards (of p)) F (places a) (λ j. v (getD (r .1) j 0))
+          (λ j q t. wire-right m h d (r .0) (r .1) (r .2) j (below j q) t)
+          (λ j q o. pick-right m h d (r .0) (r .1) (r .2) (g j q o) j (below j q)) f
           ∙ values
           ∙ ap (figure inputs v) (sym (r .2))
           ∙ sym (figures-right inputs C earlier m b)

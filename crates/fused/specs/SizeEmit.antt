@@ -12,7 +12,7 @@ use Rattle.codes.specs.Codes.{entryOf, costly}
 use Rattle.codes.specs.declared.Operation.{Operation}
 use Rattle.codes.specs.declared.Operation.the-variants.{Sum, Difference, Product, LessThan, Equal, And, Or, Not}
 use Rattle.records.specs.Versions.{writtenVersion}
-use Rattle.records.specs.Records.{Record, recordCost, recordsCost}
+use Rattle.records.specs.Records.{recordCost, recordsCost}
 use Rattle.records.specs.CircuitFile.{recordBytes, recordsBytes}
 use Rattle.records.specs.SizeLaws.{word-size, operation-size, choice-size, size-one, cost-none, cost-one}
 use Rattle.gates.specs.Gates.{Gate, Gates, gateAt, arguments, costOf}
@@ -63,7 +63,7 @@ alone-most s wire (gate.operation op l) h = omega (arith, operation-size written
 alone-most s wire (gate.choice c a b) h = omega (arith, choice-size writtenVersion (wire c) (wire a) (wire b))
 
 module _ (s : List ℕ) (C : Gates) (sets : List ℕ) (wire : ℕ → ℕ) (n : ℕ) where
-  -- two or more members of one costly operation: the one place that says that there are two picks
+  -- two or more members of one costly operation: the one place that says that there are two picks at most
   module _ (m k : ℕ) (l : List ℕ) (op : Operation) (shaped : Shaped C) (costs : costly op ≡ true) (args : List ℕ) (e : gateAt C m ≡ gate.operation op args) where
     two : length args ≡ 2
     two = (rw e at (shaped m)) ∙ costly-two op costs
@@ -73,15 +73,15 @@ module _ (s : List ℕ) (C : Gates) (sets : List ℕ) (wire : ℕ → ℕ) (n : 
         ap (λ (g : Gate). joined n (gateOperation g) (map (guardOf s C sets wire) (m ∷ k ∷ l)) (map (valuesAt s C sets wire (m ∷ k ∷ l)) (upto (length (arguments g))))) e
         ∙ ap (λ (a : ℕ). joined n op (map (guardOf s C sets wire) (m ∷ k ∷ l)) (map (valuesAt s C sets wire (m ∷ k ∷ l)) (upto a))) two
 
-    pub emit-count : length (emit s C sets wire n (m ∷ k ∷ l)) ≡ length (m ∷ k ∷ l) + 3
-    emit-count = ap length emit-joined ∙ group-count s C sets wire n op (m ∷ k ∷ l) 2 ∙ omega arith
+    pub emit-count : length (emit s C sets wire n (m ∷ k ∷ l)) ≤ length (m ∷ k ∷ l) + 3
+    emit-count = rw emit-joined (omega (arith, group-count s C sets wire n op (m ∷ k ∷ l) 2))
 
     pub emit-size : length (recordsBytes writtenVersion (emit s C sets wire n (m ∷ k ∷ l)))
-        ≡ length (recordsBytes writtenVersion (map (guardOf s C sets wire) (m ∷ k ∷ l))) + 2 * (2 + 4 * length (m ∷ k ∷ l)) + 5
-    emit-size = ap (λ (R : List Record). length (recordsBytes writtenVersion R)) emit-joined ∙ group-size s C sets wire n op (m ∷ k ∷ l) 2
+        ≤ length (recordsBytes writtenVersion (map (guardOf s C sets wire) (m ∷ k ∷ l))) + 2 * (2 + 4 * length (m ∷ k ∷ l)) + 5
+    emit-size = rw emit-joined (group-size s C sets wire n op (m ∷ k ∷ l) 2)
 
-    pub emit-cost : recordsCost (emit s C sets wire n (m ∷ k ∷ l)) ≡ 5 * length (m ∷ k ∷ l) + entryOf op .cost
-    emit-cost = ap recordsCost emit-joined ∙ group-cost s C sets wire n op (m ∷ k ∷ l) 2 ∙ omega arith
+    pub emit-cost : recordsCost (emit s C sets wire n (m ∷ k ∷ l)) ≤ 5 * length (m ∷ k ∷ l) + entryOf op .cost
+    emit-cost = rw emit-joined (omega (arith, group-cost s C sets wire n op (m ∷ k ∷ l) 2))
 
   -- any group of k members: at most 5 k / 2 records, of at most `mostBytesOfTwo` bytes to two members, at a cost of at most 40 k
   pub emit-most : Shaped C → (ms : List ℕ) → (2 ≤ length ms → OneCostly C ms)

@@ -2,10 +2,11 @@
 use mathlib.Core.Path.{_≡_, refl, ap, ap₂, _∙_}
 use mathlib.Core.List.{List, [], _∷_, _++_, map}
 use Prim.Native.Nat.{ℕ, suc, _+_, _*_, _≤_}
-use native.Mathlib.Nat.{suc-mul}
+use native.Mathlib.Nat.{suc-mul, mul-le-mul-right}
 use native.Mathlib.Omega.{arith}
 use lib.ListN.{length, length-append, length-map}
-use Rattle.words.specs.Lists.{from, upto}
+use Rattle.words.specs.Lists.{upto}
+use Rattle.words.specs.TestLaws.{split}
 use Rattle.words.specs.ListLaws.{length-from}
 use Rattle.codes.specs.Codes.{entryOf}
 use Rattle.codes.specs.declared.Operation.{Operation}
@@ -18,7 +19,8 @@ use Rattle.plan.specs.PlanFile.{EachGroup}
 use Rattle.plan.specs.Groups.{restsOf}
 use Rattle.plan.specs.RestLaws.{rests-few}
 use Rattle.fused.specs.SizeLimits.{mostGuardBytes}
-use Rattle.fused.specs.Emission.{pairs, joined, guardOf, valuesAt}
+use Rattle.fused.specs.Emission.{pairs, oneWire, picked, guarded, joined, guardOf, valuesAt}
+use Rattle.fused.specs.JoinedParts.{arguments-count, behindGuards, operationReads, joined-count}
 
 -- a pair for each value
 pub length-pairs : (n : ℕ) (values : List ℕ) → length (pairs n values) ≡ length values
@@ -44,30 +46,53 @@ picks-cost n k (values ∷ places) (e, f) =
     ∙ ap₂ (λ (x y : ℕ). x + y) (ap (λ (i : ℕ). 2 * i) (length-pairs n values ∙ e)) (picks-cost n k places f)
     ∙ rw (suc-mul (length places) (2 * k)) (omega arith)
 
--- a joined group: its guards, a pick for each place, the operation
-module _ (n : ℕ) (op : Operation) (guards : List Record) (places : List (List ℕ)) where
-  abbrev last : Record
-  last = operation op (from (n + length guards) (length places))
+-- the places that have a pick are some of them
+picked-few : (places : List (List ℕ)) → length (picked places) ≤ length places
+picked-few [] = omega arith
+picked-few (values ∷ places) = split (oneWire values) (λ t. rw t (omega (arith, picked-few places))) (λ f. rw f (omega (arith, picked-few places)))
 
-  joined-count : length (joined n op guards places) ≡ length guards + length places + 1
-  joined-count = rw (length-append guards (picks n places ++ (last ∷ [])), length-append (picks n places) (last ∷ []), length-map) (omega arith)
+picked-each : (P : List ℕ → Type 0) (places : List (List ℕ)) → EachGroup P places → EachGroup P (picked places)
+picked-each P [] e = tt
+picked-each P (values ∷ places) (e, f) = split (oneWire values) (λ t. rw t (picked-each P places f)) (λ o. rw o (e, picked-each P places f))
+
+-- the guards that are written are all or none
+kept-most : (picks : List (List ℕ)) (guards : List Record)
+    → (length (guarded picks guards) ≤ length guards) × (length (recordsBytes writtenVersion (guarded picks guards)) ≤ length (recordsBytes writtenVersion guards))
+    × (recordsCost (guarded picks guards) ≤ recordsCost guards)
+kept-most [] guards = (omega arith, omega arith, omega (arith, cost-none))
+kept-most (values ∷ picks) guards = (omega arith, omega arith, omega arith)
+
+-- a joined group: its guards, a pick for each place that has one, the operation
+module _ (n : ℕ) (op : Operation) (guards : List Record) (places : List (List ℕ)) where
+  abbrev kept : List Record
+  kept = guarded (picked places) guards
+
+  abbrev last : Record
+  last = operation op (operationReads n guards places)
 
   module _ (k : ℕ) (each : EachGroup (λ values. length values ≡ k) places) where
-    pub joined-size : length (recordsBytes writtenVersion (joined n op guards places)) ≡ length (recordsBytes writtenVersion guards) + length places * (2 + 4 * k) + (1 + 2 * length places)
+    pub joined-size : length (recordsBytes writtenVersion (joined n op guards places)) ≡ length (recordsBytes writtenVersion (guarded (picked places) guards))
+        + length (picked places) * (2 + 4 * k) + (1 + 2 * length places)
     joined-size =
         rw (
-          size-append writtenVersion guards (picks n places ++ (last ∷ [])),
-          size-append writtenVersion (picks n places) (last ∷ []),
-          picks-size n k places each,
+          size-append writtenVersion kept (picks n (picked places) ++ (last ∷ [])),
+          size-append writtenVersion (picks n (picked places)) (last ∷ []),
+          picks-size n k (picked places) (picked-each (λ values. length values ≡ k) places each),
           size-one writtenVersion last,
-          operation-size writtenVersion op (from (n + length guards) (length places)),
-          length-from (n + length guards) (length places),
+          operation-size writtenVersion op (operationReads n guards places),
+          arguments-count places (behindGuards n guards places),
         )
         (omega arith)
 
-    pub joined-cost : recordsCost (joined n op guards places) ≡ recordsCost guards + length places * (2 * k) + entryOf op .cost
+    pub joined-cost : recordsCost (joined n op guards places) ≡ recordsCost (guarded (picked places) guards) + length (picked places) * (2 * k) + entryOf op .cost
     joined-cost =
-        rw (cost-append guards (picks n places ++ (last ∷ [])), cost-append (picks n places) (last ∷ []), picks-cost n k places each, cost-one last) (omega arith)
+        rw (
+          cost-append kept (picks n (picked places) ++ (last ∷ [])),
+          cost-append (picks n (picked places)) (last ∷ []),
+          picks-cost n k (picked places) (picked-each (λ values. length values ≡ k) places each),
+          cost-one last,
+        )
+        (omega arith)
 
 -- the guards and the places of these members
 module _ (s : List ℕ) (C : Gates) (sets : List ℕ) (wire : ℕ → ℕ) where
@@ -98,17 +123,21 @@ module _ (s : List ℕ) (C : Gates) (sets : List ℕ) (wire : ℕ → ℕ) where
     places : length (map (valuesAt s C sets wire ms) (upto a)) ≡ a
     places = length-map (upto a) (valuesAt s C sets wire ms) ∙ length-from 0 a
 
-    pub group-count : length group ≡ length ms + a + 1
+    few : length (picked (map (valuesAt s C sets wire ms) (upto a))) ≤ a
+    few = omega (arith, picked-few (map (valuesAt s C sets wire ms) (upto a)), places)
+
+    -- at most so many records, bytes and so much cost: fewer where all members have one wire at a place
+    pub group-count : length group ≤ length ms + a + 1
     group-count =
-        joined-count n op (map (guardOf s C sets wire) ms) (map (valuesAt s C sets wire ms) (upto a))
-        ∙ ap₂ (λ (x y : ℕ). x + y + 1) (length-map ms (guardOf s C sets wire)) places
+        rw (joined-count n op (map (guardOf s C sets wire) ms) (map (valuesAt s C sets wire ms) (upto a)))
+        (omega (arith, kept-most (picked (map (valuesAt s C sets wire ms) (upto a))) (map (guardOf s C sets wire) ms), length-map ms (guardOf s C sets wire), few))
 
-    pub group-size : length (recordsBytes writtenVersion group) ≡ length (recordsBytes writtenVersion (map (guardOf s C sets wire) ms)) + a * (2 + 4 * length ms) + (1 + 2 * a)
+    pub group-size : length (recordsBytes writtenVersion group) ≤ length (recordsBytes writtenVersion (map (guardOf s C sets wire) ms)) + a * (2 + 4 * length ms) + (1 + 2 * a)
     group-size =
-        joined-size n op (map (guardOf s C sets wire) ms) (map (valuesAt s C sets wire ms) (upto a)) (length ms) (values-each ms (upto a))
-        ∙ ap (λ (x : ℕ). length (recordsBytes writtenVersion (map (guardOf s C sets wire) ms)) + x * (2 + 4 * length ms) + (1 + 2 * x)) places
+        rw (joined-size n op (map (guardOf s C sets wire) ms) (map (valuesAt s C sets wire ms) (upto a)) (length ms) (values-each ms (upto a)), places)
+        (omega (arith, kept-most (picked (map (valuesAt s C sets wire ms) (upto a))) (map (guardOf s C sets wire) ms), mul-le-mul-right (2 + 4 * length ms) few))
 
-    pub group-cost : recordsCost group ≡ length ms + a * (2 * length ms) + entryOf op .cost
+    pub group-cost : recordsCost group ≤ length ms + a * (2 * length ms) + entryOf op .cost
     group-cost =
-        joined-cost n op (map (guardOf s C sets wire) ms) (map (valuesAt s C sets wire ms) (upto a)) (length ms) (values-each ms (upto a))
-        ∙ ap₂ (λ (g x : ℕ). g + x * (2 * length ms) + entryOf op .cost) (guards-cost ms) places
+        rw (joined-cost n op (map (guardOf s C sets wire) ms) (map (valuesAt s C sets wire ms) (upto a)) (length ms) (values-each ms (upto a)))
+        (omega (arith, kept-most (picked (map (valuesAt s C sets wire ms) (upto a))) (map (guardOf s C sets wire) ms), guards-cost ms, mul-le-mul-right (2 * length ms) few))

@@ -22,10 +22,10 @@ use Rattle.gates.specs.Limits.{mostConditions}
 use Rattle.needed.specs.Pass.{needed, preconditionSets}
 use Rattle.needed.specs.PassLaws.{needed-sound}
 use Rattle.plan.specs.Groups.{members}
-use Rattle.fused.specs.Emission.{alone, gateOperation, pairs, guardOf, valuesAt, emit}
+use Rattle.fused.specs.Emission.{alone, gateOperation, pairs, oneWire, guardOf, valuesAt, emit}
 use Rattle.fused.specs.FusedCircuit.{Written, groupRecords, written}
-use Rattle.fused.specs.EmitLaws.{joined-along}
-use Rattle.fused.specs.PickLaws.{is-bit, Guarding, guards-hold, joined-guards}
+use Rattle.fused.specs.JoinedParts.{joined-along, joined-guards}
+use Rattle.fused.specs.PickLaws.{is-bit, Guarding, guards-hold}
 use Rattle.fused.specs.JoinedLaws.{Joined, members-once, joined-one}
 use Rattle.fused.specs.GuardLaws.{guard-figure}
 use Rattle.fused.specs.WrittenLaws.{written-none, written-more}
@@ -75,7 +75,7 @@ module _ (W : ℕ → ℕ) where
         go (a ∷ []) e h = (alone-one s wire n (gateAt C a), tt)
         go (a ∷ j ∷ l) e h =
             joined-along (OneGuard W) n op guards (valuesAt s C sets wire ms) ks (along-map (OneGuard W) (guardOf s C sets wire) ms n n (omega arith) (λ i m k b. tt))
-            (λ i m k b. guards-one on (λ q. wire (getD (arguments (gateAt C q)) i 0)) ms n held (rw e at (members-once (length C) group p))
+            (λ i m f k b. guards-one on (λ q. wire (getD (arguments (gateAt C q)) i 0)) ms n (held i m f) (rw e at (members-once (length C) group p))
             (λ q r x y f t. joined-one C wanted group joins p (rw e (omega arith)) q r (rw e x) (rw e y) f (λ c. isOne (W (wire c)))
             (needed-sound C wanted (λ c. isOne (W (wire c))) q t)))
             tt
@@ -92,10 +92,10 @@ module _ (W : ℕ → ℕ) where
             guards : List Record
             guards = map (guardOf s C sets wire) ms
 
-            held : Guarding W on n ms
-            held =
+            held : (i : ℕ) → i ∈ ks → oneWire (valuesAt s C sets wire ms i) ≡ false → Guarding W on n ms
+            held i m f =
                 guards-hold W on (GivesGuard W) (guardOf s C sets wire) (λ i m k. k _ _ refl ∙ guard-figure C wanted earlier inside few W wire m) ms n
-                (joined-guards (GivesGuard W) n op guards (map (valuesAt s C sets wire ms) ks) h)
+                (joined-guards (GivesGuard W) n op guards (valuesAt s C sets wire ms) ks h i m f)
 
     -- so it is of every pick that is written
     pub written-one : (done : List ℕ) → Along (GivesGuard W) 0 (written s C (preconditionSets mostConditions C wanted) group done .records)

@@ -34,7 +34,7 @@ use Rattle.records.specs.FormatLaws.{well-row}
 use Rattle.fused.specs.Emission.{alone, gateOperation, guardOf, valuesAt, emit}
 use Rattle.fused.specs.FusedCircuit.{recordsOf, outputWire, outputWires, fusedFile}
 use Rattle.fused.specs.OutputLaws.{outputs-length, output-at, working-wire}
-use Rattle.fused.specs.EmitLaws.{joined-along}
+use Rattle.fused.specs.JoinedParts.{joined-along}
 use Rattle.fused.specs.BoundLaws.{fused-along, fused-bounded}
 use Rattle.fused.specs.FitLaws.{table-below}
 use Rattle.fused.specs.FitPlan.{fused-file-fits}
@@ -62,7 +62,7 @@ module _ (s : List ℕ) (C : Gates) (sets : List ℕ) (wire : ℕ → ℕ) where
   emit-tables n (m ∷ k ∷ l) =
       joined-along (λ i. TableFits) n (gateOperation (gateAt C m)) (map (guardOf s C sets wire) (m ∷ k ∷ l)) (valuesAt s C sets wire (m ∷ k ∷ l))
       (upto (length (arguments (gateAt C m))))
-      (along-map (λ i. TableFits) (guardOf s C sets wire) (m ∷ k ∷ l) n n (omega arith) (λ i _ _ _. guard-table i)) (λ _ _ _ _. tt) tt
+      (along-map (λ i. TableFits) (guardOf s C sets wire) (m ∷ k ∷ l) n n (omega arith) (λ i _ _ _. guard-table i)) (λ _ _ _ _ _. tt) tt
 
 module _ (s p : List ℕ) (bytes : Bytes s) (h : planAnswer s p .number ≡ 0) where
   -- an input's wire is of its variable's kind

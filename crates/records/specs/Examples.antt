@@ -1,5 +1,5 @@
 -- Document 01, "Examples": 3, the file of R1 with P1: no row refuses it, and its figures, computed from its bytes; document 02, C-11: picks with several guards at 1; C-13: outputs that name no wire;
--- C-17: guards in both versions.
+-- C-17: guards in both versions; C-18: no pick between equal wires.
 use Prim.Native.Nat.{ℕ, _^_}
 use mathlib.Core.Path.{_≡_, refl}
 use mathlib.Core.List.{List, [], _∷_, _++_, map}
@@ -16,9 +16,41 @@ use Rattle.records.specs.WireFigures.{wireFigure}
 use Rattle.records.specs.FileFigures.{recordAt, sizeAt, fileRecords, fileOutputs, fileFigures}
 use Rattle.records.specs.CircuitRows.{headed, wholeAt, laid, stands, standing, circuitRow}
 
--- the file of R1 with P1, a record a line, a guard's table on two lines of its own; document 02, C-17: "example 3 becomes 124 bytes"
+-- the file of R1 with P1, a record a line, a guard's table on two lines of its own; document 02, C-18: "R1 with P1 (example 3)
+-- now gives 114 bytes": both members have wire 2 at the second place
 abbrev pub file3 : List ℕ
 file3 =
+    0x43 ∷ 0x49 ∷ 0x52 ∷ 0x00 ∷ 0x02 ∷ 0x03 ∷ 0x00 ∷ 0x08
+    ∷ 0x01 ∷ 0x00
+    ∷ 0x00 ∷ 0x01
+    ∷ 0x00 ∷ 0x02
+    ∷ 0x32 ∷ 0x01 ∷ 0x00 ∷ 0x00
+    ∷ 0x00 ∷ 0x00 ∷ 0x00 ∷ 0x00 ∷ 0x00 ∷ 0x00 ∷ 0x00 ∷ 0x00 ∷ 0x00 ∷ 0x00 ∷ 0x00 ∷ 0x00 ∷ 0x00 ∷ 0x00 ∷ 0x00 ∷ 0x00
+    ∷ 0x00 ∷ 0x00 ∷ 0x00 ∷ 0x00 ∷ 0x00 ∷ 0x00 ∷ 0x00 ∷ 0x00 ∷ 0x00 ∷ 0x00 ∷ 0x00 ∷ 0x00 ∷ 0x00 ∷ 0x00 ∷ 0x00 ∷ 0x02
+    ∷ 0x32 ∷ 0x01 ∷ 0x00 ∷ 0x00
+    ∷ 0x00 ∷ 0x00 ∷ 0x00 ∷ 0x00 ∷ 0x00 ∷ 0x00 ∷ 0x00 ∷ 0x00 ∷ 0x00 ∷ 0x00 ∷ 0x00 ∷ 0x00 ∷ 0x00 ∷ 0x00 ∷ 0x00 ∷ 0x00
+    ∷ 0x00 ∷ 0x00 ∷ 0x00 ∷ 0x00 ∷ 0x00 ∷ 0x00 ∷ 0x00 ∷ 0x00 ∷ 0x00 ∷ 0x00 ∷ 0x00 ∷ 0x00 ∷ 0x00 ∷ 0x00 ∷ 0x00 ∷ 0x01
+    ∷ 0x31 ∷ 0x02 ∷ 0x00 ∷ 0x03 ∷ 0x00 ∷ 0x01 ∷ 0x00 ∷ 0x04 ∷ 0x00 ∷ 0x02
+    ∷ 0x22 ∷ 0x00 ∷ 0x05 ∷ 0x00 ∷ 0x02
+    ∷ 0x30 ∷ 0x00 ∷ 0x00 ∷ 0x00 ∷ 0x06 ∷ 0x00 ∷ 0x06
+    ∷ 0x00 ∷ 0x00 ∷ 0x00 ∷ 0x07 ∷ 0x00 ∷ 0x02
+    ∷ []
+
+pub example-3-size : length file3 ≡ 114
+example-3-size = refl
+
+-- no row refuses it, and its figures, from its bytes
+pub example-3-row : circuitRow file3 ≡ 0
+unfolding number bytesOf operationOf codeOf recordAt sizeAt fileRecords fileOutputs wireKind headed wholeAt laid stands standing circuitRow
+example-3-row = refl
+
+pub example-3-run : map (λ x. fileFigures file3 (x ∷ 6 ∷ 7 ∷ [])) (0 ∷ 1 ∷ []) ≡ (0 ∷ 49 ∷ 7 ∷ []) ∷ (1 ∷ 42 ∷ 7 ∷ []) ∷ []
+unfolding number bytesOf operationOf codeOf resultOf recordAt sizeAt fileRecords fileOutputs wireKind wireFigure fileFigures
+example-3-run = refl
+
+-- the file of R1 with P1 as it was written before C-18, with a pick for each argument place: document 02, C-17: "example 3 becomes 124 bytes"
+abbrev pub file3AllPicks : List ℕ
+file3AllPicks =
     0x43 ∷ 0x49 ∷ 0x52 ∷ 0x00 ∷ 0x02 ∷ 0x03 ∷ 0x00 ∷ 0x09
     ∷ 0x01 ∷ 0x00
     ∷ 0x00 ∷ 0x01
@@ -36,19 +68,16 @@ file3 =
     ∷ 0x00 ∷ 0x00 ∷ 0x00 ∷ 0x08 ∷ 0x00 ∷ 0x02
     ∷ []
 
-pub example-3-size : length file3 ≡ 124
-example-3-size = refl
-
--- no row refuses it, and its figures, from its bytes
-pub example-3-row : circuitRow file3 ≡ 0
+-- it is read and run as it was
+pub example-3-picks : (length file3AllPicks ≡ 124) × (circuitRow file3AllPicks ≡ 0)
 unfolding number bytesOf operationOf codeOf recordAt sizeAt fileRecords fileOutputs wireKind headed wholeAt laid stands standing circuitRow
-example-3-row = refl
+example-3-picks = (refl, refl)
 
-pub example-3-run : map (λ x. fileFigures file3 (x ∷ 6 ∷ 7 ∷ [])) (0 ∷ 1 ∷ []) ≡ (0 ∷ 49 ∷ 7 ∷ []) ∷ (1 ∷ 42 ∷ 7 ∷ []) ∷ []
+pub example-3-picks-run : map (λ x. fileFigures file3AllPicks (x ∷ 6 ∷ 7 ∷ [])) (0 ∷ 1 ∷ []) ≡ (0 ∷ 49 ∷ 7 ∷ []) ∷ (1 ∷ 42 ∷ 7 ∷ []) ∷ []
 unfolding number bytesOf operationOf codeOf resultOf recordAt sizeAt fileRecords fileOutputs wireKind wireFigure fileFigures
-example-3-run = refl
+example-3-picks-run = refl
 
--- the same circuit in version 00 01, as it was written before C-17: 76 bytes
+-- that circuit in version 00 01, as it was written before C-17: 76 bytes
 abbrev pub file3InOne : List ℕ
 file3InOne =
     0x43 ∷ 0x49 ∷ 0x52 ∷ 0x00 ∷ 0x01 ∷ 0x03 ∷ 0x00 ∷ 0x09
@@ -75,7 +104,7 @@ unfolding number bytesOf operationOf codeOf recordAt sizeAt fileRecords fileOutp
 example-3-one-row = refl
 
 -- the same records and outputs are read from both
-pub example-3-same : (fileRecords file3 ≡ fileRecords file3InOne) × (fileOutputs file3 ≡ fileOutputs file3InOne)
+pub example-3-same : (fileRecords file3AllPicks ≡ fileRecords file3InOne) × (fileOutputs file3AllPicks ≡ fileOutputs file3InOne)
 unfolding number bytesOf operationOf codeOf recordAt sizeAt fileRecords fileOutputs
 example-3-same = (refl, refl)
 

@@ -1,0 +1,113 @@
+-- Laws of document 02, C-18, on an accepted plan: when members have one wire at a place, what stands where a group has no guards and what its wire holds, and that a joined
+-- gate still comes after the conditions that it rests on. Assumes nothing.
+use Prim.Native.Nat.{ℕ, _+_, _≤_, _<_}
+use mathlib.Core.Path.{_≡_, refl, sym, ap, ap₂, _∙_}
+use mathlib.Core.Bool.{true}
+use mathlib.Core.List.{List, [], _∷_, _++_, map, map-map}
+use mathlib.Core.Logic.{_↔_}
+use native.Mathlib.Omega.{arith}
+use lib.ListN.{length, getD, length-map}
+use Rattle.words.specs.Lists.{_∈_}
+use Rattle.words.specs.MemberLaws.{in-map, map-in, getD-in}
+use Rattle.codes.specs.Results.{resultOn}
+use Rattle.records.specs.Records.{Record, operation, recordIn, recordFigure}
+use Rattle.records.specs.RecordLaws.{wires-right}
+use Rattle.records.specs.WireKinds.{wireKind}
+use Rattle.records.specs.WireFigures.{pickSum, wireFigure}
+use Rattle.gates.specs.Gates.{gateAt, arguments}
+use Rattle.gates.specs.PlainCircuit.{gatesOf, gateCount}
+use Rattle.needed.specs.Pass.{rulePreconditions}
+use Rattle.plan.specs.PlanFile.{groupsIn}
+use Rattle.plan.specs.Groups.{groupOf, restsOf}
+use Rattle.plan.specs.GroupLaws.{member-of}
+use Rattle.plan.specs.ReadsLaws.{waits-rests}
+use Rattle.plan.specs.Rows.{planAnswer}
+use Rattle.fused.specs.Emission.{gateOperation, oneWire}
+use Rattle.fused.specs.FusedCircuit.{recordsOf, wireOf}
+use Rattle.fused.specs.PlaceLaws.{one-wire-each, one-wire}
+use Rattle.fused.specs.PlannedLaws.{planned-two, planned-earlier, planned-wire}
+use Rattle.fused.specs.GroupStands.{Stands, stands-as, waited-earlier}
+use Rattle.fused.specs.JoinedShapes.{joinedWith, guardsWith, wiresAt, none-picked, joined-stands}
+
+-- the record behind some others
+record-behind : (before : List Record) (r : Record) (after : List Record) → recordIn (before ++ (r ∷ after)) (length before) ≡ r
+record-behind [] r after = refl
+record-behind (b ∷ before) r after = record-behind before r after
+
+in-some : (l : List ℕ) (a : ℕ) → a ∈ l → 0 < length l
+in-some [] a m = absurd m
+in-some (b ∷ l) a m = omega arith
+
+-- the first numbers of a list of two are the list
+two-of : (l : List ℕ) → length l ≡ 2 → getD l 0 0 ∷ getD l 1 0 ∷ [] ≡ l
+two-of [] e = absurd (omega (arith, e))
+two-of (a ∷ []) e = absurd (omega (arith, e))
+two-of (a ∷ b ∷ []) e = refl
+two-of (a ∷ b ∷ c ∷ l) e = absurd (omega (arith, e))
+
+-- argument k of gate m of a rule
+abbrev pub argument : List ℕ → ℕ → ℕ → ℕ
+argument s m k = getD (arguments (gateAt (gatesOf s) m)) k 0
+
+module _ (s p : List ℕ) where
+  -- the gates joined with m have one wire at place k exactly when each has m's
+  pub one-wire-right : (m k : ℕ) → m < gateCount s → (oneWire (wiresAt s p m k) ≡ true) ↔ ((j : ℕ) → j ∈ joinedWith s p m → wireOf s p (argument s j k) ≡ wireOf s p (argument s m k))
+  one-wire-right m k l = (λ t j i. each t j i ∙ sym (each t m own), λ h. one-wire (wiresAt s p m k) some (λ w i. gives h w i ∙ sym (gives h (getD (wiresAt s p m k) 0 0) (getD-in (wiresAt s p m k) 0 some))))
+    where
+      own : m ∈ joinedWith s p m
+      own = member-of (gateCount s) (groupOf (groupsIn p)) m (groupOf (groupsIn p) m) l refl
+
+      some : 0 < length (wiresAt s p m k)
+      some = rw (length-map (joinedWith s p m) (λ j. wireOf s p (argument s j k))) (in-some (joinedWith s p m) m own)
+
+      each : oneWire (wiresAt s p m k) ≡ true → (j : ℕ) → j ∈ joinedWith s p m → wireOf s p (argument s j k) ≡ getD (wiresAt s p m k) 0 0
+      each t j i = one-wire-each (wiresAt s p m k) t (wireOf s p (argument s j k)) (in-map (λ j. wireOf s p (argument s j k)) j (joinedWith s p m) i)
+
+      gives : ((j : ℕ) → j ∈ joinedWith s p m → wireOf s p (argument s j k) ≡ wireOf s p (argument s m k)) → (w : ℕ) → w ∈ wiresAt s p m k → w ≡ wireOf s p (argument s m k)
+      gives h w i = let r = map-in (λ j. wireOf s p (argument s j k)) w (joinedWith s p m) i in r .2 ∙ h (r .0) (r .1)
+
+  module _ (h : planAnswer s p .number ≡ 0) where
+    module _ (m : ℕ) (l : m < gateCount s) (two : 2 ≤ length (joinedWith s p m)) where
+      -- a group without a pick is its operation on the wires that all members have
+      module _ (first : oneWire (wiresAt s p m 0) ≡ true) (second : oneWire (wiresAt s p m 1) ≡ true) where
+        own : m ∈ joinedWith s p m
+        own = member-of (gateCount s) (groupOf (groupsIn p)) m (groupOf (groupsIn p) m) l refl
+
+        wire-of : (k : ℕ) → oneWire (wiresAt s p m k) ≡ true → getD (wiresAt s p m k) 0 0 ≡ wireOf s p (argument s m k)
+        wire-of k t = sym (one-wire-each (wiresAt s p m k) t (wireOf s p (argument s m k)) (in-map (λ j. wireOf s p (argument s j k)) m (joinedWith s p m) own))
+
+        reads : getD (wiresAt s p m 0) 0 0 ∷ getD (wiresAt s p m 1) 0 0 ∷ [] ≡ map (wireOf s p) (arguments (gateAt (gatesOf s) m))
+        reads =
+            ap₂ (λ (a b : ℕ). a ∷ b ∷ []) (wire-of 0 first) (wire-of 1 second)
+            ∙ ap (map (wireOf s p)) (two-of (arguments (gateAt (gatesOf s) m)) (planned-two s p h (groupOf (groupsIn p) m) two m own))
+
+        pub unpicked-stands : Stands (recordsOf s p) (wireOf s p m)
+            (λ _. operation (gateOperation (gateAt (gatesOf s) m)) (map (wireOf s p) (arguments (gateAt (gatesOf s) m))) ∷ [])
+        unpicked-stands =
+            stands-as (recordsOf s p) (wireOf s p m) _ _
+            (λ n. none-picked n (gateOperation (gateAt (gatesOf s) m)) (guardsWith s p m) (wiresAt s p m 0) (wiresAt s p m 1) first second
+            ∙ ap (λ (r : List ℕ). operation (gateOperation (gateAt (gatesOf s) m)) r ∷ []) reads)
+            (joined-stands s p h m l two)
+
+        pub unpicked-record : recordIn (recordsOf s p) (wireOf s p m) ≡ operation (gateOperation (gateAt (gatesOf s) m)) (map (wireOf s p) (arguments (gateAt (gatesOf s) m)))
+        unpicked-record =
+            let g = unpicked-stands in
+            let r : Record = operation (gateOperation (gateAt (gatesOf s) m)) (map (wireOf s p) (arguments (gateAt (gatesOf s) m))) in
+            let w : wireOf s p m ≡ length (g .before) = g .last ∙ omega arith in
+            ap₂ (λ (R : List Record) (i : ℕ). recordIn R i) (g .together) w ∙ record-behind (g .before) r (g .after)
+
+        -- its wire holds what its argument wires give, whatever the inputs and whether a member is needed or not
+        pub unpicked-figure : (inputs : List ℕ)
+            → wireFigure inputs (recordsOf s p) (wireOf s p m)
+            ≡ resultOn (gateOperation (gateAt (gatesOf s) m)) (map (λ a. wireFigure inputs (recordsOf s p) (wireOf s p a)) (arguments (gateAt (gatesOf s) m)))
+        unpicked-figure inputs =
+            wires-right inputs (recordsOf s p) (planned-earlier s p h) (wireOf s p m) (planned-wire s p h m l)
+            ∙ ap (recordFigure inputs (pickSum (wireKind (recordsOf s p))) (wireFigure inputs (recordsOf s p))) unpicked-record
+            ∙ ap (resultOn (gateOperation (gateAt (gatesOf s) m))) (map-map (wireFigure inputs (recordsOf s p)) (wireOf s p) (arguments (gateAt (gatesOf s) m)))
+
+      -- with or without guards, it comes after the conditions that a member rests on
+      pub condition-earlier : (c : ℕ) → c ∈ restsOf (gatesOf s) (rulePreconditions s) m → wireOf s p c < wireOf s p m
+      condition-earlier c k =
+          waited-earlier s p h m c l
+          (waits-rests (gatesOf s) (rulePreconditions s) (groupOf (groupsIn p)) (groupOf (groupsIn p) m) m c
+          (member-of (gateCount s) (groupOf (groupsIn p)) m (groupOf (groupsIn p) m) l refl) two k)
