@@ -1,45 +1,33 @@
--- Laws of a joined group: its records as the code writes them, and what the code asks follows from what its caller shows. Assumes nothing.
-use Prim.Native.Nat.{ℕ, suc, _+_, _*_, _≤_, _<_}
+-- Laws of a joined group: its records, by the decision which picks it has, are those that the definition gives. Assumes nothing.
+use Prim.Native.Nat.{ℕ, zero, suc, _+_, _*_, _≤_, _<_}
 use mathlib.Core.Path.{_≡_, refl, sym, ap, ap₂, _∙_}
-use mathlib.Core.List.{List, [], _∷_, _++_, map, append-assoc, append-nil, map-map}
+use mathlib.Core.Bool.{Bool, cond, not, _||_}
+use mathlib.Core.List.{List, [], _∷_, _++_, map, map-map}
 use mathlib.Core.Logic.{_⊎_, inl, inr}
+use native.Mathlib.Nat.{add-zero}
+use native.Mathlib.Numerals.{add-one}
 use native.Mathlib.Omega.{arith}
 use lib.ListN.{length, getD, length-map}
-use Rattle.words.specs.Lists.{_∈_, from, upto, Inside}
+use Rattle.words.specs.Lists.{_∈_, upto, Inside}
 use Rattle.words.specs.ListLaws.{map-same}
+use Rattle.words.specs.TestLaws.{split}
 use Rattle.settings.specs.Sets.{rests}
 use Rattle.settings.specs.Guards.{table}
 use Rattle.codes.specs.Codes.{entryOf, operationOf}
 use Rattle.codes.specs.declared.Operation.{Operation}
-use Rattle.codes.specs.CodeLaws.{one-or-two, byte-back}
+use Rattle.codes.specs.CodeLaws.{one-or-two}
 use Rattle.gates.specs.Gates.{Gate, start, word, bit, operation, choice, gateAt, arguments, conditions}
 use Rattle.gates.specs.Limits.{mostConditions}
 use Rattle.needed.specs.Held.{Applies, gateIn, gatesIn, codeAt, firstAt, secondAt, thirdAt}
 use Rattle.needed.specs.HeldLaws.{gates-at}
 use Rattle.needed.specs.QuadLaws.{KindIn, chooses, is-word, is-bit, applies, starts, kind-in, choice-in, word-in, bit-in, applied-in}
-use Rattle.plan.specs.PlanFile.{groupAt}
 use Rattle.plan.specs.RestLaws.{rests-held}
-use Rattle.records.specs.Versions.{writtenVersion}
 use Rattle.records.specs.Records.{Record, pick}
 use Rattle.records.specs.Records as records
 use Rattle.fused.specs.Emission as emission
-use Rattle.records.specs.CircuitFile.{wiresBytes, recordBytes, recordsBytes}
-use Rattle.records.specs.SizeLaws.{bytes-append}
-use Rattle.joining.specs.Joined.{emitIn, guardIn, guardsIn, argumentAt, pairsIn, Paired}
-
--- the bytes of the two picks, and with the operation behind them: it reads the two picks, whose wires follow those of the k guards
-abbrev pub picksBytes : List ℕ → (ℕ → ℕ) → ℕ → List ℕ → List ℕ
-picksBytes quads wire n ms = recordBytes writtenVersion (pick (pairsIn quads wire n 0 ms)) ++ recordBytes writtenVersion (pick (pairsIn quads wire n 1 ms))
-
-abbrev pub fusedBytes : List ℕ → (ℕ → ℕ) → ℕ → ℕ → List ℕ → List ℕ
-fusedBytes quads wire n k ms = picksBytes quads wire n ms ++ (codeAt quads (getD ms 0 0) ∷ wiresBytes ((n + k) ∷ (n + k + 1) ∷ []))
-
--- what writing the picks and the operation asks
-pub record Fusing (quads p group : List ℕ) (at : ℕ) : Type 0 where
-  pub zero-paired : Paired quads p group 0 at
-  pub one-paired : Paired quads p group 1 at
-  pub some : 0 < getD p at 0
-  pub coded : Applies (codeAt quads (getD (groupAt p at) 0 0))
+use Rattle.joining.specs.Joined.{emitIn, guardIn, guardsIn, argumentAt, valuesIn}
+use Rattle.joining.specs.Decisions.{Decided, joinedIn}
+use Rattle.joining.specs.declared.Picks.{Picks}
 
 -- A gate of two arguments is an operation, and they are its first and second number.
 
@@ -71,6 +59,23 @@ module _ (quads : List ℕ) (m : ℕ) (two : length (arguments (gateIn quads m))
       let f : 4 * m + 2 ≡ 4 * m + 1 + 1 = omega arith in
       ap arguments two-gate ∙ ap₂ (λ (i j : ℕ). getD quads i 0 ∷ getD quads j 0 ∷ []) e f
 
+two-at : (f : ℕ → ℕ) (k : ℕ) → k < 2 → getD (f 0 ∷ f 1 ∷ []) k 0 ≡ f k
+two-at f zero h = refl
+two-at f (suc zero) h = refl
+two-at f (suc (suc k)) h = absurd (omega arith)
+
+-- A joined group by the decision which of its two places have a pick.
+
+joined-decided : (n : ℕ) (op : Operation) (guards : List Record) (size : ℕ) → length guards ≡ size → (a b : List ℕ) (p q : Bool)
+    → p ≡ not (emission.oneWire a) → q ≡ not (emission.oneWire b)
+    → emission.joined n op guards (a ∷ b ∷ [])
+    ≡ cond (p || q) guards []
+    ++ ((cond p (pick (emission.pairs n a) ∷ []) [] ++ cond q (pick (emission.pairs n b) ∷ []) [])
+    ++ (records.operation op (cond p (n + size) (getD a 0 0) ∷ cond q (n + size + cond p 1 0) (getD b 0 0) ∷ []) ∷ []))
+joined-decided n op guards size e a b p q ep eq =
+    split (emission.oneWire a) (λ x. split (emission.oneWire b) (λ y. rw (ep, eq, x, y)) (λ y. rw (ep, eq, x, y, e, add-zero (n + size))))
+    (λ x. split (emission.oneWire b) (λ y. rw (ep, eq, x, y, e)) (λ y. rw (ep, eq, x, y, e, add-one (n + size))))
+
 -- The records of a joined group.
 
 module _ (quads : List ℕ) (count : ℕ) (sets conds : List ℕ) (wire : ℕ → ℕ) (n : ℕ) where
@@ -84,24 +89,15 @@ module _ (quads : List ℕ) (count : ℕ) (sets conds : List ℕ) (wire : ℕ �
     args-at : (m : ℕ) → m ∈ ms → arguments (gateAt (gatesIn quads count) m) ≡ argumentAt quads m 0 ∷ argumentAt quads m 1 ∷ []
     args-at m i = ap arguments (gates-at quads count m (below m i)) ∙ two-arguments quads m (two m i)
 
-    values-zero : emission.valuesAt [] (gatesIn quads count) sets wire ms 0 ≡ map (λ m. wire (argumentAt quads m 0)) ms
-    values-zero = map-same _ (λ m. wire (argumentAt quads m 0)) ms (λ m i. ap (λ (l : List ℕ). wire (getD l 0 0)) (args-at m i))
+    values-at : (k : ℕ) → k < 2 → emission.valuesAt [] (gatesIn quads count) sets wire ms k ≡ valuesIn quads wire k ms
+    values-at k l = map-same _ (λ m. wire (argumentAt quads m k)) ms (λ m i. ap (λ (l : List ℕ). wire (getD l k 0)) (args-at m i) ∙ ap wire (two-at (argumentAt quads m) k l))
 
-    values-one : emission.valuesAt [] (gatesIn quads count) sets wire ms 1 ≡ map (λ m. wire (argumentAt quads m 1)) ms
-    values-one = map-same _ (λ m. wire (argumentAt quads m 1)) ms (λ m i. ap (λ (l : List ℕ). wire (getD l 1 0)) (args-at m i))
-
-  -- guards, two picks, the operation
-  abbrev pub joinedIn : List ℕ → List Record
-  joinedIn ms =
-      guardsIn conds wire sets ms
-      ++ (pick (pairsIn quads wire n 0 ms) ∷ pick (pairsIn quads wire n 1 ms) ∷ records.operation (operationOf (codeAt quads (getD ms 0 0)))
-      ((n + length ms) ∷ suc (n + length ms) ∷ []) ∷ [])
-
-  pub emit-joined : (ms : List ℕ) → 2 ≤ length ms → Inside count ms → ((m : ℕ) → m ∈ ms → length (arguments (gateIn quads m)) ≡ 2)
-      → ((t : ℕ) → t < mostConditions → getD conds t 0 ≡ getD (conditions (gatesIn quads count)) t 0) → emitIn quads count sets wire n ms ≡ joinedIn ms
-  emit-joined [] h below two held = absurd (omega arith)
-  emit-joined (m ∷ []) h below two held = absurd (omega arith)
-  emit-joined (m ∷ k ∷ l) h below two held =
+  pub emit-joined : (ms : List ℕ) (picks : Picks) → Decided quads wire ms picks → 2 ≤ length ms → Inside count ms
+      → ((m : ℕ) → m ∈ ms → length (arguments (gateIn quads m)) ≡ 2)
+      → ((t : ℕ) → t < mostConditions → getD conds t 0 ≡ getD (conditions (gatesIn quads count)) t 0) → emitIn quads count sets wire n ms ≡ joinedIn quads sets conds wire n ms picks
+  emit-joined [] picks d h below two held = absurd (omega arith)
+  emit-joined (m ∷ []) picks d h below two held = absurd (omega arith)
+  emit-joined (m ∷ k ∷ l) picks d h below two held =
       let ms : List ℕ = m ∷ k ∷ l in
       let g : gateAt (gatesIn quads count) m ≡ operation (operationOf (codeAt quads m)) (firstAt quads m ∷ secondAt quads m ∷ []) = gates-at quads count m
       (below m (inl refl)) ∙ two-gate quads m (two m (inl refl)) in
@@ -109,28 +105,11 @@ module _ (quads : List ℕ) (count : ℕ) (sets conds : List ℕ) (wire : ℕ �
       let size : length (arguments (gateAt (gatesIn quads count) m)) ≡ 2 = ap (λ (i : Gate). length (arguments i)) g in
       let guards : map (emission.guardOf [] (gatesIn quads count) sets wire) ms ≡ guardsIn conds wire sets ms = map-same _ (λ m. guardIn conds wire (getD sets m 0)) ms
       (λ m i. guard-same held m) in
-      let places : map (emission.valuesAt [] (gatesIn quads count) sets wire ms) (upto (length (arguments (gateAt (gatesIn quads count) m)))) ≡ map
-      (λ m. wire (argumentAt quads m 0)) ms ∷ map (λ m. wire (argumentAt quads m 1)) ms ∷ [] =
-      ap (λ (i : ℕ). map (emission.valuesAt [] (gatesIn quads count) sets wire ms) (upto i)) size ∙ ap₂ (λ (a b : List ℕ). a ∷ b ∷ []) (values-zero ms below two)
-      (values-one ms below two) in
+      let places : map (emission.valuesAt [] (gatesIn quads count) sets wire ms) (upto (length (arguments (gateAt (gatesIn quads count) m)))) ≡ valuesIn quads wire 0 ms ∷ valuesIn quads wire 1 ms ∷ [] =
+      ap (λ (i : ℕ). map (emission.valuesAt [] (gatesIn quads count) sets wire ms) (upto i)) size ∙ ap₂ (λ (a b : List ℕ). a ∷ b ∷ []) (values-at ms below two 0 (omega arith))
+      (values-at ms below two 1 (omega arith)) in
       ap (λ (o : Operation). emission.joined n o (map (emission.guardOf [] (gatesIn quads count) sets wire) ms)
       (map (emission.valuesAt [] (gatesIn quads count) sets wire ms) (upto (length (arguments (gateAt (gatesIn quads count) m)))))) op
       ∙ ap₂ (λ (gs : List Record) (pl : List (List ℕ)). emission.joined n (operationOf (codeAt quads m)) gs pl) guards places
-      ∙ ap (λ (i : ℕ). guardsIn conds wire sets ms ++
-      (pick (pairsIn quads wire n 0 ms) ∷ pick (pairsIn quads wire n 1 ms) ∷ records.operation (operationOf (codeAt quads m)) (from (n + i) 2) ∷ []))
-      (length-map ms (λ m. guardIn conds wire (getD sets m 0)))
-
-  -- its bytes: those of the guards, and what is behind them
-  pub joined-bytes : (ms : List ℕ) → Applies (codeAt quads (getD ms 0 0)) → recordsBytes writtenVersion (joinedIn ms) ≡ recordsBytes writtenVersion
-      (guardsIn conds wire sets ms) ++ fusedBytes quads wire n (length ms) ms
-  joined-bytes ms h =
-      let p : List ℕ = recordBytes writtenVersion (pick (pairsIn quads wire n 0 ms)) in
-      let q : List ℕ = recordBytes writtenVersion (pick (pairsIn quads wire n 1 ms)) in
-      let more : suc (n + length ms) ≡ n + length ms + 1 = omega arith in
-      let o : recordBytes writtenVersion (records.operation (operationOf (codeAt quads (getD ms 0 0))) ((n + length ms) ∷ suc (n + length ms) ∷ [])) ≡ codeAt quads
-      (getD ms 0 0) ∷ wiresBytes ((n + length ms) ∷ (n + length ms + 1) ∷ []) =
-      ap₂ (λ (b i : ℕ). b ∷ wiresBytes ((n + length ms) ∷ i ∷ [])) (byte-back (codeAt quads (getD ms 0 0)) (h .0) (h .1)) more in
-      bytes-append writtenVersion (guardsIn conds wire sets ms) _
-      ∙ ap (λ (r : List ℕ). recordsBytes writtenVersion (guardsIn conds wire sets ms) ++ r)
-      (ap (λ (r : List ℕ). p ++ (q ++ r)) (append-nil _ ∙ o) ∙ sym
-      (append-assoc p q (codeAt quads (getD ms 0 0) ∷ wiresBytes ((n + length ms) ∷ (n + length ms + 1) ∷ []))))
+      ∙ joined-decided n (operationOf (codeAt quads m)) (guardsIn conds wire sets ms) (length ms) (length-map ms (λ m. guardIn conds wire (getD sets m 0))) (valuesIn quads wire 0 ms) (valuesIn quads wire 1 ms)
+      (picks .first) (picks .second) (d .at-first) (d .at-second)

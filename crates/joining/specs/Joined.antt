@@ -8,7 +8,7 @@ use Rattle.settings.specs.Sets.{rests}
 use Rattle.settings.specs.Guards.{table}
 use Rattle.gates.specs.Gates.{arguments, conditions}
 use Rattle.gates.specs.Limits.{mostGates, mostConditions}
-use Rattle.needed.specs.Held.{gateIn, gatesIn}
+use Rattle.needed.specs.Held.{Applies, gateIn, gatesIn, codeAt}
 use Rattle.plan.specs.PlanFile.{groupAt, after}
 use Rattle.records.specs.Records.{Pair, Record, guard}
 use Rattle.fused.specs.Emission.{emit, pairs}
@@ -32,9 +32,13 @@ guardsIn conds wire sets ms = map (λ m. guardIn conds wire (getD sets m 0)) ms
 abbrev pub argumentAt : List ℕ → ℕ → ℕ → ℕ
 argumentAt quads g k = getD quads (4 * g + 1 + k) 0
 
+-- the members' wires at argument place k
+abbrev pub valuesIn : List ℕ → (ℕ → ℕ) → ℕ → List ℕ → List ℕ
+valuesIn quads wire k ms = map (λ m. wire (argumentAt quads m k)) ms
+
 -- the pairs of the pick for argument place k: the guards are the wires from n on
 abbrev pub pairsIn : List ℕ → (ℕ → ℕ) → ℕ → ℕ → List ℕ → List Pair
-pairsIn quads wire n k ms = pairs n (map (λ m. wire (argumentAt quads m k)) ms)
+pairsIn quads wire n k ms = pairs n (valuesIn quads wire k ms)
 
 -- What the code asks of the arrays.
 
@@ -43,11 +47,12 @@ pub record Lies (p : List ℕ) (at : ℕ) : Type 0 where
   pub within : after p at ≤ length p
   pub inside : Inside mostGates (groupAt p at)
 
--- it can be measured: it has two or more members, each a gate of two arguments
-pub record Joinable (quads p : List ℕ) (at : ℕ) : Type 0 where
+-- it can be measured: it has two or more members, each a gate of two arguments, which have wires
+pub record Joinable (quads p group : List ℕ) (at : ℕ) : Type 0 where
   pub lies : Lies p at
   pub many : 2 ≤ getD p at 0
   pub two : (m : ℕ) → m ∈ groupAt p at → length (arguments (gateIn quads m)) ≡ 2
+  pub placed : (m a : ℕ) → m ∈ groupAt p at → a ∈ arguments (gateIn quads m) → Grouped group a
 
 -- the guards over the conditions conds can be written
 pub record Guarded (conds group : List ℕ) : Type 0 where
@@ -59,10 +64,16 @@ pub record Paired (quads p group : List ℕ) (k at : ℕ) : Type 0 where
   pub few : k < 2
   pub placed : (m : ℕ) → m ∈ groupAt p at → Grouped group (argumentAt quads m k)
 
+-- its picks and its operation can be written
+pub record Fusing (quads p group : List ℕ) (at : ℕ) : Type 0 where
+  pub zero-paired : Paired quads p group 0 at
+  pub one-paired : Paired quads p group 1 at
+  pub some : 0 < getD p at 0
+  pub coded : Applies (codeAt quads (getD (groupAt p at) 0 0))
+
 -- the group at the place at of the plan p can be written; conds: condition t's gate at place t
 pub record JoinWritable (quads p conds group : List ℕ) (count at : ℕ) : Type 0 where
-  pub joinable : Joinable quads p at
+  pub joinable : Joinable quads p group at
   pub below : Inside count (groupAt p at)
-  pub placed : (m a : ℕ) → m ∈ groupAt p at → a ∈ arguments (gateIn quads m) → Grouped group a
   pub conditioned : (t : ℕ) → t < mostConditions → getD conds t 0 ≡ getD (conditions (gatesIn quads count)) t 0
   pub guarded : Guarded conds group

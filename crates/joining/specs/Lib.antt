@@ -1,7 +1,11 @@
 pub mod Joined
+pub mod Decisions
 pub mod PieceLaws
 pub mod GuardLaws
 pub mod LoopLaws
+pub mod AgreeLaws
+pub mod BehindLaws
+pub mod PartLaws
 pub mod JoinLaws
 pub mod JoinedLaws
 pub mod EmitLaws

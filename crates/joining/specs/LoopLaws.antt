@@ -72,6 +72,11 @@ pub member-placed : (quads p group : List ℕ) (k at i g : ℕ) → Paired quads
     (argumentAt quads g k)
 member-placed quads p group k at i g h e l = rw e (h .placed (getD (groupAt p at) i 0) (member-in p at i l))
 
+-- argument k of member i stands in the quads
+pub member-argument : (quads p group : List ℕ) (k at i g : ℕ) → Paired quads p group k at → g ≡ getD (groupAt p at) i 0 → i < getD p at 0
+    → (4 * g + 1 + k < 4 * mostGates) × Grouped group (argumentAt quads g k)
+member-argument quads p group k at i g h e l = (omega (arith, member-inside p at i g (h .lies) e l, h .few), member-placed quads p group k at i g h e l)
+
 -- The guards of a group: piece i is that of member i.
 
 abbrev pub guardPiece : List ℕ → (ℕ → ℕ) → List ℕ → List ℕ → ℕ → List ℕ

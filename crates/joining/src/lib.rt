@@ -1,5 +1,5 @@
 // Document 01, "The fused circuit file": the records of a joined group, written at the start of a lent buffer: a guard for each member, a pick for each argument place,
-// the operation.
+// the operation. Document 02, C-18: no pick where the members' wires are equal, no guards where no pick remains.
 use gates::GateId;
 use gates::MOST_CONDITIONS;
 use needed::NEED_WORDS;
@@ -7,6 +7,7 @@ use records::WireId;
 use settings::ConditionList;
 use settings::Set;
 ghost use mathlib.Core.Path.{_≡_};
+ghost use mathlib.Core.Bool.{cond};
 ghost use mathlib.Core.List.{_∷_, [], map};
 ghost use Prim.Native.Nat.{_+_, _*_, _<_, _≤_};
 ghost use lib.ListN.{length, getD};
@@ -17,8 +18,10 @@ ghost use Rattle.records.specs.Versions.{writtenVersion};
 ghost use Rattle.records.specs.Records.{pick, pairWires};
 ghost use Rattle.records.specs.CircuitFile.{wiresBytes, recordBytes, recordsBytes};
 ghost use Rattle.emitting.specs.Emitted.{wireIn};
-ghost use Rattle.joining.specs.Joined.{emitIn, guardIn, guardsIn, pairsIn, Lies, Guarded, Paired, JoinWritable};
-ghost use Rattle.joining.specs.JoinLaws.{Fusing, picksBytes, fusedBytes};
+ghost use Rattle.joining.specs.Joined.{emitIn, guardIn, guardsIn, valuesIn, pairsIn, Lies, Guarded, Paired, Joinable, Fusing, JoinWritable};
+ghost use Rattle.joining.specs.Decisions.{Decided, hasPick, countIn, keptIn, placeIn, picksIn, readIn, operationIn, fusedIn};
+ghost use Rattle.fused.specs.Emission.{oneWire};
+ghost use Rattle.records.specs.Limits.{mostWires};
 ghost use Rattle.settings.specs.Held.{setsIn, setOf};
 
 // The codes of the records that stand for no gate.
@@ -124,7 +127,7 @@ fn put_pairs(
     group: &[u16; 256],
     wires: &[u16; 256],
 )
-    requires { ⌜ (4 * getD (now plan) at 0 ≤ length (now out)) × (Paired (now quads) (now plan) (now group) k at × (first .0 + getD (now plan) at 0 < 65536)) ⌝ }
+    requires { ⌜ (4 * getD (now plan) at 0 ≤ length (now out)) × (Paired (now quads) (now plan) (now group) k at × (first .0 ≤ mostWires)) ⌝ }
     ensures { λ r. ⌜ now (out .exit) ≡ over (wiresBytes (pairWires (pairsIn (now (quads .entry)) (wireIn (now (group .entry)) (now (wires .entry))) (first .0) k (groupAt (now (plan .entry)) at)))) (now (out .entry)) ⌝ }
 {
     let size = plan[at] as usize;
@@ -151,13 +154,138 @@ fn put_pick(
     group: &[u16; 256],
     wires: &[u16; 256],
 ) -> usize
-    requires { ⌜ (2 + 4 * getD (now plan) at 0 ≤ length (now out)) × (Paired (now quads) (now plan) (now group) k at × (first .0 + getD (now plan) at 0 < 65536)) ⌝ }
+    requires { ⌜ (2 + 4 * getD (now plan) at 0 ≤ length (now out)) × (Paired (now quads) (now plan) (now group) k at × (first .0 ≤ mostWires)) ⌝ }
     ensures counted { λ r. ⌜ r ≡ 2 + 4 * getD (now (plan .entry)) at 0 ⌝ }
     ensures written { λ r. ⌜ now (out .exit) ≡ over (recordBytes writtenVersion (pick (pairsIn (now (quads .entry)) (wireIn (now (group .entry)) (now (wires .entry))) (first .0) k (groupAt (now (plan .entry)) at)))) (now (out .entry)) ⌝ }
 {
     emitting::put_short(out, PICK, plan[at]);
     put_pairs(&mut out[2..], plan, at, first, quads, k, group, wires);
     2 + 4 * (plan[at] as usize)
+}
+
+// Which of the two argument places of a joined group have a pick: those at which its members' wires differ.
+pub struct Picks {
+    pub first: bool,
+    pub second: bool,
+}
+
+// Whether all members of a joined group have the same wire at argument place k: each is compared with the first.
+fn one_wire(
+    plan: &[u8],
+    at: usize,
+    quads: &[u32; 1024],
+    k: usize,
+    group: &[u16; 256],
+    wires: &[u16; 256],
+) -> bool
+    requires { ⌜ Paired (now quads) (now plan) (now group) k at × (0 < getD (now plan) at 0) ⌝ }
+    ensures { λ r. ⌜ r ≡ oneWire (valuesIn (now (quads .entry)) (wireIn (now (group .entry)) (now (wires .entry))) k (groupAt (now (plan .entry)) at)) ⌝ }
+{
+    let size = plan[at] as usize;
+    let m = plan::member(plan, at, 0);
+    let first = needed::argument(quads, 4 * (m.0 as usize) + 1 + k);
+    let common = emitting::wire_of(group, wires, first);
+    let mut i: usize = 1;
+    while i < size {
+        let g = plan::member(plan, at, i);
+        let a = needed::argument(quads, 4 * (g.0 as usize) + 1 + k);
+        let w = emitting::wire_of(group, wires, a);
+        if w.0 != common.0 {
+            return false;
+        }
+        i = i + 1;
+    }
+    true
+}
+
+// The one decision which picks a joined group has: measuring and writing both go by it.
+pub fn picks_of(
+    plan: &[u8],
+    at: usize,
+    quads: &[u32; 1024],
+    group: &[u16; 256],
+    wires: &[u16; 256],
+) -> Picks
+    requires { ⌜ Joinable (now quads) (now plan) (now group) at ⌝ }
+    ensures { λ r. ⌜ Decided (now (quads .entry)) (wireIn (now (group .entry)) (now (wires .entry))) (groupAt (now (plan .entry)) at) r ⌝ }
+{
+    let first = one_wire(plan, at, quads, 0, group, wires);
+    let second = one_wire(plan, at, quads, 1, group, wires);
+    Picks {
+        first: !first,
+        second: !second,
+    }
+}
+
+// Whether a joined group has a pick, and so guards.
+pub fn has_pick(picks: Picks) -> bool
+    ensures { λ r. ⌜ r ≡ hasPick picks ⌝ }
+{
+    picks.first || picks.second
+}
+
+// How many picks an argument place has.
+fn picks_at(picked: bool) -> u16
+    ensures { λ r. ⌜ r ≡ cond picked 1 0 ⌝ }
+{
+    if picked { 1 } else { 0 }
+}
+
+// How many records a joined group has: the operation, its picks, and a guard for each member where it has a pick.
+pub fn records_in(plan: &[u8], at: usize, picks: Picks) -> u16
+    requires { ⌜ at < length (now plan) ⌝ }
+    ensures { λ r. ⌜ r ≡ countIn (getD (now (plan .entry)) at 0) picks ⌝ }
+{
+    let picked = picks_at(picks.first) + picks_at(picks.second);
+    if has_pick(picks) {
+        return (plan[at] as u16) + picked + 1;
+    }
+    picked + 1
+}
+
+// The guards of a joined group, or nothing where it has no pick to read them; gives their bytes.
+fn put_kept(
+    out: &mut [u8],
+    plan: &[u8],
+    at: usize,
+    needs: &[u64; NEED_WORDS],
+    conditions: &[u16; MOST_CONDITIONS],
+    group: &[u16; 256],
+    wires: &[u16; 256],
+    picks: Picks,
+) -> usize
+    requires { ⌜ (length (recordsBytes writtenVersion (keptIn (now conditions) (wireIn (now group) (now wires)) (setsIn (now needs)) (groupAt (now plan) at) picks)) ≤ length (now out))
+        × (Lies (now plan) at × Guarded (now conditions) (now group)) ⌝ }
+    ensures counted { λ r. ⌜ r ≡ length (recordsBytes writtenVersion (keptIn (now (conditions .entry)) (wireIn (now (group .entry)) (now (wires .entry))) (setsIn (now (needs .entry))) (groupAt (now (plan .entry)) at) picks)) ⌝ }
+    ensures written { λ r. ⌜ now (out .exit) ≡ over (recordsBytes writtenVersion (keptIn (now (conditions .entry)) (wireIn (now (group .entry)) (now (wires .entry))) (setsIn (now (needs .entry))) (groupAt (now (plan .entry)) at) picks)) (now (out .entry)) ⌝ }
+{
+    if has_pick(picks) {
+        return put_guards(out, plan, at, needs, conditions, group, wires);
+    }
+    0
+}
+
+// The pick for argument place k of a joined group, or nothing where it has none; gives its bytes.
+fn put_place(
+    out: &mut [u8],
+    plan: &[u8],
+    at: usize,
+    first: WireId,
+    quads: &[u32; 1024],
+    k: usize,
+    group: &[u16; 256],
+    wires: &[u16; 256],
+    picked: bool,
+) -> usize
+    requires { ⌜ (length (recordsBytes writtenVersion (placeIn (now quads) (wireIn (now group) (now wires)) (first .0) k (groupAt (now plan) at) picked)) ≤ length (now out))
+        × (Paired (now quads) (now plan) (now group) k at × (first .0 ≤ mostWires)) ⌝ }
+    ensures counted { λ r. ⌜ r ≡ length (recordsBytes writtenVersion (placeIn (now (quads .entry)) (wireIn (now (group .entry)) (now (wires .entry))) (first .0) k (groupAt (now (plan .entry)) at) picked)) ⌝ }
+    ensures written { λ r. ⌜ now (out .exit) ≡ over (recordsBytes writtenVersion (placeIn (now (quads .entry)) (wireIn (now (group .entry)) (now (wires .entry))) (first .0) k (groupAt (now (plan .entry)) at) picked)) (now (out .entry)) ⌝ }
+{
+    if picked {
+        return put_pick(out, plan, at, first, quads, k, group, wires);
+    }
+    0
 }
 
 // The picks of a joined group, the first argument place and then the second; gives their bytes.
@@ -169,16 +297,86 @@ fn put_picks(
     quads: &[u32; 1024],
     group: &[u16; 256],
     wires: &[u16; 256],
+    picks: Picks,
 ) -> usize
-    requires { ⌜ (4 + 8 * getD (now plan) at 0 ≤ length (now out)) × (Fusing (now quads) (now plan) (now group) at × (first .0 + getD (now plan) at 0 < 65536)) ⌝ }
-    ensures counted { λ r. ⌜ r ≡ 4 + 8 * getD (now (plan .entry)) at 0 ⌝ }
-    ensures written { λ r. ⌜ now (out .exit) ≡ over (picksBytes (now (quads .entry)) (wireIn (now (group .entry)) (now (wires .entry))) (first .0) (groupAt (now (plan .entry)) at)) (now (out .entry)) ⌝ }
+    requires { ⌜ (length (recordsBytes writtenVersion (picksIn (now quads) (wireIn (now group) (now wires)) (first .0) (groupAt (now plan) at) picks)) ≤ length (now out))
+        × (Fusing (now quads) (now plan) (now group) at × (first .0 ≤ mostWires)) ⌝ }
+    ensures counted { λ r. ⌜ r ≡ length (recordsBytes writtenVersion (picksIn (now (quads .entry)) (wireIn (now (group .entry)) (now (wires .entry))) (first .0) (groupAt (now (plan .entry)) at) picks)) ⌝ }
+    ensures written { λ r. ⌜ now (out .exit) ≡ over (recordsBytes writtenVersion (picksIn (now (quads .entry)) (wireIn (now (group .entry)) (now (wires .entry))) (first .0) (groupAt (now (plan .entry)) at) picks)) (now (out .entry)) ⌝ }
 {
-    let n = put_pick(out, plan, at, first, quads, 0, group, wires);
-    n + put_pick(&mut out[n..], plan, at, first, quads, 1, group, wires)
+    let n = put_place(out, plan, at, first, quads, 0, group, wires, picks.first);
+    n
+        + put_place(
+            &mut out[n..],
+            plan,
+            at,
+            first,
+            quads,
+            1,
+            group,
+            wires,
+            picks.second,
+        )
 }
 
-// The picks of a joined group and the operation, whose wire stands for every member: it reads the picks, which follow the guards.
+// What the operation of a joined group reads at argument place k: its pick, which is wire `next`, or the wire that all members have.
+fn argument_wire(
+    picked: bool,
+    next: WireId,
+    plan: &[u8],
+    at: usize,
+    quads: &[u32; 1024],
+    k: usize,
+    group: &[u16; 256],
+    wires: &[u16; 256],
+) -> WireId
+    requires { ⌜ Paired (now quads) (now plan) (now group) k at × (0 < getD (now plan) at 0) ⌝ }
+    ensures { λ r. ⌜ r .0 ≡ readIn (now (quads .entry)) (wireIn (now (group .entry)) (now (wires .entry))) k (groupAt (now (plan .entry)) at) picked (next .0) ⌝ }
+{
+    if picked {
+        return next;
+    }
+    let m = plan::member(plan, at, 0);
+    let g = m.0 as usize;
+    emitting::wire_at(quads, 4 * g + 1 + k, group, wires)
+}
+
+// The operation of a joined group, whose wire stands for every member; the picks follow the guards. Gives its bytes.
+fn put_operation(
+    out: &mut [u8],
+    plan: &[u8],
+    at: usize,
+    first: WireId,
+    quads: &[u32; 1024],
+    group: &[u16; 256],
+    wires: &[u16; 256],
+    picks: Picks,
+) -> usize
+    requires { ⌜ (length (recordsBytes writtenVersion (operationIn (now quads) (wireIn (now group) (now wires)) (first .0) (groupAt (now plan) at) picks ∷ [])) ≤ length (now out))
+        × (Fusing (now quads) (now plan) (now group) at × (first .0 ≤ mostWires)) ⌝ }
+    ensures counted { λ r. ⌜ r ≡ length (recordsBytes writtenVersion (operationIn (now (quads .entry)) (wireIn (now (group .entry)) (now (wires .entry))) (first .0) (groupAt (now (plan .entry)) at) picks ∷ [])) ⌝ }
+    ensures written { λ r. ⌜ now (out .exit) ≡ over (recordsBytes writtenVersion (operationIn (now (quads .entry)) (wireIn (now (group .entry)) (now (wires .entry))) (first .0) (groupAt (now (plan .entry)) at) picks ∷ [])) (now (out .entry)) ⌝ }
+{
+    let m = plan::member(plan, at, 0);
+    let i = m.0 as usize;
+    let next = first.0 + (plan[at] as u16);
+    let a = argument_wire(picks.first, WireId(next), plan, at, quads, 0, group, wires);
+    let after = next + picks_at(picks.first);
+    let b = argument_wire(
+        picks.second,
+        WireId(after),
+        plan,
+        at,
+        quads,
+        1,
+        group,
+        wires,
+    );
+    emitting::put_binary(out, quads[4 * i] as u8, a, b);
+    5
+}
+
+// The picks of a joined group and the operation that reads them; gives their bytes.
 fn put_fused(
     out: &mut [u8],
     plan: &[u8],
@@ -187,26 +385,19 @@ fn put_fused(
     quads: &[u32; 1024],
     group: &[u16; 256],
     wires: &[u16; 256],
+    picks: Picks,
 ) -> usize
-    requires { ⌜ (9 + 8 * getD (now plan) at 0 ≤ length (now out)) × (Fusing (now quads) (now plan) (now group) at × (first .0 + getD (now plan) at 0 + 1 < 65536)) ⌝ }
-    ensures counted { λ r. ⌜ r ≡ 9 + 8 * getD (now (plan .entry)) at 0 ⌝ }
-    ensures written { λ r. ⌜ now (out .exit) ≡ over (fusedBytes (now (quads .entry)) (wireIn (now (group .entry)) (now (wires .entry))) (first .0) (getD (now (plan .entry)) at 0) (groupAt (now (plan .entry)) at)) (now (out .entry)) ⌝ }
+    requires { ⌜ (length (recordsBytes writtenVersion (fusedIn (now quads) (wireIn (now group) (now wires)) (first .0) (groupAt (now plan) at) picks)) ≤ length (now out))
+        × (Fusing (now quads) (now plan) (now group) at × (first .0 ≤ mostWires)) ⌝ }
+    ensures counted { λ r. ⌜ r ≡ length (recordsBytes writtenVersion (fusedIn (now (quads .entry)) (wireIn (now (group .entry)) (now (wires .entry))) (first .0) (groupAt (now (plan .entry)) at) picks)) ⌝ }
+    ensures written { λ r. ⌜ now (out .exit) ≡ over (recordsBytes writtenVersion (fusedIn (now (quads .entry)) (wireIn (now (group .entry)) (now (wires .entry))) (first .0) (groupAt (now (plan .entry)) at) picks)) (now (out .entry)) ⌝ }
 {
-    let n = put_picks(out, plan, at, first, quads, group, wires);
-    let m = plan::member(plan, at, 0);
-    let i = m.0 as usize;
-    let picked = first.0 + (plan[at] as u16);
-    emitting::put_binary(
-        &mut out[n..],
-        quads[4 * i] as u8,
-        WireId(picked),
-        WireId(picked + 1),
-    );
-    n + 5
+    let n = put_picks(out, plan, at, first, quads, group, wires, picks);
+    n + put_operation(&mut out[n..], plan, at, first, quads, group, wires, picks)
 }
 
-// The records of the joined group at the place `at` of the plan, the first of them being wire `first`: its guards, a pick for each of the
-// two argument places, the operation. Gives their bytes. `count` gates lie in the quads.
+// The records of the joined group at the place `at` of the plan, the first of them being wire `first`: its guards, its picks, which `picks`
+// says, the operation. Gives their bytes. `count` gates lie in the quads.
 pub fn put_joined(
     out: &mut [u8],
     plan: &[u8],
@@ -218,12 +409,14 @@ pub fn put_joined(
     conditions: &[u16; MOST_CONDITIONS],
     group: &[u16; 256],
     wires: &[u16; 256],
+    picks: Picks,
 ) -> usize
     requires { ⌜ (length (recordsBytes writtenVersion (emitIn (now quads) count (setsIn (now needs)) (wireIn (now group) (now wires)) (first .0) (groupAt (now plan) at))) ≤ length (now out))
-        × (JoinWritable (now quads) (now plan) (now conditions) (now group) count at × (first .0 + getD (now plan) at 0 + 1 < 65536)) ⌝ }
+        × (JoinWritable (now quads) (now plan) (now conditions) (now group) count at × (first .0 ≤ mostWires)
+        × Decided (now quads) (wireIn (now group) (now wires)) (groupAt (now plan) at) picks) ⌝ }
     ensures counted { λ r. ⌜ r ≡ length (recordsBytes writtenVersion (emitIn (now (quads .entry)) count (setsIn (now (needs .entry))) (wireIn (now (group .entry)) (now (wires .entry))) (first .0) (groupAt (now (plan .entry)) at))) ⌝ }
     ensures written { λ r. ⌜ now (out .exit) ≡ over (recordsBytes writtenVersion (emitIn (now (quads .entry)) count (setsIn (now (needs .entry))) (wireIn (now (group .entry)) (now (wires .entry))) (first .0) (groupAt (now (plan .entry)) at))) (now (out .entry)) ⌝ }
 {
-    let n = put_guards(out, plan, at, needs, conditions, group, wires);
-    n + put_fused(&mut out[n..], plan, at, first, quads, group, wires)
+    let n = put_kept(out, plan, at, needs, conditions, group, wires, picks);
+    n + put_fused(&mut out[n..], plan, at, first, quads, group, wires, picks)
 }

@@ -1,54 +1,67 @@
-use Rattle.joining.specs.JoinedLaws.{fused-put, first-member}
+use lib.ListN.{length}
+use Prim.Native.Nat.{_≤_, _+_}
 use Rattle.emitting.specs.Emitted.{wireIn}
-use mathlib.Core.Path.{refl}
-use native.Mathlib.Omega.{arith}
+use Rattle.plan.specs.PlanFile.{groupAt}
+use Rattle.joining.specs.BehindLaws.{front-room, behind-fits, behind-room, behind-all, behind-put}
+use mathlib.Core.List.{[], _∷_}
+use Rattle.joining.specs.Decisions.{picksIn, operationIn}
 use borrow.Author.Needs.{needs}
 use Rattle.joining.proofs.put_fused.Statement.{statement}
 use Rattle.joining.proofs.put_fused.Tie as tie
 
-element-copy-out-put-binary : tie.Need-element-copy-out-put-binary
-element-copy-out-put-binary c = omega (
-  arith,
-  first-member _ _ _ _ _ (c .before .before .before .before .before .before .before .before .before .before .before .pre .1 .0)
-      (c .before .before .before .before .member .ensures) .0,
-)
+put-picks-requires : tie.Need-put-picks-requires
+put-picks-requires c κs =
+    let a = c .before .before .before .args in
+    let A = picksIn (a .quads .now) (wireIn (a .group .now) (a .wires .now)) (a .first .0) (groupAt (a .plan .now) (a .at)) (a .picks) in
+    let B = operationIn (a .quads .now) (wireIn (a .group .now) (a .wires .now)) (a .first .0) (groupAt (a .plan .now) (a .at)) (a .picks) ∷ [] in
+    (front-room A B (a .out .now) (c .before .before .before .pre .0), c .before .before .before .pre .1)
 
-cast-put-binary : tie.Need-cast-put-binary
-cast-put-binary c = record {
-  fits = omega (
-    arith,
-    first-member _ _ _ _ _ (c .before .before .before .before .before .before .before .before .before .before .before .before .pre .1 .0)
-        (c .before .before .before .before .before .member .ensures) .1,
-  );
-}
+sub-put-operation : tie.Need-sub-put-operation
+sub-put-operation c =
+    let a = c .before .before .before .before .before .before .args in
+    let A = picksIn (a .quads .now) (wireIn (a .group .now) (a .wires .now)) (a .first .0) (groupAt (a .plan .now) (a .at)) (a .picks) in
+    let B = operationIn (a .quads .now) (wireIn (a .group .now) (a .wires .now)) (a .first .0) (groupAt (a .plan .now) (a .at)) (a .picks) ∷ [] in
+    behind-fits A B (a .out .now) (c .before .before .before .before .before .before .pre .0) _ _ (c .before .before .put-picks .ensures .0) (c .before .before .put-picks .ensures .1)
+
+part-put-operation-start : tie.Need-part-put-operation-start
+part-put-operation-start c =
+    let a = c .before .before .before .before .before .before .args in
+    let A = picksIn (a .quads .now) (wireIn (a .group .now) (a .wires .now)) (a .first .0) (groupAt (a .plan .now) (a .at)) (a .picks) in
+    let B = operationIn (a .quads .now) (wireIn (a .group .now) (a .wires .now)) (a .first .0) (groupAt (a .plan .now) (a .at)) (a .picks) ∷ [] in
+    let z : c .before .before .put-picks .result ≤ length (c .before .before .put-picks .last .0) = behind-fits A B (a .out .now) (c .before .before .before .before .before .before .pre .0) _ _ (c .before .before .put-picks .ensures .0) (c .before .before .put-picks .ensures .1) in
+    search needs
+
+put-operation-requires : tie.Need-put-operation-requires
+put-operation-requires c κs =
+    let a = c .before .before .before .before .before .before .before .args in
+    let A = picksIn (a .quads .now) (wireIn (a .group .now) (a .wires .now)) (a .first .0) (groupAt (a .plan .now) (a .at)) (a .picks) in
+    let B = operationIn (a .quads .now) (wireIn (a .group .now) (a .wires .now)) (a .first .0) (groupAt (a .plan .now) (a .at)) (a .picks) ∷ [] in
+    (behind-room A B (a .out .now) (c .before .before .before .before .before .before .before .pre .0) _ _ (c .before .before .before .put-picks .ensures .0) (c .before .before .before .put-picks .ensures .1), c .before .before .before .before .before .before .before .pre .1)
+
+add-result : tie.Need-add-result
+add-result c =
+    let a = c .before .before .before .before .before .before .before .before .before .before .args in
+    let A = picksIn (a .quads .now) (wireIn (a .group .now) (a .wires .now)) (a .first .0) (groupAt (a .plan .now) (a .at)) (a .picks) in
+    let B = operationIn (a .quads .now) (wireIn (a .group .now) (a .wires .now)) (a .first .0) (groupAt (a .plan .now) (a .at)) (a .picks) ∷ [] in
+    let z : c .before .before .before .before .before .before .put-picks .result + c .before .before .put-operation .result ≤ length (a .out .now) = behind-all A B (a .out .now) (c .before .before .before .before .before .before .before .before .before .before .pre .0) _ _ (c .before .before .before .before .before .before .put-picks .ensures .0) (c .before .before .before .before .before .before .put-picks .ensures .1) _ (c .before .before .put-operation .ensures .0) in
+    search needs
 
 returns : tie.Need-returns
-returns c = let a = c .before .before .before .before .before .before .before .before .before .before .before .before .before .before .before .args in
-    fused-put (a .quads .now) (wireIn (a .group .now) (a .wires .now)) (a .first .0) (a .plan .now) (a .at) _ _ _ _ _ _ _
-    (c .before .before .before .before .before .before .before .before .before .before .before .before .before .before .before .pre .0)
-    (c .before .before .before .before .before .before .before .before .before .before .before .put-picks .ensures .0)
-    (c .before .before .before .before .before .before .before .before .member .ensures) refl refl
-    (c .before .before .before .before .before .before .before .before .before .before .before .put-picks .ensures .1) (c .before .before .put-binary .ensures)
+returns c =
+    let a = c .before .before .before .before .before .before .before .before .before .before .args in
+    let A = picksIn (a .quads .now) (wireIn (a .group .now) (a .wires .now)) (a .first .0) (groupAt (a .plan .now) (a .at)) (a .picks) in
+    let B = operationIn (a .quads .now) (wireIn (a .group .now) (a .wires .now)) (a .first .0) (groupAt (a .plan .now) (a .at)) (a .picks) ∷ [] in
+    behind-put A B (a .out .now) (c .before .before .before .before .before .before .before .before .before .before .pre .0) _ _ (c .before .before .before .before .before .before .put-picks .ensures .0) (c .before .before .before .before .before .before .put-picks .ensures .1) _ (c .before .before .put-operation .ensures .0) _ (c .before .before .put-operation .ensures .1)
 
 pub put-fused-spec : {M : Type 1} → statement M
 put-fused-spec =
     tie.close
     (tie.spec
-    (λ c κs. search needs)
-    (λ c κs. search needs)
+    put-picks-requires
+    sub-put-operation
+    part-put-operation-start
     (λ c. search needs)
-    (λ c. search needs)
-    (λ c. search needs)
-    (λ c. search needs)
-    (λ c. search needs)
-    (λ c. search needs)
-    (λ c. search needs)
-    (λ c. search needs)
-    (λ c. search needs)
-    element-copy-out-put-binary
-    cast-put-binary
-    (λ c. search needs)
-    (λ c κs. search needs)
-    (λ c. search needs)
+    put-operation-requires
+    add-result
     (λ c. search needs)
     returns)

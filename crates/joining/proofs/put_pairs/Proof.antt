@@ -78,6 +78,7 @@ cast-t25 c = record {
     arith,
     c .before .before .before .before .before .before .before .before .before .pre .1 .0 .few,
     c .before .before .before .before .before .before .before .before .before .pre .1 .1,
+    c .before .before .before .before .before .before .shared-slice-known2 .given (c .before .before .before .before .before .before .before .before .before .args .at),
     c .before .before .before .before .loop-test .taken,
   );
 }
@@ -88,6 +89,7 @@ add-t26 c = record {
     arith,
     c .before .before .before .before .before .before .before .before .before .before .pre .1 .0 .few,
     c .before .before .before .before .before .before .before .before .before .before .pre .1 .1,
+    c .before .before .before .before .before .before .before .shared-slice-known2 .given (c .before .before .before .before .before .before .before .before .before .before .args .at),
     c .before .before .before .before .before .loop-test .taken,
   );
 }

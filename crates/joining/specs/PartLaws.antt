@@ -1,0 +1,98 @@
+-- Laws of the parts of a joined group: guards, a pick, the operation, each written or not by the decision. Assumes nothing.
+use Prim.Native.Nat.{ℕ, suc, _+_, _*_, _≤_}
+use mathlib.Core.Path.{_≡_, refl, sym, ap, ap₂, _∙_}
+use mathlib.Core.Bool.{Bool, true, false, cond}
+use mathlib.Core.List.{List, [], _∷_, append-nil}
+use native.Mathlib.Omega.{arith}
+use lib.ListN.{length, getD}
+use Rattle.words.specs.Buffers.{over}
+use Rattle.words.specs.BufferLaws.{over-nil}
+use Rattle.codes.specs.CodeLaws.{byte-back}
+use Rattle.needed.specs.Held.{Applies, codeAt}
+use Rattle.plan.specs.PlanFile.{groupAt}
+use Rattle.plan.specs.NumberLaws.{length-group}
+use Rattle.records.specs.Versions.{writtenVersion}
+use Rattle.records.specs.Records.{Record, pick}
+use Rattle.records.specs.CircuitFile.{wiresBytes, recordBytes, recordsBytes}
+use Rattle.records.specs.SizeLaws.{wires-size, pick-size}
+use Rattle.joining.specs.Joined.{guardsIn, pairsIn}
+use Rattle.joining.specs.Decisions.{hasPick, countIn, keptIn, placeIn, readIn, operationIn}
+use Rattle.joining.specs.LoopLaws.{pairs-count}
+use Rattle.joining.specs.declared.Picks.{Picks}
+
+-- how many records
+pub one-most : (b : Bool) → cond b 1 0 ≤ 1
+one-most true = omega arith
+one-most false = omega arith
+
+module _ (size : ℕ) (picks : Picks) (b : Bool) (e : b ≡ hasPick picks) (x y : ℕ) (f : x ≡ cond (picks .first) 1 0) (g : y ≡ cond (picks .second) 1 0) where
+  pub count-guarded : b ≡ true → size + (x + y) + 1 ≡ countIn size picks
+  count-guarded h = rw (f, g, sym e ∙ h)
+
+  pub count-bare : b ≡ false → x + y + 1 ≡ countIn size picks
+  count-bare h = rw (f, g, sym e ∙ h) (omega arith)
+
+-- nothing is written
+pub none-put : (R : List Record) (d : List ℕ) → R ≡ [] → (0 ≡ length (recordsBytes writtenVersion R)) × (d ≡ over (recordsBytes writtenVersion R) d)
+none-put R d e = rw e (refl, sym (over-nil d))
+
+-- the guards
+module _ (conds : List ℕ) (wire : ℕ → ℕ) (sets ms : List ℕ) (picks : Picks) (b : Bool) (e : b ≡ hasPick picks) where
+  pub kept-all : b ≡ true → keptIn conds wire sets ms picks ≡ guardsIn conds wire sets ms
+  kept-all h = rw (sym e ∙ h)
+
+  pub kept-none : b ≡ false → keptIn conds wire sets ms picks ≡ []
+  kept-none h = rw (sym e ∙ h)
+
+-- a pick
+module _ (quads : List ℕ) (wire : ℕ → ℕ) (n k : ℕ) (p : List ℕ) (at : ℕ) (picked : Bool) where
+  pub place-none : picked ≡ false → placeIn quads wire n k (groupAt p at) picked ≡ []
+  place-none h = rw h
+
+  module _ (h : picked ≡ true) where
+    place-bytes : recordsBytes writtenVersion (placeIn quads wire n k (groupAt p at) picked) ≡ recordBytes writtenVersion (pick (pairsIn quads wire n k (groupAt p at)))
+    place-bytes = rw h (append-nil (recordBytes writtenVersion (pick (pairsIn quads wire n k (groupAt p at)))))
+
+    place-long : length (recordsBytes writtenVersion (placeIn quads wire n k (groupAt p at) picked)) ≡ 2 + 4 * getD p at 0
+    place-long =
+        ap (λ (b : List ℕ). length b) place-bytes ∙ pick-size writtenVersion (pairsIn quads wire n k (groupAt p at)) ∙ ap (λ (i : ℕ). 2 + 4 * i) (pairs-count quads wire n k p at)
+
+    pub place-room : (room : ℕ) → length (recordsBytes writtenVersion (placeIn quads wire n k (groupAt p at) picked)) ≤ room → 2 + 4 * getD p at 0 ≤ room
+    place-room room l = omega (arith, place-long, l)
+
+    pub place-put : (r : ℕ) (d o : List ℕ) → r ≡ 2 + 4 * getD p at 0 → o ≡ over (recordBytes writtenVersion (pick (pairsIn quads wire n k (groupAt p at)))) d
+        → (r ≡ length (recordsBytes writtenVersion (placeIn quads wire n k (groupAt p at) picked)))
+        × (o ≡ over (recordsBytes writtenVersion (placeIn quads wire n k (groupAt p at) picked)) d)
+    place-put r d o q w = (q ∙ sym place-long, w ∙ ap (λ (b : List ℕ). over b d) (sym place-bytes))
+
+-- the operation: its code and the two wires that it reads
+module _ (quads : List ℕ) (wire : ℕ → ℕ) (n : ℕ) (p : List ℕ) (at : ℕ) (picks : Picks) where
+  -- its wires
+  abbrev reads : List ℕ
+  reads =
+      readIn quads wire 0 (groupAt p at) (picks .first) (n + getD p at 0) ∷ readIn quads wire 1 (groupAt p at) (picks .second)
+      (n + getD p at 0 + cond (picks .first) 1 0) ∷ []
+
+  operation-bytes : Applies (codeAt quads (getD (groupAt p at) 0 0))
+      → recordsBytes writtenVersion (operationIn quads wire n (groupAt p at) picks ∷ []) ≡ codeAt quads (getD (groupAt p at) 0 0) ∷ wiresBytes reads
+  operation-bytes code =
+      append-nil (recordBytes writtenVersion (operationIn quads wire n (groupAt p at) picks))
+      ∙ ap₂ (λ (b k : ℕ). b ∷ wiresBytes (readIn quads wire 0 (groupAt p at) (picks .first) (n + k) ∷ readIn quads wire 1 (groupAt p at) (picks .second)
+      (n + k + cond (picks .first) 1 0) ∷ [])) (byte-back (codeAt quads (getD (groupAt p at) 0 0)) (code .0) (code .1)) (length-group p at)
+
+  operation-long : Applies (codeAt quads (getD (groupAt p at) 0 0)) → length (recordsBytes writtenVersion (operationIn quads wire n (groupAt p at) picks ∷ [])) ≡ 5
+  operation-long code = ap (λ (b : List ℕ). length b) (operation-bytes code) ∙ ap suc (wires-size reads)
+
+  pub operation-room : (room : ℕ) → Applies (codeAt quads (getD (groupAt p at) 0 0))
+      → length (recordsBytes writtenVersion (operationIn quads wire n (groupAt p at) picks ∷ [])) ≤ room → 5 ≤ room
+  operation-room room code l = omega (arith, operation-long code, l)
+
+  pub operation-put : (g x j y : ℕ) (d o : List ℕ) → Applies (codeAt quads (getD (groupAt p at) 0 0)) → g ≡ getD (groupAt p at) 0 0
+      → x ≡ readIn quads wire 0 (groupAt p at) (picks .first) (n + getD p at 0) → j ≡ cond (picks .first) 1 0
+      → y ≡ readIn quads wire 1 (groupAt p at) (picks .second) (n + getD p at 0 + j) → o ≡ over (codeAt quads g ∷ wiresBytes (x ∷ y ∷ [])) d
+      → (5 ≡ length (recordsBytes writtenVersion (operationIn quads wire n (groupAt p at) picks ∷ [])))
+      × (o ≡ over (recordsBytes writtenVersion (operationIn quads wire n (groupAt p at) picks ∷ [])) d)
+  operation-put g x j y d o code m ex ej ey w = (
+    sym (operation-long code),
+    w ∙ ap (λ (b : List ℕ). over b d) (rw (m, ex, ey, ej) (sym (operation-bytes code))),
+  )
