@@ -26,15 +26,13 @@ use Rattle.plan.specs.Groups.{groupOf, restsOf}
 use Rattle.plan.specs.Rows.{planAnswer}
 use Rattle.fused.specs.Emission.{gateOperation, pairs, oneWire, picked, guarded, joined}
 use Rattle.fused.specs.FusedCircuit.{recordsOf, wireOf}
+use Rattle.fused.specs.JoinedGates.{argument, joinedWith, guardsWith, wiresAt, Stands}
 use Rattle.fused.specs.FusedFigures as figures
 use Rattle.fused.specs.GroupStands as stands
-use Rattle.fused.specs.GroupStands.{Stands}
 use Rattle.fused.specs.JoinedParts as parts
 use Rattle.fused.specs.JoinedShapes as shapes
-use Rattle.fused.specs.JoinedShapes.{joinedWith, guardsWith, wiresAt}
 use Rattle.fused.specs.SizeJoined as sizes
 use Rattle.fused.specs.EqualWireLaws as equal
-use Rattle.fused.specs.EqualWireLaws.{argument}
 
 -- "When all members of a group have the same wire of the fused circuit at an argument place, write no pick there and use the wire. If no pick remains, write no guards for the
 -- group": the records of a joined group, of which the first is wire n, from its members' guards and their wires a and b at its two places. With a pick at both places, at one, at none:

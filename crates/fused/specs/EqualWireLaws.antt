@@ -24,10 +24,11 @@ use Rattle.plan.specs.ReadsLaws.{waits-rests}
 use Rattle.plan.specs.Rows.{planAnswer}
 use Rattle.fused.specs.Emission.{gateOperation, oneWire}
 use Rattle.fused.specs.FusedCircuit.{recordsOf, wireOf}
+use Rattle.fused.specs.JoinedGates.{argument, joinedWith, guardsWith, wiresAt, Stands}
 use Rattle.fused.specs.PlaceLaws.{one-wire-each, one-wire}
 use Rattle.fused.specs.PlannedLaws.{planned-two, planned-earlier, planned-wire}
-use Rattle.fused.specs.GroupStands.{Stands, stands-as, waited-earlier}
-use Rattle.fused.specs.JoinedShapes.{joinedWith, guardsWith, wiresAt, none-picked, joined-stands}
+use Rattle.fused.specs.GroupStands.{stands-as, waited-earlier}
+use Rattle.fused.specs.JoinedShapes.{none-picked, joined-stands}
 
 -- the record behind some others
 record-behind : (before : List Record) (r : Record) (after : List Record) → recordIn (before ++ (r ∷ after)) (length before) ≡ r
@@ -44,10 +45,6 @@ two-of [] e = absurd (omega (arith, e))
 two-of (a ∷ []) e = absurd (omega (arith, e))
 two-of (a ∷ b ∷ []) e = refl
 two-of (a ∷ b ∷ c ∷ l) e = absurd (omega (arith, e))
-
--- argument k of gate m of a rule
-abbrev pub argument : List ℕ → ℕ → ℕ → ℕ
-argument s m k = getD (arguments (gateAt (gatesOf s) m)) k 0
 
 module _ (s p : List ℕ) where
   -- the gates joined with m have one wire at place k exactly when each has m's

@@ -20,16 +20,10 @@ use Rattle.plan.specs.ReadsLaws.{waits-argument, waits-rests}
 use Rattle.plan.specs.WaitLaws.{order-from, order-ordered, order-once}
 use Rattle.fused.specs.Emission.{emit}
 use Rattle.fused.specs.FusedCircuit.{Written, groupRecords, written, fused, recordsOf, wireOf}
+use Rattle.fused.specs.JoinedGates.{Stands}
 use Rattle.fused.specs.EmitSame.{emit-same}
 use Rattle.fused.specs.WrittenLaws.{Level, written-more, written-length, records-some, wire-last, wire-old, wire-below}
 use Rattle.fused.specs.PlannedLaws.{planned-level, planned-group}
-
--- the records of a group stand together in R, and its wire w is the last of them; what: its records, the first being wire n
-pub record Stands (R : List Record) (w : ℕ) (what : ℕ → List Record) : Type 0 where
-  pub before : List Record
-  pub after : List Record
-  pub together : R ≡ before ++ (what (length before) ++ after)
-  pub last : w ≡ length before + length (what (length before)) - 1
 
 -- records that are other ones at every place stand where these do
 pub stands-as : (R : List Record) (w : ℕ) (f g : ℕ → List Record) → ((n : ℕ) → f n ≡ g n) → Stands R w f → Stands R w g

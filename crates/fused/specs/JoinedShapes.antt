@@ -26,7 +26,8 @@ use Rattle.fused.specs.JoinedParts.{joined-along}
 use Rattle.fused.specs.KindedLaws.{pairs-values}
 use Rattle.fused.specs.BoundLaws.{fused-along}
 use Rattle.fused.specs.PlannedLaws.{planned-joined, planned-two}
-use Rattle.fused.specs.GroupStands.{Stands, stands-as, group-stands}
+use Rattle.fused.specs.JoinedGates.{joinedWith, guardsWith, wiresAt, Stands}
+use Rattle.fused.specs.GroupStands.{stands-as, group-stands}
 
 -- n is the first record's wire; a and b are the members' wires at the first place and at the second
 module _ (n : ℕ) (op : Operation) (guards : List Record) (a b : List ℕ) where
@@ -47,41 +48,29 @@ module _ (n : ℕ) (op : Operation) (guards : List Record) (a b : List ℕ) wher
 
 -- Every group of two or more of an accepted plan is a joined group; wires are those of the whole circuit.
 
-module _ (s p : List ℕ) where
-  -- the gates that are joined with gate m
-  abbrev pub joinedWith : ℕ → List ℕ
-  joinedWith m = members (gateCount s) (groupOf (groupsIn p)) (groupOf (groupsIn p) m)
+module _ (s p : List ℕ) (h : planAnswer s p .number ≡ 0) where
+  -- the records of members of which m is one
+  joined-as : (ms : List ℕ) (q : ℕ) → members (gateCount s) (groupOf (groupsIn p)) q ≡ ms → 2 ≤ length ms → (m : ℕ) → m ∈ ms → (n : ℕ)
+      → emit s (gatesOf s) (rulePreconditions s) (wireOf s p) n ms
+      ≡ joined n (gateOperation (gateAt (gatesOf s) m)) (map (guardOf s (gatesOf s) (rulePreconditions s) (wireOf s p)) ms)
+      (valuesAt s (gatesOf s) (rulePreconditions s) (wireOf s p) ms 0 ∷ valuesAt s (gatesOf s) (rulePreconditions s) (wireOf s p) ms 1 ∷ [])
+  joined-as [] q e two m i n = absurd i
+  joined-as (j ∷ []) q e two m i n = absurd (omega (arith, two))
+  joined-as (j ∷ k ∷ l) q e two m i n =
+      let ms : List ℕ = j ∷ k ∷ l in
+      let many : 2 ≤ length (members (gateCount s) (groupOf (groupsIn p)) q) = rw e two in
+      let r = planned-joined s p h .alike q many j m (rw e (inl refl)) (rw e i) in
+      let op : gateOperation (gateAt (gatesOf s) j) ≡ gateOperation (gateAt (gatesOf s) m) = r .3 ∙ sym (ap gateOperation (r .2)) in
+      let args : length (arguments (gateAt (gatesOf s) j)) ≡ 2 = planned-two s p h q many j (rw e (inl refl)) in
+      ap₂ (λ (o : Operation) (a : ℕ). joined n o (map (guardOf s (gatesOf s) (rulePreconditions s) (wireOf s p)) ms)
+      (map (valuesAt s (gatesOf s) (rulePreconditions s) (wireOf s p) ms) (upto a))) op args
 
-  abbrev pub guardsWith : ℕ → List Record
-  guardsWith m = map (guardOf s (gatesOf s) (rulePreconditions s) (wireOf s p)) (joinedWith m)
-
-  -- their wires at argument place k
-  abbrev pub wiresAt : ℕ → ℕ → List ℕ
-  wiresAt m k = valuesAt s (gatesOf s) (rulePreconditions s) (wireOf s p) (joinedWith m) k
-
-  module _ (h : planAnswer s p .number ≡ 0) where
-    -- the records of members of which m is one
-    joined-as : (ms : List ℕ) (q : ℕ) → members (gateCount s) (groupOf (groupsIn p)) q ≡ ms → 2 ≤ length ms → (m : ℕ) → m ∈ ms → (n : ℕ)
-        → emit s (gatesOf s) (rulePreconditions s) (wireOf s p) n ms
-        ≡ joined n (gateOperation (gateAt (gatesOf s) m)) (map (guardOf s (gatesOf s) (rulePreconditions s) (wireOf s p)) ms)
-        (valuesAt s (gatesOf s) (rulePreconditions s) (wireOf s p) ms 0 ∷ valuesAt s (gatesOf s) (rulePreconditions s) (wireOf s p) ms 1 ∷ [])
-    joined-as [] q e two m i n = absurd i
-    joined-as (j ∷ []) q e two m i n = absurd (omega (arith, two))
-    joined-as (j ∷ k ∷ l) q e two m i n =
-        let ms : List ℕ = j ∷ k ∷ l in
-        let many : 2 ≤ length (members (gateCount s) (groupOf (groupsIn p)) q) = rw e two in
-        let r = planned-joined s p h .alike q many j m (rw e (inl refl)) (rw e i) in
-        let op : gateOperation (gateAt (gatesOf s) j) ≡ gateOperation (gateAt (gatesOf s) m) = r .3 ∙ sym (ap gateOperation (r .2)) in
-        let args : length (arguments (gateAt (gatesOf s) j)) ≡ 2 = planned-two s p h q many j (rw e (inl refl)) in
-        ap₂ (λ (o : Operation) (a : ℕ). joined n o (map (guardOf s (gatesOf s) (rulePreconditions s) (wireOf s p)) ms)
-        (map (valuesAt s (gatesOf s) (rulePreconditions s) (wireOf s p) ms) (upto a))) op args
-
-    pub joined-stands : (m : ℕ) → m < gateCount s → 2 ≤ length (joinedWith m)
-        → Stands (recordsOf s p) (wireOf s p m) (λ n. joined n (gateOperation (gateAt (gatesOf s) m)) (guardsWith m) (wiresAt m 0 ∷ wiresAt m 1 ∷ []))
-    joined-stands m l two =
-        stands-as (recordsOf s p) (wireOf s p m) _ _
-        (joined-as (joinedWith m) (groupOf (groupsIn p) m) refl two m (member-of (gateCount s) (groupOf (groupsIn p)) m (groupOf (groupsIn p) m) l refl))
-        (group-stands s p h m l)
+  pub joined-stands : (m : ℕ) → m < gateCount s → 2 ≤ length (joinedWith s p m)
+      → Stands (recordsOf s p) (wireOf s p m) (λ n. joined n (gateOperation (gateAt (gatesOf s) m)) (guardsWith s p m) (wiresAt s p m 0 ∷ wiresAt s p m 1 ∷ []))
+  joined-stands m l two =
+      stands-as (recordsOf s p) (wireOf s p m) _ _
+      (joined-as (joinedWith s p m) (groupOf (groupsIn p) m) refl two m (member-of (gateCount s) (groupOf (groupsIn p)) m (groupOf (groupsIn p) m) l refl))
+      (group-stands s p h m l)
 
 -- No pick is between equal wires.
 

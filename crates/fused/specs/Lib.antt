@@ -2,6 +2,7 @@ pub mod Emission
 pub mod PlaceLaws
 pub mod JoinedParts
 pub mod FusedCircuit
+pub mod JoinedGates
 pub mod Answers
 pub mod OutputLaws
 pub mod EmitLaws

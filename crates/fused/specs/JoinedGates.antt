@@ -1,0 +1,37 @@
+-- Document 02, C-18, "No pick between equal wires": the gates that a plan joins with one, their guards, their wires of the fused circuit at an argument place, and what it is that
+-- the records of a group stand in the circuit.
+use Prim.Native.Nat.{ℕ, _+_, _-_}
+use mathlib.Core.Path.{_≡_}
+use mathlib.Core.List.{List, _++_, map}
+use lib.ListN.{length, getD}
+use Rattle.records.specs.Records.{Record}
+use Rattle.gates.specs.Gates.{gateAt, arguments}
+use Rattle.gates.specs.PlainCircuit.{gatesOf, gateCount}
+use Rattle.needed.specs.Pass.{rulePreconditions}
+use Rattle.plan.specs.PlanFile.{groupsIn}
+use Rattle.plan.specs.Groups.{groupOf, members}
+use Rattle.fused.specs.Emission.{guardOf, valuesAt}
+use Rattle.fused.specs.FusedCircuit.{wireOf}
+
+-- argument k of gate m of a rule
+abbrev pub argument : List ℕ → ℕ → ℕ → ℕ
+argument s m k = getD (arguments (gateAt (gatesOf s) m)) k 0
+
+-- the members of gate m's group, m among them
+abbrev pub joinedWith : List ℕ → List ℕ → ℕ → List ℕ
+joinedWith s p m = members (gateCount s) (groupOf (groupsIn p)) (groupOf (groupsIn p) m)
+
+-- their guards
+abbrev pub guardsWith : List ℕ → List ℕ → ℕ → List Record
+guardsWith s p m = map (guardOf s (gatesOf s) (rulePreconditions s) (wireOf s p)) (joinedWith s p m)
+
+-- their wires at argument place k
+abbrev pub wiresAt : List ℕ → List ℕ → ℕ → ℕ → List ℕ
+wiresAt s p m k = valuesAt s (gatesOf s) (rulePreconditions s) (wireOf s p) (joinedWith s p m) k
+
+-- records stand together in R, and w is the wire of the last of them; what n: these records, if the first of them is wire n
+pub record Stands (R : List Record) (w : ℕ) (what : ℕ → List Record) : Type 0 where
+  pub before : List Record
+  pub after : List Record
+  pub together : R ≡ before ++ (what (length before) ++ after)
+  pub last : w ≡ length before + length (what (length before)) - 1
