@@ -12,9 +12,9 @@ use Rattle.codes.specs.Inputs.{FiguresFit}
 use Rattle.codes.specs.Results.{isOne, resultOn}
 use Rattle.codes.specs.declared.Operation.{Operation}
 use Rattle.records.specs.Versions.{writtenVersion}
-use Rattle.records.specs.Records.{Pair, Record, operation, pick, recordIn, recordsCost}
+use Rattle.records.specs.Records.{Pair, Record, operation, pick, guard, recordIn, recordsCost}
 use Rattle.records.specs.CircuitFile.{recordsBytes}
-use Rattle.records.specs.WireKinds.{valuesOf}
+use Rattle.records.specs.WireKinds.{guardsOf, valuesOf}
 use Rattle.records.specs.WireFigures.{wireFigure}
 use Rattle.reading.specs.Header.{variables, kindAt}
 use Rattle.gates.specs.Gates.{gateAt, arguments, figureAt}
@@ -29,6 +29,7 @@ use Rattle.fused.specs.FusedCircuit.{recordsOf, wireOf}
 use Rattle.fused.specs.JoinedGates.{argument, joinedWith, guardsWith, wiresAt, Stands}
 use Rattle.fused.specs.FusedFigures as figures
 use Rattle.fused.specs.GroupStands as stands
+use Rattle.fused.specs.GuardsRead as read
 use Rattle.fused.specs.JoinedParts as parts
 use Rattle.fused.specs.JoinedShapes as shapes
 use Rattle.fused.specs.SizeJoined as sizes
@@ -67,9 +68,14 @@ pub same-group : (s p : List ℕ) → planAnswer s p .number ≡ 0 → (g k : �
     → (wireOf s p g ≡ wireOf s p k) ↔ (groupOf (groupsIn p) g ≡ groupOf (groupsIn p) k)
 same-group = stands.same-wire
 
--- So no pick of the circuit is between equal wires.
+-- So no pick of the circuit is between equal wires,
 pub picks-differ : (s p : List ℕ) (i : ℕ) → i < length (recordsOf s p) → (l : List Pair) → recordIn (recordsOf s p) i ≡ pick l → oneWire (valuesOf l) ≡ false
 picks-differ = shapes.picks-differ
+
+-- and every guard is there for a pick.
+pub guards-picked : (s p : List ℕ) (i : ℕ) → i < length (recordsOf s p) → (cs : List ℕ) (t : ℕ) → recordIn (recordsOf s p) i ≡ guard cs t
+    → (j : ℕ) × (l : List Pair) × (recordIn (recordsOf s p) j ≡ pick l) × (i ∈ guardsOf l)
+guards-picked = read.guards-picked
 
 -- "Who waits for whom is judged as before": `Waits` knows no wire, and `plan-accepted` (Demands) did not move. A joined gate still comes after the conditions that it rests on, with
 -- guards or without.

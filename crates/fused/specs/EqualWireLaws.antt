@@ -27,13 +27,8 @@ use Rattle.fused.specs.FusedCircuit.{recordsOf, wireOf}
 use Rattle.fused.specs.JoinedGates.{argument, joinedWith, guardsWith, wiresAt, Stands}
 use Rattle.fused.specs.PlaceLaws.{one-wire-each, one-wire}
 use Rattle.fused.specs.PlannedLaws.{planned-two, planned-earlier, planned-wire}
-use Rattle.fused.specs.GroupStands.{stands-as, waited-earlier}
+use Rattle.fused.specs.GroupStands.{record-behind, stands-as, waited-earlier}
 use Rattle.fused.specs.JoinedShapes.{none-picked, joined-stands}
-
--- the record behind some others
-record-behind : (before : List Record) (r : Record) (after : List Record) → recordIn (before ++ (r ∷ after)) (length before) ≡ r
-record-behind [] r after = refl
-record-behind (b ∷ before) r after = record-behind before r after
 
 in-some : (l : List ℕ) (a : ℕ) → a ∈ l → 0 < length l
 in-some [] a m = absurd m

@@ -8,7 +8,7 @@ use lib.ListN.{length}
 use Rattle.words.specs.Lists.{_∈_}
 use Rattle.words.specs.TestLaws.{same?}
 use Rattle.settings.specs.Settings.{Once}
-use Rattle.records.specs.Records.{Record}
+use Rattle.records.specs.Records.{Record, recordIn}
 use Rattle.gates.specs.Gates.{Gates}
 use Rattle.gates.specs.PlainCircuit.{gatesOf}
 use Rattle.needed.specs.Pass.{rulePreconditions}
@@ -24,6 +24,11 @@ use Rattle.fused.specs.JoinedGates.{Stands}
 use Rattle.fused.specs.EmitSame.{emit-same}
 use Rattle.fused.specs.WrittenLaws.{Level, written-more, written-length, records-some, wire-last, wire-old, wire-below}
 use Rattle.fused.specs.PlannedLaws.{planned-level, planned-group}
+
+-- the record behind some others
+pub record-behind : (before : List Record) (r : Record) (after : List Record) → recordIn (before ++ (r ∷ after)) (length before) ≡ r
+record-behind [] r after = refl
+record-behind (b ∷ before) r after = record-behind before r after
 
 -- records that are other ones at every place stand where these do
 pub stands-as : (R : List Record) (w : ℕ) (f g : ℕ → List Record) → ((n : ℕ) → f n ≡ g n) → Stands R w f → Stands R w g

@@ -49,7 +49,7 @@ alone-fits s k wire j (gate.choice c a b) f h =
     (h c (inl refl) ∙ f .0, h b (inr (inr (inl refl))) ∙ sym (f .1) ∙ sym (h a (inr (inl refl))))
 
 -- the guards of a pick are the wires from n on, its values those given
-pairs-guards : (n : ℕ) (values : List ℕ) → guardsOf (pairs n values) ≡ from n (length values)
+pub pairs-guards : (n : ℕ) (values : List ℕ) → guardsOf (pairs n values) ≡ from n (length values)
 pairs-guards n [] = refl
 pairs-guards n (w ∷ values) = ap (λ (l : List ℕ). n ∷ l) (pairs-guards (suc n) values)
 

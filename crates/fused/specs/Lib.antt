@@ -27,6 +27,7 @@ pub mod FitLaws
 pub mod FitPlan
 pub mod OnlyOrderLaws
 pub mod KindedLaws
+pub mod GuardsRead
 pub mod JoinedShapes
 pub mod EqualWireLaws
 pub mod KindWritten

@@ -51,7 +51,7 @@ picked-few : (places : List (List ℕ)) → length (picked places) ≤ length pl
 picked-few [] = omega arith
 picked-few (values ∷ places) = split (oneWire values) (λ t. rw t (omega (arith, picked-few places))) (λ f. rw f (omega (arith, picked-few places)))
 
-picked-each : (P : List ℕ → Type 0) (places : List (List ℕ)) → EachGroup P places → EachGroup P (picked places)
+pub picked-each : (P : List ℕ → Type 0) (places : List (List ℕ)) → EachGroup P places → EachGroup P (picked places)
 picked-each P [] e = tt
 picked-each P (values ∷ places) (e, f) = split (oneWire values) (λ t. rw t (picked-each P places f)) (λ o. rw o (e, picked-each P places f))
 
