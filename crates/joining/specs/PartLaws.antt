@@ -14,11 +14,16 @@ use Rattle.plan.specs.NumberLaws.{length-group}
 use Rattle.records.specs.Versions.{writtenVersion}
 use Rattle.records.specs.Records.{Record, pick}
 use Rattle.records.specs.CircuitFile.{wiresBytes, recordBytes, recordsBytes}
-use Rattle.records.specs.SizeLaws.{wires-size, pick-size}
+use Rattle.records.specs.SizeLaws.{wires-size, pick-size, size-one}
 use Rattle.joining.specs.Joined.{guardsIn, pairsIn}
 use Rattle.joining.specs.Decisions.{hasPick, countIn, keptIn, placeIn, readIn, operationIn}
 use Rattle.joining.specs.LoopLaws.{pairs-count}
 use Rattle.joining.specs.declared.Picks.{Picks}
+
+-- a function of either of two
+pub cond-map : {A B : Type 0} (f : A → B) (b : Bool) (x y : A) → f (cond b x y) ≡ cond b (f x) (f y)
+cond-map f true x y = refl
+cond-map f false x y = refl
 
 -- how many records
 pub one-most : (b : Bool) → cond b 1 0 ≤ 1
@@ -49,21 +54,27 @@ module _ (quads : List ℕ) (wire : ℕ → ℕ) (n k : ℕ) (p : List ℕ) (at 
   pub place-none : picked ≡ false → placeIn quads wire n k (groupAt p at) picked ≡ []
   place-none h = rw h
 
-  module _ (h : picked ≡ true) where
-    place-bytes : recordsBytes writtenVersion (placeIn quads wire n k (groupAt p at) picked) ≡ recordBytes writtenVersion (pick (pairsIn quads wire n k (groupAt p at)))
-    place-bytes = rw h (append-nil (recordBytes writtenVersion (pick (pairsIn quads wire n k (groupAt p at)))))
+  pub place-long : length (recordsBytes writtenVersion (placeIn quads wire n k (groupAt p at) picked)) ≡ cond picked (2 + 4 * getD p at 0) 0
+  place-long =
+      cond-map (λ (R : List Record). length (recordsBytes writtenVersion R)) picked (pick (pairsIn quads wire n k (groupAt p at)) ∷ []) []
+      ∙ ap (λ (i : ℕ). cond picked i 0)
+      (size-one writtenVersion (pick (pairsIn quads wire n k (groupAt p at))) ∙ pick-size writtenVersion (pairsIn quads wire n k (groupAt p at))
+      ∙ ap (λ (i : ℕ). 2 + 4 * i) (pairs-count quads wire n k p at))
 
-    place-long : length (recordsBytes writtenVersion (placeIn quads wire n k (groupAt p at) picked)) ≡ 2 + 4 * getD p at 0
-    place-long =
-        ap (λ (b : List ℕ). length b) place-bytes ∙ pick-size writtenVersion (pairsIn quads wire n k (groupAt p at)) ∙ ap (λ (i : ℕ). 2 + 4 * i) (pairs-count quads wire n k p at)
+  module _ (h : picked ≡ true) where
+    long : length (recordsBytes writtenVersion (placeIn quads wire n k (groupAt p at) picked)) ≡ 2 + 4 * getD p at 0
+    long = place-long ∙ rw h
 
     pub place-room : (room : ℕ) → length (recordsBytes writtenVersion (placeIn quads wire n k (groupAt p at) picked)) ≤ room → 2 + 4 * getD p at 0 ≤ room
-    place-room room l = omega (arith, place-long, l)
+    place-room room l = omega (arith, long, l)
 
     pub place-put : (r : ℕ) (d o : List ℕ) → r ≡ 2 + 4 * getD p at 0 → o ≡ over (recordBytes writtenVersion (pick (pairsIn quads wire n k (groupAt p at)))) d
         → (r ≡ length (recordsBytes writtenVersion (placeIn quads wire n k (groupAt p at) picked)))
         × (o ≡ over (recordsBytes writtenVersion (placeIn quads wire n k (groupAt p at) picked)) d)
-    place-put r d o q w = (q ∙ sym place-long, w ∙ ap (λ (b : List ℕ). over b d) (sym place-bytes))
+    place-put r d o q w = (
+      q ∙ sym long,
+      w ∙ ap (λ (b : List ℕ). over b d) (rw h (sym (append-nil (recordBytes writtenVersion (pick (pairsIn quads wire n k (groupAt p at))))))),
+    )
 
 -- the operation: its code and the two wires that it reads
 module _ (quads : List ℕ) (wire : ℕ → ℕ) (n : ℕ) (p : List ℕ) (at : ℕ) (picks : Picks) where
@@ -80,7 +91,7 @@ module _ (quads : List ℕ) (wire : ℕ → ℕ) (n : ℕ) (p : List ℕ) (at : 
       ∙ ap₂ (λ (b k : ℕ). b ∷ wiresBytes (readIn quads wire 0 (groupAt p at) (picks .first) (n + k) ∷ readIn quads wire 1 (groupAt p at) (picks .second)
       (n + k + cond (picks .first) 1 0) ∷ [])) (byte-back (codeAt quads (getD (groupAt p at) 0 0)) (code .0) (code .1)) (length-group p at)
 
-  operation-long : Applies (codeAt quads (getD (groupAt p at) 0 0)) → length (recordsBytes writtenVersion (operationIn quads wire n (groupAt p at) picks ∷ [])) ≡ 5
+  pub operation-long : Applies (codeAt quads (getD (groupAt p at) 0 0)) → length (recordsBytes writtenVersion (operationIn quads wire n (groupAt p at) picks ∷ [])) ≡ 5
   operation-long code = ap (λ (b : List ℕ). length b) (operation-bytes code) ∙ ap suc (wires-size reads)
 
   pub operation-room : (room : ℕ) → Applies (codeAt quads (getD (groupAt p at) 0 0))

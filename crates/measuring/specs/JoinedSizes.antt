@@ -1,10 +1,11 @@
 -- Laws of the size of a joined group: how many wires and bytes its records come to, and their cost. Assumes nothing.
-use Prim.Native.Nat.{ℕ, suc, _+_, _-_, _*_, _≤_, _<_}
-use mathlib.Core.Path.{_≡_, refl, sym, ap, _∙_}
-use mathlib.Core.List.{List, [], _∷_, map}
+use Prim.Native.Nat.{ℕ, suc, _+_, _*_, _≤_, _<_}
+use mathlib.Core.Path.{_≡_, refl, sym, ap, ap₂, _∙_}
+use mathlib.Core.Bool.{Bool, true, false, cond}
+use mathlib.Core.List.{List, [], _∷_}
 use native.Mathlib.Omega.{arith}
-use lib.ListN.{length, getD, length-append, length-map}
-use Rattle.words.specs.Lists.{_∈_, Inside}
+use lib.ListN.{length, getD, length-append}
+use Rattle.words.specs.Lists.{Inside}
 use Rattle.settings.specs.Sets.{rests}
 use Rattle.settings.specs.PlaceLaws.{few-rests}
 use Rattle.codes.specs.Codes.{entryOf, operationOf, codeOf}
@@ -14,21 +15,24 @@ use Rattle.gates.specs.Gates.{conditions}
 use Rattle.gates.specs.Limits.{mostConditions}
 use Rattle.needed.specs.Held.{Applies, gatesIn, codeAt}
 use Rattle.plan.specs.PlanFile.{groupAt}
-use Rattle.records.specs.Versions.{writtenVersion, tableBytes}
-use Rattle.records.specs.Records.{Record, recordsCost}
-use Rattle.records.specs.CircuitFile.{recordBytes, recordsBytes}
-use Rattle.records.specs.SizeLaws.{cost-none, cost-more, cost-one, cost-append}
-use Rattle.joining.specs.Joined.{emitIn, guardIn, guardsIn, argumentAt, pairsIn, Joinable}
-use Rattle.measuring.specs.Sizes.{restedBy, Measured}
 use Rattle.plan.specs.NumberLaws.{length-group, member-in}
+use Rattle.records.specs.Versions.{writtenVersion, tableBytes}
+use Rattle.records.specs.Records.{Record, pick, recordsCost}
+use Rattle.records.specs.CircuitFile.{recordBytes, recordsBytes}
+use Rattle.records.specs.SizeLaws.{size-append, cost-none, cost-more, cost-one, cost-append}
+use Rattle.joining.specs.Joined.{emitIn, guardIn, guardsIn, pairsIn, Joinable}
+use Rattle.joining.specs.Decisions.{Decided, hasPick, countIn, keptIn, placeIn, picksIn, operationIn, fusedIn, joinedIn}
 use Rattle.joining.specs.GuardLaws.{guard-size}
-use Rattle.joining.specs.JoinLaws.{fusedBytes, two-applies, joinedIn, emit-joined, joined-bytes}
-use Rattle.fused.specs.SizeJoined.{length-pairs}
-use Rattle.joining.specs.JoinedLaws.{fused-long}
+use Rattle.joining.specs.LoopLaws.{pairs-count}
+use Rattle.joining.specs.PartLaws.{cond-map, place-long, operation-long}
+use Rattle.joining.specs.JoinLaws.{two-applies, emit-joined}
+use Rattle.joining.specs.JoinedLaws.{fusing, first-member, joined-count}
+use Rattle.joining.specs.declared.Picks.{Picks}
+use Rattle.measuring.specs.Sizes.{restedBy, guardsBytes, GuardsSized, PlaceSized, Measured}
 
--- Its size.
+-- The guards.
 
-guards-long : (conds : List ℕ) (wire : ℕ → ℕ) (sets ms : List ℕ) → length (recordsBytes writtenVersion (guardsIn conds wire sets ms)) ≡ (2 + tableBytes writtenVersion) * length ms + 2 * restedBy sets ms
+guards-long : (conds : List ℕ) (wire : ℕ → ℕ) (sets ms : List ℕ) → length (recordsBytes writtenVersion (guardsIn conds wire sets ms)) ≡ guardsBytes sets ms
 guards-long conds wire sets [] = omega arith
 guards-long conds wire sets (m ∷ ms) =
     length-append (recordBytes writtenVersion (guardIn conds wire (getD sets m 0))) (recordsBytes writtenVersion (guardsIn conds wire sets ms))
@@ -42,31 +46,65 @@ guards-cost : (conds : List ℕ) (wire : ℕ → ℕ) (sets ms : List ℕ) → r
 guards-cost conds wire sets [] = cost-none
 guards-cost conds wire sets (m ∷ ms) = rw cost-more (omega (arith, guards-cost conds wire sets ms))
 
-module _ (quads : List ℕ) (count : ℕ) (sets conds : List ℕ) (wire : ℕ → ℕ) (n : ℕ) (ms : List ℕ) where
-  pair-many : (k : ℕ) → length (pairsIn quads wire n k ms) ≡ length ms
-  pair-many k = length-pairs n (map (λ m. wire (argumentAt quads m k)) ms) ∙ length-map ms (λ m. wire (argumentAt quads m k))
+-- The decision made: what the guards and each of the two places come to, and the whole group.
 
-  joined-cost : recordsCost (joinedIn quads count sets conds wire n ms) ≡ 5 * length ms + entryOf (operationOf (codeAt quads (getD ms 0 0))) .cost
+module _ (sets p : List ℕ) (at : ℕ) (picks : Picks) (b : Bool) (e : b ≡ hasPick picks) where
+  pub kept-sized : b ≡ true → (k : ℕ) → k ≡ restedBy sets (groupAt p at) → GuardsSized sets p at picks ((2 + tableBytes writtenVersion) * getD p at 0 + 2 * k) (getD p at 0)
+  kept-sized h k q = rw (sym e ∙ h) (omega (arith, q, length-group p at), refl)
+
+  pub none-sized : b ≡ false → GuardsSized sets p at picks 0 0
+  none-sized h = rw (sym e ∙ h) (refl, refl)
+
+module _ (quads sets conds : List ℕ) (wire : ℕ → ℕ) (n : ℕ) (p : List ℕ) (at : ℕ) (picks : Picks) where
+  joined-long : Applies (codeAt quads (getD (groupAt p at) 0 0)) → length (recordsBytes writtenVersion (joinedIn quads sets conds wire n (groupAt p at) picks))
+      ≡ cond (hasPick picks) (guardsBytes sets (groupAt p at)) 0 + cond (picks .first) (2 + 4 * getD p at 0) 0 + cond (picks .second) (2 + 4 * getD p at 0) 0 + 5
+  joined-long code =
+      size-append writtenVersion (keptIn conds wire sets (groupAt p at) picks) (fusedIn quads wire n (groupAt p at) picks)
+      ∙ omega (
+        arith,
+        size-append writtenVersion (picksIn quads wire n (groupAt p at) picks) (operationIn quads wire n (groupAt p at) picks ∷ []),
+        size-append writtenVersion (placeIn quads wire n 0 (groupAt p at) (picks .first)) (placeIn quads wire n 1 (groupAt p at) (picks .second)),
+        cond-map (λ (R : List Record). length (recordsBytes writtenVersion R)) (hasPick picks) (guardsIn conds wire sets (groupAt p at)) []
+            ∙ ap (λ (k : ℕ). cond (hasPick picks) k 0) (guards-long conds wire sets (groupAt p at)),
+        place-long quads wire n 0 p at (picks .first),
+        place-long quads wire n 1 p at (picks .second),
+        operation-long quads wire n p at picks code,
+      )
+
+  place-cost : (k : ℕ) (picked : Bool) → recordsCost (placeIn quads wire n k (groupAt p at) picked) ≡ cond picked (2 * getD p at 0) 0
+  place-cost k picked =
+      cond-map recordsCost picked (pick (pairsIn quads wire n k (groupAt p at)) ∷ []) []
+      ∙ ap₂ (λ (x y : ℕ). cond picked x y)
+      (cost-one (pick (pairsIn quads wire n k (groupAt p at))) ∙ ap (λ (i : ℕ). 2 * i) (pairs-count quads wire n k p at)) cost-none
+
+  joined-cost : recordsCost (joinedIn quads sets conds wire n (groupAt p at) picks)
+      ≡ cond (hasPick picks) (getD p at 0) 0 + cond (picks .first) (2 * getD p at 0) 0 + cond (picks .second) (2 * getD p at 0) 0
+      + entryOf (operationOf (codeAt quads (getD (groupAt p at) 0 0))) .cost
   joined-cost =
-      cost-append (guardsIn conds wire sets ms) _
-      ∙ rw (cost-more, cost-more, cost-one) (omega (arith, guards-cost conds wire sets ms, pair-many 0, pair-many 1))
+      cost-append (keptIn conds wire sets (groupAt p at) picks) (fusedIn quads wire n (groupAt p at) picks)
+      ∙ omega (
+        arith,
+        cost-append (picksIn quads wire n (groupAt p at) picks) (operationIn quads wire n (groupAt p at) picks ∷ []),
+        cost-append (placeIn quads wire n 0 (groupAt p at) (picks .first)) (placeIn quads wire n 1 (groupAt p at) (picks .second)),
+        cond-map recordsCost (hasPick picks) (guardsIn conds wire sets (groupAt p at)) []
+            ∙ ap₂ (λ (x y : ℕ). cond (hasPick picks) x y) (guards-cost conds wire sets (groupAt p at) ∙ length-group p at) cost-none,
+        place-cost 0 (picks .first),
+        place-cost 1 (picks .second),
+        cost-one (operationIn quads wire n (groupAt p at) picks),
+      )
 
-  joined-wires : length (joinedIn quads count sets conds wire n ms) ≡ length ms + 3
-  joined-wires = length-append (guardsIn conds wire sets ms) _ ∙ ap (λ (k : ℕ). k + 3) (length-map ms (λ m. guardIn conds wire (getD sets m 0)))
-
--- the size of a joined group
-pub joined-sized : (quads sets p : List ℕ) (at g k : ℕ) (means : Code) → Joinable quads p at → k ≡ restedBy sets (groupAt p at) → g ≡ getD (groupAt p at) 0 0
-    → means ≡ codeOf (codeAt quads g)
-    → Measured quads sets (groupAt p at) (getD p at 0 + 3) ((10 + tableBytes writtenVersion) * getD p at 0 + 2 * k + 9) (5 * getD p at 0 + means .cost)
-joined-sized quads sets p at g k means j kk gg rr =
+-- the size of a joined group: what the guards, the two places and the operation come to
+pub joined-sized : (quads sets p group : List ℕ) (wire : ℕ → ℕ) (at g : ℕ) (picks : Picks) (means : Code) (wires a b x y v w : ℕ) → Joinable quads p group at
+    → Decided quads wire (groupAt p at) picks → g ≡ getD (groupAt p at) 0 0 → means ≡ codeOf (codeAt quads g) → wires ≡ countIn (getD p at 0) picks
+    → GuardsSized sets p at picks a b → PlaceSized (getD p at 0) (picks .first) x y → PlaceSized (getD p at 0) (picks .second) v w
+    → Measured quads sets wire (groupAt p at) wires (a + x + v + 5) (b + y + w + means .cost)
+joined-sized quads sets p group wire at g picks means wires a b x y v w j d gg rr ee (ea, eb) (ex, ey) (ev, ew) =
     record {
-      wired = λ count wire n below. sym
-          (ap (λ (R : List Record). length R) (same count wire n below) ∙ joined-wires quads count sets (conditions (gatesIn quads count)) wire n (groupAt p at) ∙ ap
-          (λ (i : ℕ). i + 3) (length-group p at));
-      long = λ count wire n below. sym (ap (λ (R : List Record). length (recordsBytes writtenVersion R)) (same count wire n below) ∙ bytes count wire n);
-      costs = λ count wire n below. sym
-          (ap (λ (R : List Record). recordsCost R) (same count wire n below) ∙ joined-cost quads count sets (conditions (gatesIn quads count)) wire n (groupAt p at)
-          ∙ cost);
+      wired = λ count n below. ee ∙ sym (ap (λ (R : List Record). length R) (same count n below) ∙ joined-count quads sets (conditions (gatesIn quads count)) wire n p at picks);
+      long = λ count n below. rw (ea, ex, ev) (sym
+          (ap (λ (R : List Record). length (recordsBytes writtenVersion R)) (same count n below) ∙ joined-long quads sets (conditions (gatesIn quads count)) wire n p at picks code));
+      costs = λ count n below. rw (eb, ey, ew, cost) (sym
+          (ap (λ (R : List Record). recordsCost R) (same count n below) ∙ joined-cost quads sets (conditions (gatesIn quads count)) wire n p at picks));
     }
   where
     many : 2 ≤ length (groupAt p at)
@@ -75,38 +113,17 @@ joined-sized quads sets p at g k means j kk gg rr =
     code : Applies (codeAt quads (getD (groupAt p at) 0 0))
     code = two-applies quads (getD (groupAt p at) 0 0) (j .two (getD (groupAt p at) 0 0) (member-in p at 0 (omega (arith, j .many))))
 
-    same : (count : ℕ) (wire : ℕ → ℕ) (n : ℕ) → Inside count (groupAt p at) → emitIn quads count sets wire n (groupAt p at) ≡ joinedIn quads count sets
-        (conditions (gatesIn quads count)) wire n (groupAt p at)
-    same count wire n below = emit-joined quads count sets (conditions (gatesIn quads count)) wire n (groupAt p at) many below (j .two) (λ t l. refl)
+    same : (count n : ℕ) → Inside count (groupAt p at) → emitIn quads count sets wire n (groupAt p at) ≡ joinedIn quads sets (conditions (gatesIn quads count)) wire n
+        (groupAt p at) picks
+    same count n below = emit-joined quads count sets (conditions (gatesIn quads count)) wire n (groupAt p at) picks d many below (j .two) (λ t l. refl)
 
-    bytes : (count : ℕ) (wire : ℕ → ℕ) (n : ℕ) → length
-        (recordsBytes writtenVersion (joinedIn quads count sets (conditions (gatesIn quads count)) wire n (groupAt p at))) ≡ (10 + tableBytes writtenVersion) * getD p at 0 + 2 * k + 9
-    bytes count wire n =
-        let G : List ℕ = recordsBytes writtenVersion (guardsIn (conditions (gatesIn quads count)) wire sets (groupAt p at)) in
-        ap (λ (b : List ℕ). length b) (joined-bytes quads count sets (conditions (gatesIn quads count)) wire n (groupAt p at) code)
-        ∙ length-append G (fusedBytes quads wire n (length (groupAt p at)) (groupAt p at))
-        ∙ omega (
-          arith,
-          guards-long (conditions (gatesIn quads count)) wire sets (groupAt p at),
-          fused-long quads wire n p at
-              (length (groupAt p at)),
-          length-group p at,
-          kk,
-        )
-
-    cost : 5 * length (groupAt p at) + entryOf (operationOf (codeAt quads (getD (groupAt p at) 0 0))) .cost ≡ 5 * getD p at 0 + means .cost
-    cost =
-        let e : means ≡ entryOf (operationOf (codeAt quads (getD (groupAt p at) 0 0))) = rr ∙ ap (λ (i : ℕ). codeOf (codeAt quads i)) gg ∙ code-operation
-        (codeAt quads (getD (groupAt p at) 0 0)) (code .0) (code .1) in
-        let c : means .cost ≡ entryOf (operationOf (codeAt quads (getD (groupAt p at) 0 0))) .cost = ap (λ (i : Code). i .cost) e in
-        omega (arith, c, length-group p at)
+    cost : means .cost ≡ entryOf (operationOf (codeAt quads (getD (groupAt p at) 0 0))) .cost
+    cost = ap (λ (i : Code). i .cost)
+        (rr ∙ ap (λ (i : ℕ). codeOf (codeAt quads i)) gg ∙ code-operation (codeAt quads (getD (groupAt p at) 0 0)) (code .0) (code .1))
 
 -- the first member's code is a byte, and few conditions are rested on
-pub joined-first : (quads p : List ℕ) (at g : ℕ) → Joinable quads p at → g ≡ getD (groupAt p at) 0 0 → (g < 256) × (codeAt quads g < 256)
-joined-first quads p at g j e =
-    let i : getD (groupAt p at) 0 0 ∈ groupAt p at = member-in p at 0 (omega (arith, j .many)) in
-    let a = two-applies quads (getD (groupAt p at) 0 0) (j .two (getD (groupAt p at) 0 0) i) in
-    rw e (j .lies .inside (getD (groupAt p at) 0 0) i, omega (arith, a .1))
+pub joined-first : (quads p group : List ℕ) (at g : ℕ) → Joinable quads p group at → g ≡ getD (groupAt p at) 0 0 → (g < 256) × (codeAt quads g < 256)
+joined-first quads p group at g j e = let f = first-member quads p group at g (fusing quads p group at j) e in (f .0, omega (arith, f .1 .1))
 
 rested-most : (sets ms : List ℕ) → restedBy sets ms ≤ mostConditions * length ms
 rested-most sets [] = omega arith
@@ -116,3 +133,19 @@ rested-most sets (m ∷ ms) =
 
 pub rested-few : (sets p : List ℕ) (at : ℕ) → restedBy sets (groupAt p at) ≤ mostConditions * getD p at 0
 rested-few sets p at = omega (arith, rested-most sets (groupAt p at), length-group p at)
+
+none-more : (b : Bool) (k : ℕ) → cond b k 0 ≤ k
+none-more true k = omega arith
+none-more false k = omega arith
+
+-- the sums fit
+pub joined-small : (sets p : List ℕ) (at : ℕ) (picks : Picks) (a b x y v w : ℕ) → getD p at 0 < 256 → GuardsSized sets p at picks a b
+    → PlaceSized (getD p at 0) (picks .first) x y → PlaceSized (getD p at 0) (picks .second) v w → (a + x + v + 5 < 65536) × (b + y + w < 65536)
+joined-small sets p at picks a b x y v w h (ea, eb) (ex, ey) (ev, ew) =
+    let most : a ≤ guardsBytes sets (groupAt p at) = rw ea (none-more (hasPick picks) (guardsBytes sets (groupAt p at))) in
+    let one : b ≤ getD p at 0 = rw eb (none-more (hasPick picks) (getD p at 0)) in
+    let first : x ≤ 2 + 4 * getD p at 0 = rw ex (none-more (picks .first) (2 + 4 * getD p at 0)) in
+    let second : v ≤ 2 + 4 * getD p at 0 = rw ev (none-more (picks .second) (2 + 4 * getD p at 0)) in
+    let third : y ≤ 2 * getD p at 0 = rw ey (none-more (picks .first) (2 * getD p at 0)) in
+    let fourth : w ≤ 2 * getD p at 0 = rw ew (none-more (picks .second) (2 * getD p at 0)) in
+    (omega (arith, most, rested-few sets p at, length-group p at, first, second, h), omega (arith, one, third, fourth, h))

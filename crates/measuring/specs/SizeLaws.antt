@@ -29,18 +29,18 @@ cost-same code wire (choice c a b) = refl
 
 module _ (quads : List ℕ) (g : ℕ) where
   alone-sized : (bytes cost : ℕ) → ((wire : ℕ → ℕ) → length (recordBytes writtenVersion (aloneIn quads wire g)) ≡ bytes) → costOf (gateIn quads g) ≡ cost
-      → (sets : List ℕ) → Measured quads sets (g ∷ []) 1 bytes cost
-  alone-sized bytes cost long costs sets =
+      → (sets : List ℕ) (wire : ℕ → ℕ) → Measured quads sets wire (g ∷ []) 1 bytes cost
+  alone-sized bytes cost long costs sets wire =
       record {
-        wired = λ count wire n below. refl;
-        long = λ count wire n below. sym (ap (λ (b : List ℕ). length b) (append-nil (recordBytes writtenVersion (aloneIn quads wire g))) ∙ long wire);
-        costs = λ count wire n below. sym (cost-one (aloneIn quads wire g) ∙ cost-same (codeAt quads g) wire (gateIn quads g) ∙ costs);
+        wired = λ count n below. refl;
+        long = λ count n below. sym (ap (λ (b : List ℕ). length b) (append-nil (recordBytes writtenVersion (aloneIn quads wire g))) ∙ long wire);
+        costs = λ count n below. sym (cost-one (aloneIn quads wire g) ∙ cost-same (codeAt quads g) wire (gateIn quads g) ∙ costs);
       }
 
-  pub choice-sized : codeAt quads g ≡ choiceCode → (sets : List ℕ) → Measured quads sets (g ∷ []) 1 7 3
+  pub choice-sized : codeAt quads g ≡ choiceCode → (sets : List ℕ) (wire : ℕ → ℕ) → Measured quads sets wire (g ∷ []) 1 7 3
   choice-sized e = alone-sized 7 3 (λ wire. choice-long quads g wire e) (ap costOf (choice-in quads g e))
 
-  pub word-sized : codeAt quads g ≡ 0x11 → (sets : List ℕ) → Measured quads sets (g ∷ []) 1 5 0
+  pub word-sized : codeAt quads g ≡ 0x11 → (sets : List ℕ) (wire : ℕ → ℕ) → Measured quads sets wire (g ∷ []) 1 5 0
   word-sized e = alone-sized 5 0 (λ wire. word-long quads g wire e) (ap costOf (word-in quads g e))
 
   -- what is left: a starting value or a bit constant, or an operation
@@ -77,7 +77,7 @@ module _ (quads : List ℕ) (g : ℕ) where
     code-some : Applies (codeAt quads g) → (code .arity ≡ 1) ⊎ (code .arity ≡ 2)
     code-some h = rw (code-is h) (one-or-two (operationOf (codeAt quads g)))
 
-    pub short-sized : code .arity ≡ 0 → (sets : List ℕ) → Measured quads sets (g ∷ []) 1 2 0
+    pub short-sized : code .arity ≡ 0 → (sets : List ℕ) (wire : ℕ → ℕ) → Measured quads sets wire (g ∷ []) 1 2 0
     unfolding Rest
     short-sized z = go rest
       where
@@ -85,7 +85,7 @@ module _ (quads : List ℕ) (g : ℕ) where
         none (inl e) = omega (arith, e, z)
         none (inr e) = omega (arith, e, z)
 
-        go : (codeAt quads g ≡ 0x12) ⊎ ((codeAt quads g ≤ 1) ⊎ Applies (codeAt quads g)) → (sets : List ℕ) → Measured quads sets (g ∷ []) 1 2 0
+        go : (codeAt quads g ≡ 0x12) ⊎ ((codeAt quads g ≤ 1) ⊎ Applies (codeAt quads g)) → (sets : List ℕ) (wire : ℕ → ℕ) → Measured quads sets wire (g ∷ []) 1 2 0
         go (inl e) = alone-sized 2 0 (λ wire. bit-long quads g wire e) (ap costOf (bit-in quads g e))
         go (inr (inl h)) = alone-sized 2 0 (λ wire. start-long quads g wire h) (ap costOf (start-in quads g (omega (arith, h))))
         go (inr (inr h)) = absurd (none (code-some h))
@@ -94,11 +94,11 @@ module _ (quads : List ℕ) (g : ℕ) where
     applied-long h (inl e) wire = unary-long quads g wire h (ap (λ (c : Code). c .arity) (sym is) ∙ e) ∙ rw e
     applied-long h (inr e) wire = binary-long quads g wire h (λ z. let y : code .arity ≡ 1 = ap (λ (c : Code). c .arity) is ∙ z in omega (arith, e, y)) ∙ rw e
 
-    pub applied-sized : (code .arity ≡ 0 → ⊥) → (sets : List ℕ) → Measured quads sets (g ∷ []) 1 (1 + 2 * code .arity) (code .cost)
+    pub applied-sized : (code .arity ≡ 0 → ⊥) → (sets : List ℕ) (wire : ℕ → ℕ) → Measured quads sets wire (g ∷ []) 1 (1 + 2 * code .arity) (code .cost)
     unfolding Rest
     applied-sized z = go rest
       where
-        go : (codeAt quads g ≡ 0x12) ⊎ ((codeAt quads g ≤ 1) ⊎ Applies (codeAt quads g)) → (sets : List ℕ) → Measured quads sets (g ∷ []) 1 (1 + 2 * code .arity)
+        go : (codeAt quads g ≡ 0x12) ⊎ ((codeAt quads g ≤ 1) ⊎ Applies (codeAt quads g)) → (sets : List ℕ) (wire : ℕ → ℕ) → Measured quads sets wire (g ∷ []) 1 (1 + 2 * code .arity)
             (code .cost)
         go (inl e) = absurd (z (bit-arity e))
         go (inr (inl h)) = absurd (z (start-arity h))

@@ -1,12 +1,13 @@
 // Document 01, "The fused circuit file": what the records of one group come to, before they are written.
 use gates::GateId;
+use joining::Picks;
 use needed::NEED_WORDS;
 ghost use mathlib.Core.Path.{_≡_};
 ghost use mathlib.Core.List.{List, _∷_, []};
-ghost use Prim.Native.Nat.{ℕ};
+ghost use Prim.Native.Nat.{ℕ, _<_};
 ghost use Rattle.plan.specs.PlanFile.{groupAt};
-ghost use Rattle.measuring.specs.Sizes.{restedBy, Measured};
-ghost use Rattle.emitting.specs.Emitted.{Coded};
+ghost use Rattle.measuring.specs.Sizes.{restedBy, GuardsSized, PlaceSized, Measured};
+ghost use Rattle.emitting.specs.Emitted.{wireIn, Coded};
 ghost use Rattle.joining.specs.Joined.{Lies, Joinable};
 ghost use Rattle.settings.specs.Held.{setsIn};
 
@@ -20,7 +21,7 @@ pub struct Size {
 // The size of a group alone.
 pub fn size_alone(quads: &[u32; 1024], g: GateId) -> Size
     requires { ⌜ Coded (now quads) (g .0) ⌝ }
-    ensures { λ r. ⌜ ((sets : List ℕ) → Measured (now (quads .entry)) sets (g .0 ∷ []) (r .wires) (r .bytes) (r .cost)) ⌝ }
+    ensures { λ r. ⌜ ((sets : List ℕ) (wire : ℕ → ℕ) → Measured (now (quads .entry)) sets wire (g .0 ∷ []) (r .wires) (r .bytes) (r .cost)) ⌝ }
 {
     let i = g.0 as usize;
     let code = quads[4 * i];
@@ -70,22 +71,69 @@ fn rested_by(plan: &[u8], at: usize, needs: &[u64; NEED_WORDS]) -> usize
     n
 }
 
-// The bytes of a joined group for each member, but for the wires that its guard reads: two and the table of its guard, a pair in each of two picks.
-const MEMBER: usize = 10 + records::WRITTEN_TABLE;
+// What guards or a pick come to, but for how many they are.
+struct Part {
+    bytes: usize,
+    cost: usize,
+}
 
-// The size of the joined group at the place `at` of the plan: a guard and its wires for each member, two picks, the operation.
-pub fn size_joined(plan: &[u8], at: usize, quads: &[u32; 1024], needs: &[u64; NEED_WORDS]) -> Size
-    requires { ⌜ Joinable (now quads) (now plan) at ⌝ }
-    ensures { λ r. ⌜ Measured (now (quads .entry)) (setsIn (now (needs .entry))) (groupAt (now (plan .entry)) at) (r .wires) (r .bytes) (r .cost) ⌝ }
+// The bytes of a guard, but for the wires that it reads: two and its table.
+const GUARD: usize = 2 + records::WRITTEN_TABLE;
+
+// The guards of a joined group, members rising; nothing where no pick remains: then the conditions are not even counted.
+fn size_kept(plan: &[u8], at: usize, needs: &[u64; NEED_WORDS], picks: Picks) -> Part
+    requires { ⌜ Lies (now plan) at ⌝ }
+    ensures { λ r. ⌜ GuardsSized (setsIn (now (needs .entry))) (now (plan .entry)) at picks (r .bytes) (r .cost) ⌝ }
 {
+    if joining::has_pick(picks) {
+        let size = plan[at] as usize;
+        let n = rested_by(plan, at, needs);
+        return Part {
+            bytes: GUARD * size + 2 * n,
+            cost: size,
+        };
+    }
+    Part { bytes: 0, cost: 0 }
+}
+
+// The pick of one argument place, of so many pairs; nothing where the place has none.
+fn size_place(size: usize, picked: bool) -> Part
+    requires { ⌜ size < 256 ⌝ }
+    ensures { λ r. ⌜ PlaceSized size picked (r .bytes) (r .cost) ⌝ }
+{
+    if picked {
+        return Part {
+            bytes: 2 + 4 * size,
+            cost: 2 * size,
+        };
+    }
+    Part { bytes: 0, cost: 0 }
+}
+
+// The size of the joined group at the place `at` of the plan: guards, picks, the operation, by the decision which picks it has.
+pub fn size_joined(
+    plan: &[u8],
+    at: usize,
+    quads: &[u32; 1024],
+    needs: &[u64; NEED_WORDS],
+    group: &[u16; 256],
+    wires: &[u16; 256],
+) -> Size
+    requires { ⌜ Joinable (now quads) (now plan) (now group) at ⌝ }
+    ensures { λ r. ⌜ Measured (now (quads .entry)) (setsIn (now (needs .entry))) (wireIn (now (group .entry)) (now (wires .entry))) (groupAt (now (plan .entry)) at) (r .wires) (r .bytes) (r .cost) ⌝ }
+{
+    let picks = joining::picks_of(plan, at, quads, group, wires);
+    let records = joining::records_in(plan, at, picks);
+    let kept = size_kept(plan, at, needs, picks);
     let size = plan[at] as usize;
-    let n = rested_by(plan, at, needs);
+    let a = size_place(size, picks.first);
+    let b = size_place(size, picks.second);
     let m = plan::member(plan, at, 0);
     let i = m.0 as usize;
     let means = codes::code_of(quads[4 * i] as u8);
     Size {
-        wires: size + 3,
-        bytes: MEMBER * size + 2 * n + 9,
-        cost: 5 * size + (means.cost as usize),
+        wires: words::wide16(records),
+        bytes: kept.bytes + a.bytes + b.bytes + 5,
+        cost: kept.cost + a.cost + b.cost + (means.cost as usize),
     }
 }
