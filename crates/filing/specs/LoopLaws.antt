@@ -16,59 +16,63 @@ use Rattle.joining.specs.Joined.{emitIn}
 use Rattle.measuring.specs.Sizes.{Measured}
 use Rattle.emitting.specs.FillLaws.{pieces, pieces-none, pieces-next, Filling, filling-start, filling-room, filling-fits, filling-length, filling-step, filling-end, filling-same}
 use Rattle.fused.specs.SizeLimits.{mostRecordBytes}
-use Rattle.filing.specs.Staged.{Stage, membersOf, turnRecords, stage, Turnable}
-use Rattle.filing.specs.Turns.{wiresOf, Measurable, Measures, Sum}
-use Rattle.filing.specs.TurnLaws.{stage-more, turn-is, turn-measurable, turn-wires, turn-length, turn-sum, turn-small}
+use Rattle.filing.specs.Staged.{membersOf, turnRecords, stage, Turnable}
+use Rattle.filing.specs.Turns.{Measurable, Measures, Sum}
+use Rattle.filing.specs.TurnLaws.{turn-is, turn-measurable, turn-wires, turn-length, sum-wires, turn-sum, turn-small}
 use Rattle.records.specs.Limits.{mostWires}
 
 -- Measuring.
 
--- i groups are measured
-pub record Measuring (p quads needs places ord : List ℕ) (groups wires bytes cost i : ℕ) : Type 0 where
+-- i groups are measured; w: the wire of each
+pub record Measuring (p quads needs group places ord : List ℕ) (groups : ℕ) (w : List ℕ) (wires bytes cost i : ℕ) : Type 0 where
   pub below : i ≤ groups
-  pub measures : Measures p quads needs places ord groups
-  pub summed : (count : ℕ) (group conds : List ℕ) → Turnable p quads count needs group places conds ord groups
-      → Sum p quads count needs group places ord i wires bytes cost
+  pub measures : Measures p quads needs group places ord groups
+  pub summed : (count : ℕ) (conds : List ℕ) → Turnable p quads count needs group places conds ord groups
+      → Sum p quads count needs group places ord i wires bytes cost × (w ≡ stage p quads count needs group places ord i .wires)
 
-module _ (p quads needs places ord : List ℕ) (groups : ℕ) where
-  none : (count : ℕ) (group : List ℕ) → Sum p quads count needs group places ord 0 0 0 0
+module _ (p quads needs group places ord : List ℕ) (groups : ℕ) where
+  none : (count : ℕ) → Sum p quads count needs group places ord 0 0 0 0 × (replicate mostGates 0 ≡ stage p quads count needs group places ord 0 .wires)
   unfolding stage
-  none count group = record { wired = refl; long = refl; costs = omega (arith, cost-append [] []) }
+  none count = (record { wired = refl; long = refl; costs = omega (arith, cost-append [] []) }, refl)
 
-  pub measuring-start : Measures p quads needs places ord groups → Measuring p quads needs places ord groups 0 0 0 0
-  measuring-start m = record { below = omega arith; measures = m; summed = λ count group conds t. none count group }
+  pub measuring-start : Measures p quads needs group places ord groups → Measuring p quads needs group places ord groups (replicate mostGates 0) 0 0 0 0
+  measuring-start m = record { below = omega arith; measures = m; summed = λ count conds t. none count }
 
-  module _ (wires bytes cost i g : ℕ) (l : Measuring p quads needs places ord groups wires bytes cost i) (h : i < groups) (eg : g ≡ getD ord i 0) where
+  module _ (w : List ℕ) (wires bytes cost i g : ℕ) (l : Measuring p quads needs group places ord groups w wires bytes cost i) (h : i < groups) (eg : g ≡ getD ord i 0) where
     pub measuring-inside : g < mostGates
     measuring-inside = rw eg (l .measures .turnable .inside i h)
 
     module _ (at : ℕ) (ea : at ≡ getD places g 0) where
-      pub measuring-group : Measurable quads p at (getD ord i 0)
+      pub measuring-group : Measurable quads p group at (getD ord i 0)
       measuring-group =
           let m = l .measures in
-          turn-measurable p quads (m .count) needs (m .group) places ord (m .conds) groups (m .turnable) i g at h eg ea
+          turn-measurable p quads (m .count) needs group places ord (m .conds) groups (m .turnable) i g at h eg ea
 
-      module _ (a b c : ℕ) (z : Measured quads needs (membersOf p at (getD ord i 0)) a b c) where
-        pub measuring-small : (wires + a ≤ mostWires) × (bytes + b ≤ mostRecordBytes) × (cost + c ≤ 10240)
+      module _ (a b c : ℕ) (z : Measured quads needs (wireIn group w) (membersOf p at (getD ord i 0)) a b c) where
+        pub measuring-small : (1 ≤ wires + a) × (wires + a ≤ mostWires) × (bytes + b ≤ mostRecordBytes) × (cost + c ≤ 10240)
         measuring-small =
             let m = l .measures in
-            turn-small p quads (m .count) needs (m .group) places ord (m .conds) groups (m .turnable) i g at h eg ea wires bytes cost a b c
-            (l .summed (m .count) (m .group) (m .conds) (m .turnable)) z
+            let s = l .summed (m .count) (m .conds) (m .turnable) in
+            turn-small p quads (m .count) needs group places ord (m .conds) groups (m .turnable) i g at h eg ea wires bytes cost a b c w (s .0) (s .1) z
 
-        pub measuring-step : Measuring p quads needs places ord groups (wires + a) (bytes + b) (cost + c) (i + 1)
+        pub measuring-step : Measuring p quads needs group places ord groups (set w g (wires + a - 1)) (wires + a) (bytes + b) (cost + c) (i + 1)
         measuring-step =
             record {
               below = omega (arith, h);
               measures = l .measures;
-              summed = λ count group conds t. turn-sum p quads count needs group places ord conds groups t i g at h eg ea wires bytes cost a b c
-                  (l .summed count group conds t) z;
+              summed = λ count conds t.
+                  let s = l .summed count conds t in (
+                    turn-sum p quads count needs group places ord conds groups t i g at h eg ea wires bytes cost a b c w (s .0) (s .1) z,
+                    turn-wires p quads count needs group places ord conds groups t i g at h eg ea wires a w (s .0 .wired) (s .1)
+                        (sum-wires p quads count needs group places ord conds groups t i g at h eg ea wires bytes cost a b c w (s .0) (s .1) z),
+                  );
             }
 
-  pub measuring-end : (wires bytes cost i : ℕ) → Measuring p quads needs places ord groups wires bytes cost i → groups ≤ i
-      → (count : ℕ) (group conds : List ℕ) → Turnable p quads count needs group places conds ord groups → Sum p quads count needs group places ord groups wires bytes cost
-  measuring-end wires bytes cost i l h count group conds t =
+  pub measuring-end : (w : List ℕ) (wires bytes cost i : ℕ) → Measuring p quads needs group places ord groups w wires bytes cost i → groups ≤ i
+      → (count : ℕ) (conds : List ℕ) → Turnable p quads count needs group places conds ord groups → Sum p quads count needs group places ord groups wires bytes cost
+  measuring-end w wires bytes cost i l h count conds t =
       let e : groups ≡ i = omega (arith, h, l .below) in
-      let s = l .summed count group conds t in
+      let s = l .summed count conds t .0 in
       record { wired = rw e (s .wired); long = rw e (s .long); costs = rw e (s .costs) }
 
 -- Writing: piece i is what turn i writes.
@@ -113,18 +117,14 @@ module _ (p quads : List ℕ) (count : ℕ) (needs group places ord : List ℕ) 
 
       pub putting-step : (conds : List ℕ) → Turnable p quads count needs group places conds ord groups → (k u : ℕ) (ys : List ℕ)
           → k ≡ length (recordsBytes writtenVersion (emitIn quads count needs (wireIn group wires) n (membersOf p place (getD ord i 0))))
+          → u ≡ length (emitIn quads count needs (wireIn group wires) n (membersOf p place (getD ord i 0)))
           → ys ≡ over (recordsBytes writtenVersion (emitIn quads count needs (wireIn group wires) n (membersOf p place (getD ord i 0)))) (take (length out - at) (drop at out))
-          → u ≡ wiresOf p place → PuttingGroups groups (putMid at (length out - at) out ys) out₀ (set wires g (n + u - 1)) (at + k) (n + u) (i + 1)
-      putting-step conds t k u ys q r z =
-          let S : Stage = stage p quads count needs group places ord i in
-          let T : List Record = turnRecords p quads count needs group places S (getD ord i 0) in
-          let E : length T ≡ u =
-          sym (ap (λ (R : List Record). length R) (turn-is p quads count needs group places ord i g place n wires eg ea (l .wired) (l .counted)))
-          ∙ turn-wires p quads count needs group places ord conds groups t i g place h eg ea (wireIn group wires) n ∙ sym z in
+          → PuttingGroups groups (putMid at (length out - at) out ys) out₀ (set wires g (n + u - 1)) (at + k) (n + u) (i + 1)
+      putting-step conds t k u ys q z r =
           record {
             filling = filling-step turnPiece out out₀ groups at i (l .filling) h k ys (rw piece-is at q) (rw piece-is at r);
-            counted = rw (turn-length p quads count needs group places ord conds groups t i g place h eg ea, z) (ap (λ (m : ℕ). m + wiresOf p place) (l .counted));
-            wired = rw (stage-more p quads count needs group places ord i, l .wired, eg, l .counted, E);
+            counted = turn-length p quads count needs group places ord conds groups t i g place h eg ea n u wires (l .counted) (l .wired) z;
+            wired = turn-wires p quads count needs group places ord conds groups t i g place h eg ea n u wires (l .counted) (l .wired) z;
           }
 
     pub putting-same : groups ≤ i → length out ≡ length out₀

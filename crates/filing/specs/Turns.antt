@@ -1,12 +1,12 @@
 -- Inner: one group in turn, and the whole file, as the code measures and writes them from lent arrays.
-use Prim.Native.Nat.{ℕ, _+_, _≤_, _<_}
+use Prim.Native.Nat.{ℕ, _≤_, _<_}
 use mathlib.Core.Path.{_≡_}
 use mathlib.Core.List.{List, map}
 use mathlib.Core.Bool.{cond}
-use lib.Dec.{eqb}
 use lib.ListN.{length, getD}
 use Rattle.words.specs.Lists.{upto}
 use Rattle.records.specs.Versions.{writtenVersion}
+use Rattle.records.specs.Limits.{mostWires}
 use Rattle.records.specs.Records.{recordsCost}
 use Rattle.records.specs.CircuitFile.{recordsBytes, fileBytes, noWire}
 use Rattle.reading.specs.Header.{variables, workingAt}
@@ -14,25 +14,20 @@ use Rattle.emitting.specs.Emitted.{wireIn, Grouped, Coded, Writable}
 use Rattle.joining.specs.Joined.{Joinable, JoinWritable}
 use Rattle.filing.specs.Staged.{stage, Turnable}
 
--- how many wires a group has by its place: one alone; a guard for each member, two picks and the operation where it is joined
-abbrev pub wiresOf : List ℕ → ℕ → ℕ
-wiresOf p at = cond (eqb at 0) 1 (getD p at 0 + 3)
-
 -- it can be measured
-pub record Measurable (quads p : List ℕ) (at q : ℕ) : Type 0 where
+pub record Measurable (quads p group : List ℕ) (at q : ℕ) : Type 0 where
   pub alone : at ≡ 0 → Coded quads q
-  pub joins : (at ≡ 0 → ⊥) → Joinable quads p at
+  pub joins : (at ≡ 0 → ⊥) → Joinable quads p group at
 
 -- it can be written, the first of its records being wire n; conds: condition t's gate at place t
 pub record Puttable (quads p conds group : List ℕ) (count at q n : ℕ) : Type 0 where
   pub alone : at ≡ 0 → Writable quads group q
   pub joins : (at ≡ 0 → ⊥) → JoinWritable quads p conds group count at
-  pub narrow : (at ≡ 0 → ⊥) → n + getD p at 0 + 1 < 65536
+  pub narrow : n ≤ mostWires
 
--- the arrays, with some number of gates, some groups and some conditions, can be written
-pub record Measures (p quads needs places ord : List ℕ) (groups : ℕ) : Type 0 where
+-- the arrays, with some number of gates and some conditions, can be written
+pub record Measures (p quads needs group places ord : List ℕ) (groups : ℕ) : Type 0 where
   pub count : ℕ
-  pub group : List ℕ
   pub conds : List ℕ
   pub turnable : Turnable p quads count needs group places conds ord groups
 

@@ -20,7 +20,7 @@ ghost use Rattle.emitting.specs.Emitted.{wireIn, Grouped};
 ghost use Rattle.joining.specs.Joined.{emitIn};
 ghost use Rattle.measuring.specs.Sizes.{Measured};
 ghost use Rattle.filing.specs.Staged.{membersOf, stage, Turnable};
-ghost use Rattle.filing.specs.Turns.{wiresOf, Measurable, Puttable, Measures, Sum, OutputsPlaced, outputIn, fileIn};
+ghost use Rattle.filing.specs.Turns.{Measurable, Puttable, Measures, Sum, OutputsPlaced, outputIn, fileIn};
 ghost use Rattle.settings.specs.Held.{setsIn};
 
 // The bytes before the first record.
@@ -32,59 +32,65 @@ fn size_group(
     at: usize,
     quads: &[u32; 1024],
     needs: &[u64; NEED_WORDS],
+    group: &[u16; 256],
+    wires: &[u16; 256],
     q: GateId,
 ) -> Size
-    requires { ⌜ Measurable (now quads) (now plan) at (q .0) ⌝ }
-    ensures { λ r. ⌜ Measured (now (quads .entry)) (setsIn (now (needs .entry))) (membersOf (now (plan .entry)) at (q .0)) (r .wires) (r .bytes) (r .cost) ⌝ }
+    requires { ⌜ Measurable (now quads) (now plan) (now group) at (q .0) ⌝ }
+    ensures { λ r. ⌜ Measured (now (quads .entry)) (setsIn (now (needs .entry))) (wireIn (now (group .entry)) (now (wires .entry))) (membersOf (now (plan .entry)) at (q .0)) (r .wires) (r .bytes) (r .cost) ⌝ }
 {
     if at == 0 {
         return measuring::size_alone(quads, q);
     }
-    measuring::size_joined(plan, at, quads, needs)
+    measuring::size_joined(plan, at, quads, needs, group, wires)
 }
 
-// The size of the groups in the order of writing; `places` gives each one's place in the plan.
+// The size of the groups in the order of writing; `places` gives each one's place in the plan. Each group's wire is kept as it will be written: the sizes of those
+// after it depend on it.
 pub fn measure(
     plan: &[u8],
     quads: &[u32; 1024],
     needs: &[u64; NEED_WORDS],
+    group: &[u16; 256],
     places: &[u16; 256],
     order: &[u16; 256],
     groups: usize,
 ) -> Size
-    requires { ⌜ Measures (now plan) (now quads) (setsIn (now needs)) (now places) (now order) groups ⌝ }
-    ensures { λ r. ⌜ ((count : ℕ) (group conds : List ℕ)
-        → Turnable (now (plan .entry)) (now (quads .entry)) count (setsIn (now (needs .entry))) group (now (places .entry)) conds (now (order .entry)) groups
-        → Sum (now (plan .entry)) (now (quads .entry)) count (setsIn (now (needs .entry))) group (now (places .entry)) (now (order .entry)) groups (r .wires) (r .bytes) (r .cost)) ⌝ }
+    requires { ⌜ Measures (now plan) (now quads) (setsIn (now needs)) (now group) (now places) (now order) groups ⌝ }
+    ensures { λ r. ⌜ ((count : ℕ) (conds : List ℕ)
+        → Turnable (now (plan .entry)) (now (quads .entry)) count (setsIn (now (needs .entry))) (now (group .entry)) (now (places .entry)) conds (now (order .entry)) groups
+        → Sum (now (plan .entry)) (now (quads .entry)) count (setsIn (now (needs .entry))) (now (group .entry)) (now (places .entry)) (now (order .entry)) groups (r .wires) (r .bytes) (r .cost)) ⌝ }
 {
-    let mut wires: usize = 0;
+    let mut wires = [0u16; 256];
+    let mut total: usize = 0;
     let mut bytes: usize = 0;
     let mut cost: usize = 0;
     let mut i: usize = 0;
     while i < groups {
         let q = order[i];
-        let at = words::wide16(places[words::wide16(q)]);
-        let size = size_group(plan, at, quads, needs, GateId(q));
-        wires = wires + size.wires;
+        let g = words::wide16(q);
+        let at = words::wide16(places[g]);
+        let size = size_group(plan, at, quads, needs, group, &wires, GateId(q));
+        total = total + size.wires;
         bytes = bytes + size.bytes;
         cost = cost + size.cost;
+        wires[g] = (total - 1) as u16;
         i = i + 1;
     }
-    Size { wires, bytes, cost }
-}
-
-// How many wires a group has, listed at the place `at` of the plan, or alone where the place is 0.
-fn wires_of(plan: &[u8], at: usize) -> u16
-    requires { ⌜ ((at ≡ 0 → ⊥) → at < length (now plan)) ⌝ }
-    ensures { λ r. ⌜ r ≡ wiresOf (now (plan .entry)) at ⌝ }
-{
-    if at == 0 {
-        return 1;
+    Size {
+        wires: total,
+        bytes,
+        cost,
     }
-    (plan[at] as u16) + 3
 }
 
-// The records of group q, listed at the place `at` of the plan, or alone where the place is 0; gives their bytes.
+// What is written of a group: its bytes and how many records they are.
+struct Put {
+    bytes: usize,
+    wires: u16,
+}
+
+// The records of group q, listed at the place `at` of the plan, or alone where the place is 0; gives their bytes and how many they are.
 fn put_group(
     out: &mut [u8],
     plan: &[u8],
@@ -97,16 +103,19 @@ fn put_group(
     conditions: &[u16; MOST_CONDITIONS],
     group: &[u16; 256],
     wires: &[u16; 256],
-) -> usize
+) -> Put
     requires { ⌜ (length (recordsBytes writtenVersion (emitIn (now quads) count (setsIn (now needs)) (wireIn (now group) (now wires)) (first .0) (membersOf (now plan) at (q .0)))) ≤ length (now out))
         × Puttable (now quads) (now plan) (now conditions) (now group) count at (q .0) (first .0) ⌝ }
-    ensures counted { λ r. ⌜ r ≡ length (recordsBytes writtenVersion (emitIn (now (quads .entry)) count (setsIn (now (needs .entry))) (wireIn (now (group .entry)) (now (wires .entry))) (first .0) (membersOf (now (plan .entry)) at (q .0)))) ⌝ }
+    ensures counted { λ r. ⌜ r .bytes ≡ length (recordsBytes writtenVersion (emitIn (now (quads .entry)) count (setsIn (now (needs .entry))) (wireIn (now (group .entry)) (now (wires .entry))) (first .0) (membersOf (now (plan .entry)) at (q .0)))) ⌝ }
+    ensures wired { λ r. ⌜ r .wires ≡ length (emitIn (now (quads .entry)) count (setsIn (now (needs .entry))) (wireIn (now (group .entry)) (now (wires .entry))) (first .0) (membersOf (now (plan .entry)) at (q .0))) ⌝ }
     ensures written { λ r. ⌜ now (out .exit) ≡ over (recordsBytes writtenVersion (emitIn (now (quads .entry)) count (setsIn (now (needs .entry))) (wireIn (now (group .entry)) (now (wires .entry))) (first .0) (membersOf (now (plan .entry)) at (q .0)))) (now (out .entry)) ⌝ }
 {
     if at == 0 {
-        return emitting::put_alone(out, quads, group, wires, q);
+        let bytes = emitting::put_alone(out, quads, group, wires, q);
+        return Put { bytes, wires: 1 };
     }
-    joining::put_joined(
+    let picks = joining::picks_of(plan, at, quads, group, wires);
+    let bytes = joining::put_joined(
         out,
         plan,
         at,
@@ -117,7 +126,12 @@ fn put_group(
         conditions,
         group,
         wires,
-    )
+        picks,
+    );
+    Put {
+        bytes,
+        wires: joining::records_in(plan, at, picks),
+    }
 }
 
 // The records of the groups in the order of writing, each group's in the rest behind those written; gives their bytes, and each group's wire,
@@ -148,7 +162,7 @@ fn put_records(
         let q = order[i];
         let g = words::wide16(q);
         let place = words::wide16(places[g]);
-        let k = put_group(
+        let put = put_group(
             &mut out[at..],
             plan,
             place,
@@ -161,8 +175,8 @@ fn put_records(
             group,
             wires,
         );
-        at = at + k;
-        first = WireId(first.0 + wires_of(plan, place));
+        at = at + put.bytes;
+        first = WireId(first.0 + put.wires);
         wires[g] = first.0 - 1;
         i = i + 1;
     }

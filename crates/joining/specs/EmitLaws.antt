@@ -1,17 +1,18 @@
--- What the records of a group of the quads are of a rule: quads that hold a circuit emit what the circuit emits. Assumes nothing.
+-- What the records of a group of the quads are of a rule: quads that hold a circuit emit what the circuit emits; a joined group has a record. Assumes nothing.
 use Prim.Native.Nat.{ℕ, _*_, _≤_}
 use mathlib.Core.Path.{_≡_, refl, ap}
 use mathlib.Core.List.{List, [], _∷_}
 use mathlib.Core.Logic.{inl}
+use native.Mathlib.Omega.{arith}
 use lib.ListN.{length, take}
-use Rattle.words.specs.Lists.{_∈_, Inside}
+use Rattle.words.specs.Lists.{Inside}
 use Rattle.gates.specs.Gates.{Gates}
 use Rattle.gates.specs.Quads.{quadsOf}
-use Rattle.needed.specs.Held.{Shaped}
+use Rattle.needed.specs.Held.{Shaped, gatesIn}
 use Rattle.needed.specs.HeldQuads.{gates-held}
 use Rattle.records.specs.Records.{Record}
-use Rattle.records.specs.Records as records
 use Rattle.fused.specs.Emission.{emit}
+use Rattle.fused.specs.EmitLaws as emission
 use Rattle.emitting.specs.HeldLaws.{alone-held}
 use Rattle.joining.specs.Joined.{emitIn}
 
@@ -21,3 +22,9 @@ module _ (s quads : List ℕ) (C : Gates) (shaped : Shaped C) (held : take (4 * 
   emit-in sets wire n [] h = refl
   emit-in sets wire n (m ∷ []) h = ap (λ (r : Record). r ∷ []) (alone-held s quads C shaped held wire m (h m (inl refl)))
   emit-in sets wire n (m ∷ k ∷ l) h = ap (λ (D : Gates). emit s D sets wire n (m ∷ k ∷ l)) (gates-held s quads C shaped held)
+
+-- a group of two or more has a record
+pub emit-some : (quads : List ℕ) (count : ℕ) (sets : List ℕ) (wire : ℕ → ℕ) (n : ℕ) (ms : List ℕ) → 2 ≤ length ms → 1 ≤ length (emitIn quads count sets wire n ms)
+emit-some quads count sets wire n [] h = absurd (omega arith)
+emit-some quads count sets wire n (m ∷ []) h = absurd (omega arith)
+emit-some quads count sets wire n (m ∷ k ∷ l) h = omega (arith, emission.emit-some [] (gatesIn quads count) sets wire n (m ∷ k ∷ l) (omega arith))

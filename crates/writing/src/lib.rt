@@ -70,7 +70,7 @@ pub fn prepare(
         return Prepared { answer, groups };
     }
     let v = rule[5];
-    let size = filing::measure(plan, quads, needs, places, order, groups);
+    let size = filing::measure(plan, quads, needs, group, places, order, groups);
     let bytes = HEAD + size.bytes + 2 * (v as usize);
     Prepared {
         answer: counted(answer, size, bytes),

@@ -1,9 +1,9 @@
-use Rattle.settings.specs.Held.{setsIn}
-use Rattle.filing.specs.LoopLaws.{PuttingGroups, putting-start, putting-fits, putting-room, putting-step, putting-same, putting-end}
-use Rattle.filing.specs.TurnLaws.{turn-listed, turn-fits, turn-puttable}
-use lib.ListN.{length}
-use Prim.Native.Nat.{_≤_, _+_, _-_}
 use native.Mathlib.Omega.{arith}
+use Prim.Native.Nat.{_≤_, _+_, _-_}
+use lib.ListN.{length}
+use Rattle.filing.specs.TurnLaws.{turn-fits, turn-puttable}
+use Rattle.filing.specs.LoopLaws.{PuttingGroups, putting-start, putting-fits, putting-room, putting-step, putting-same, putting-end}
+use Rattle.settings.specs.Held.{setsIn}
 use borrow.Author.Needs.{needs}
 use Rattle.filing.proofs.put_records.Statement.{statement}
 use Rattle.filing.proofs.put_records.Tie as tie
@@ -59,73 +59,32 @@ put-group-requires c κs =
 
 add-at : tie.Need-add-at Inv-loop μ-loop
 add-at c =
-    let f = putting-fits _ _ _ _ _ _ _ _ _ _ _ _ _ _ (c .before .before .before .before .before .before .before .before .before .before .loop .inv)
-    (c .before .before .before .before .before .before .before .before .before .loop-test .taken) _ _
-    (c .before .before .before .before .before .before .before .wide16 .ensures .0) (c .before .before .before .before .before .wide162 .ensures .0) in
-    let z : c .before .before .before .before .before .before .before .before .before .before .loop .at + c .before .before .put-group .result ≤ length
-    (c .before .before .before .before .before .before .before .before .before .before .before .before .before .args .out .now) = omega
-    (arith, c .before .before .put-group .ensures .0, f .0, f .1) in
+    let f = putting-fits _ _ _ _ _ _ _ _ _ _ _ _ _ _ (c .before .before .before .before .before .before .before .before .before .before .before .loop .inv) (c .before .before .before .before .before .before .before .before .before .before .loop-test .taken) _ _ (c .before .before .before .before .before .before .before .before .wide16 .ensures .0) (c .before .before .before .before .before .before .wide162 .ensures .0) in
+    let z : c .before .before .before .before .before .before .before .before .before .before .before .loop .at + c .before .before .before .put-group .result .bytes ≤ length (c .before .before .before .before .before .before .before .before .before .before .before .before .before .before .args .out .now) = omega (arith, c .before .before .before .put-group .ensures .0, f .0, f .1) in
     search needs
 
-wires-of-requires : tie.Need-wires-of-requires Inv-loop μ-loop
-wires-of-requires c κs = turn-listed _ _ _ _ _ _ _ _ _
-    (c .before .before .before .before .before .before .before .before .before .before .before .before .before .pre .1 .0) _ _ _
-    (c .before .before .before .before .before .before .before .before .before .loop-test .taken)
-    (c .before .before .before .before .before .before .before .wide16 .ensures .0) (c .before .before .before .before .before .wide162 .ensures .0)
-
-add-first : tie.Need-add-t31 Inv-loop μ-loop
-add-first c = record {
-  fits = omega (
-    arith,
-    c .before .wires-of .ensures,
-    turn-fits _ _ _ _ _ _ _ _ _
-        (c .before .before .before .before .before .before .before .before .before .before .before .before .before .before .before .pre .1 .0) _ _ _
-        (c .before .before .before .before .before .before .before .before .before .before .before .loop-test .taken)
-        (c .before .before .before .before .before .before .before .before .before .wide16 .ensures .0)
-        (c .before .before .before .before .before .before .before .wide162 .ensures .0) _
-        (c .before .before .before .before .before .before .before .before .before .before .before .before .loop .inv .counted) .1,
-  );
-}
+add-wires : tie.Need-add-wires Inv-loop μ-loop
+add-wires c =
+    let f = turn-fits _ _ _ _ _ _ _ _ _ (c .before .before .before .before .before .before .before .before .before .before .before .before .before .before .before .before .pre .1 .0) _ _ _ (c .before .before .before .before .before .before .before .before .before .before .before .before .loop-test .taken) (c .before .before .before .before .before .before .before .before .before .before .wide16 .ensures .0) (c .before .before .before .before .before .before .before .before .wide162 .ensures .0) _ _ _
+    (c .before .before .before .before .before .before .before .before .before .before .before .before .before .loop .inv .counted) (c .before .before .before .before .before .before .before .before .before .before .before .before .before .loop .inv .wired) (c .before .before .before .before .before .put-group .ensures .1 .0) in
+    record { fits = omega (arith, f .1) }
 
 sub-wires : tie.Need-sub-wires Inv-loop μ-loop
-sub-wires c = omega (
-  arith,
-  c .before .before .wires-of .ensures,
-  turn-fits _ _ _ _ _ _ _ _ _
-      (c .before .before .before .before .before .before .before .before .before .before .before .before .before .before .before .before .pre .1 .0) _ _ _
-      (c .before .before .before .before .before .before .before .before .before .before .before .before .loop-test .taken)
-      (c .before .before .before .before .before .before .before .before .before .before .wide16 .ensures .0)
-      (c .before .before .before .before .before .before .before .before .wide162 .ensures .0) _
-      (c .before .before .before .before .before .before .before .before .before .before .before .before .before .loop .inv .counted) .0,
-)
+sub-wires c =
+    let f = turn-fits _ _ _ _ _ _ _ _ _ (c .before .before .before .before .before .before .before .before .before .before .before .before .before .before .before .before .before .pre .1 .0) _ _ _ (c .before .before .before .before .before .before .before .before .before .before .before .before .before .loop-test .taken) (c .before .before .before .before .before .before .before .before .before .before .before .wide16 .ensures .0) (c .before .before .before .before .before .before .before .before .before .wide162 .ensures .0) _ _ _
+    (c .before .before .before .before .before .before .before .before .before .before .before .before .before .before .loop .inv .counted) (c .before .before .before .before .before .before .before .before .before .before .before .before .before .before .loop .inv .wired) (c .before .before .before .before .before .before .put-group .ensures .1 .0) in
+    omega (arith, f .0)
 
 mul-wires : tie.Need-mul-wires Inv-loop μ-loop
-mul-wires c = record {
-  fits = omega (
-    arith,
-    c .before .before .before .before .before .before .before .before .before .before .before .before .before .before .before .before .pre .1 .0 .inside _
-        (c .before .before .before .before .before .before .before .before .before .before .before .before .loop-test .taken),
-    c .before .before .before .before .before .before .before .before .before .before .wide16 .ensures .0,
-  );
-}
+mul-wires c = record { fits = omega (arith, c .before .before .before .before .before .before .before .before .before .before .before .before .before .before .before .before .before .pre .1 .0 .inside _ (c .before .before .before .before .before .before .before .before .before .before .before .before .before .loop-test .taken), c .before .before .before .before .before .before .before .before .before .before .before .wide16 .ensures .0) }
 
 element-write-wires : tie.Need-element-write-wires Inv-loop μ-loop
-element-write-wires c = omega (
-  arith,
-  c .before .before .before .before .before .before .before .before .before .before .before .before .before .before .before .before .pre .1 .0 .inside _
-      (c .before .before .before .before .before .before .before .before .before .before .before .before .loop-test .taken),
-  c .before .before .before .before .before .before .before .before .before .before .wide16 .ensures .0,
-)
+element-write-wires c = omega (arith, c .before .before .before .before .before .before .before .before .before .before .before .before .before .before .before .before .before .pre .1 .0 .inside _ (c .before .before .before .before .before .before .before .before .before .before .before .before .before .loop-test .taken), c .before .before .before .before .before .before .before .before .before .before .before .wide16 .ensures .0)
 
 loop-again : tie.Need-loop-again Inv-loop μ-loop
-loop-again c = putting-step _ _ _ _ _ _ _ _ _ _ _ _ _ _
-    (c .before .before .before .before .before .before .before .before .before .before .before .before .before .loop .inv)
-    (c .before .before .before .before .before .before .before .before .before .before .before .before .loop-test .taken) _ _
-    (c .before .before .before .before .before .before .before .before .before .before .wide16 .ensures .0)
-    (c .before .before .before .before .before .before .before .before .wide162 .ensures .0) _
-    (c .before .before .before .before .before .before .before .before .before .before .before .before .before .before .before .before .pre .1 .0) _ _ _
-    (c .before .before .before .before .before .put-group .ensures .0) (c .before .before .before .before .before .put-group .ensures .1)
-    (c .before .before .wires-of .ensures)
+loop-again c =
+    putting-step _ _ _ _ _ _ _ _ _ _ _ _ _ _ (c .before .before .before .before .before .before .before .before .before .before .before .before .before .before .loop .inv) (c .before .before .before .before .before .before .before .before .before .before .before .before .before .loop-test .taken) _ _ (c .before .before .before .before .before .before .before .before .before .before .before .wide16 .ensures .0) (c .before .before .before .before .before .before .before .before .before .wide162 .ensures .0) _ (c .before .before .before .before .before .before .before .before .before .before .before .before .before .before .before .before .before .pre .1 .0) _ _ _ (c .before .before .before .before .before .before .put-group .ensures .0) (c .before .before .before .before .before .before .put-group .ensures .1 .0)
+    (c .before .before .before .before .before .before .put-group .ensures .1 .1)
 
 same-length : tie.Need-same-length Inv-loop μ-loop
 same-length c = putting-same _ _ _ _ _ _ _ _ _ _ _ _ _ _ (c .before .loop .inv) (c .loop-test .left)
@@ -151,8 +110,7 @@ put-records-spec =
     (λ c. search needs)
     put-group-requires
     add-at
-    wires-of-requires
-    add-first
+    add-wires
     sub-wires
     mul-wires
     element-write-wires

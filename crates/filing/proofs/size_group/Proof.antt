@@ -6,7 +6,7 @@ size-alone-requires : tie.Need-size-alone-requires
 size-alone-requires c κs = c .before .before .pre .alone (c .if1 .taken)
 
 returns : tie.Need-returns
-returns c = rw (members-alone _ _ _ (c .before .if1 .taken)) (c .size-alone .ensures _)
+returns c = rw (members-alone _ _ _ (c .before .if1 .taken)) (c .size-alone .ensures _ _)
 
 size-joined-requires : tie.Need-size-joined-requires
 size-joined-requires c κs = c .before .before .pre .joins (c .if1 .left)

@@ -20,7 +20,6 @@ measure-requires c κs =
     let k = x .before .before .before .check .ensures in
     record {
       count = x .before .before .before .check .result .answer .gates;
-      group = _;
       conds = _;
       turnable = arrays-turnable _ _ (check-taken _ _ _ (k .0) (x .if1 .left)) _ _ _ _ _ _ _ _ (k .1) _ (check-gates _ _ _ (k .0) (x .if1 .left))
           (λ i _. omega (arith, x .before .before .before .before .before .before .before .before .before .before .before .before .shared-slice-known .given i));
@@ -35,7 +34,7 @@ add-bytes c =
     omega (
       arith,
       bytes-few _ _ t _ _ _ _ _ _ _ _ (k .1) _ g _ _ _
-          (c .before .measure .ensures _ _ _ (arrays-turnable _ _ t _ _ _ _ _ _ _ _ (k .1) _ g (λ i _. omega (arith, x .before .before .before .before .before .before .before .before .before .before .before .before .shared-slice-known .given i)))),
+          (c .before .measure .ensures _ _ (arrays-turnable _ _ t _ _ _ _ _ _ _ _ (k .1) _ g (λ i _. omega (arith, x .before .before .before .before .before .before .before .before .before .before .before .before .shared-slice-known .given i)))),
     )
 
 cast-bytes : tie.Need-cast-bytes
@@ -53,7 +52,7 @@ add-bytes-2 c =
     omega (
       arith,
       bytes-few _ _ t _ _ _ _ _ _ _ _ (k .1) _ g _ _ _
-          (c .before .measure .ensures _ _ _ (arrays-turnable _ _ t _ _ _ _ _ _ _ _ (k .1) _ g (λ i _. omega (arith, x .before .before .before .before .before .before .before .before .before .before .before .before .shared-slice-known .given i)))),
+          (c .before .measure .ensures _ _ (arrays-turnable _ _ t _ _ _ _ _ _ _ _ (k .1) _ g (λ i _. omega (arith, x .before .before .before .before .before .before .before .before .before .before .before .before .shared-slice-known .given i)))),
       x .before .before .before .before .before .before .before .before .before .before .before .before .shared-slice-known .given 5,
     )
 
@@ -63,7 +62,7 @@ returns-2 c =
     let k = x .before .before .before .check .ensures in
     let t = check-taken _ _ _ (k .0) (x .if1 .left) in
     let g = check-gates _ _ _ (k .0) (x .if1 .left) in
-    let m = c .before .before .measure .ensures _ _ _ (arrays-turnable _ _ t _ _ _ _ _ _ _ _ (k .1) _ g (λ i _. omega (arith, x .before .before .before .before .before .before .before .before .before .before .before .before .shared-slice-known .given i))) in
+    let m = c .before .before .measure .ensures _ _ (arrays-turnable _ _ t _ _ _ _ _ _ _ _ (k .1) _ g (λ i _. omega (arith, x .before .before .before .before .before .before .before .before .before .before .before .before .shared-slice-known .given i))) in
     record { answered = c .counted .ensures ∙ counts-are _ _ t _ _ _ _ _ _ _ _ (k .1) _ g _ _ _ m _ (check-before _ _ _ (k .0) (x .if1 .left)); handed = k .1 }
 
 pub prepare-spec : {M : Type 1} → statement M
