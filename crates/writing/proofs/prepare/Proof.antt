@@ -16,7 +16,7 @@ shared-slice-read-v c = let x = c .before in rule-long _ (x .before .before .bef
 
 measure-requires : tie.Need-measure-requires
 measure-requires c κs =
-    let x = c .before .before .before .before .before in
+    let x = c .before .before .before .before .before .before in
     let k = x .before .before .before .check .ensures in
     record {
       count = x .before .before .before .check .result .answer .gates;
@@ -27,7 +27,7 @@ measure-requires c κs =
 
 add-bytes : tie.Need-add-bytes
 add-bytes c =
-    let x = c .before .before .before .before .before .before .before in
+    let x = c .before .before .before .before .before .before .before .before in
     let k = x .before .before .before .check .ensures in
     let t = check-taken _ _ _ (k .0) (x .if1 .left) in
     let g = check-gates _ _ _ (k .0) (x .if1 .left) in
@@ -38,14 +38,14 @@ add-bytes c =
     )
 
 cast-bytes : tie.Need-cast-bytes
-cast-bytes c = omega (arith, c .before .before .before .before .before .before .before .before .before .before .before .before .before .before .before .before .before .before .before .shared-slice-known .given 5)
+cast-bytes c = omega (arith, c .before .before .before .before .before .before .before .before .before .before .before .before .before .before .before .before .before .before .before .before .shared-slice-known .given 5)
 
 mul-bytes : tie.Need-mul-bytes
-mul-bytes c = omega (arith, c .before .before .before .before .before .before .before .before .before .before .before .before .before .before .before .before .before .before .before .shared-slice-known .given 5)
+mul-bytes c = omega (arith, c .before .before .before .before .before .before .before .before .before .before .before .before .before .before .before .before .before .before .before .before .shared-slice-known .given 5)
 
 add-bytes-2 : tie.Need-add-bytes-2
 add-bytes-2 c =
-    let x = c .before .before .before .before .before .before .before in
+    let x = c .before .before .before .before .before .before .before .before in
     let k = x .before .before .before .check .ensures in
     let t = check-taken _ _ _ (k .0) (x .if1 .left) in
     let g = check-gates _ _ _ (k .0) (x .if1 .left) in
@@ -58,7 +58,7 @@ add-bytes-2 c =
 
 returns-2 : tie.Need-returns-2
 returns-2 c =
-    let x = c .before .before .before .before .before .before .before .before in
+    let x = c .before .before .before .before .before .before .before .before .before in
     let k = x .before .before .before .check .ensures in
     let t = check-taken _ _ _ (k .0) (x .if1 .left) in
     let g = check-gates _ _ _ (k .0) (x .if1 .left) in
