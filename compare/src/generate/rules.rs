@@ -7,7 +7,7 @@ use super::words::Words;
 use super::{damage, Random};
 use crate::law::*;
 use crate::rule::{bytes_of, Block, Expression, Rule, Statement};
-use alike::branches_alike;
+use alike::{branches_alike, chains_unlike};
 use limits::{at_conditions, at_depth, at_gates, at_nesting, at_size, branches, dead, wide};
 
 /// A rule that reading accepts.
@@ -15,7 +15,10 @@ pub fn accepted(random: &mut Random, words: Words) -> Vec<u8> {
     let limits = words.conditions.limits();
     loop {
         let rule = if words.picks.alike(random, 45) {
-            branches_alike(random, limits)
+            match random.below(12) {
+                0 => chains_unlike(random),
+                _ => branches_alike(random, limits),
+            }
         } else if words.conditions.more(random, 35) {
             more_conditions(random, limits)
         } else {

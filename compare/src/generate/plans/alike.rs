@@ -6,10 +6,10 @@ use crate::circuit::GateNumber;
 use crate::law::GROUP_SIZE_MIN;
 
 /// Gates in rising order, each put with the first others that it excludes and whose arguments were joined with its own, at
-/// both places or, in some plans, at one. At times one group is taken out, so that wires behind it are not equal.
+/// both places or, in some plans, at one or none. At times one group is taken out, so that wires behind it are not equal.
 pub(super) fn in_step(random: &mut Random, ground: &Ground) -> Groups {
     let most = random.pick(&[2, 2, 3, 4, 255]);
-    let equal_places = random.pick(&[2, 2, 2, 1]);
+    let equal_places = random.pick(&[2, 2, 1, 0]);
     let mut all: Groups = Vec::new();
     let mut group_of: Vec<Option<usize>> = vec![None; ground.circuit.gates.len()];
     for &gate in &ground.costly {

@@ -45,6 +45,22 @@ pub(super) fn branches_alike(random: &mut Random, limits: Limits) -> Rule {
     Rule::of_results(&alike.maker.kinds, block)
 }
 
+/// One if with a chain in both blocks that the second goes through by turns: joined in step, no wires but the first are
+/// equal, up to the greatest wire count.
+pub(super) fn chains_unlike(random: &mut Random) -> Rule {
+    let links = random.pick(&[2, 9, 40, 100, 125, 125]);
+    let code = random.pick(&[PRODUCT, AND, OR]);
+    let row = operation(code).expect("an operation");
+    let from = |variable: usize| {
+        let arguments = vec![Expression::Variable(variable); 2];
+        Statement::Assign(variable, Expression::Operation(code, arguments))
+    };
+    let first = vec![from(1); links];
+    let second = (0..links).map(|k| from(1 + k % 2)).collect();
+    let choice = Statement::If(Expression::Variable(0), first, second);
+    Rule::of_results(&[Kind::Bit, row.takes, row.takes], vec![choice])
+}
+
 impl Maker<'_> {
     fn constant(&mut self, kind: Kind) -> Expression {
         match kind {

@@ -1,4 +1,4 @@
-//! Members that rest on up to eight conditions, with no pick, one and two; every setting of eight.
+//! Members that rest on up to eight conditions, with no pick, one and two; without a pick every setting of eight.
 
 use super::super::parts::{rule, set, two, var};
 use super::super::List;
@@ -42,8 +42,8 @@ fn ends(list: &mut List, conditions: usize, (first, last, picks): Shape) {
         &joined,
         besides.group(PRODUCT, picks, rests(members)),
     );
-    // Every setting of eight once without a pick and once with both, else one for each end.
-    let every = conditions == LIMITS.conditions && picks != 1;
+    // Every setting of eight without a pick, else one for each end.
+    let every = conditions == LIMITS.conditions && picks == 0;
     for setting in 0..1_usize << conditions {
         let told = (0..members).any(|end| setting == (1 << end) - 1);
         if !every && !told {

@@ -16,12 +16,12 @@ type Arguments = Vec<[usize; 2]>;
 
 pub fn add(list: &mut List) {
     for row in costly() {
-        let most = if matches!(row.code, PRODUCT | LESS | AND) {
-            5
-        } else {
-            3
-        };
-        for members in [2, 3, 5].into_iter().filter(|&members| members <= most) {
+        // Of equal and or, which commute as product and and do, fewer.
+        let more = matches!(row.code, PRODUCT | LESS | AND);
+        for members in [2, 3, 5] {
+            if members == 5 && !more {
+                continue;
+            }
             for (arguments, picks) in shapes(members) {
                 subject(list, row, &arguments, picks);
             }
@@ -29,14 +29,20 @@ pub fn add(list: &mut List) {
                 written_in_turns(list, row, members);
             }
         }
-        for (arguments, picks) in [
-            (vec![[LOW, HIGH]; 9], 0),
-            ((1..10).map(|x| [LOW, x]).collect(), 1),
-            ((1..10).map(|x| [x, HIGH]).collect(), 1),
-        ] {
-            subject(list, row, &arguments, picks);
+        if more {
+            nine(list, row);
+            few_alike(list, row);
         }
-        few_alike(list, row);
+    }
+}
+
+fn nine(list: &mut List, row: Operation) {
+    for (arguments, picks) in [
+        (vec![[LOW, HIGH]; 9], 0),
+        ((1..10).map(|x| [LOW, x]).collect(), 1),
+        ((1..10).map(|x| [x, HIGH]).collect(), 1),
+    ] {
+        subject(list, row, &arguments, picks);
     }
 }
 

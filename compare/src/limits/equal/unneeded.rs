@@ -11,6 +11,7 @@ pub fn add(list: &mut List) {
     stored_over(list);
     working(list);
     many(list);
+    most_wires(list);
     under_some_settings(list);
     read_by_others(list);
 }
@@ -101,12 +102,51 @@ fn many(list: &mut List) {
     list.fused_turns(&made, &joined, &[0, 1]);
 }
 
+/// Two words and 254 comparisons that nothing needs, in turns of one word and of the other: 127 pairs without equal wires make
+/// the most wires there are, 637; with one equal place each, 510; those of one word with each other have none.
+fn most_wires(list: &mut List) {
+    let comparison =
+        |one: usize, other: usize| when(two(LESS, var(one), var(other)), vec![], vec![]);
+    let rule_of = |turns: [[usize; 2]; 2]| {
+        let of = |k: usize| comparison(turns[k % 2][0], turns[k % 2][1]);
+        rule(&[Kind::Word; 2], (0..GATES_MAX - 2).map(of).collect())
+    };
+    let pairs: Vec<Vec<usize>> = (0..GROUPS_MAX)
+        .map(|k| vec![2 + 2 * k, 3 + 2 * k])
+        .collect();
+    for (turns, picks, wires) in [
+        ([[0, 0], [1, 1]], 2, 637),
+        ([[0, 1], [1, 0]], 2, 637),
+        ([[0, 1], [0, 0]], 1, 510),
+        ([[0, 1], [1, 1]], 1, 510),
+        ([[1, 0], [1, 0]], 0, 129),
+    ] {
+        let made = rule_of(turns);
+        let each = |all: Counted, _| all.group(LESS, picks, [0, 0].into_iter());
+        let wanted = pairs.iter().fold(Counted::of_variables(2), each);
+        assert_eq!(wanted.wires, wires);
+        let joined = plan_of(&made, &pairs);
+        list.counts(&made, &joined, wanted);
+        list.fused_turns(&made, &joined, &[0, 1]);
+    }
+    let fours: Vec<Vec<usize>> = (0..63)
+        .flat_map(|k| [vec![2 + 4 * k, 4 + 4 * k], vec![3 + 4 * k, 5 + 4 * k]])
+        .collect();
+    let made = rule_of([[0, 0], [1, 1]]);
+    let joined = plan_of(&made, &fours);
+    list.counts(&made, &joined, Counted::of_variables(2).and(128, 5, 40));
+}
+
 /// Two bits: under half of the settings neither member is needed, and the result is the variable itself.
 fn under_some_settings(list: &mut List) {
     let kinds = [Kind::Bit, Kind::Bit, Kind::Word, Kind::Word];
     let product = |one: usize, other: usize| vec![set(2, two(PRODUCT, var(one), var(other)))];
-    for (second, picks) in [(product(3, 2), 0), (product(2, 2), 1), (product(3, 3), 1)] {
-        let inner = when(var(1), product(2, 3), second.clone());
+    for (second, picks, other) in [
+        (product(3, 2), 0, 35),
+        (product(2, 2), 1, 25),
+        (product(3, 3), 1, 49),
+    ] {
+        let inner = when(var(1), product(2, 3), second);
         let made = rule(
             &kinds,
             vec![when(var(0), vec![inner], vec![Statement::Skip])],
@@ -118,13 +158,6 @@ fn under_some_settings(list: &mut List) {
         let file = list.counts(&made, &joined, wanted);
         for setting in 0..4 {
             let [outer, inner] = [setting & 1, setting >> 1];
-            let other = [35, 25, 49][if second == product(3, 2) {
-                0
-            } else if second == product(2, 2) {
-                1
-            } else {
-                2
-            }];
             let figure = match (outer, inner) {
                 (0, _) => 5,
                 (_, 1) => 35,
