@@ -1,7 +1,7 @@
 /* Linnetshelf: reads a matching rule, runs it, checks a plan for it and writes the fused circuit,
  * byte for byte as document 01 fixes it, with C-11 (circuit files from the other house are read and
- * run), C-12 (argument order), C-13 (working figures), C-15 (groups in one order) and C-17 (eight
- * conditions) of document 02.
+ * run), C-12 (argument order), C-13 (working figures), C-15 (groups in one order), C-17 (eight
+ * conditions) and C-18 (no pick between equal wires) of document 02.
  * Every function here is proved to answer and to write what the definitions of crates/<crate>/specs
  * give, for any bytes at all.
  *
@@ -18,7 +18,8 @@
  *
  * Versions. A circuit file is written as version 00 02, whose guards have up to 8 wires and a table of
  * 32 bytes. Files of version 00 01 are read too: their guards have up to 6 wires and a table of 8 bytes.
- * Rules and plans are of version 00 01.
+ * Rules and plans are of version 00 01. Files that were written before C-18, with a pick between equal
+ * wires, are read and run as before.
  *
  * Refusals. An operation either succeeds, with number 0 and place 0, or refuses, with a number, a
  * place and every count 0. A refusal writes to no array. Rule comes before plan, plan before inputs
@@ -109,7 +110,9 @@ struct linnet_answer linnet_check_plan(
     const uint8_t *plan, size_t plan_count);
 
 /* 04 Writes the file of the fused circuit to the start of out, and nothing after. Answers all five
- * counts. 16,384 bytes always suffice. */
+ * counts. 16,384 bytes always suffice. Where all members of a group have the same wire at an argument
+ * place there is no pick, and a group without a pick has no guards: what its wire holds where no member
+ * is needed is not fixed by the rule. */
 struct linnet_answer linnet_write_fused(
     const uint8_t *rule, size_t rule_count,
     const uint8_t *plan, size_t plan_count,

@@ -90,16 +90,15 @@ fn a_joined_group_of_two_orders() {
         files.dedup();
         assert_eq!(files.len(), if row.lower_first { 1 } else { 4 });
     }
-    // The picks of a product: quantity for both members, then price for both.
+    // A product of quantity and price for both members: equal wires at both places, and no pick (C-18).
     let product = |first, second| vec![set(1, two(PRODUCT, var(first), var(second)))];
     let rule = rule(
         &[Kind::Bit, Kind::Word, Kind::Word],
         vec![when(var(0), product(2, 1), product(1, 2))],
     );
     let file = file_of(&rule, &plan(&rule, &[&[3, 4]]));
-    let picks = hex("31 02 00 03 00 01 00 04 00 01 31 02 00 03 00 02 00 04 00 02 22 00 05 00 06");
-    // The header, three inputs and two guards of 36 bytes stand before them.
-    assert_eq!(file[86..86 + picks.len()], picks);
+    // The header and three inputs stand before it.
+    assert_eq!(file[14..19], hex("22 00 01 00 02"));
 }
 
 /// A gate's number does not rest on the order: arguments are made left to right, then taken.
@@ -151,7 +150,7 @@ fn by_gate_and_not_by_variable() {
 }
 
 /// The product of gate 3 is joined with one that waits for the comparison of gate 6, so it is written after
-/// the sum of gate 4. The sum of both takes gate 3 first: wire 9 before wire 3.
+/// the sum of gate 4. The sum of both takes gate 3 first: wire 8 before wire 3. Both products read v2 at their second place.
 #[test]
 fn by_gate_and_not_by_wire() {
     let kinds = [Kind::Bit, Kind::Word, Kind::Word];
@@ -167,11 +166,11 @@ fn by_gate_and_not_by_wire() {
     };
     let table = "00 ".repeat(31);
     let wanted = format!(
-        "43 49 52 00 02 03 00 0E 01 00 00 01 00 02 20 00 02 00 02 23 00 01 00 02 \
+        "43 49 52 00 02 03 00 0D 01 00 00 01 00 02 20 00 02 00 02 23 00 01 00 02 \
          32 01 00 00 {table} 02 32 02 00 00 00 04 {table} 04 \
-         31 02 00 05 00 01 00 06 00 02 31 02 00 05 00 02 00 06 00 02 22 00 07 00 08 \
-         20 00 09 00 03 30 00 04 00 09 00 01 30 00 00 00 0A 00 0B 30 00 00 00 03 00 02 \
-         00 00 00 0C 00 0D"
+         31 02 00 05 00 01 00 06 00 02 22 00 07 00 02 \
+         20 00 08 00 03 30 00 04 00 08 00 01 30 00 00 00 09 00 0A 30 00 00 00 03 00 02 \
+         00 00 00 0B 00 0C"
     );
     for rule in [of(1, 2), of(2, 1)] {
         assert_eq!(circuit_of(&rule).gates[5], gate(SUM, 3, 4));

@@ -43,7 +43,7 @@ fn last(list: &[(&[u8], &[u8])]) -> String {
 
 #[test]
 fn the_documents_batch() {
-    let wanted = "accepted 6 9 33 28\naccepted 6 6 33 33\ntotal 2 0 66 61 5\n";
+    let wanted = "accepted 6 8 33 24\naccepted 6 6 33 33\ntotal 2 0 66 57 9\n";
     assert_eq!(text(&document()), wanted);
     assert_eq!(document(), entries(&[(&R1, &P1), (&R1, &NO_GROUPS)]));
     assert_eq!(text(b"BAT\0\x01\0\0"), "total 0 0 0 0 0\n");
@@ -56,7 +56,7 @@ fn cut_at_every_byte() {
         // The first entry ends after 7 + 2 + 29 + 2 + 14 bytes.
         let wanted = match end {
             ..54 => "refused 75\n",
-            _ => "accepted 6 9 33 28\nrefused 75\n",
+            _ => "accepted 6 8 33 24\nrefused 75\n",
         };
         assert_eq!(text(&batch[..end]), wanted, "{end}");
     }
@@ -78,13 +78,13 @@ fn every_byte_of_mark_and_version() {
 
 #[test]
 fn another_count() {
-    let both = "accepted 6 9 33 28\naccepted 6 6 33 33\nrefused 75\n";
+    let both = "accepted 6 8 33 24\naccepted 6 6 33 33\nrefused 75\n";
     for count in 0..=u16::MAX {
         let mut batch = document();
         batch[5..7].copy_from_slice(&count.to_be_bytes());
         let wanted = match count {
             0 => "refused 75\n",
-            1 => "accepted 6 9 33 28\nrefused 75\n",
+            1 => "accepted 6 8 33 24\nrefused 75\n",
             2 => continue,
             _ => both,
         };
@@ -97,7 +97,7 @@ fn bytes_left() {
     let batch = document();
     let further = document();
     for more in [&[0][..], &[0x0A], &[0; 5000], &further, &further[7..54]] {
-        let wanted = "accepted 6 9 33 28\naccepted 6 6 33 33\nrefused 75\n";
+        let wanted = "accepted 6 8 33 24\naccepted 6 6 33 33\nrefused 75\n";
         assert_eq!(text(&[&batch, more].concat()), wanted);
         let none = [b"BAT\0\x01\0\0", more].concat();
         assert_eq!(text(&none), "refused 75\n");
@@ -112,7 +112,7 @@ fn another_length() {
         batch[7..9].copy_from_slice(&length.to_be_bytes());
         let report = text(&batch);
         match length {
-            29 => assert!(report.ends_with("total 2 0 66 61 5\n")),
+            29 => assert!(report.ends_with("total 2 0 66 57 9\n")),
             _ => assert!(report.ends_with("refused 75\n"), "{length}"),
         }
         let first = report.lines().next().expect("a line");
@@ -151,7 +151,7 @@ fn limits_of_a_rule() {
         let lines: Vec<&str> = report.lines().collect();
         assert_eq!(
             lines[..3],
-            ["accepted 6 9 33 28", line, "accepted 6 9 33 28"]
+            ["accepted 6 8 33 24", line, "accepted 6 8 33 24"]
         );
         let refused = usize::from(length > 4096);
         let total = format!("total {} {refused} 66 56 10", 3 - refused);
@@ -177,7 +177,7 @@ fn limits_of_a_plan() {
         (65_535, "refused 20"),
     ] {
         let batch = entries(&[(&R1, &plan_of(length)), (&R1, &P1)]);
-        let wanted = format!("{line}\naccepted 6 9 33 28\ntotal 1 1 33 28 5\n");
+        let wanted = format!("{line}\naccepted 6 8 33 24\ntotal 1 1 33 24 9\n");
         assert_eq!(text(&batch), wanted);
     }
     for length in 0..9 {
@@ -192,7 +192,7 @@ fn skipped_parts_cut() {
     for entry in [(&rule_of(5000)[..], &P1[..]), (&R1, &plan_of(1500))] {
         let batch = entries(&[(&R1, &P1), entry]);
         for end in 54..batch.len() {
-            let wanted = "accepted 6 9 33 28\nrefused 75\n";
+            let wanted = "accepted 6 8 33 24\nrefused 75\n";
             assert_eq!(text(&batch[..end]), wanted, "{end}");
         }
     }
@@ -214,10 +214,10 @@ fn a_refused_rule_goes_before_its_plan() {
     }
 }
 
-/// Three bits; if v0 then v1 := v1 and v2 else v1 := v2 and v1. Joined, the two ands cost 9 more.
+/// Three bits; if v0 then v1 := v1 and v1 else v1 := v2 and v2. Joined, the two ands cost 9 more.
 const ANDS: [u8; 29] = [
     0x52, 0x55, 0x4C, 0x00, 0x01, 0x03, 0x01, 0x01, 0x01, 0x03, 0x10, 0x00, 0x01, 0x01, 0x25, 0x10,
-    0x01, 0x10, 0x02, 0x00, 0x01, 0x01, 0x25, 0x10, 0x02, 0x10, 0x01, 0x00, 0x00,
+    0x01, 0x10, 0x01, 0x00, 0x01, 0x01, 0x25, 0x10, 0x02, 0x10, 0x02, 0x00, 0x00,
 ];
 
 #[test]
@@ -227,12 +227,17 @@ fn what_is_saved_may_be_negative() {
     let refused = (&ANDS[..28], &P1[..]);
     let wanted = "accepted 6 9 5 14\ntotal 1 0 5 14 -9\n";
     assert_eq!(text(&entries(&[loss])), wanted);
-    assert_eq!(last(&[loss, saving]), "total 2 0 38 42 -4");
-    assert_eq!(last(&[saving, loss, saving]), "total 3 0 71 70 1");
+    assert_eq!(last(&[loss, loss, saving]), "total 3 0 43 52 -9");
+    assert_eq!(last(&[saving, loss, saving]), "total 3 0 71 62 9");
     assert_eq!(last(&[(&R1, &NO_GROUPS)]), "total 1 0 33 33 0");
     assert_eq!(last(&[refused, loss, refused]), "total 1 2 5 14 -9");
-    let zero = [[saving; 9].to_vec(), [loss; 5].to_vec()].concat();
-    assert_eq!(last(&zero), "total 14 0 322 322 0");
+    assert_eq!(last(&[loss, saving]), "total 2 0 38 38 0");
+    // Ands of the same two bits, in either order, save 1 (C-18).
+    let mut alike = ANDS;
+    alike[18] = 0x02;
+    alike[26] = 0x01;
+    let wanted = "accepted 6 5 5 4\ntotal 1 0 5 4 1\n";
+    assert_eq!(text(&entries(&[(&alike[..], &P1[..])])), wanted);
 }
 
 #[test]
@@ -242,7 +247,7 @@ fn many_entries() {
     assert_eq!(report.lines().count(), 65_536);
     assert!(report.ends_with("refused 1 0\ntotal 0 65535 0 0 0\n"));
     let report = text(&entries(&vec![(&R1[..], &P1[..]); 3000]));
-    assert!(report.ends_with("accepted 6 9 33 28\ntotal 3000 0 99000 84000 15000\n"));
+    assert!(report.ends_with("accepted 6 8 33 24\ntotal 3000 0 99000 72000 27000\n"));
 }
 
 /// What reading a batch as it comes gives, in pieces of the case's size.

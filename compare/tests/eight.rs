@@ -13,7 +13,7 @@ use compare::plan::{accept_both, check};
 use compare::rule::Block;
 use compare::run::run_circuit;
 use compare::stream::{Case, LAST, STREAM_MARK};
-use compare::write::{fuse, write, Record, Wire};
+use compare::write::{fuse, fuse_with, write, Record, Wire};
 use compare::{direct, run};
 
 const UNTOUCHED: u32 = 3_735_928_559;
@@ -253,7 +253,7 @@ fn both_versions_give_the_same() {
             assert_eq!(one, other);
         }
     }
-    assert!(small > 150 && wide > 50, "{small}, {wide}");
+    assert!(small > 150 && wide > 35, "{small}, {wide}");
 }
 
 /// The files that were written before, and what they printed then: see `limits::eight_cases`, which looks at the lines.
@@ -285,7 +285,8 @@ fn random_cases(seed: u64, words: Words) -> impl Iterator<Item = Case> {
     std::iter::repeat_with(move || cases::case(&mut random, &operations, words))
 }
 
-/// What C-15 stored is made as it was then; `tests/ordered_cases.rs` and `tests/working.rs` have what was stored before it.
+/// What C-15 stored is made as it was then; `tests/ordered_cases.rs` and `tests/working.rs` have what was stored before it,
+/// `tests/equal.rs` what was after it.
 #[test]
 fn stored_cases_stay() {
     let random = random_cases(4, Words::BEFORE_EIGHT).take(2000);
@@ -301,7 +302,7 @@ fn stored_cases_stay() {
 fn many_conditions_are_often_made() {
     let [mut accepted, mut more, mut eight, mut wide] = [0; 4];
     let mut files = [0; 2];
-    for case in random_cases(5, Words::ALL).take(2000) {
+    for case in random_cases(5, Words::BEFORE_EQUAL).take(2000) {
         if case.operation >= 7 {
             for (count, version) in files.iter_mut().zip(VERSIONS) {
                 *count += usize::from(case.first.get(3..5) == Some(&version.bytes));
@@ -315,7 +316,7 @@ fn many_conditions_are_often_made() {
         more += usize::from(rule.circuit.conditions.len() > 6);
         eight += usize::from(rule.circuit.conditions.len() == 8);
         if let Ok((accepted, plan)) = accept_both(&case.first, &case.second) {
-            let records = fuse(&accepted.circuit, &plan).records;
+            let records = fuse_with(&accepted.circuit, &plan, PICKS_BEFORE).records;
             let many = |record: &Record| matches!(record, Record::Guard(w, _) if w.len() > 6);
             wide += usize::from(records.iter().any(many));
         }
@@ -328,9 +329,11 @@ fn many_conditions_are_often_made() {
     assert!(files.iter().all(|&count| count > 100));
 }
 
-/// Example 3 in room for 124 bytes and for 123.
+/// Example 3 had 124 bytes until C-18.
 #[test]
-fn example_3_is_124_bytes() {
-    assert_eq!(write(&R1, &P1, &mut [0; 124]).bytes, 124);
-    assert_eq!(write(&R1, &P1, &mut [0; 123]), refused(50, 0));
+fn example_3_was_124_bytes() {
+    let (accepted, plan) = accept_both(&R1, &P1).unwrap();
+    let before = fuse_with(&accepted.circuit, &plan, PICKS_BEFORE);
+    assert_eq!(before.file().len(), 124);
+    assert_eq!(before.file_of(VERSION_1).len(), 76);
 }

@@ -111,25 +111,31 @@ fn example_3_the_whole_file() {
              22 00 05 00 06 30 00 00 00 07 00 07 00 00 00 08 00 02"
         ))
     };
-    let before = of("00 01", "");
-    let file = of("00 02", &"00 ".repeat(24));
-    assert_eq!((before.len(), file.len()), (76, 124));
-    let done = Answer::of_fused(6, 9, 124, 33, 28);
-    for room in [124, 125, 200] {
+    let table = "00 ".repeat(31);
+    // Since C-18: no pick at the second place, where both products have v2.
+    let file = hex(&format!(
+        "43 49 52 00 02 03 00 08 01 00 00 01 00 02 32 01 00 00 {table} 02 32 01 00 00 {table} 01 \
+         31 02 00 03 00 01 00 04 00 02 22 00 05 00 02 30 00 00 00 06 00 06 00 00 00 07 00 02"
+    ));
+    let before = [of("00 01", ""), of("00 02", &"00 ".repeat(24))];
+    let lengths = [&before[0], &before[1], &file].map(Vec::len);
+    assert_eq!(lengths, [76, 124, 114]);
+    let done = Answer::of_fused(6, 8, 114, 33, 24);
+    for room in [114, 115, 200] {
         let mut buffer = vec![0xEE; room];
         assert_eq!(write::write(&R1, &P1, &mut buffer), done);
-        assert_eq!(buffer[..124], file);
-        assert!(buffer[124..].iter().all(|&byte| byte == 0xEE));
+        assert_eq!(buffer[..114], file);
+        assert!(buffer[114..].iter().all(|&byte| byte == 0xEE));
     }
-    let mut buffer = [0xEE; 123];
+    let mut buffer = [0xEE; 113];
     assert_eq!(write::write(&R1, &P1, &mut buffer), refused(50, 0));
-    assert_eq!(buffer, [0xEE; 123]);
+    assert_eq!(buffer, [0xEE; 113]);
 
-    for file in [&before, &file] {
+    for (file, wires) in [(&before[0], 9), (&before[1], 9), (&file, 8)] {
         for (inputs, wanted) in [([1, 6, 7], [1, 42, 7]), ([0, 6, 7], [0, 49, 7])] {
             let mut results = [UNTOUCHED; 3];
             let answer = run::run_circuit(file, &inputs, &mut results);
-            let done = Answer::of_file(9, file.len());
+            let done = Answer::of_file(wires, file.len());
             assert_eq!((answer, results), (done, wanted));
         }
     }
@@ -225,28 +231,29 @@ fn example_6_a_joined_gate_waits_for_its_conditions() {
 #[test]
 fn example_6_the_files() {
     let table = "00 ".repeat(31);
-    let head = "43 49 52 00 02 04 00 0E 01 00 00 01 00 02 01 03";
+    let head = "43 49 52 00 02 04 00 0D 01 00 00 01 00 02 01 03";
+    // Both products have v1 at their first place, both comparisons v2 at their second: no pick there (C-18).
     let products = format!(
         "{head} 23 00 01 00 02 32 01 00 00 {table} 02 32 02 00 00 00 04 {table} 04 \
-         31 02 00 05 00 01 00 06 00 01 31 02 00 05 00 01 00 06 00 02 22 00 07 00 08 \
-         23 00 09 00 02 30 00 04 00 09 00 01 30 00 00 00 01 00 0B 30 00 00 00 0A 00 03 \
-         00 00 00 0C 00 02 00 0D"
+         31 02 00 05 00 01 00 06 00 02 22 00 01 00 07 \
+         23 00 08 00 02 30 00 04 00 08 00 01 30 00 00 00 01 00 0A 30 00 00 00 09 00 03 \
+         00 00 00 0B 00 02 00 0C"
     );
     let comparisons = format!(
         "{head} 22 00 01 00 01 32 01 00 00 {table} 02 32 01 00 00 {table} 01 \
-         31 02 00 05 00 04 00 06 00 01 31 02 00 05 00 02 00 06 00 02 23 00 07 00 08 \
-         22 00 01 00 02 30 00 09 00 0A 00 01 30 00 00 00 01 00 0B 30 00 00 00 09 00 03 \
-         00 00 00 0C 00 02 00 0D"
+         31 02 00 05 00 04 00 06 00 01 23 00 07 00 02 \
+         22 00 01 00 02 30 00 08 00 09 00 01 30 00 00 00 01 00 0A 30 00 00 00 08 00 03 \
+         00 00 00 0B 00 02 00 0C"
     );
     for (group, text, after) in [
-        ([4, 7], products, 40 + 2 + 8 + 15 + 40 + 9),
-        ([5, 6], comparisons, 15 + 2 + 8 + 40 + 15 + 9),
+        ([4, 7], products, 40 + 2 + 4 + 15 + 40 + 9),
+        ([5, 6], comparisons, 15 + 2 + 4 + 40 + 15 + 9),
     ] {
         let file = hex(&text);
         let mut buffer = vec![0xEE; file.len()];
         assert_eq!(
             write::write(&R2, &plan(11, &[&group]), &mut buffer),
-            Answer::of_fused(11, 14, file.len(), 119, after)
+            Answer::of_fused(11, 13, file.len(), 119, after)
         );
         assert_eq!(buffer, file);
     }

@@ -31,10 +31,10 @@ fn every_number_comes() {
 
 #[test]
 fn the_largest_come() {
-    let cases = limits::cases();
+    let cases = [limits::cases(), limits::equal_cases()].concat();
     let written = |case: &&Case| case.operation == WRITE;
     let answers = || cases.iter().filter(written).filter_map(Case::work);
-    // A group of two makes three wires more than its gates, and 256 gates hold 127 of them.
+    // A group of two without equal wires makes three wires more than its gates, and 256 gates hold 127 of them.
     let wires = answers().map(|(answer, _)| answer.wires).max();
     assert_eq!(wires, Some(256 + 3 * 127));
     let sizes = cases.iter().filter(|case| case.operation == CHECK);
@@ -120,12 +120,12 @@ fn every_number_of_eight_conditions_comes() {
         assert!(of(0, operation) >= 500, "operation {operation:02X}");
         assert!([60, 61, 62].iter().all(|&row| of(row, operation) >= 50));
     }
-    assert!(of(50, WRITE) >= 500);
+    // Since C-18 most rooms of a byte less are enough; see below.
+    assert!(of(50, WRITE) >= 100);
     let sizes = |operation: u8| {
         let of = cases.iter().filter(move |case| case.operation == operation);
         of.filter_map(Case::work).map(|(answer, _)| answer.bytes)
     };
-    assert_eq!(sizes(WRITE).max(), Some(15_387));
     assert_eq!(sizes(RUN_CIRCUIT).max(), Some(CIRCUIT_BYTES_MAX));
 }
 
@@ -139,11 +139,33 @@ fn every_number_of_group_orders_comes() {
     let of = |number: u8, operation: u8| counts.by_number[&number][usize::from(operation)];
     for operation in [CHECK, WRITE, FUSED] {
         assert!(of(32, operation) >= 150 && of(26, operation) >= 30);
-        // Since C-17 most rooms for files of version 1 are too short.
-        assert!(of(0, operation) >= 30 || operation == WRITE);
+        // Rooms for files of version 1 were too short since C-17, and since C-18 nearly all are enough again.
+        assert!(of(0, operation) >= 30);
         for row in 20..=30 {
             assert!(of(row, operation) >= 2, "{row} by {operation:02X}");
         }
     }
-    assert!(of(50, WRITE) >= 60);
+}
+
+/// Those of C-18 reach the numbers that it moves, 30 that it does not, and files near the longest that are left.
+#[test]
+fn every_number_of_equal_wires_comes() {
+    let cases = limits::equal_cases();
+    let mut counts = Counts::default();
+    for case in &cases {
+        counts.count(case);
+    }
+    let of = |number: u8, operation: u8| counts.by_number[&number][usize::from(operation)];
+    for operation in READ..=LAST {
+        assert!(of(0, operation) >= 40, "operation {operation:02X}");
+    }
+    for operation in [CHECK, WRITE, FUSED] {
+        assert!(of(0, operation) >= 400 && of(30, operation) >= 15);
+    }
+    assert!(of(50, WRITE) >= 1000);
+    let written = cases.iter().filter(|case| case.operation == WRITE);
+    let bytes = written
+        .filter_map(Case::work)
+        .map(|(answer, _)| answer.bytes);
+    assert_eq!(bytes.max(), Some(14_418));
 }

@@ -22,7 +22,7 @@ fn the_fused_circuit_gives_what_the_rule_gives() {
         let bytes = rules::accepted(&mut random, Words::ALL);
         let accepted = accept(&bytes).ok().unwrap();
         let needs = preconditions(&accepted.circuit);
-        let ground = plans::Ground::new(&accepted.circuit, &needs);
+        let ground = plans::Ground::new(&accepted.circuit, &needs).with(PICKS);
         let plan_bytes = plans::valid(&mut random, &ground);
         let plan = check(&accepted.circuit, needs.clone(), &plan_bytes).expect("a valid plan");
         let fused = fuse(&accepted.circuit, &plan);
@@ -137,11 +137,14 @@ fn every_number_is_reached() {
     for kinds in [Kinds::Results, Kinds::Working] {
         for order in [GroupOrder::Any, GroupOrder::Rising] {
             for conditions in [Conditions::Six, Conditions::Eight] {
-                reaches_every_number(Words {
-                    kinds,
-                    order,
-                    conditions,
-                });
+                for picks in [PICKS_BEFORE, PICKS] {
+                    reaches_every_number(Words {
+                        kinds,
+                        order,
+                        conditions,
+                        picks,
+                    });
+                }
             }
         }
     }

@@ -135,17 +135,16 @@ fn needed_gates_of_r1() {
 /// R1 with P1 in full. Guards of gates that nothing needs have no wire and an empty table.
 #[test]
 fn files_of_r1() {
-    let head = "43 49 52 00 02 03 00 09 01 00 00 01 00 02";
+    let head = "43 49 52 00 02 03 00 08 01 00 00 01 00 02";
     let zeros = "00 ".repeat(31);
     let guards = &format!("32 01 00 00 {zeros} 02 32 01 00 00 {zeros} 01");
     let unneeded = &format!("32 00 {zeros} 00 32 00 {zeros} 00");
-    let rest = "31 02 00 03 00 01 00 04 00 02 31 02 00 03 00 02 00 04 00 02 22 00 05 00 06 \
-         30 00 00 00 07 00 07";
+    let rest = "31 02 00 03 00 01 00 04 00 02 22 00 05 00 02 30 00 00 00 06 00 06";
     for (mask, guards, outputs) in [
-        (0b000, guards, "00 00 00 08 00 02"),
-        (0b001, guards, "FF FF 00 08 00 02"),
-        (0b100, guards, "00 00 00 08 FF FF"),
-        (0b101, guards, "FF FF 00 08 FF FF"),
+        (0b000, guards, "00 00 00 07 00 02"),
+        (0b001, guards, "FF FF 00 07 00 02"),
+        (0b100, guards, "00 00 00 07 FF FF"),
+        (0b101, guards, "FF FF 00 07 FF FF"),
         (0b010, unneeded, "00 00 FF FF 00 02"),
         (0b011, unneeded, "FF FF FF FF 00 02"),
         (0b110, unneeded, "00 00 FF FF FF FF"),
@@ -155,7 +154,7 @@ fn files_of_r1() {
         let wanted = hex(&format!("{head} {guards} {rest} {outputs}"));
         let (answer, file) = written(&rule, &P1);
         assert_eq!(file, wanted, "{mask:03b}");
-        assert_eq!(answer, Answer::of_fused(6, 9, wanted.len(), 33, 28));
+        assert_eq!(answer, Answer::of_fused(6, 8, wanted.len(), 33, 24));
         let mut short = vec![0xEE; wanted.len() - 1];
         assert_eq!(write(&rule, &P1, &mut short), refused(50, 0));
         assert!(short.iter().all(|&byte| byte == 0xEE));

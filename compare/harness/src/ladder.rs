@@ -1,5 +1,5 @@
 //! Rules and plans of just so many gates: ladders of nested ifs with costly operations in exclusive branches,
-//! a fifth of the gates joined, and three sorts of plan that are hard to order.
+//! a fifth of the gates joined, three sorts of plan that are hard to order, and one whose groups have no guards.
 
 use crate::subject::{Goal, Row, Subject};
 use compare::circuit::{accept, make, preconditions};
@@ -141,6 +141,18 @@ pub fn reversed(gates: usize) -> Row {
         .collect();
     let subject = subject(&if_v0(block(2), block(1), 2), &groups, vec![0, 3, 5]);
     Row::one(format!("{gates} reversed"), subject, Goal::None)
+}
+
+/// If v0 then so many times v1 := v1 × v1 else the same, the first product of the one block joined with the first of the other
+/// and so on: since the one before is joined, each group has equal wires and is its operation alone (C-18).
+pub fn in_step(gates: usize) -> Row {
+    let products = (gates - 4) / 2;
+    let block = || vec![assign(1, PRODUCT, 1, 1); products];
+    let groups = (0..products)
+        .map(|turn| vec![3 + turn, 3 + products + turn])
+        .collect();
+    let subject = subject(&if_v0(block(), block(), 2), &groups, vec![0, 3, 5]);
+    Row::one(format!("{gates} in step"), subject, Goal::None)
 }
 
 /// If v0 then v1 := v2 × v2 and so many times v3 := v1 + v2, else as often v1 := v1 + v2 and at last

@@ -42,8 +42,12 @@ Rules, with the table at the end: R1 of document 01; ladders of nested ifs with 
 a fifth of the gates joined, up to six ifs and, in the last, eight (C-17); as many joined pairs as fit, each waiting for the one after it (reversed); half of the gates
 waiting for all of the other half (held up); a group that waits for each of many such pairs, with as many sums that wait
 for it (passed again: the search goes back to that group after every pair, and past the sums, so that this one grows with
-the square of the gates); and COUNT mixed rules, one call each in a row: the first COUNT accepted cases of operation 05
+the square of the gates); a chain of products in both blocks, joined in step, so that no group has a guard (in step); and COUNT mixed rules, one call each in a row: the first COUNT accepted cases of operation 05
 that the generator of `compare/run` makes from seed SEED, groups put in order, used for every operation.
+
+Since C-18 a group has no pick where its members' wires are equal, and no guards without a pick: then it is written and run
+faster than before. The table at the end says how many groups have no guards and how many one pick. Every pair of the reversed
+plan has both picks.
 
 Circuit files, for 07 and 09, with a table at the end: that of R1; files that grow, made of turns of a comparison, two
 guards of two wires, two picks, a product, a constant, a sum, a choice and an and; the last of these in version 1, and with
@@ -194,8 +198,8 @@ pub fn print_goals(all: &[(&str, Vec<Measured>)]) {
 /// What the rules are; of several in a row, on average.
 pub fn print_rows(rows: &[Row]) {
     println!("\n## The rules\n");
-    println!("| rule | bytes | gates | conditions | plan, bytes | gates joined |");
-    println!("|---|---:|---:|---:|---:|---:|");
+    println!("| rule | bytes | gates | conditions | plan, bytes | gates joined | groups | without guards | with one pick |");
+    println!("|---|---:|---:|---:|---:|---:|---:|---:|---:|");
     for row in rows {
         let numbers = [
             row.mean(|subject| subject.rule.len()),
@@ -203,6 +207,9 @@ pub fn print_rows(rows: &[Row]) {
             row.mean(|subject| subject.conditions()),
             row.mean(|subject| subject.plan.len()),
             row.mean(|subject| subject.joined()),
+            row.mean(|subject| subject.groups()),
+            row.mean(|subject| subject.equal()[0]),
+            row.mean(|subject| subject.equal()[1]),
         ];
         print_row(row, numbers);
     }
@@ -225,7 +232,7 @@ pub fn print_files(rows: &[Row]) {
     }
 }
 
-fn print_row(row: &Row, numbers: [f64; 5]) {
+fn print_row<const N: usize>(row: &Row, numbers: [f64; N]) {
     let digits = usize::from(row.subjects.len() > 1);
     let cells = numbers.map(|number| format!(" {number:.digits$} |"));
     println!("| {} |{}", row.name, cells.concat());

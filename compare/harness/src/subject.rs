@@ -48,6 +48,24 @@ impl Subject {
         records.iter().filter(guard).count()
     }
 
+    /// Groups of the plan.
+    pub fn groups(&self) -> usize {
+        usize::from(u16::from_be_bytes([self.plan[7], self.plan[8]]))
+    }
+
+    /// Groups without guards, and groups with one pick: their members have equal wires at both places, or at one (C-18).
+    pub fn equal(&self) -> [usize; 2] {
+        let records = self.circuit_file().circuit.records;
+        let is_pick = |record: &Record| matches!(record, Record::Pick(_));
+        let picks = records.iter().filter(|record| is_pick(record)).count();
+        // The guards of a group stand before its picks.
+        let guarded = records
+            .windows(2)
+            .filter(|two| matches!(two[0], Record::Guard(..)) && is_pick(&two[1]));
+        let guarded = guarded.count();
+        [self.groups() - guarded, 2 * guarded - picks]
+    }
+
     fn circuit_file(&self) -> CircuitFile<'_> {
         circuit_file::accept(&self.file).expect("an accepted file")
     }
@@ -90,7 +108,7 @@ pub enum Goal {
     R1,
     Ladder,
     Mixed,
-    /// None is set for plans that are hard to order, nor for circuit files.
+    /// None is set for plans that are hard to order or in step, nor for circuit files.
     None,
 }
 

@@ -1,11 +1,14 @@
 //! The harness finds what differs, and the three tools agree, on the circuit files that are measured too.
 
-use compare::answer::Answer;
-use compare::circuit::accept_within;
+use compare::answer::{Answer, Refusal};
+use compare::circuit::{accept_within, Accepted, GateNumber};
 use compare::circuit_file;
 use compare::generate::group_order::in_order;
-use compare::law::{CIRCUIT_BYTES_MAX, LIMITS_BEFORE, VARIABLES_MAX, VERSION_1, WIRES_MAX};
-use compare::write::Record;
+use compare::law::{
+    CIRCUIT_BYTES_MAX, LIMITS_BEFORE, PICKS, PICKS_BEFORE, VARIABLES_MAX, VERSION_1, WIRES_MAX,
+};
+use compare::plan::{accept_both, Plan};
+use compare::write::{self, fuse_with, Fused, Record, Wire};
 use harness::cases::compare as compare_tools;
 use harness::files;
 use harness::subject::r1;
@@ -38,6 +41,122 @@ enum Fault {
     NoVersion1,
     /// The words of a table stand in the other order.
     TableTurned,
+    /// Every pick is written, as before C-18.
+    EveryPick,
+    /// A group without a pick keeps its guards.
+    IdleGuards,
+    /// Only gates are compared: those that were joined count as different.
+    ByGate,
+    /// A group without a pick does not wait for the conditions that its members rest on.
+    NoWait,
+    /// Only the first two members are compared.
+    FirstTwo,
+}
+
+/// Those of C-18, which move what is written.
+const OF_EQUAL: [Fault; 5] = [
+    Fault::EveryPick,
+    Fault::IdleGuards,
+    Fault::ByGate,
+    Fault::NoWait,
+    Fault::FirstTwo,
+];
+
+/// A joined group whose members' arguments lie in the same groups, place by place.
+fn has_equal_wires(accepted: &Accepted, plan: &Plan, members: &[GateNumber]) -> bool {
+    let groups = |member: &GateNumber| {
+        let arguments = accepted.circuit.gate(*member).arguments();
+        let groups = arguments.iter().map(|argument| plan.group_of[argument.0]);
+        groups.collect::<Vec<usize>>()
+    };
+    members.len() > 1 && members.iter().all(|one| groups(one) == groups(&members[0]))
+}
+
+/// The plan whose groups with equal wires wait for their arguments alone.
+fn without_waits(accepted: &Accepted, plan: Plan) -> Plan {
+    let mut waits = plan.waits.clone();
+    for (group, members) in plan.groups.iter().enumerate() {
+        if has_equal_wires(accepted, &plan, members) {
+            let arguments = accepted.circuit.gate(members[0]).arguments();
+            waits[group] = arguments
+                .iter()
+                .map(|argument| plan.group_of[argument.0])
+                .collect();
+        }
+    }
+    Plan { waits, ..plan }
+}
+
+/// What is left of a circuit of before C-18 where this fault decides which picks and guards go.
+fn left_by(fault: Fault, before: &Fused) -> Fused {
+    let mut left: Vec<Record> = Vec::new();
+    let mut wire_of: Vec<Wire> = Vec::new();
+    let is_pick = |place: usize| matches!(before.records[place], Record::Pick(_));
+    let equal = |record: &Record| match record {
+        Record::Pick(pairs) if fault == Fault::FirstTwo => pairs[0].1 == pairs[1].1,
+        // The operation of a joined group stands behind a pick.
+        Record::Pick(pairs) if fault == Fault::ByGate => {
+            let value = pairs[0].1;
+            let joined = value.0 > 0 && is_pick(value.0 - 1);
+            !joined && pairs.iter().all(|pair| pair.1 == value)
+        }
+        Record::Pick(pairs) => pairs.iter().all(|pair| pair.1 == pairs[0].1),
+        _ => false,
+    };
+    for (place, record) in before.records.iter().enumerate() {
+        let of = |wire: &Wire| wire_of[wire.0];
+        let new = match record {
+            Record::Guard(wires, table) => {
+                // Both picks stand behind the last of the guards.
+                let mut behind = before.records[place..].iter();
+                let picks = behind
+                    .by_ref()
+                    .skip_while(|one| matches!(one, Record::Guard(..)));
+                let keeps = picks.take(2).any(|pick| !equal(pick));
+                if !keeps && fault != Fault::IdleGuards {
+                    wire_of.push(Wire(usize::MAX));
+                    continue;
+                }
+                Record::Guard(wires.iter().map(of).collect(), table.clone())
+            }
+            Record::Pick(pairs) if equal(record) => {
+                wire_of.push(of(&pairs[0].1));
+                continue;
+            }
+            Record::Pick(pairs) => Record::Pick(
+                pairs
+                    .iter()
+                    .map(|(guard, value)| (of(guard), of(value)))
+                    .collect(),
+            ),
+            Record::Operation(code, wires) => {
+                Record::Operation(*code, wires.iter().map(of).collect())
+            }
+            Record::Choice(condition, first, second) => {
+                Record::Choice(of(condition), of(first), of(second))
+            }
+            other => other.clone(),
+        };
+        wire_of.push(Wire(left.len()));
+        left.push(new);
+    }
+    let outputs = before.outputs.iter();
+    Fused {
+        outputs: outputs
+            .map(|output| output.map(|wire| wire_of[wire.0]))
+            .collect(),
+        records: left,
+    }
+}
+
+/// The circuit as a tool with a fault of C-18's kind makes it.
+fn fused_by(fault: Fault, accepted: &Accepted, plan: Plan) -> Fused {
+    let circuit = &accepted.circuit;
+    match fault {
+        Fault::EveryPick => fuse_with(circuit, &plan, PICKS_BEFORE),
+        Fault::NoWait => fuse_with(circuit, &without_waits(accepted, plan), PICKS),
+        _ => left_by(fault, &fuse_with(circuit, &plan, PICKS_BEFORE)),
+    }
 }
 
 struct Wrong(Fault);
@@ -86,6 +205,21 @@ impl Wrong {
         }
     }
 
+    /// Writes what a fault of C-18's kind makes of a plan.
+    fn write_by(&self, rule: &[u8], plan: &[u8], out: &mut [u8]) -> Answer {
+        let (accepted, plan) = match accept_both(rule, plan) {
+            Ok(both) => both,
+            Err(refusal) => return refusal.into(),
+        };
+        let fused = fused_by(self.0, &accepted, plan);
+        let file = fused.file();
+        match out.get_mut(..file.len()) {
+            Some(room) => room.copy_from_slice(&file),
+            None => return Refusal::nowhere(50).into(),
+        }
+        write::answer(&accepted, &fused, &file)
+    }
+
     /// Writes past what success writes, or where nothing is to be written.
     fn spoil<T: Default>(&self, answer: Answer, written: usize, lent: &mut [T]) -> Answer {
         let place = match (self.0, answer.number) {
@@ -130,6 +264,9 @@ impl Tool for Wrong {
 
     fn write_fused(&self, rule: &[u8], plan: &[u8], out: &mut [u8]) -> Answer {
         let rule = self.read_as(rule);
+        if OF_EQUAL.contains(&self.0) {
+            return self.write_by(&rule, plan, out);
+        }
         let answer = Plain.write_fused(&rule, &self.checked_as(&rule, plan), out);
         if self.0 == Fault::TableTurned {
             turn_tables(&mut out[..answer.bytes]);
@@ -207,6 +344,11 @@ fn every_fault_is_found() {
         Fault::Six,
         Fault::NoVersion1,
         Fault::TableTurned,
+        Fault::EveryPick,
+        Fault::IdleGuards,
+        Fault::ByGate,
+        Fault::NoWait,
+        Fault::FirstTwo,
     ] {
         let wrong = Wrong(fault);
         let three: [[&dyn Tool; 3]; 3] = [

@@ -1,5 +1,5 @@
 //! What is measured is what it is said to be, and is accepted: groups stand in order (C-15), one ladder has eight conditions
-//! (C-17). Needs no archive.
+//! (C-17), and enough groups have guards and picks (C-18). Needs no archive.
 
 use compare::law::VARIABLES_MAX;
 use compare::plan::accept_both;
@@ -76,11 +76,6 @@ fn passed_again_is_what_it_is_said_to_be() {
     assert!((103..153).all(|pair| waits(&row, pair, pair + 1)));
 }
 
-/// How many groups a plan counts.
-fn groups(subject: &Subject) -> usize {
-    usize::from(u16::from_be_bytes([subject.plan[7], subject.plan[8]]))
-}
-
 /// Many have two groups or more, so that their order counts.
 #[test]
 fn mixed_rules_are_accepted() {
@@ -88,8 +83,51 @@ fn mixed_rules_are_accepted() {
     assert_eq!(row.subjects.len(), mixed::COUNT);
     row.subjects.iter().for_each(assert_accepted);
     assert!(row.subjects.iter().all(|one| one.conditions() <= 6));
-    let some = row.subjects.iter().filter(|one| groups(one) > 0).count();
-    let ordered = row.subjects.iter().filter(|one| groups(one) > 1).count();
+    let some = row.subjects.iter().filter(|one| one.groups() > 0).count();
+    let ordered = row.subjects.iter().filter(|one| one.groups() > 1).count();
     println!("{some} with a group, {ordered} with more");
     assert!(some > 1200 && ordered > 600, "{some}, {ordered}");
+}
+
+/// 126 pairs, each waiting for the one before, and none with a guard.
+#[test]
+fn in_step_is_what_it_is_said_to_be() {
+    let row = ladder::in_step(256);
+    let subject = only(&row, 256);
+    assert_eq!((subject.joined(), subject.groups()), (252, 126));
+    assert!((4..129).all(|first| waits(&row, first, first - 1)));
+    assert_eq!((subject.equal(), subject.guards()), ([126, 0], 0));
+}
+
+/// C-18: groups, of them without guards and with one pick, and guards. Every row of before but R1 still has groups with both
+/// picks, and the reversed plan no others.
+#[test]
+fn equal_wires_are_not_all_there_is() {
+    let of = |row: &Row| {
+        let sum = |of: fn(&Subject) -> usize| row.subjects.iter().map(of).sum::<usize>();
+        let [without, one] = [
+            |one: &Subject| one.equal()[0],
+            |one: &Subject| one.equal()[1],
+        ];
+        [
+            sum(Subject::groups),
+            sum(without),
+            sum(one),
+            sum(Subject::guards),
+        ]
+    };
+    assert_eq!(of(&r1()), [1, 0, 1, 2]);
+    let ladders = ladder::ladders();
+    let wanted = [
+        [3, 0, 1, 6],
+        [6, 1, 2, 10],
+        [13, 2, 7, 22],
+        [26, 6, 14, 40],
+        [26, 6, 16, 40],
+    ];
+    assert_eq!(ladders.iter().map(of).collect::<Vec<_>>(), wanted);
+    assert_eq!(of(&ladder::reversed(256)), [126, 0, 0, 252]);
+    assert_eq!(of(&ladder::held_up(256)), [1, 0, 0, 2]);
+    assert_eq!(of(&ladder::passed_again(256)), [52, 1, 1, 152]);
+    assert_eq!(of(&mixed::mixed()), [7069, 3199, 1109, 8396]);
 }

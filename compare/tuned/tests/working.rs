@@ -71,13 +71,13 @@ fn needs() {
 fn files_and_runs() {
     for mask in 0..8 {
         let rule = working(mask);
-        let bytes = if mask & 0b010 == 0 { 124 } else { 120 };
-        let mut file = [0xEE; 128];
+        let bytes = if mask & 0b010 == 0 { 114 } else { 110 };
+        let mut file = [0xEE; 118];
         let answer = write_fused(&rule, &P1, &mut file);
-        assert_eq!((answer.number, answer.bytes, answer.after), (0, bytes, 28));
+        assert_eq!((answer.number, answer.bytes, answer.after), (0, bytes, 24));
         assert_eq!(write_fused(&rule, &P1, &mut file[..bytes - 1]).number, 50);
         assert!(file[bytes..].iter().all(|&byte| byte == 0xEE));
-        let outputs = [[0x00, 0x00], [0x00, 0x08], [0x00, 0x02]];
+        let outputs = [[0x00, 0x00], [0x00, 0x07], [0x00, 0x02]];
         for (place, output) in outputs.into_iter().enumerate() {
             let works = mask >> place & 1 == 1;
             let wanted = if works { [0xFF, 0xFF] } else { output };

@@ -68,22 +68,22 @@ fn plain_circuits_are_shown() {
 fn plans_are_checked_written_and_run() {
     let p1 = [0x50, 0x4C, 0x4E, 0, 1, 0, 6, 0, 1, 2, 0, 3, 0, 4];
     let fused = Answer {
-        wires: 9,
-        bytes: 124,
-        after: 28,
+        wires: 8,
+        bytes: 114,
+        after: 24,
         ..plain(6, 33)
     };
     assert_eq!(linnet::check_plan(&R1, &p1), plain(6, 33));
     assert_eq!(linnet::check_plan(&R1, &p1[..13]), refused(23, 0));
-    let mut out = [0xEE; 128];
+    let mut out = [0xEE; 118];
     assert_eq!(
-        linnet::write_fused(&R1, &p1, &mut out[..123]),
+        linnet::write_fused(&R1, &p1, &mut out[..113]),
         refused(50, 0)
     );
-    assert_eq!(out, [0xEE; 128]);
+    assert_eq!(out, [0xEE; 118]);
     assert_eq!(linnet::write_fused(&R1, &p1, &mut out), fused);
     assert_eq!(out[..5], *b"CIR\x00\x02");
-    assert_eq!((out[123], out[124]), (2, 0xEE));
+    assert_eq!((out[113], out[114]), (2, 0xEE));
     let mut results = [9; 4];
     assert_eq!(linnet::run_fused(&R1, &p1, &[0, 6, 7], &mut results), fused);
     assert_eq!(results, [0, 49, 7, 9]);
@@ -120,14 +120,14 @@ fn working_variables_give_0() {
     results = [9; 4];
     linnet::run_fused(&rule, &p1, &[0, 6, 7], &mut results);
     assert_eq!(results, [0, 49, 0, 9]);
-    let mut file = [0; 124];
-    assert_eq!(linnet::write_fused(&rule, &p1, &mut file).bytes, 124);
-    assert_eq!(file[..122], circuit()[..122]);
-    assert_eq!(file[122..], [0xFF, 0xFF]);
+    let mut file = [0; 114];
+    assert_eq!(linnet::write_fused(&rule, &p1, &mut file).bytes, 114);
+    assert_eq!(file[..112], circuit()[..112]);
+    assert_eq!(file[112..], [0xFF, 0xFF]);
     results = [9; 4];
     linnet::run_circuit(&file, &[1, 6, 7], &mut results);
     assert_eq!(results, [1, 42, 0, 9]);
-    file[123] = 0xFE;
+    file[113] = 0xFE;
     assert_eq!(linnet::read_circuit(&file), refused(62, 0));
     rule[8] = 4;
     assert_eq!(linnet::read_rule(&rule), refused(3, 8));
@@ -140,33 +140,44 @@ fn working_variables_give_0() {
     assert_eq!(results, [0, 42, 7, 9]);
 }
 
-/// Example 3's file, 124 bytes.
+/// Example 3's file, 114 bytes.
 fn circuit() -> Vec<u8> {
     let p1 = [0x50, 0x4C, 0x4E, 0, 1, 0, 6, 0, 1, 2, 0, 3, 0, 4];
-    let mut out = [0; 124];
+    let mut out = [0; 114];
     assert_eq!(linnet::write_fused(&R1, &p1, &mut out).number, 0);
     out.to_vec()
 }
 
-/// The same in version 1, 76 bytes: tables of 8 bytes.
+/// The same in version 1, 66 bytes: tables of 8 bytes.
 fn circuit_of_version_1() -> Vec<u8> {
     let file = circuit();
     let mut before = [&file[..18], &file[42..54], &file[78..]].concat();
     before[4] = 1;
-    assert_eq!(before.len(), 76);
+    assert_eq!(before.len(), 66);
     before
 }
 
-#[test]
-fn circuit_files_are_read_and_run() {
-    // The last bytes of the two tables.
-    read_and_run(circuit(), [49, 85]);
-    read_and_run(circuit_of_version_1(), [25, 37]);
+/// The same as it was written before C-18, 124 bytes: a pick at the second place too, where both products have v2.
+fn circuit_of_before() -> Vec<u8> {
+    let pick = [0x31, 2, 0, 3, 0, 2, 0, 4, 0, 2];
+    let rest = [0x22, 0, 5, 0, 6, 0x30, 0, 0, 0, 7, 0, 7, 0, 0, 0, 8, 0, 2];
+    let mut before = [&circuit()[..96], &pick, &rest].concat();
+    before[7] = 9;
+    before
 }
 
-fn read_and_run(file: Vec<u8>, tables: [usize; 2]) {
+/// Files of today in both versions, and of before.
+#[test]
+fn circuit_files_are_read_and_run() {
+    // The last bytes of the two tables; the second factor with both guards at 1, which a pick adds up.
+    read_and_run(circuit(), 8, [49, 85], 7);
+    read_and_run(circuit_of_version_1(), 8, [25, 37], 7);
+    read_and_run(circuit_of_before(), 9, [49, 85], 14);
+}
+
+fn read_and_run(file: Vec<u8>, wires: usize, tables: [usize; 2], second: u32) {
     let accepted = Answer {
-        wires: 9,
+        wires,
         bytes: file.len(),
         ..Answer::default()
     };
@@ -193,7 +204,7 @@ fn read_and_run(file: Vec<u8>, tables: [usize; 2]) {
         linnet::run_circuit(&sums, &[1, 6, 7], &mut results),
         accepted
     );
-    assert_eq!(results, [1, 13 * 14, 7, 9]);
+    assert_eq!(results, [1, 13 * second, 7, 9]);
 }
 
 #[test]
@@ -206,7 +217,7 @@ fn circuit_files_are_refused() {
         // In version 1 the tables would be shorter, and bytes are left.
         (4, 0x01, 61),
         (15, 9, 61),
-        (106, 0x28, 61),
+        (96, 0x28, 61),
         (17, 1, 62),
         (49, 4, 62),
         (18, 0x80, 62),
@@ -251,14 +262,14 @@ fn eight_conditions() {
 fn records_are_shown() {
     let file = circuit();
     let mut from = 8;
-    for wire in 0..9 {
+    for wire in 0..8 {
         let part = linnet::record(&file, wire);
         assert!(std::ptr::eq(part, &file[from..from + part.len()]));
         from += part.len();
     }
-    assert_eq!(from, 118);
-    assert_eq!(linnet::record(&file, 7), [0x22, 0x00, 0x05, 0x00, 0x06]);
-    for none in [9, 65_535, usize::MAX] {
+    assert_eq!(from, 108);
+    assert_eq!(linnet::record(&file, 6), [0x22, 0x00, 0x05, 0x00, 0x02]);
+    for none in [8, 9, 65_535, usize::MAX] {
         assert_eq!(linnet::record(&file, none), []);
     }
 }

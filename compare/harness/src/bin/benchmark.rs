@@ -70,6 +70,7 @@ fn rows() -> (Vec<Row>, Vec<Row>) {
     rules.extend(ladder::ladders());
     rules.extend([ladder::reversed(256), ladder::held_up(256)]);
     rules.extend([128, 256].map(ladder::passed_again));
+    rules.push(ladder::in_step(256));
     let mixed = mixed::mixed();
     let mut files = vec![r1()];
     files.extend(files::growing());
