@@ -42,7 +42,7 @@ returns-2 c =
     let a = c .before .before .before .before .before .before .before .before .before .args in
     let n = c .before .before .before .before .before .before .if1 .left in
     joined-put (a .plan .now) (a .quads .now) (a .count) (setsIn (a .needs .now)) (wireIn (a .group .now) (a .wires .now)) (a .at) (a .q .0) (a .first .0) n _ _ _ _ (c .before .before .before .put-joined .ensures .0)
-    (c .records-in .ensures ∙ sym (emit-count (a .quads .now) (a .count) (setsIn (a .needs .now)) (a .conditions .now) (a .group .now) (wireIn (a .group .now) (a .wires .now)) (a .first .0) (a .plan .now) (a .at) _
+    (c .records-in .ensures ∙ sym (emit-count (a .quads .now) (a .count) (setsIn (a .needs .now)) (a .conditions .now) (a .group .now) (wireIn (a .group .now) (a .wires .now)) (a .first .0) (a .plan .now) (a .at) (c .before .before .before .before .before .picks-of .result)
     (c .before .before .before .before .before .before .before .before .before .pre .1 .joins n) (c .before .before .before .before .before .picks-of .ensures))) (c .before .before .before .put-joined .ensures .1)
 
 pub put-group-spec : {M : Type 1} → statement M
