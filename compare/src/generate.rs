@@ -7,6 +7,7 @@ pub mod circuits;
 pub mod conditions;
 pub mod group_order;
 pub mod kinds;
+pub mod picks;
 pub mod plans;
 pub mod rules;
 pub mod words;

@@ -1,4 +1,4 @@
-//! The numbers, codes and costs of document 01 and of C-11 to C-13, C-16 and C-17, in one place: later requests move them here.
+//! The numbers, codes and costs of document 01 and of C-11 to C-13 and C-16 to C-18, in one place: later requests move them here.
 
 pub const RULE_MARK: [u8; 5] = [0x52, 0x55, 0x4C, 0x00, 0x01];
 pub const PLAN_MARK: [u8; 5] = [0x50, 0x4C, 0x4E, 0x00, 0x01];
@@ -79,6 +79,20 @@ pub const VERSION_2: Version = Version {
     guard_wires_max: 8,
 };
 pub const VERSIONS: [Version; 2] = [VERSION_1, VERSION_2];
+
+/// At which argument places a joined group has a pick, which C-18 moved.
+#[derive(Clone, Copy, Debug, PartialEq, Eq)]
+pub enum Picks {
+    /// At every place, with a guard for each member.
+    Everywhere,
+    /// Where the members' wires are not all the same; without any pick there are no guards.
+    Unequal,
+}
+
+/// C-18's.
+pub const PICKS: Picks = Picks::Unequal;
+/// Those of before C-18. No operation looks at them: what was stored before is made by them still.
+pub const PICKS_BEFORE: Picks = Picks::Everywhere;
 
 // Codes of statements.
 pub const CLOSE: u8 = 0x00;

@@ -1,4 +1,4 @@
-//! Fixed cases at the limits of document 01, of C-11, C-13, C-15 and C-17: its examples, every refusal, every limit, for every
+//! Fixed cases at the limits of document 01, of C-11, C-13, C-15, C-17 and C-18: its examples, every refusal, every limit, for every
 //! operation. Rules, plans and circuits are put together from their parts. The number that a case must come to is
 //! written beside it, from the document, and looked at when the case is added; only the cases of
 //! `reading` and the empty plans of refused rules have none.
@@ -10,6 +10,7 @@ mod circles;
 mod circuits;
 mod eight;
 mod empty;
+mod equal;
 mod examples;
 mod groups;
 mod guards;
@@ -24,13 +25,13 @@ mod working;
 
 use crate::batch_cases;
 use crate::circuit::{accept, accept_within};
-use crate::generate::conditions::Conditions;
 use crate::generate::group_order::in_order;
 use crate::generate::plans::bytes_of;
+use crate::generate::words::Words;
 use crate::law::*;
 use crate::plan::accept_both;
 use crate::stream::{Case, CHECK, DIRECT, FUSED, PLAIN, READ, WRITE};
-use crate::write::fuse;
+use crate::write::fuse_with;
 use std::collections::HashSet;
 
 /// The fixed cases of operations 01 to 06, each once, in the order of the stored stream.
@@ -39,7 +40,7 @@ pub fn cases() -> Vec<Case> {
 }
 
 fn rules() -> List {
-    let mut list = List::of(Conditions::Six);
+    let mut list = List::of(Words::BEFORE_EIGHT);
     list.cases = reading::cases();
     examples::add(&mut list);
     layout::add(&mut list);
@@ -59,7 +60,7 @@ pub fn circuit_cases() -> Vec<Case> {
 }
 
 fn circuits() -> List {
-    let mut list = List::of(Conditions::Six);
+    let mut list = List::of(Words::BEFORE_EIGHT);
     circuits::add(&mut list);
     list
 }
@@ -70,7 +71,7 @@ pub fn working_cases() -> Vec<Case> {
 }
 
 fn working() -> List {
-    let mut list = List::of(Conditions::Six);
+    let mut list = List::of(Words::BEFORE_EIGHT);
     working::add(&mut list);
     list
 }
@@ -86,7 +87,7 @@ pub fn ordered_cases() -> Vec<Case> {
 }
 
 fn ordered() -> List {
-    let mut list = List::of(Conditions::Six);
+    let mut list = List::of(Words::BEFORE_EIGHT);
     groups::add(&mut list);
     list
 }
@@ -94,12 +95,35 @@ fn ordered() -> List {
 /// The fixed cases of C-17, over all operations, and those of writing of before once more with rooms for files of version 2;
 /// each once, and none that was there before. They come after all that was stored before them.
 pub fn eight_cases() -> Vec<Case> {
-    let mut list = List::of(Conditions::Eight);
+    let mut before = before_eight();
+    let list = eight(&mut before);
+    behind(&before, list.cases)
+}
+
+fn before_eight() -> [List; 4] {
+    [rules(), circuits(), working(), ordered()]
+}
+
+fn eight(before: &mut [List]) -> List {
+    let mut list = List::of(Words::BEFORE_EQUAL);
     eight::add(&mut list);
-    let mut before = [rules(), circuits(), working(), ordered()];
     for moved in before.iter_mut().flat_map(|list| list.moved.drain(..)) {
         list.add(moved.0, moved.1);
     }
+    list
+}
+
+/// The fixed cases of C-18, over all operations, and those of writing of before once more with rooms for files without picks
+/// between equal wires; each once, and none that was there before. They come after all that was stored before them.
+pub fn equal_cases() -> Vec<Case> {
+    let mut before = before_eight().to_vec();
+    let mut eight = eight(&mut before);
+    let mut list = List::of(Words::ALL);
+    equal::add(&mut list);
+    for moved in eight.moved.drain(..) {
+        list.add(moved.0, moved.1);
+    }
+    before.push(eight);
     behind(&before, list.cases)
 }
 
@@ -157,23 +181,24 @@ fn inputs_of(kinds: &[Kind], turn: usize) -> Vec<u32> {
     kinds.iter().enumerate().map(one).collect()
 }
 
+#[derive(Clone)]
 struct List {
     cases: Vec<Case>,
-    /// Whether the cases are those of before C-17.
-    conditions: Conditions,
+    /// Whether the cases are those of before C-17, or of before C-18.
+    words: Words,
     /// Whether the cases that are added have the groups of their plan in another order.
     turned: bool,
     /// Those cases with the groups in order.
     in_order: Vec<Case>,
-    /// Cases of writing with the room that C-17 moves them to, and their numbers.
+    /// Cases of writing with the room that C-17, or C-18 for its cases, moves them to, and their numbers.
     moved: Vec<(Case, u8)>,
 }
 
 impl List {
-    fn of(conditions: Conditions) -> List {
+    fn of(words: Words) -> List {
         List {
             cases: Vec::new(),
-            conditions,
+            words,
             turned: false,
             in_order: Vec::new(),
             moved: Vec::new(),
@@ -274,7 +299,7 @@ impl List {
     /// A rule and a plan of which one is refused: checked, written and run.
     #[track_caller]
     fn with_plan(&mut self, rule: &[u8], plan: &[u8], wanted: u8) {
-        let accepted = accept_within(rule, self.conditions.limits());
+        let accepted = accept_within(rule, self.words.conditions.limits());
         let inputs = accepted.map_or(Vec::new(), |accepted| inputs_of(&accepted.rule.kinds(), 1));
         self.check(rule, plan, wanted);
         self.write(rule, plan, CIRCUIT_BYTES_MAX, wanted);
@@ -320,14 +345,19 @@ impl List {
         self.file(rule, plan).len()
     }
 
-    /// The circuit file, groups in order, empty for a refused one. Before C-17 it was of version 1.
+    /// The circuit file, groups in order, empty for a refused one. Before C-17 it was of version 1, before C-18 it had
+    /// every pick.
     fn file(&self, rule: &[u8], plan: &[u8]) -> Vec<u8> {
-        match accept_both(rule, &in_order(plan)) {
-            Ok((accepted, plan)) => {
-                let fused = fuse(&accepted.circuit, &plan);
-                fused.file_of(self.conditions.written())
-            }
-            Err(_) => Vec::new(),
+        file_with(rule, plan, self.words)
+    }
+}
+
+fn file_with(rule: &[u8], plan: &[u8], words: Words) -> Vec<u8> {
+    match accept_both(rule, &in_order(plan)) {
+        Ok((accepted, plan)) => {
+            let fused = fuse_with(&accepted.circuit, &plan, words.picks);
+            fused.file_of(words.conditions.written())
         }
+        Err(_) => Vec::new(),
     }
 }

@@ -122,9 +122,15 @@ impl Fused {
 
 /// Fuses a circuit by an accepted plan.
 pub fn fuse(circuit: &Circuit, plan: &Plan) -> Fused {
+    fuse_with(circuit, plan, PICKS)
+}
+
+/// The same with other picks. Only the fixed cases, the generator and what compares both shapes make those of before C-18.
+pub fn fuse_with(circuit: &Circuit, plan: &Plan, picks: Picks) -> Fused {
     let mut writer = Writer {
         circuit,
         plan,
+        picks,
         records: Vec::new(),
         wire_of: vec![None; circuit.gates.len()],
     };
@@ -150,6 +156,7 @@ pub fn fuse(circuit: &Circuit, plan: &Plan) -> Fused {
 struct Writer<'a> {
     circuit: &'a Circuit,
     plan: &'a Plan,
+    picks: Picks,
     records: Vec<Record>,
     /// The wire that stands for each gate written so far.
     wire_of: Vec<Option<Wire>>,
@@ -190,24 +197,41 @@ impl Writer<'_> {
         self.add(record)
     }
 
-    /// Guards, picks, and the operation whose wire stands for every member.
+    /// Guards, picks, and the operation whose wire stands for every member; guards only where there is a pick (C-18).
     fn joined(&mut self, members: &[GateNumber]) -> Wire {
-        let guards: Vec<Wire> = members.iter().map(|&member| self.guard(member)).collect();
-        let code = self.circuit.gate(members[0]).code();
-        let places = self.circuit.gate(members[0]).arguments().len();
-        let mut picks = Vec::new();
-        for place in 0..places {
-            let pairs = members
-                .iter()
-                .zip(&guards)
-                .map(|(&member, &guard)| {
-                    let argument = self.circuit.gate(member).arguments()[place];
-                    (guard, self.wire(argument))
-                })
-                .collect();
-            picks.push(self.add(Record::Pick(pairs)));
+        let gate = self.circuit.gate(members[0]);
+        let code = gate.code();
+        let values: Vec<Vec<Wire>> = (0..gate.arguments().len())
+            .map(|place| self.values(members, place))
+            .collect();
+        let mut guards = Vec::new();
+        if values.iter().any(|values| self.picked(values)) {
+            guards = members.iter().map(|&member| self.guard(member)).collect();
         }
-        self.add(Record::Operation(code, picks))
+        let wires = values.iter().map(|values| match self.picked(values) {
+            true => {
+                let pairs = guards.iter().copied().zip(values.iter().copied());
+                self.add(Record::Pick(pairs.collect()))
+            }
+            false => values[0],
+        });
+        let wires = wires.collect();
+        self.add(Record::Operation(code, wires))
+    }
+
+    /// Each member's wire at an argument place.
+    fn values(&self, members: &[GateNumber], place: usize) -> Vec<Wire> {
+        let argument = |member: &GateNumber| self.circuit.gate(*member).arguments()[place];
+        let arguments = members.iter().map(argument);
+        arguments.map(|argument| self.wire(argument)).collect()
+    }
+
+    /// Whether there is a pick between these wires. Gates that were joined share a wire, and are equal here.
+    fn picked(&self, values: &[Wire]) -> bool {
+        match self.picks {
+            Picks::Everywhere => true,
+            Picks::Unequal => values.iter().any(|&value| value != values[0]),
+        }
     }
 
     fn guard(&mut self, member: GateNumber) -> Wire {

@@ -137,11 +137,14 @@ fn every_number_is_reached() {
     for kinds in [Kinds::Results, Kinds::Working] {
         for order in [GroupOrder::Any, GroupOrder::Rising] {
             for conditions in [Conditions::Six, Conditions::Eight] {
-                reaches_every_number(Words {
-                    kinds,
-                    order,
-                    conditions,
-                });
+                for picks in [PICKS_BEFORE, PICKS] {
+                    reaches_every_number(Words {
+                        kinds,
+                        order,
+                        conditions,
+                        picks,
+                    });
+                }
             }
         }
     }

@@ -1,7 +1,7 @@
-//! `make_limits [circuits | working | ordered | eight]`: writes a conformance stream of fixed cases to stdout, those of
+//! `make_limits [circuits | working | ordered | eight | equal]`: writes a conformance stream of fixed cases to stdout, those of
 //! operations 01 to 06 at the limits of document 01 or, if named, those of circuit files (07 to 09, C-11), those of working
-//! variables (01 to 09, C-13), those of the order of groups (nearly all 03 to 05, C-15) or those of eight conditions (01 to 09,
-//! C-17), and how many came to each number, by operation, to stderr.
+//! variables (01 to 09, C-13), those of the order of groups (nearly all 03 to 05, C-15), those of eight conditions (01 to 09,
+//! C-17) or those of equal wires (01 to 09, C-18), and how many came to each number, by operation, to stderr.
 
 use compare::counts::Counts;
 use compare::limits;
@@ -16,8 +16,9 @@ fn main() -> io::Result<()> {
         ["working"] => limits::working_cases(),
         ["ordered"] => limits::ordered_cases(),
         ["eight"] => limits::eight_cases(),
+        ["equal"] => limits::equal_cases(),
         _ => {
-            eprintln!("make_limits [circuits | working | ordered | eight]");
+            eprintln!("make_limits [circuits | working | ordered | eight | equal]");
             std::process::exit(2);
         }
     };

@@ -1,9 +1,9 @@
-//! `make_stream SEED COUNT [OPERATIONS] [working] [ordered] [eight]`: writes a conformance stream of COUNT random cases to
+//! `make_stream SEED COUNT [OPERATIONS] [working] [ordered] [eight] [equal]`: writes a conformance stream of COUNT random cases to
 //! stdout, over all operations or those named (as `1,2,6`), and how many came to each number, by
 //! operation, to stderr. With the word `working` many have working variables (C-13), with the word `ordered` the groups of
 //! most plans stand in order (C-15), with the word `eight` many rules have seven, eight or nine conditions or ifs nested as
-//! deep, and circuit files are of both versions (C-17); without them a seed makes the cases that it made before there were
-//! these.
+//! deep, and circuit files are of both versions (C-17), with the word `equal` many groups have members with equal wires, and our
+//! own files have no picks between them (C-18); without them a seed makes the cases that it made before there were these.
 
 use compare::counts::Counts;
 use compare::generate::cases::case;
@@ -19,7 +19,7 @@ fn main() -> io::Result<()> {
         arguments.pop();
     }
     let Some((seed, count, operations)) = parsed(&arguments) else {
-        eprintln!("make_stream SEED COUNT [OPERATIONS] [working] [ordered] [eight]");
+        eprintln!("make_stream SEED COUNT [OPERATIONS] [working] [ordered] [eight] [equal]");
         std::process::exit(2);
     };
     let mut random = Random::new(seed);

@@ -112,7 +112,7 @@ fn with_refused_plan(random: &mut Random, words: Words, wanted: u8) -> Entry {
         let rule = rules::accepted(random, words);
         let circuit = accept(&rule).expect("made so").circuit;
         let needs = preconditions(&circuit);
-        let ground = plans::Ground::new(&circuit, &needs);
+        let ground = plans::Ground::new(&circuit, &needs).with(words.picks);
         if let Some(plan) = plans::refused(random, &ground, words.order, wanted) {
             return (rule, plan);
         }

@@ -8,7 +8,7 @@ use crate::law::*;
 use crate::stream::{
     Case, CHECK, DIRECT, FUSED, LAST, PLAIN, READ, READ_CIRCUIT, RECORD, RUN_CIRCUIT, WRITE,
 };
-use crate::write::fuse;
+use crate::write::fuse_with;
 
 /// What a case should come to. Most cases come to just that, some by chance to something else.
 #[derive(Clone, Copy, PartialEq, Eq)]
@@ -22,7 +22,8 @@ enum Aim {
 
 /// A case of one of these operations, some of which are built. Those of rules alone, 01 to 06, make the same
 /// cases of a seed as before there were others, results alone those of before there were working variables, any
-/// order those of before groups had one, and six conditions those of before there were eight.
+/// order those of before groups had one, six conditions those of before there were eight, and every pick those of before
+/// equal wires had none.
 pub fn case(random: &mut Random, operations: &[u8], words: Words) -> Case {
     let rules = operations.iter().any(|one| (READ..=PLAIN).contains(one));
     let circuits = operations
@@ -67,7 +68,7 @@ pub fn rule_case(random: &mut Random, words: Words) -> Case {
         let bytes = rules::accepted(random, words);
         let accepted = accept(&bytes).expect("made so");
         let needs = preconditions(&accepted.circuit);
-        let ground = plans::Ground::new(&accepted.circuit, &needs);
+        let ground = plans::Ground::new(&accepted.circuit, &needs).with(words.picks);
         let plan = match (operation, aim) {
             // An operation that takes no plan ignores whatever stands there.
             (READ | DIRECT | PLAIN, _) if random.chance(80) => Vec::new(),
@@ -171,7 +172,7 @@ fn spoil_inputs(random: &mut Random, case: &mut Case, kinds: &[Kind]) {
     }
 }
 
-/// The room rests on the plan that is judged, and on the version that is written.
+/// The room rests on the plan that is judged, and on the version and the picks that are written.
 fn give_room(
     random: &mut Random,
     case: &mut Case,
@@ -187,7 +188,7 @@ fn give_room(
         let needs = preconditions(&accepted.circuit);
         match crate::plan::check(&accepted.circuit, needs, &words.order.judged(plan)) {
             Ok(plan) => {
-                let fused = fuse(&accepted.circuit, &plan);
+                let fused = fuse_with(&accepted.circuit, &plan, words.picks);
                 fused.file_of(words.conditions.written()).len()
             }
             Err(_) => random.among(0, 200),

@@ -8,7 +8,7 @@ use super::{damage_by, plans, rules, Random};
 use crate::circuit::{accept, preconditions, Settings};
 use crate::law::*;
 use crate::plan::check;
-use crate::write::{fuse, Fused, Record, Wire};
+use crate::write::{fuse_with, Fused, Record, Wire};
 
 /// Codes, counts and wires of a circuit file, and what stands beside them.
 const TELLING: [u8; 22] = [
@@ -40,19 +40,24 @@ pub fn accepted(random: &mut Random, words: Words) -> Made {
     }
 }
 
-/// What our writer makes of a random rule and plan, or made of it before C-17.
+/// What our writer makes of a random rule and plan, or made of it before C-17 or C-18.
 pub fn own(random: &mut Random, words: Words) -> Made {
     let conditions = words.conditions.or_six(random, 30);
+    let picks = match conditions {
+        Conditions::Six => PICKS_BEFORE,
+        Conditions::Eight => words.picks.or_before(random, 25),
+    };
     let words = Words {
         conditions,
         ..words
     };
     let accepted = accept(&rules::accepted(random, words)).expect("made so");
     let needs = preconditions(&accepted.circuit);
-    let plan = plans::valid(random, &plans::Ground::new(&accepted.circuit, &needs));
+    let ground = plans::Ground::new(&accepted.circuit, &needs).with(words.picks);
+    let plan = plans::valid(random, &ground);
     let plan = check(&accepted.circuit, needs, &plan).expect("a valid plan");
     Made {
-        circuit: fuse(&accepted.circuit, &plan),
+        circuit: fuse_with(&accepted.circuit, &plan, picks),
         version: words.conditions.written(),
     }
 }

@@ -1,5 +1,6 @@
 //! Plans for an accepted rule: valid joins found by trying, and plans refused by a wanted number.
 
+mod alike;
 mod refused;
 
 pub use refused::refused;
@@ -17,6 +18,8 @@ pub struct Ground<'a> {
     pub circuit: &'a Circuit,
     pub needs: &'a [Settings],
     costly: Vec<usize>,
+    /// Whether gates with equal wires are often joined (C-18).
+    picks: Picks,
 }
 
 impl<'a> Ground<'a> {
@@ -28,7 +31,12 @@ impl<'a> Ground<'a> {
             circuit,
             needs,
             costly,
+            picks: PICKS_BEFORE,
         }
+    }
+
+    pub fn with(self, picks: Picks) -> Ground<'a> {
+        Ground { picks, ..self }
     }
 
     /// The refusal's number of a plan, 0 for none.
@@ -81,7 +89,14 @@ pub fn joins(random: &mut Random, ground: &Ground) -> Groups {
     if ground.costly.is_empty() {
         return groups;
     }
-    if random.chance(30) {
+    if ground.picks.alike(random, 65) {
+        groups = alike::in_step(random, ground);
+        // What is not joined yet is left alone, mostly: any other join may take wires apart.
+        if random.chance(70) {
+            shuffle(random, &mut groups);
+            return groups;
+        }
+    } else if random.chance(30) {
         groups = all_at_once(random, ground);
         if !ground.accepts(&groups) {
             groups.clear();

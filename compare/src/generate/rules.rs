@@ -1,18 +1,22 @@
 //! Rules: accepted ones of many shapes, ones at a limit, and ones refused by a wanted number.
 
+mod alike;
 mod limits;
 
 use super::words::Words;
 use super::{damage, Random};
 use crate::law::*;
 use crate::rule::{bytes_of, Block, Expression, Rule, Statement};
+use alike::branches_alike;
 use limits::{at_conditions, at_depth, at_gates, at_nesting, at_size, branches, dead, wide};
 
 /// A rule that reading accepts.
 pub fn accepted(random: &mut Random, words: Words) -> Vec<u8> {
     let limits = words.conditions.limits();
     loop {
-        let rule = if words.conditions.more(random, 35) {
+        let rule = if words.picks.alike(random, 45) {
+            branches_alike(random, limits)
+        } else if words.conditions.more(random, 35) {
             more_conditions(random, limits)
         } else {
             match random.below(20) {

@@ -6,6 +6,7 @@ use super::kinds::{names_working, Kinds};
 use crate::answer::Refusal;
 use crate::circuit::{accept_within, preconditions, Accepted};
 use crate::circuit_file::{self, CircuitFile};
+use crate::law::{Picks, PICKS, PICKS_BEFORE};
 use crate::plan::check;
 
 #[derive(Clone, Copy, Debug, PartialEq, Eq)]
@@ -16,6 +17,8 @@ pub struct Words {
     pub order: GroupOrder,
     /// `eight`: C-17.
     pub conditions: Conditions,
+    /// `equal`: C-18.
+    pub picks: Picks,
 }
 
 impl Words {
@@ -24,11 +27,18 @@ impl Words {
         kinds: Kinds::Results,
         order: GroupOrder::Any,
         conditions: Conditions::Six,
+        picks: PICKS_BEFORE,
     };
 
-    /// Those of before C-17: what its batches are made by.
+    /// Those of before C-17: what the batches of before it are made by.
     pub const BEFORE_EIGHT: Words = Words {
         conditions: Conditions::Six,
+        ..Words::BEFORE_EQUAL
+    };
+
+    /// Those of before C-18: what the batches of C-17 are made by.
+    pub const BEFORE_EQUAL: Words = Words {
+        picks: PICKS_BEFORE,
         ..Words::ALL
     };
 
@@ -36,6 +46,7 @@ impl Words {
         kinds: Kinds::Working,
         order: GroupOrder::Rising,
         conditions: Conditions::Eight,
+        picks: PICKS,
     };
 
     /// Adds a word; says whether it is one.
@@ -44,6 +55,7 @@ impl Words {
             "working" => self.kinds = Kinds::Working,
             "ordered" => self.order = GroupOrder::Rising,
             "eight" => self.conditions = Conditions::Eight,
+            "equal" => self.picks = PICKS,
             _ => return false,
         }
         true

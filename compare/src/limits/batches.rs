@@ -1,9 +1,10 @@
 //! Batches of C-16: document 02's, cut at every byte and changed at every byte of the head, bytes left, entries of every
-//! refusal, parts at their limits, savings of every sign; random ones; then those of C-17. Beside most stands how their report must end,
+//! refusal, parts at their limits, savings of every sign; random ones; then those of C-17 and of C-18. Beside most stands how their report must end,
 //! from the document, and it is looked at when the case is added.
 
 mod entries;
 
+use super::parts::costly;
 use super::reading::{conditions, nested};
 use crate::batch::{bytes_of, report};
 use crate::batch_cases::Case;
@@ -11,14 +12,16 @@ use crate::examples::{P1, R1};
 use crate::generate::batches::{self, boundaries, piece_size, Entry, NUMBERS};
 use crate::generate::words::Words;
 use crate::generate::Random;
-use crate::law::{PLAN_BYTES_MAX, RULE_BYTES_MAX};
-use entries::{eight_joined, joined, loss, padded_plan, padded_rule, r1, unjoined};
+use crate::law::{AND, LESS, PLAN_BYTES_MAX, RULE_BYTES_MAX};
+use entries::{
+    ands, eight_joined, joined, one_pick, padded_plan, padded_rule, pairs, r1, two_picks, unjoined,
+};
 
 /// Sizes of the pieces in which short batches come; 0 is all at once.
 const SIZES: [usize; 5] = [1, 2, 3, 7, 0];
 /// What the two entries of document 02's batch print, and the entries of one that was cut or spoiled.
-const BOTH: &str = "accepted 6 9 33 28\naccepted 6 6 33 33\n";
-const FIRST: &str = "accepted 6 9 33 28\n";
+const BOTH: &str = "accepted 6 8 33 24\naccepted 6 6 33 33\n";
+const FIRST: &str = "accepted 6 8 33 24\n";
 /// What random entries were made by before C-17: they keep their bytes.
 const BEFORE: Words = Words::BEFORE_EIGHT;
 /// The longest that a length can say.
@@ -42,6 +45,7 @@ pub fn cases() -> Vec<Case> {
     at_boundaries(&mut list, &mut random);
     any(&mut list, &mut random, BEFORE, 300);
     eight(&mut list);
+    equal(&mut list);
     list.cases
 }
 
@@ -92,7 +96,7 @@ fn document_batch() -> Vec<u8> {
 
 fn document(list: &mut List) {
     let batch = document_batch();
-    let wanted = format!("{BOTH}total 2 0 66 61 5\n");
+    let wanted = format!("{BOTH}total 2 0 66 57 9\n");
     for size in SIZES {
         list.exact(size, &batch, &wanted);
     }
@@ -192,7 +196,7 @@ fn empty(list: &mut List) {
         neither.clone(),
         r1(),
     ];
-    list.entries(&mixed, "total 2 3 66 56 10");
+    list.entries(&mixed, "total 2 3 66 48 18");
     let batch = bytes_of(&[no_plan, neither, no_rule]);
     for end in 0..batch.len() {
         list.ends(1, &batch[..end], "refused 75");
@@ -213,11 +217,11 @@ fn refusals(list: &mut List) {
         let [one, other] = [(); 2].map(|()| batches::refused(&mut random, BEFORE, number, most));
         list.refused(&one);
         let mixed = [r1(), one.clone(), r1(), other.clone()];
-        list.entries(&mixed, "total 2 2 66 56 10");
+        list.entries(&mixed, "total 2 2 66 48 18");
         all.extend([one, r1()]);
         turned.insert(0, other);
     }
-    list.entries(&all, "total 23 23 759 644 115");
+    list.entries(&all, "total 23 23 759 552 207");
     list.entries(&turned, "total 0 23 0 0 0");
 }
 
@@ -232,7 +236,7 @@ fn rule_sizes(list: &mut List) {
     for length in [RULE_BYTES_MAX + 1, RULE_BYTES_MAX + 2, 8192, MOST] {
         let mut entry = unjoined(&padded_rule(RULE_BYTES_MAX));
         entry.0.resize(length, 0x00);
-        list.entries(&[r1(), entry, r1()], "total 2 1 66 56 10");
+        list.entries(&[r1(), entry, r1()], "total 2 1 66 48 18");
     }
 }
 
@@ -255,12 +259,12 @@ fn plan_sizes(list: &mut List) {
         let alone = bytes_of(std::slice::from_ref(&entry));
         list.exact(0, &alone, &format!("{line}total 0 1 0 0 0\n"));
         if length < MOST {
-            list.entries(&[r1(), entry, r1()], "total 2 1 66 56 10");
+            list.entries(&[r1(), entry, r1()], "total 2 1 66 48 18");
         }
     }
     let rule = padded_rule(RULE_BYTES_MAX + 1);
     let plan = padded_plan(PLAN_BYTES_MAX + 1);
-    list.entries(&[(rule, plan), r1()], "total 1 1 33 28 5");
+    list.entries(&[(rule, plan), r1()], "total 1 1 33 24 9");
 }
 
 /// Parts that are skipped between entries that are not, in pieces of several sizes, and cut at every boundary, beside it and
@@ -271,7 +275,7 @@ fn skipped(list: &mut List) {
     let batch = bytes_of(&[r1(), rule, r1(), plan, r1()]);
     let lines = format!("{FIRST}refused 1 0\n{FIRST}refused 20\n{FIRST}");
     for size in [0, 1, 64, 1000, 1024, 4096] {
-        list.exact(size, &batch, &format!("{lines}total 3 2 99 84 15\n"));
+        list.exact(size, &batch, &format!("{lines}total 3 2 99 72 27\n"));
     }
     let mut ends = vec![56 + 4096, 56 + 4097, batch.len() - 1000];
     for boundary in boundaries(&batch) {
@@ -285,7 +289,7 @@ fn skipped(list: &mut List) {
     list.exact(
         0,
         &batch,
-        &format!("refused 1 0\n{FIRST}total 1 1 33 28 5\n"),
+        &format!("refused 1 0\n{FIRST}total 1 1 33 24 9\n"),
     );
 }
 
@@ -311,26 +315,27 @@ fn rule_first(list: &mut List) {
     ] {
         for plan in &plans {
             let batch = bytes_of(&[(rule.to_vec(), plan.clone()), r1()]);
-            list.exact(0, &batch, &format!("{line}{FIRST}total 1 1 33 28 5\n"));
+            list.exact(0, &batch, &format!("{line}{FIRST}total 1 1 33 24 9\n"));
         }
     }
 }
 
-/// What is saved above 0, 0 and below it, of an entry and of the total; costs beyond two bytes.
+/// What is saved, of an entry and of the total; costs beyond two bytes. Before C-18 pairs of ands cost more joined than apart,
+/// so that what was saved was also 0 and below it: see `equal`.
 fn savings(list: &mut List) {
     let times = |entry: Entry, count: usize| vec![entry; count];
-    list.entries(&[loss(1)], "total 1 0 5 14 -9");
-    list.entries(&[loss(2)], "total 1 0 10 28 -18");
-    list.entries(&[r1(), loss(1)], "total 2 0 38 42 -4");
-    list.entries(&[loss(1), r1(), r1()], "total 3 0 71 70 1");
-    list.entries(&[r1(), r1(), loss(1), unjoined(&R1)], "total 4 0 104 103 1");
+    list.entries(&[ands(1)], "total 1 0 5 4 1");
+    list.entries(&[ands(2)], "total 1 0 10 8 2");
+    list.entries(&[r1(), ands(1)], "total 2 0 38 28 10");
+    list.entries(&[ands(1), r1(), r1()], "total 3 0 71 52 19");
+    list.entries(&[r1(), r1(), ands(1), unjoined(&R1)], "total 4 0 104 85 19");
     list.entries(&[unjoined(&R1)], "total 1 0 33 33 0");
-    let zero = [times(r1(), 9), times(loss(1), 5)].concat();
-    list.entries(&zero, "total 14 0 322 322 0");
+    let zero = [times(r1(), 9), times(ands(1), 5)].concat();
+    list.entries(&zero, "total 14 0 322 236 86");
     let refused: Entry = (R1[..28].to_vec(), P1.to_vec());
-    let mixed = [vec![refused.clone()], times(loss(1), 3), vec![refused]].concat();
-    list.entries(&mixed, "total 3 2 15 42 -27");
-    list.entries(&[joined()], "total 1 0 86 66 20");
+    let mixed = [vec![refused.clone()], times(ands(1), 3), vec![refused]].concat();
+    list.entries(&mixed, "total 3 2 15 12 3");
+    list.entries(&[joined()], "total 1 0 86 46 40");
     list.ends(0, &bytes_of(&entries::costly(7)), "total 7 0 71120 71120 0");
     list.ends(
         0,
@@ -347,7 +352,7 @@ fn many(list: &mut List) {
         list.ends(3, &batch[..batch.len() - 4], "refused 75");
     }
     let batch = bytes_of(&vec![r1(); 260]);
-    list.ends(100, &batch, "total 260 0 8580 7280 1300");
+    list.ends(100, &batch, "total 260 0 8580 6240 2340");
 }
 
 /// Pieces that end at every boundary of some batches, one byte before it and one after it.
@@ -395,16 +400,16 @@ fn eight(list: &mut List) {
         }
     }
     let all: Vec<Entry> = at_limits().into_iter().map(|(entry, _)| entry).collect();
-    list.entries(&all, "total 7 4 426 276 150");
+    list.entries(&all, "total 7 4 426 240 186");
     let mut random = Random::new(17);
     for number in [8, 11] {
         for _ in 0..6 {
-            let entry = batches::refused(&mut random, Words::ALL, number, 400);
+            let entry = batches::refused(&mut random, Words::BEFORE_EQUAL, number, 400);
             list.refused(&entry);
-            list.entries(&[r1(), entry, r1()], "total 2 1 66 56 10");
+            list.entries(&[r1(), entry, r1()], "total 2 1 66 48 18");
         }
     }
-    any(list, &mut random, Words::ALL, 60);
+    any(list, &mut random, Words::BEFORE_EQUAL, 60);
 }
 
 /// Entries at the limits that C-17 moved, and the lines that they print.
@@ -419,12 +424,78 @@ fn at_limits() -> Vec<(Entry, &'static str)> {
         (unjoined(&nested(8)), "accepted 10 10 24 24"),
         (unjoined(&nested(9)), "refused 8 39"),
         (unjoined(&nested(10)), "refused 8 39"),
-        (eight_joined(), "accepted 36 39 159 84"),
-        (eight_joined(), "accepted 36 39 159 84"),
+        (eight_joined(), "accepted 36 38 159 66"),
+        (eight_joined(), "accepted 36 38 159 66"),
     ]
 }
 
-/// A whole batch of some 300 entries of every sort, in no order; behind them those of C-17.
+/// C-18: for every costly operation a pair with no pick, one at either place, and both; what is saved above 0, 0 and below it,
+/// of an entry and of the total; then random ones.
+fn equal(list: &mut List) {
+    for (entry, line) in by_picks() {
+        let alone = bytes_of(std::slice::from_ref(&entry));
+        for size in SIZES {
+            let report = String::from_utf8(report(&alone)).expect("a report");
+            assert_eq!(report.lines().next(), Some(&line[..]));
+            list.cases.push(Case::new(size, &alone));
+        }
+        let mixed = bytes_of(&[r1(), entry, unjoined(&R1)]);
+        list.cases.push(Case::new(0, &mixed));
+        list.cases.push(Case::new(5, &mixed[..mixed.len() - 1]));
+    }
+    let all: Vec<Entry> = by_picks().into_iter().map(|(entry, _)| entry).collect();
+    // The five operations cost 77. Four times each twice and a choice; then four times once and a choice, and guards of 2
+    // with picks of 4, 4 and 8, and for less of 8 once more.
+    list.entries(&all, "total 20 0 676 488 188");
+    let times = |entry: Entry, count: usize| vec![entry; count];
+    let lost = || two_picks(AND);
+    list.entries(&[lost()], "total 1 0 5 14 -9");
+    list.entries(&[one_pick(AND)], "total 1 0 5 10 -5");
+    list.entries(&[r1(), lost()], "total 2 0 38 38 0");
+    list.entries(&[lost(), ands(1)], "total 2 0 10 18 -8");
+    list.entries(&[lost(), r1(), ands(1)], "total 3 0 43 42 1");
+    list.entries(&[one_pick(AND), r1(), lost()], "total 3 0 43 48 -5");
+    list.entries(
+        &[times(ands(1), 9), times(lost(), 1)].concat(),
+        "total 10 0 50 50 0",
+    );
+    list.entries(
+        &[times(ands(1), 9), times(lost(), 2)].concat(),
+        "total 11 0 55 64 -9",
+    );
+    let refused: Entry = (R1[..28].to_vec(), P1.to_vec());
+    let mixed = [vec![refused.clone()], times(lost(), 3), vec![refused]].concat();
+    list.entries(&mixed, "total 3 2 15 42 -27");
+    any(list, &mut Random::new(18), Words::ALL, 80);
+}
+
+/// A pair of every costly operation with no pick, one at the first place, one at the second, and both; and their lines.
+fn by_picks() -> Vec<(Entry, String)> {
+    let mut all = Vec::new();
+    for row in costly() {
+        // Two gates joined, and a choice.
+        let (before, least) = (2 * row.cost + 3, row.cost + 3);
+        let code = row.code;
+        for (entry, picks) in [
+            (pairs(code, 1), 0),
+            (entries::pair(code, [1, 2], [2, 2]), 1),
+            (one_pick(code), 1),
+            (two_picks(code), 2),
+        ] {
+            let guards = if picks == 0 { 0 } else { 2 };
+            let (wires, after) = (6 + guards + picks, least + guards + 4 * picks);
+            // Of less the pair of no pick is written in two orders, and both places differ.
+            let line = match (code, picks) {
+                (LESS, 0) => "accepted 7 10 83 53".to_string(),
+                _ => format!("accepted 7 {wires} {before} {after}"),
+            };
+            all.push((entry, line));
+        }
+    }
+    all
+}
+
+/// A whole batch of some 300 entries of every sort, in no order; behind them those of C-17, then those of C-18.
 pub fn month() -> Vec<u8> {
     let mut random = Random::new(1016);
     let mut all: Vec<Entry> = Vec::new();
@@ -443,7 +514,7 @@ pub fn month() -> Vec<u8> {
         all.push((R1[..28].to_vec(), padded_plan(length)));
     }
     for _ in 0..6 {
-        all.extend([r1(), unjoined(&R1), loss(1), loss(2), joined()]);
+        all.extend([r1(), unjoined(&R1), ands(1), ands(2), joined()]);
         all.extend([(Vec::new(), Vec::new()), (R1.to_vec(), Vec::new())]);
     }
     all.extend(entries::costly(4));
@@ -452,7 +523,16 @@ pub fn month() -> Vec<u8> {
     }
     all.extend(at_limits().into_iter().map(|(entry, _)| entry));
     for number in [8, 8, 11, 11] {
-        all.push(batches::refused(&mut random, Words::ALL, number, 300));
+        all.push(batches::refused(
+            &mut random,
+            Words::BEFORE_EQUAL,
+            number,
+            300,
+        ));
+    }
+    all.extend(by_picks().into_iter().map(|(entry, _)| entry));
+    for most in [200, 400, 1000, 5000] {
+        all.extend((0..6).map(|_| batches::accepted(&mut random, Words::ALL, most)));
     }
     bytes_of(&all)
 }

@@ -1,10 +1,13 @@
-//! Cases that were stored before C-17. They keep their bytes: rooms are those of files of version 1, and rules that were
-//! refused then have what refused rules have. The number written beside a case of writing is that of before C-17; a room
-//! for a file of version 1 is too short now where the plan joins gates, and the same case with the room moved comes
-//! once more, so that nothing goes untried.
+//! Cases that were stored before C-17, or before C-18. They keep their bytes: rooms are those of the files of then, and rules
+//! that were refused then have what refused rules have. The number written beside a case of writing is that of then.
+//!
+//! A room for a file of version 1 is too short since C-17 where the plan joins gates; a byte less than a file with every pick
+//! is enough since C-18 where members have equal wires. Such a case comes once more with the room moved, behind the fixed
+//! cases of the request that moved it, so that nothing goes untried.
 
-use super::List;
+use super::{file_with, List};
 use crate::generate::conditions::Conditions;
+use crate::generate::words::Words;
 use crate::law::*;
 use crate::plan::lay_out;
 use crate::stream::{Case, WRITE};
@@ -13,9 +16,15 @@ use crate::stream::{Case, WRITE};
 const MORE_A_GUARD: usize = VERSION_2.table_bytes() - VERSION_1.table_bytes();
 
 impl List {
+    /// The number of a case today, from that of then.
+    pub(super) fn today(&mut self, case: &Case, wanted: u8) -> u8 {
+        let wanted = self.since_eight(case, wanted);
+        self.since_equal(case, wanted)
+    }
+
     /// The number of a case since C-17, from that of before.
-    pub(super) fn since_eight(&mut self, case: &Case, wanted: u8) -> u8 {
-        if self.conditions == Conditions::Eight
+    fn since_eight(&mut self, case: &Case, wanted: u8) -> u8 {
+        if self.words.conditions == Conditions::Eight
             || case.operation != WRITE
             || !matches!(wanted, 0 | 50)
         {
@@ -36,6 +45,29 @@ impl List {
             return 50;
         }
         wanted
+    }
+
+    /// The number of a case since C-18, from that of before. Cases of before C-17 have come again with their room moved, and it is
+    /// those that are moved once more.
+    fn since_equal(&mut self, case: &Case, wanted: u8) -> u8 {
+        if self.words.picks == PICKS || case.operation != WRITE || !matches!(wanted, 0 | 50) {
+            return wanted;
+        }
+        let room = usize::from(case.room);
+        let [was, is] = [Words::BEFORE_EQUAL, Words::ALL]
+            .map(|words| file_with(&case.first, &case.second, words).len());
+        let of_eight = self.words.conditions == Conditions::Eight;
+        // Those that are enough now, and those that were just enough.
+        if of_eight && is < was && (is..=was).contains(&room) {
+            let room = room.saturating_sub(was - is) as u16;
+            let case = case.clone();
+            self.moved.push((Case { room, ..case }, wanted));
+        }
+        if room >= is {
+            0
+        } else {
+            wanted
+        }
     }
 
     /// A rule that was refused before C-17, by every operation. It is accepted now; the inputs and the plan do not fit.

@@ -26,10 +26,10 @@ impl List {
     #[track_caller]
     pub(super) fn as_it_stands(&mut self, case: &Case, wanted: u8) -> u8 {
         if !self.turned || !matches!(case.operation, CHECK | WRITE | FUSED) {
-            return self.since_eight(case, wanted);
+            return self.today(case, wanted);
         }
         let in_order = put_in_order(case);
-        let wanted = self.since_eight(&in_order, wanted);
+        let wanted = self.today(&in_order, wanted);
         let (answer, _) = in_order.work().expect("an operation that is built");
         assert_eq!(answer.number, wanted, "with its groups in order");
         self.in_order.push(in_order);

@@ -1,4 +1,4 @@
-//! Document 01's operations 01 to 06 with requests C-12, C-13, C-15 and C-17, C-11's 07 to 09 and C-16's program, in Rust tuned for speed:
+//! Document 01's operations 01 to 06 with requests C-12, C-13, C-15, C-17 and C-18, C-11's 07 to 09 and C-16's program, in Rust tuned for speed:
 //! a tool to measure the proved one beside. No allocation, nothing cleared that is not read, one pass over the rule, one
 //! over the plan, one backward over the gates, one to order and one to write; one over a circuit file.
 //!
@@ -24,7 +24,7 @@ pub use needed::pass_alone;
 use circuit_file::{header, Pass};
 use law::*;
 use needed::{conditions, find_needed, Set};
-use order::{order, Nothing, Order};
+use order::{order, Counts, Nothing, Order};
 use plan::Planned;
 use reading::{Reader, COUNT, MAKE, RUN, SHOW};
 use running::Figures;
@@ -135,8 +135,8 @@ fn counted(circuit: &Planned, reader: &Reader) -> Answer {
         number: 0,
         place: 0,
         gates: circuit.gates,
-        wires: circuit.gates + circuit.more_wires,
-        bytes: 8 + reader.bytes() + circuit.more_bytes + 2 * circuit.variables,
+        wires: circuit.wires_count(),
+        bytes: 8 + reader.bytes().wrapping_add_signed(circuit.more_bytes) + 2 * circuit.variables,
         before,
         after: (before as isize + circuit.more_cost) as usize,
     }
@@ -164,7 +164,7 @@ fn count_fused(rule: &[u8], plan: &[u8]) -> Answer {
         Ok(reader) => reader,
         Err(answer) => return answer,
     };
-    match order(&mut circuit, plan, &mut Nothing) {
+    match order(&mut circuit, plan, &mut Counts) {
         true => counted(&circuit, reader),
         false => Answer::refused(30, 0),
     }

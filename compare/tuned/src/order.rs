@@ -6,7 +6,7 @@
 
 use crate::law::GATES_MAX;
 use crate::places::Places;
-use crate::plan::{member, Planned, AFTER_GUARDS, INNER, JOINED, WATCHED};
+use crate::plan::{member, Planned, INNER, JOINED, WATCHED};
 
 /// The wire of what is not written yet. Wires lie below 640, so its highest bit tells it.
 const UNWRITTEN: u16 = 0xFFFF;
@@ -18,6 +18,8 @@ fn unwritten(wires: u16) -> bool {
 
 /// What is done with each group as its turn comes.
 pub trait Taken {
+    /// Whether picks are looked for, and with them wires, bytes and cost counted.
+    const COUNTS: bool = true;
     fn alone(&mut self, circuit: &Planned, gate: usize, row: u32);
     fn joined(&mut self, circuit: &Planned, plan: &[u8], begins: usize);
 }
@@ -26,6 +28,17 @@ pub trait Taken {
 pub struct Nothing;
 
 impl Taken for Nothing {
+    const COUNTS: bool = false;
+    #[inline(always)]
+    fn alone(&mut self, _: &Planned, _: usize, _: u32) {}
+    #[inline(always)]
+    fn joined(&mut self, _: &Planned, _: &[u8], _: usize) {}
+}
+
+/// An entry of a batch is counted, and no more.
+pub struct Counts;
+
+impl Taken for Counts {
     #[inline(always)]
     fn alone(&mut self, _: &Planned, _: usize, _: u32) {}
     #[inline(always)]
@@ -154,7 +167,8 @@ pub fn order(circuit: &mut Planned, plan: &[u8], taken: &mut impl Taken) -> bool
         }
         if next == gates {
             // Nothing is awake here, so what is not written waits in a circle.
-            return turn.wire == gates + turn.circuit.more_wires;
+            let circuit = turn.circuit;
+            return turn.wire + circuit.fewer_wires == gates + circuit.more_wires;
         }
         turn.look_with_awoken(next);
         next += 1;
@@ -213,7 +227,12 @@ impl<T: Taken> Turn<'_, T> {
         if let Some(waited) = self.circuit.group_waits_for(self.plan, first, begins, size) {
             return self.wait(first, waited);
         }
-        self.wire += size + AFTER_GUARDS;
+        if T::COUNTS {
+            let before = self.circuit.more_wires;
+            self.circuit.count_group(self.plan, first, begins, size);
+            self.wire += self.circuit.more_wires - before;
+        }
+        self.wire += 1;
         for place in 0..size {
             let gate = member(self.plan, begins, place);
             self.circuit.wires.set(gate, (self.wire - 1) as u16);

@@ -29,8 +29,10 @@ fn row_of(bit: u32) -> u8 {
     }
 }
 
-/// Wires that a joined group has beside its guards: two picks and the operation.
-pub const AFTER_GUARDS: usize = 3;
+// At which argument places a joined group has a pick: none where all members have the same wire (C-18).
+pub const FIRST: u8 = 1;
+pub const SECOND: u8 = 2;
+pub const BOTH: u8 = FIRST | SECOND;
 
 /// A rule's circuit and a plan for it. Arrays hold something for each gate, and nothing after the gates.
 pub struct Planned {
@@ -54,11 +56,18 @@ pub struct Planned {
     pub group_rests: Places<u8, GATES_MAX>,
     /// Of a joined first member: how many members are known to have arguments with wires.
     pub passed: Places<u8, GATES_MAX>,
+    /// Of a joined first member: how many conditions the members' guards would name.
+    pub named: Places<u16, GATES_MAX>,
+    /// Of a joined first member, once it is written: its picks.
+    pub picks: Places<u8, GATES_MAX>,
     /// The wire of each gate's group, once it is written.
     pub wires: Places<u16, GATES_MAX>,
-    /// What joining adds.
+    /// Gates that are joined have one record for all of them: so many wires less.
+    pub fewer_wires: usize,
+    /// Guards and picks, which are known as groups are written: so many wires more.
     pub more_wires: usize,
-    pub more_bytes: usize,
+    /// What both add to bytes and cost.
+    pub more_bytes: isize,
     pub more_cost: isize,
 }
 
@@ -85,7 +94,10 @@ impl Planned {
             rests: Places::new(),
             group_rests: Places::new(),
             passed: Places::new(),
+            named: Places::new(),
+            picks: Places::new(),
             wires: Places::new(),
+            fewer_wires: 0,
             more_wires: 0,
             more_bytes: 0,
             more_cost: 0,
@@ -136,7 +148,6 @@ impl Planned {
         if place != plan.len() {
             return 23;
         }
-        self.more_wires = AFTER_GUARDS * groups;
         if broken == 0 {
             0
         } else {
@@ -179,19 +190,43 @@ impl Planned {
         self.begins.set(first, begins as u16);
         self.group_rests.set(first, on);
         self.passed.set(first, 0);
-        self.count_group(code, size, named);
+        self.named.set(first, named as u16);
+        // The members' records of 5 bytes go, one operation comes.
+        self.fewer_wires += size - 1;
+        self.more_bytes -= 5 * (size as isize - 1);
+        self.more_cost -= isize::from(COSTS[usize::from(code & 7)]) * (size as isize - 1);
         broken
     }
 
-    /// The members' records of 5 bytes go; guards, two picks and one operation come. `named` is how many
-    /// conditions the guards name.
+    /// All wires, once every group is written.
     #[inline(always)]
-    fn count_group(&mut self, code: u8, size: usize, named: usize) {
-        let guards = (2 + TABLE_BYTES) * size + 2 * named;
-        let picks = 2 * (2 + 4 * size);
-        self.more_bytes += guards + picks + 5 - 5 * size;
-        let cost = isize::from(COSTS[usize::from(code & 7)]);
-        let more = (GUARD_COST + 2 * PICK_COST_A_PAIR) * size;
-        self.more_cost += more as isize + cost - cost * size as isize;
+    pub fn wires_count(&self) -> usize {
+        self.gates - self.fewer_wires + self.more_wires
+    }
+
+    /// A group is written, so that the wires of all arguments are known: which picks it has, and what they and the guards
+    /// add. Guards are there only for picks.
+    #[inline(always)]
+    pub fn count_group(&mut self, plan: &[u8], first: usize, begins: usize, size: usize) {
+        let of = |gate: usize| {
+            let [_, x, y, _] = self.rows.get(gate).to_le_bytes();
+            (self.wires.get(x), self.wires.get(y))
+        };
+        let (x, y) = of(first);
+        let (mut first_differs, mut second_differs) = (0, 0);
+        for place in 1..size {
+            let (other_x, other_y) = of(member(plan, begins, place));
+            first_differs |= x ^ other_x;
+            second_differs |= y ^ other_y;
+        }
+        let picks = u8::from(first_differs != 0) | u8::from(second_differs != 0) << 1;
+        self.picks.set(first, picks);
+        if picks != 0 {
+            let count = usize::from(picks.count_ones() as u8);
+            let guards = (2 + TABLE_BYTES) * size + 2 * usize::from(self.named.get(first));
+            self.more_wires += size + count;
+            self.more_bytes += (guards + count * (2 + 4 * size)) as isize;
+            self.more_cost += ((GUARD_COST + count * PICK_COST_A_PAIR) * size) as isize;
+        }
     }
 }

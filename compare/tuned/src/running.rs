@@ -159,9 +159,28 @@ impl Taken for Figures {
         self.0.set(gate, figure);
     }
 
-    /// A member's guard is 1 when the setting that the conditions give needs it.
+    /// A member's guard is 1 when the setting that the conditions give needs it. Without a pick all have the first's
+    /// arguments (C-18).
     #[inline(always)]
     fn joined(&mut self, circuit: &Planned, plan: &[u8], begins: usize) {
+        let size = usize::from(plan[begins]);
+        let gate = member(plan, begins, 0);
+        let [code, x, y, _] = circuit.rows.get(gate).to_le_bytes();
+        let (first, second) = match circuit.picks.get(gate) {
+            0 => (self.of(x), self.of(y)),
+            _ => self.picked(circuit, plan, begins),
+        };
+        let figure = work_out(code, first, second);
+        for place in 0..size {
+            self.0.set(member(plan, begins, place), figure);
+        }
+    }
+}
+
+impl Figures {
+    /// What the picks of both places give.
+    #[inline(always)]
+    fn picked(&self, circuit: &Planned, plan: &[u8], begins: usize) -> (u32, u32) {
         let mut setting = 0;
         for condition in 0..circuit.conditions_count {
             setting |= (self.of(circuit.conditions[condition & 7]) & 1) << condition;
@@ -175,10 +194,6 @@ impl Taken for Figures {
             first |= self.of(x) & guard;
             second |= self.of(y) & guard;
         }
-        let code = circuit.rows.get(member(plan, begins, 0)) as u8;
-        let figure = work_out(code, first, second);
-        for place in 0..size {
-            self.0.set(member(plan, begins, place), figure);
-        }
+        (first, second)
     }
 }

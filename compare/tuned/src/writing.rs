@@ -3,7 +3,7 @@
 use crate::law::*;
 use crate::needed::{counted, table};
 use crate::order::Order;
-use crate::plan::{member, Planned, JOINED};
+use crate::plan::{member, Planned, BOTH, FIRST, JOINED};
 use crate::reading::Reader;
 
 /// A place of the lent buffer. Every store is of just the bytes that are due, and moves on behind them.
@@ -65,7 +65,7 @@ pub unsafe fn write_file(
         out.byte(byte);
     }
     out.byte(circuit.variables as u8);
-    out.two((circuit.gates + circuit.more_wires) as u16);
+    out.two(circuit.wires_count() as u16);
     for variable in 0..circuit.variables {
         let kind = circuit.rows.get(variable) as u8;
         out.head(kind, variable);
@@ -107,13 +107,33 @@ unsafe fn put_alone(out: &mut Out, circuit: &Planned, gate: usize) {
 
 #[inline(always)]
 unsafe fn put_joined(out: &mut Out, circuit: &Planned, plan: &[u8], first: usize) {
-    let begins = usize::from(circuit.begins.get(first));
-    let size = usize::from(plan[begins]);
-    for place in 0..size {
-        put_guard(out, circuit, member(plan, begins, place));
+    let [code, x, y, _] = circuit.rows.get(first).to_le_bytes();
+    let (mut x, mut y) = (circuit.wires.get(x), circuit.wires.get(y));
+    let picks = circuit.picks.get(first);
+    // Without a pick the operation is all there is (C-18).
+    if picks != 0 {
+        let begins = usize::from(circuit.begins.get(first));
+        let size = usize::from(plan[begins]);
+        for place in 0..size {
+            put_guard(out, circuit, member(plan, begins, place));
+        }
+        let last = circuit.wires.get(first);
+        if picks == BOTH {
+            (x, y) = (last - 2, last - 1);
+            put_both(out, circuit, plan, begins, last - (size + 2) as u16);
+        } else {
+            *(if picks == FIRST { &mut x } else { &mut y }) = last - 1;
+            put_one(out, circuit, plan, begins, last - (size + 1) as u16, picks);
+        }
     }
-    let last = circuit.wires.get(first);
-    let guards = last - (size + 2) as u16;
+    out.byte(code);
+    out.pair(x, y);
+}
+
+/// The picks of both places, side by side. `guards` is the first guard's wire.
+#[inline(always)]
+unsafe fn put_both(out: &mut Out, circuit: &Planned, plan: &[u8], begins: usize, guards: u16) {
+    let size = usize::from(plan[begins]);
     let mut second = Out(out.0.add(2 + 4 * size));
     out.head(PICK, size);
     second.head(PICK, size);
@@ -125,8 +145,26 @@ unsafe fn put_joined(out: &mut Out, circuit: &Planned, plan: &[u8], first: usize
         second.pair(guard, circuit.wires.get(y));
     }
     *out = second;
-    out.byte(circuit.rows.get(first) as u8);
-    out.pair(last - 2, last - 1);
+}
+
+/// The pick of one place, FIRST or SECOND: the row's byte of that number.
+#[inline(always)]
+unsafe fn put_one(
+    out: &mut Out,
+    circuit: &Planned,
+    plan: &[u8],
+    begins: usize,
+    guards: u16,
+    argument: u8,
+) {
+    let size = usize::from(plan[begins]);
+    let shift = 8 * u32::from(argument);
+    out.head(PICK, size);
+    for place in 0..size {
+        let gate = member(plan, begins, place);
+        let value = (circuit.rows.get(gate) >> shift) as u8;
+        out.pair(guards + place as u16, circuit.wires.get(value));
+    }
 }
 
 #[inline(always)]

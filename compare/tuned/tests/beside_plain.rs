@@ -1,6 +1,6 @@
 //! The tuned implementation beside the plain one, line by line as the conformance stream has them: on every fixed case,
 //! and on random ones with and without working variables (C-13), with groups in order (C-15) and in any, with eight
-//! conditions (C-17) and with six. Both ways of running a fused circuit.
+//! conditions (C-17) and with six, with many equal wires (C-18) and with few. Both ways of running a fused circuit.
 
 use compare::generate::group_order::GroupOrder;
 use compare::generate::kinds::Kinds;
@@ -105,6 +105,7 @@ fn on_fixed_cases() {
     limits::working_cases().iter().for_each(assert_same);
     limits::ordered_cases().iter().for_each(assert_same);
     limits::eight_cases().iter().for_each(assert_same);
+    limits::equal_cases().iter().for_each(assert_same);
 }
 
 #[test]
@@ -120,6 +121,7 @@ fn on_random_cases() {
     };
     for (words, seed, count) in [
         (Words::ALL, 13, 6_000),
+        (Words::BEFORE_EQUAL, 18, 2_000),
         (Words::BEFORE_EIGHT, 16, 2_000),
         (results, 14, 2_000),
         (any, 15, 2_000),

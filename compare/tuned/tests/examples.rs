@@ -29,12 +29,23 @@ const FILE: [u8; 76] = [
     0x00, 0x00, 0x00, 0x08, 0x00, 0x02,
 ];
 
-/// The same in version 2 (C-17), as it is written: 24 bytes more in each table.
-fn file() -> Vec<u8> {
+/// The same in version 2 (C-17), as it was written before C-18: 24 bytes more in each table.
+fn file_before() -> Vec<u8> {
     let more = [0; 24];
     let parts = [&FILE[..18], &more, &FILE[18..30], &more, &FILE[30..]];
     let mut file = parts.concat();
     file[4] = 2;
+    file
+}
+
+/// As it is written: the products have one wire at their second place, so there is no pick there (C-18).
+fn file() -> Vec<u8> {
+    let before = file_before();
+    let mut file = [&before[..96], &before[106..]].concat();
+    // A wire less: the product reads the pick and v2, the choice the product, v1's output is the choice.
+    for (place, wire) in [(7, 8), (100, 2), (105, 6), (107, 6), (111, 7)] {
+        file[place] = wire;
+    }
     file
 }
 
@@ -75,7 +86,7 @@ fn example_2_runs() {
         for fused in [run_fused, run_fused_unwritten] {
             let mut results = [9; 4];
             let answer = fused(&R1, &P1, &inputs, &mut results);
-            assert_eq!(line(answer), [0, 0, 6, 9, 124, 33, 28]);
+            assert_eq!(line(answer), [0, 0, 6, 8, 114, 33, 24]);
             assert_eq!((&results[..3], results[3]), (&wanted[..], 9));
         }
     }
@@ -91,15 +102,15 @@ fn example_2_runs() {
 
 #[test]
 fn example_3_the_whole_file() {
-    let mut out = [0xEE; 128];
+    let mut out = [0xEE; 118];
     assert_eq!(write_fused(&R1, &P1, &mut out).number, 0);
-    assert_eq!((&out[..124], &out[124..]), (&file()[..], &[0xEE; 4][..]));
-    let mut short = [0xEE; 123];
+    assert_eq!((&out[..114], &out[114..]), (&file()[..], &[0xEE; 4][..]));
+    let mut short = [0xEE; 113];
     assert_eq!(
         line(write_fused(&R1, &P1, &mut short)),
         [50, 0, 0, 0, 0, 0, 0]
     );
-    assert_eq!(short, [0xEE; 123]);
+    assert_eq!(short, [0xEE; 113]);
 }
 
 #[test]
@@ -124,7 +135,7 @@ fn example_5_a_choice_is_not_costly() {
 
 #[test]
 fn example_3_read_and_run() {
-    for file in [FILE.to_vec(), file()] {
+    for file in [FILE.to_vec(), file_before()] {
         let done = [0, 0, 0, 9, file.len(), 0, 0];
         assert_eq!(line(read_circuit(&file)), done);
         for (inputs, wanted) in [([1, 6, 7], [1, 42, 7]), ([0, 6, 7], [0, 49, 7])] {
@@ -139,6 +150,41 @@ fn example_3_read_and_run() {
         for none in [9, 65_535, usize::MAX] {
             assert_eq!(record(&file, none), []);
         }
+    }
+}
+
+/// C-18: the file as it is written.
+#[test]
+fn example_3_without_a_pick() {
+    let file = file();
+    assert_eq!(line(read_circuit(&file)), [0, 0, 0, 8, 114, 0, 0]);
+    for (inputs, wanted) in [([1, 6, 7], [1, 42, 7]), ([0, 6, 7], [0, 49, 7])] {
+        let mut results = [9; 3];
+        assert_eq!(run_circuit(&file, &inputs, &mut results).number, 0);
+        assert_eq!(results, wanted);
+    }
+    assert_eq!(record(&file, 6), [0x22, 0x00, 0x05, 0x00, 0x02]);
+    assert_eq!(record(&file, 8), []);
+}
+
+/// C-18: nine comparisons of one word with itself have equal wires, so each group is its operation alone.
+#[test]
+fn groups_without_guards() {
+    for (groups, wires) in [
+        (&[&[1, 2][..]][..], 9),
+        (&[&[1, 2], &[3, 4, 5]], 7),
+        (&[&[1, 2, 3, 4, 5, 6, 7, 8, 9]], 2),
+    ] {
+        let operations = wires - 1;
+        let bytes = 12 + 5 * operations;
+        let mut out = [0xEE; 60];
+        let answer = write_fused(&nine(), &plan(10, groups), &mut out);
+        let wanted = [0, 0, 10, wires, bytes, 360, 40 * operations];
+        assert_eq!(line(answer), wanted);
+        assert_eq!(&out[10..15], [0x23, 0, 0, 0, 0]);
+        let mut results = [9];
+        let answer = run_fused_unwritten(&nine(), &plan(10, groups), &[5], &mut results);
+        assert_eq!((line(answer), results), (wanted, [5]));
     }
 }
 

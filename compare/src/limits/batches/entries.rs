@@ -9,7 +9,7 @@ use crate::limits::parts::{rule, set, two, var, when};
 use crate::limits::plan;
 use crate::rule::Block;
 
-/// R1 with P1: saves 5.
+/// R1 with P1: saves 9 (5 before C-18).
 pub fn r1() -> Entry {
     (R1.to_vec(), P1.to_vec())
 }
@@ -20,16 +20,35 @@ pub fn unjoined(rule: &[u8]) -> Entry {
 }
 
 /// A bit, two arguments of an operation and so many results; an if that has the operation in both blocks for each of
-/// them, and each one's two gates joined.
-fn pairs(code: u8, results: usize) -> Entry {
+/// them, and each one's two gates joined. The arguments are written in two orders: but for less the wires are equal.
+pub fn pairs(code: u8, results: usize) -> Entry {
+    pairs_of(code, results, [1, 2], [2, 1])
+}
+
+/// One result, from these arguments in the first block and these in the second.
+pub fn pair(code: u8, first: [usize; 2], second: [usize; 2]) -> Entry {
+    pairs_of(code, 1, first, second)
+}
+
+/// A pair whose first wires are equal and whose second are not.
+pub fn one_pick(code: u8) -> Entry {
+    pair(code, [1, 1], [1, 2])
+}
+
+/// A pair without equal wires.
+pub fn two_picks(code: u8) -> Entry {
+    pair(code, [1, 1], [2, 2])
+}
+
+fn pairs_of(code: u8, results: usize, one: [usize; 2], other: [usize; 2]) -> Entry {
     let row = operation(code).expect("an operation");
     let mut kinds = vec![Kind::Bit, row.takes, row.takes];
     kinds.resize(3 + results, row.gives);
-    let block = |first: usize, second: usize| -> Block {
+    let block = |[first, second]: [usize; 2]| -> Block {
         let value = || two(code, var(first), var(second));
         (0..results).map(|one| set(3 + one, value())).collect()
     };
-    let rule = rule(&kinds, vec![when(var(0), block(1, 2), block(2, 1))]);
+    let rule = rule(&kinds, vec![when(var(0), block(one), block(other))]);
     let first = kinds.len();
     let groups: Vec<[usize; 2]> = (first..first + results)
         .map(|gate| [gate, gate + results])
@@ -39,8 +58,9 @@ fn pairs(code: u8, results: usize) -> Entry {
     (rule, plan(gates, &groups))
 }
 
-/// So many pairs of ands, each dearer joined than apart by 9: two guards and two picks of two for one cost of 1.
-pub fn loss(pairs_count: usize) -> Entry {
+/// So many pairs of ands, each of which saves 1. Before C-18 each was dearer joined than apart by 9: two guards and two picks
+/// of two for one cost of 1.
+pub fn ands(pairs_count: usize) -> Entry {
     pairs(AND, pairs_count)
 }
 
