@@ -154,7 +154,7 @@ fn limits_of_a_rule() {
             ["accepted 6 8 33 24", line, "accepted 6 8 33 24"]
         );
         let refused = usize::from(length > 4096);
-        let total = format!("total {} {refused} 66 56 10", 3 - refused);
+        let total = format!("total {} {refused} 66 48 18", 3 - refused);
         assert_eq!(lines[3..], [total]);
     }
 }

@@ -45,9 +45,9 @@ for it (passed again: the search goes back to that group after every pair, and p
 the square of the gates); a chain of products in both blocks, joined in step, so that no group has a guard (in step); and COUNT mixed rules, one call each in a row: the first COUNT accepted cases of operation 05
 that the generator of `compare/run` makes from seed SEED, groups put in order, used for every operation.
 
-Since C-18 a group has no pick where its members' wires are equal, and no guards without a pick: then it is written and run
-faster than before. The table at the end says how many groups have no guards and how many one pick. Every pair of the reversed
-plan has both picks.
+Since C-18 a group has no pick where its members' wires are equal, and no guards without a pick: then fewer records are
+written and run than before. The table at the end says how many groups have no guards and how many one pick. Every pair of the
+reversed plan has both picks.
 
 Circuit files, for 07 and 09, with a table at the end: that of R1; files that grow, made of turns of a comparison, two
 guards of two wires, two picks, a product, a constant, a sum, a choice and an and; the last of these in version 1, and with

@@ -67,7 +67,7 @@ pub fn add(list: &mut List) {
     for more in [0x00, 0x32, 0xFF] {
         list.refused_circuit(&[&file[..], &[more]].concat(), 61);
     }
-    // The group has a circle and no exclusion as before.
+    // A choice is no member, as before.
     list.with_plan(&R1, &plan(6, &[&[3, 5]]), 27);
 }
 

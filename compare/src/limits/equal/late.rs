@@ -91,7 +91,7 @@ fn in_whole(list: &mut List) {
 }
 
 /// Gates that rest on more and more conditions, of which each is made behind them: so many working words, and a ladder of ifs
-/// on comparisons that picks one of them. All are alike, and joined in one group, in pairs, and all but the last.
+/// on comparisons that picks one of them. All are alike: joined in one group, the first two, the last two, and by twos.
 fn many_conditions(list: &mut List) {
     for ends in [2, 3, 5, 9] {
         let words = 3;
