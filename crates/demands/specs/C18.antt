@@ -110,5 +110,12 @@ pub group-cost : (n : ℕ) (op : Operation) (guards : List Record) (places : Lis
     → recordsCost (joined n op guards places) ≡ recordsCost (guarded (picked places) guards) + length (picked places) * (2 * k) + entryOf op .cost
 group-cost = sizes.joined-cost
 
+-- (So a group never comes to more than with all its guards and a pick for each place, as before C-18.)
+pub never-more : (n : ℕ) (op : Operation) (guards : List Record) (places : List (List ℕ)) (k : ℕ) → EachGroup (λ values. length values ≡ k) places
+    → (length (joined n op guards places) ≤ length guards + length places + 1)
+    × (length (recordsBytes writtenVersion (joined n op guards places)) ≤ length (recordsBytes writtenVersion guards) + length places * (2 + 4 * k) + (1 + 2 * length places))
+    × (recordsCost (joined n op guards places) ≤ recordsCost guards + length places * (2 * k) + entryOf op .cost)
+never-more = sizes.joined-most
+
 -- "R1 with P1 (example 3) now gives 114 bytes and prints `accepted 6 8 33 24`": `Starred`, and `saved-nine` (Batches), which has the line and "the batch above ends `total 2 0 66
 -- 57 9`" (examples). No pick at one place, at both, a chain of groups, a condition written late, a circle: EqualWires (examples).

@@ -94,6 +94,19 @@ module _ (n : ℕ) (op : Operation) (guards : List Record) (places : List (List 
         )
         (omega arith)
 
+    -- all its guards and a pick for each place would come to no less
+    pub joined-most : (length (joined n op guards places) ≤ length guards + length places + 1)
+        × (length (recordsBytes writtenVersion (joined n op guards places)) ≤ length (recordsBytes writtenVersion guards) + length places * (2 + 4 * k) + (1 + 2 * length places))
+        × (recordsCost (joined n op guards places) ≤ recordsCost guards + length places * (2 * k) + entryOf op .cost)
+    joined-most =
+        let g = kept-most (picked places) guards in
+        let f = picked-few places in
+        (
+          omega (arith, joined-count n op guards places, g .0, f),
+          omega (arith, joined-size, g .1, mul-le-mul-right (2 + 4 * k) f),
+          omega (arith, joined-cost, g .2, mul-le-mul-right (2 * k) f),
+        )
+
 -- the guards and the places of these members
 module _ (s : List ℕ) (C : Gates) (sets : List ℕ) (wire : ℕ → ℕ) where
   pub guard-bytes : (m : ℕ) → length (recordBytes writtenVersion (guardOf s C sets wire m)) ≡ 2 + 2 * length (restsOf C sets m) + tableBytes writtenVersion
@@ -123,21 +136,19 @@ module _ (s : List ℕ) (C : Gates) (sets : List ℕ) (wire : ℕ → ℕ) where
     places : length (map (valuesAt s C sets wire ms) (upto a)) ≡ a
     places = length-map (upto a) (valuesAt s C sets wire ms) ∙ length-from 0 a
 
-    few : length (picked (map (valuesAt s C sets wire ms) (upto a))) ≤ a
-    few = omega (arith, picked-few (map (valuesAt s C sets wire ms) (upto a)), places)
+    most : (length group ≤ length (map (guardOf s C sets wire) ms) + a + 1)
+        × (length (recordsBytes writtenVersion group) ≤ length (recordsBytes writtenVersion (map (guardOf s C sets wire) ms)) + a * (2 + 4 * length ms) + (1 + 2 * a))
+        × (recordsCost group ≤ recordsCost (map (guardOf s C sets wire) ms) + a * (2 * length ms) + entryOf op .cost)
+    most =
+        rw places at
+        (joined-most n op (map (guardOf s C sets wire) ms) (map (valuesAt s C sets wire ms) (upto a)) (length ms) (values-each ms (upto a)))
 
-    -- at most so many records, bytes and so much cost: fewer where all members have one wire at a place
+    -- at most so many records, bytes and so much cost
     pub group-count : length group ≤ length ms + a + 1
-    group-count =
-        rw (joined-count n op (map (guardOf s C sets wire) ms) (map (valuesAt s C sets wire ms) (upto a)))
-        (omega (arith, kept-most (picked (map (valuesAt s C sets wire ms) (upto a))) (map (guardOf s C sets wire) ms), length-map ms (guardOf s C sets wire), few))
+    group-count = omega (arith, most .0, length-map ms (guardOf s C sets wire))
 
     pub group-size : length (recordsBytes writtenVersion group) ≤ length (recordsBytes writtenVersion (map (guardOf s C sets wire) ms)) + a * (2 + 4 * length ms) + (1 + 2 * a)
-    group-size =
-        rw (joined-size n op (map (guardOf s C sets wire) ms) (map (valuesAt s C sets wire ms) (upto a)) (length ms) (values-each ms (upto a)), places)
-        (omega (arith, kept-most (picked (map (valuesAt s C sets wire ms) (upto a))) (map (guardOf s C sets wire) ms), mul-le-mul-right (2 + 4 * length ms) few))
+    group-size = most .1
 
     pub group-cost : recordsCost group ≤ length ms + a * (2 * length ms) + entryOf op .cost
-    group-cost =
-        rw (joined-cost n op (map (guardOf s C sets wire) ms) (map (valuesAt s C sets wire ms) (upto a)) (length ms) (values-each ms (upto a)))
-        (omega (arith, kept-most (picked (map (valuesAt s C sets wire ms) (upto a))) (map (guardOf s C sets wire) ms), guards-cost ms, mul-le-mul-right (2 * length ms) few))
+    group-cost = omega (arith, most .2, guards-cost ms)
