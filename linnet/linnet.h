@@ -111,8 +111,8 @@ struct linnet_answer linnet_check_plan(
 
 /* 04 Writes the file of the fused circuit to the start of out, and nothing after. Answers all five
  * counts. 16,384 bytes always suffice. Where all members of a group have the same wire at an argument
- * place there is no pick, and a group without a pick has no guards: what its wire holds where no member
- * is needed is not fixed by the rule. */
+ * place there is no pick, and a group without a pick has no guards: where no member is needed its wire
+ * holds what its argument wires give. */
 struct linnet_answer linnet_write_fused(
     const uint8_t *rule, size_t rule_count,
     const uint8_t *plan, size_t plan_count,

@@ -21,18 +21,16 @@ use Rattle.gates.specs.Gates.{gateAt, arguments, figureAt}
 use Rattle.gates.specs.PlainCircuit.{gatesOf, gateCount}
 use Rattle.needed.specs.Needed.{Needed, wantedOf}
 use Rattle.needed.specs.Pass.{rulePreconditions}
-use Rattle.plan.specs.PlanFile.{groupsIn, EachGroup}
+use Rattle.plan.specs.PlanFile.{groupsIn}
 use Rattle.plan.specs.Groups.{groupOf, restsOf}
 use Rattle.plan.specs.Rows.{planAnswer}
-use Rattle.fused.specs.Emission.{gateOperation, pairs, oneWire, picked, guarded, joined}
+use Rattle.fused.specs.Emission.{gateOperation, pairs, oneWire, joined}
 use Rattle.fused.specs.FusedCircuit.{recordsOf, wireOf}
-use Rattle.fused.specs.JoinedGates.{argument, joinedWith, guardsWith, wiresAt, Stands}
+use Rattle.fused.specs.JoinedGates.{argument, joinedWith, guardsWith, wiresAt, recordsWith, picksWith, Stands}
 use Rattle.fused.specs.FusedFigures as figures
 use Rattle.fused.specs.GroupStands as stands
 use Rattle.fused.specs.GuardsRead as read
-use Rattle.fused.specs.JoinedParts as parts
 use Rattle.fused.specs.JoinedShapes as shapes
-use Rattle.fused.specs.SizeJoined as sizes
 use Rattle.fused.specs.EqualWireLaws as equal
 
 -- "When all members of a group have the same wire of the fused circuit at an argument place, write no pick there and use the wire. If no pick remains, write no guards for the
@@ -55,7 +53,7 @@ none-picked = shapes.none-picked
 
 -- of an accepted plan these are the records of each group of two or more, where they stand in the circuit, from the wires of the whole circuit,
 pub group-records : (s p : List ℕ) → planAnswer s p .number ≡ 0 → (m : ℕ) → m < gateCount s → 2 ≤ length (joinedWith s p m)
-    → Stands (recordsOf s p) (wireOf s p m) (λ n. joined n (gateOperation (gateAt (gatesOf s) m)) (guardsWith s p m) (wiresAt s p m 0 ∷ wiresAt s p m 1 ∷ []))
+    → Stands (recordsOf s p) (wireOf s p m) (recordsWith s p m)
 group-records = shapes.joined-stands
 
 -- "all members .. have the same wire": each has that of gate m, whichever member m is,
@@ -79,9 +77,9 @@ guards-picked = read.guards-picked
 
 -- "Who waits for whom is judged as before": `Waits` knows no wire, and `plan-accepted` (Demands) did not move. A joined gate still comes after the conditions that it rests on, with
 -- guards or without.
-pub waits-stay : (s p : List ℕ) → planAnswer s p .number ≡ 0 → (m : ℕ) → m < gateCount s → 2 ≤ length (joinedWith s p m)
+pub after-conditions : (s p : List ℕ) → planAnswer s p .number ≡ 0 → (m : ℕ) → m < gateCount s → 2 ≤ length (joinedWith s p m)
     → (c : ℕ) → c ∈ restsOf (gatesOf s) (rulePreconditions s) m → wireOf s p c < wireOf s p m
-waits-stay = equal.condition-earlier
+after-conditions = equal.condition-earlier
 
 -- "The accuracy demand stands with this shape of record" (`file-run` and `same-results`, Demands): the wire of a gate that is needed has the plain circuit's figure, whatever its group,
 pub needed-figure : (s p : List ℕ) → Bytes s → planAnswer s p .number ≡ 0 → (inputs : List ℕ) → FiguresFit (variables s) (kindAt s) inputs
@@ -96,26 +94,27 @@ pub unguarded-figure : (s p : List ℕ) → planAnswer s p .number ≡ 0 → (m 
     ≡ resultOn (gateOperation (gateAt (gatesOf s) m)) (map (λ a. wireFigure inputs (recordsOf s p) (wireOf s p a)) (arguments (gateAt (gatesOf s) m)))
 unguarded-figure = equal.unpicked-figure
 
--- Its records, bytes and cost: those of the guards that are written, of a pick of k pairs for each place that has one, and of the operation.
-pub group-count : (n : ℕ) (op : Operation) (guards : List Record) (places : List (List ℕ))
-    → length (joined n op guards places) ≡ length (guarded (picked places) guards) + length (picked places) + 1
-group-count = parts.joined-count
+-- What its records come to: with no pick one record of five bytes at the operation's cost,
+pub unpicked-sizes : (s p : List ℕ) (m n : ℕ) → picksWith s p m ≡ 0
+    → (length (recordsWith s p m n) ≡ 1) × (length (recordsBytes writtenVersion (recordsWith s p m n)) ≡ 5)
+    × (recordsCost (recordsWith s p m n) ≡ entryOf (gateOperation (gateAt (gatesOf s) m)) .cost)
+unpicked-sizes = equal.unpicked-sizes
 
-pub group-bytes : (n : ℕ) (op : Operation) (guards : List Record) (places : List (List ℕ)) (k : ℕ) → EachGroup (λ values. length values ≡ k) places
-    → length (recordsBytes writtenVersion (joined n op guards places)) ≡ length (recordsBytes writtenVersion (guarded (picked places) guards))
-    + length (picked places) * (2 + 4 * k) + (1 + 2 * length places)
-group-bytes = sizes.joined-size
+-- with one or two a guard for each member, the picks, of a pair for each member, and the operation,
+pub picked-sizes : (s p : List ℕ) (m n : ℕ) → 0 < picksWith s p m
+    → (length (recordsWith s p m n) ≡ length (joinedWith s p m) + picksWith s p m + 1)
+    × (length (recordsBytes writtenVersion (recordsWith s p m n))
+    ≡ length (recordsBytes writtenVersion (guardsWith s p m)) + picksWith s p m * (2 + 4 * length (joinedWith s p m)) + 5)
+    × (recordsCost (recordsWith s p m n)
+    ≡ entryOf (gateOperation (gateAt (gatesOf s) m)) .cost + length (joinedWith s p m) + picksWith s p m * (2 * length (joinedWith s p m)))
+picked-sizes = equal.picked-sizes
 
-pub group-cost : (n : ℕ) (op : Operation) (guards : List Record) (places : List (List ℕ)) (k : ℕ) → EachGroup (λ values. length values ≡ k) places
-    → recordsCost (joined n op guards places) ≡ recordsCost (guarded (picked places) guards) + length (picked places) * (2 * k) + entryOf op .cost
-group-cost = sizes.joined-cost
-
--- (So a group never comes to more than with all its guards and a pick for each place, as before C-18.)
-pub never-more : (n : ℕ) (op : Operation) (guards : List Record) (places : List (List ℕ)) (k : ℕ) → EachGroup (λ values. length values ≡ k) places
-    → (length (joined n op guards places) ≤ length guards + length places + 1)
-    × (length (recordsBytes writtenVersion (joined n op guards places)) ≤ length (recordsBytes writtenVersion guards) + length places * (2 + 4 * k) + (1 + 2 * length places))
-    × (recordsCost (joined n op guards places) ≤ recordsCost guards + length places * (2 * k) + entryOf op .cost)
-never-more = sizes.joined-most
+-- so never more than with both picks, as it was before.
+pub never-more : (s p : List ℕ) (m n : ℕ)
+    → (length (recordsWith s p m n) ≤ length (joinedWith s p m) + 3)
+    × (length (recordsBytes writtenVersion (recordsWith s p m n)) ≤ length (recordsBytes writtenVersion (guardsWith s p m)) + 2 * (2 + 4 * length (joinedWith s p m)) + 5)
+    × (recordsCost (recordsWith s p m n) ≤ entryOf (gateOperation (gateAt (gatesOf s) m)) .cost + 5 * length (joinedWith s p m))
+never-more = equal.sizes-most
 
 -- "R1 with P1 (example 3) now gives 114 bytes and prints `accepted 6 8 33 24`": `Starred`, and `saved-nine` (Batches), which has the line and "the batch above ends `total 2 0 66
 -- 57 9`" (examples). No pick at one place, at both, a chain of groups, a condition written late, a circle: EqualWires (examples).

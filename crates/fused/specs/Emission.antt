@@ -39,7 +39,7 @@ abbrev pub pairs : ℕ → List ℕ → List Pair
 pairs n [] = []
 pairs n (w ∷ values) = record { guarding = n; value = w } ∷ pairs (suc n) values
 
--- all members have the same wire at an argument place, these being their wires at it
+-- all members have the same wire at an argument place, these being their wires at it; no members have none
 unfoldable pub oneWire : List ℕ → Bool
 oneWire [] = false
 oneWire (w ∷ values) = every (λ v. eqb v w) values

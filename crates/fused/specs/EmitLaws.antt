@@ -1,6 +1,6 @@
--- Laws of a group's records: there is one at least, and they read only earlier wires when what the group reads is earlier. Assumes nothing.
+-- Laws of a group's records: there is one at least, two or more members of two arguments are a joined group, and they read only earlier wires when what the group reads is earlier. Assumes nothing.
 use Prim.Native.Nat.{ℕ, suc, _+_, _≤_, _<_}
-use mathlib.Core.Path.{_≡_, refl, sym, _∙_}
+use mathlib.Core.Path.{_≡_, refl, sym, ap, _∙_}
 use mathlib.Core.List.{List, [], _∷_, map}
 use mathlib.Core.Logic.{inl, inr}
 use native.Mathlib.Omega.{arith}
@@ -53,6 +53,13 @@ module _ (s : List ℕ) (C : Gates) (sets : List ℕ) (wire : ℕ → ℕ) where
   emit-some n [] h = h
   emit-some n (m ∷ []) h = omega arith
   emit-some n (m ∷ k ∷ l) h = rw joined-count (omega arith)
+
+  -- two or more members, the first of two arguments, are a joined group of two places
+  pub emit-two : (n m k : ℕ) (l : List ℕ) → length (arguments (gateAt C m)) ≡ 2
+      → emit s C sets wire n (m ∷ k ∷ l)
+      ≡ joined n (gateOperation (gateAt C m)) (map (guardOf s C sets wire) (m ∷ k ∷ l)) (valuesAt s C sets wire (m ∷ k ∷ l) 0 ∷ valuesAt s C sets wire (m ∷ k ∷ l) 1 ∷ [])
+  emit-two n m k l e =
+      ap (λ (a : ℕ). joined n (gateOperation (gateAt C m)) (map (guardOf s C sets wire) (m ∷ k ∷ l)) (map (valuesAt s C sets wire (m ∷ k ∷ l)) (upto a))) e
 
   -- its records read only earlier wires
   pub emit-below : (n : ℕ) (ms : List ℕ)

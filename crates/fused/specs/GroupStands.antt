@@ -1,4 +1,5 @@
--- Where the records of a group stand in the fused circuit, as they follow from the wires of the whole circuit; distinct groups have distinct wires. Assumes nothing.
+-- Where the records of a group stand in the fused circuit, as they follow from the wires of the whole circuit; distinct groups have distinct wires, and what a group
+-- waits for has an earlier one. Assumes nothing.
 use Prim.Native.Nat.{ℕ, _+_, _-_, _≤_, _<_}
 use mathlib.Core.Path.{_≡_, refl, sym, ap, _∙_}
 use mathlib.Core.List.{List, [], _∷_, _++_, append-assoc, append-nil}
@@ -56,7 +57,7 @@ module _ (s : List ℕ) (C : Gates) (sets : List ℕ) (group : ℕ → ℕ) (lev
       (λ t m a i k. sym (wire-old s C sets group r done once (group a) (waits (group a) (waits-rests C sets group p m a i t k))))
       (level p)
 
-  pub written-stands : (done : List ℕ) → Once done → Ordered (waitsFor C sets group) done → (p : ℕ) → p ∈ done
+  written-stands : (done : List ℕ) → Once done → Ordered (waitsFor C sets group) done → (p : ℕ) → p ∈ done
       → Stands (written s C sets group done .records) (written s C sets group done .wire p)
       (λ n. emit s C sets (λ a. written s C sets group done .wire (group a)) n (members (length C) group p))
   written-stands (r ∷ done) (new, u) (before, o) p k = go (same? p r) k (λ m. written-stands done u o p m)
@@ -105,14 +106,14 @@ module _ (s : List ℕ) (C : Gates) (sets : List ℕ) (group : ℕ → ℕ) wher
       )
 
   -- so what a group waits for has an earlier wire
-  pub waits-earlier : (done : List ℕ) → Once done → ((p : ℕ) → p ∈ done → p ∈ groups (length C) group) → Ordered (waitsFor C sets group) done
+  waits-earlier : (done : List ℕ) → Once done → ((p : ℕ) → p ∈ done → p ∈ groups (length C) group) → Ordered (waitsFor C sets group) done
       → (p q : ℕ) → p ∈ done → q ∈ waitsFor C sets group p → written s C sets group done .wire q < written s C sets group done .wire p
   waits-earlier (r ∷ done) once f (before, o) p q (inl e) k = rw e (wire-behind r done once f q (before q (rw e at k)))
   waits-earlier (r ∷ done) once f (before, o) p q (inr m) k =
       rw (wire-old s C sets group r done once q (waits-done C sets group done o p m q k), wire-old s C sets group r done once p m)
       (waits-earlier done (once .1) (λ g i. f g (inr i)) o p q m k)
 
-  pub written-distinct : (done : List ℕ) → Once done → ((p : ℕ) → p ∈ done → p ∈ groups (length C) group) → (p q : ℕ) → p ∈ done → q ∈ done
+  written-distinct : (done : List ℕ) → Once done → ((p : ℕ) → p ∈ done → p ∈ groups (length C) group) → (p q : ℕ) → p ∈ done → q ∈ done
       → written s C sets group done .wire p ≡ written s C sets group done .wire q → p ≡ q
   written-distinct (r ∷ done) (new, u) f p q i j e = go (same? p r) (same? q r) i j (λ x y z. written-distinct done u (λ g k. f g (inr k)) p q x y z)
     where

@@ -1,7 +1,7 @@
 -- Laws of document 02, C-18, "No pick between equal wires": the four shapes of a joined group, by whether its members have one wire at each of its two argument places;
 -- every larger group of an accepted plan has one of them; no pick of its circuit is between equal wires. Assumes nothing.
 use Prim.Native.Nat.{ℕ, suc, _+_, _≤_, _<_}
-use mathlib.Core.Path.{_≡_, refl, sym, ap, ap₂, _∙_}
+use mathlib.Core.Path.{_≡_, refl, sym, ap, _∙_}
 use mathlib.Core.Bool.{true, false}
 use mathlib.Core.List.{List, [], _∷_, _++_, map}
 use mathlib.Core.Logic.{inl}
@@ -23,10 +23,11 @@ use Rattle.plan.specs.Rows.{planAnswer}
 use Rattle.fused.specs.Emission.{alone, gateOperation, pairs, oneWire, joined, guardOf, valuesAt, emit}
 use Rattle.fused.specs.FusedCircuit.{recordsOf, wireOf}
 use Rattle.fused.specs.JoinedParts.{joined-along}
+use Rattle.fused.specs.EmitLaws.{emit-two}
 use Rattle.fused.specs.KindedLaws.{pairs-values}
 use Rattle.fused.specs.BoundLaws.{fused-along}
 use Rattle.fused.specs.PlannedLaws.{planned-joined, planned-two}
-use Rattle.fused.specs.JoinedGates.{joinedWith, guardsWith, wiresAt, Stands}
+use Rattle.fused.specs.JoinedGates.{joinedWith, recordsWith, Stands}
 use Rattle.fused.specs.GroupStands.{stands-as, group-stands}
 
 -- n is the first record's wire; a and b are the members' wires at the first place and at the second
@@ -62,11 +63,12 @@ module _ (s p : List ℕ) (h : planAnswer s p .number ≡ 0) where
       let r = planned-joined s p h .alike q many j m (rw e (inl refl)) (rw e i) in
       let op : gateOperation (gateAt (gatesOf s) j) ≡ gateOperation (gateAt (gatesOf s) m) = r .3 ∙ sym (ap gateOperation (r .2)) in
       let args : length (arguments (gateAt (gatesOf s) j)) ≡ 2 = planned-two s p h q many j (rw e (inl refl)) in
-      ap₂ (λ (o : Operation) (a : ℕ). joined n o (map (guardOf s (gatesOf s) (rulePreconditions s) (wireOf s p)) ms)
-      (map (valuesAt s (gatesOf s) (rulePreconditions s) (wireOf s p) ms) (upto a))) op args
+      emit-two s (gatesOf s) (rulePreconditions s) (wireOf s p) n j k l args
+      ∙ ap (λ (o : Operation). joined n o (map (guardOf s (gatesOf s) (rulePreconditions s) (wireOf s p)) ms)
+      (valuesAt s (gatesOf s) (rulePreconditions s) (wireOf s p) ms 0 ∷ valuesAt s (gatesOf s) (rulePreconditions s) (wireOf s p) ms 1 ∷ [])) op
 
   pub joined-stands : (m : ℕ) → m < gateCount s → 2 ≤ length (joinedWith s p m)
-      → Stands (recordsOf s p) (wireOf s p m) (λ n. joined n (gateOperation (gateAt (gatesOf s) m)) (guardsWith s p m) (wiresAt s p m 0 ∷ wiresAt s p m 1 ∷ []))
+      → Stands (recordsOf s p) (wireOf s p m) (recordsWith s p m)
   joined-stands m l two =
       stands-as (recordsOf s p) (wireOf s p m) _ _
       (joined-as (joinedWith s p m) (groupOf (groupsIn p) m) refl two m (member-of (gateCount s) (groupOf (groupsIn p)) m (groupOf (groupsIn p) m) l refl))

@@ -1,5 +1,5 @@
--- Laws for document 01, "The fused circuit file": what a group of k members comes to: k + 3 records where two or more are joined, and how many, how many bytes
--- and what cost any group has at most. Assumes nothing.
+-- Laws for document 01, "The fused circuit file": what a group of k members comes to at most: k + 3 records where two or more are joined; how many, how many bytes
+-- and what cost any group has. Assumes nothing.
 use mathlib.Core.Path.{_≡_, refl, ap, _∙_}
 use mathlib.Core.Bool.{true, false≢true}
 use mathlib.Core.List.{List, [], _∷_, map}
@@ -21,6 +21,7 @@ use Rattle.gates.specs.CostLaws.{cost-most}
 use Rattle.needed.specs.Held.{ShapedGate, Shaped}
 use Rattle.plan.specs.Accepted.{OneCostly}
 use Rattle.fused.specs.Emission.{alone, gateOperation, joined, guardOf, valuesAt, emit}
+use Rattle.fused.specs.EmitLaws.{emit-two}
 use Rattle.fused.specs.SizeLimits.{mostBytesOfTwo}
 use Rattle.fused.specs.SizeJoined.{guards-most, group-count, group-size, group-cost}
 
@@ -68,10 +69,10 @@ module _ (s : List ℕ) (C : Gates) (sets : List ℕ) (wire : ℕ → ℕ) (n : 
     two : length args ≡ 2
     two = (rw e at (shaped m)) ∙ costly-two op costs
 
-    pub emit-joined : emit s C sets wire n (m ∷ k ∷ l) ≡ joined n op (map (guardOf s C sets wire) (m ∷ k ∷ l)) (map (valuesAt s C sets wire (m ∷ k ∷ l)) (upto 2))
+    emit-joined : emit s C sets wire n (m ∷ k ∷ l) ≡ joined n op (map (guardOf s C sets wire) (m ∷ k ∷ l)) (map (valuesAt s C sets wire (m ∷ k ∷ l)) (upto 2))
     emit-joined =
-        ap (λ (g : Gate). joined n (gateOperation g) (map (guardOf s C sets wire) (m ∷ k ∷ l)) (map (valuesAt s C sets wire (m ∷ k ∷ l)) (upto (length (arguments g))))) e
-        ∙ ap (λ (a : ℕ). joined n op (map (guardOf s C sets wire) (m ∷ k ∷ l)) (map (valuesAt s C sets wire (m ∷ k ∷ l)) (upto a))) two
+        emit-two s C sets wire n m k l (ap (λ (g : Gate). length (arguments g)) e ∙ two)
+        ∙ ap (λ (g : Gate). joined n (gateOperation g) (map (guardOf s C sets wire) (m ∷ k ∷ l)) (map (valuesAt s C sets wire (m ∷ k ∷ l)) (upto 2))) e
 
     pub emit-count : length (emit s C sets wire n (m ∷ k ∷ l)) ≤ length (m ∷ k ∷ l) + 3
     emit-count = rw emit-joined (omega (arith, group-count s C sets wire n op (m ∷ k ∷ l) 2))

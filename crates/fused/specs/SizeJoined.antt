@@ -27,7 +27,7 @@ pub length-pairs : (n : ℕ) (values : List ℕ) → length (pairs n values) ≡
 length-pairs n [] = refl
 length-pairs n (w ∷ values) = ap suc (length-pairs (suc n) values)
 
--- a pick for each place, of k members
+-- a pick for each of some places, of k members
 abbrev pub picks : ℕ → List (List ℕ) → List Record
 picks n places = map (λ values. pick (pairs n values)) places
 
@@ -100,8 +100,7 @@ module _ (n : ℕ) (op : Operation) (guards : List Record) (places : List (List 
         × (recordsCost (joined n op guards places) ≤ recordsCost guards + length places * (2 * k) + entryOf op .cost)
     joined-most =
         let g = kept-most (picked places) guards in
-        let f = picked-few places in
-        (
+        let f = picked-few places in (
           omega (arith, joined-count n op guards places, g .0, f),
           omega (arith, joined-size, g .1, mul-le-mul-right (2 + 4 * k) f),
           omega (arith, joined-cost, g .2, mul-le-mul-right (2 * k) f),

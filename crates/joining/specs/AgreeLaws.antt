@@ -1,6 +1,6 @@
 -- Laws of the loop that compares the members' wires at an argument place with the first one's: start, step, end. Assumes nothing.
-use Prim.Native.Nat.{ℕ, zero, suc, _+_, _≤_, _<_}
-use mathlib.Core.Path.{_≡_, refl, sym, ap, _∙_}
+use Prim.Native.Nat.{ℕ, suc, _+_, _≤_, _<_}
+use mathlib.Core.Path.{_≡_, sym, ap, _∙_}
 use mathlib.Core.Bool.{true, false}
 use mathlib.Core.List.{List, [], _∷_, map}
 use mathlib.Core.Logic.{_⊎_, inl, inr}
@@ -9,16 +9,12 @@ use lib.ListN.{length, getD, length-map}
 use Rattle.words.specs.Lists.{_∈_}
 use Rattle.words.specs.MemberLaws.{getD-in}
 use Rattle.words.specs.TestLaws.{same?}
+use Rattle.gates.specs.FigureLaws.{map-at}
 use Rattle.plan.specs.PlanFile.{groupAt}
 use Rattle.plan.specs.NumberLaws.{length-group}
 use Rattle.fused.specs.Emission.{oneWire}
 use Rattle.fused.specs.PlaceLaws.{one-wire, two-wires}
 use Rattle.joining.specs.Joined.{argumentAt, valuesIn}
-
-map-at : (f : ℕ → ℕ) (l : List ℕ) (i : ℕ) → i < length l → getD (map f l) i 0 ≡ f (getD l i 0)
-map-at f [] i h = absurd (omega arith)
-map-at f (a ∷ l) zero h = refl
-map-at f (a ∷ l) (suc i) h = map-at f l i (omega arith)
 
 -- what each place of a list holds, each member is
 each-at : (l : List ℕ) (v : ℕ) → ((i : ℕ) → i < length l → getD l i 0 ≡ v) → (w : ℕ) → w ∈ l → w ≡ v

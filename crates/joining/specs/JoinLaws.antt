@@ -8,7 +8,7 @@ use native.Mathlib.Nat.{add-zero}
 use native.Mathlib.Numerals.{add-one}
 use native.Mathlib.Omega.{arith}
 use lib.ListN.{length, getD, length-map}
-use Rattle.words.specs.Lists.{_∈_, upto, Inside}
+use Rattle.words.specs.Lists.{_∈_, Inside}
 use Rattle.words.specs.ListLaws.{map-same}
 use Rattle.words.specs.TestLaws.{split}
 use Rattle.settings.specs.Sets.{rests}
@@ -25,6 +25,7 @@ use Rattle.plan.specs.RestLaws.{rests-held}
 use Rattle.records.specs.Records.{Record, pick}
 use Rattle.records.specs.Records as records
 use Rattle.fused.specs.Emission as emission
+use Rattle.fused.specs.EmitLaws.{emit-two}
 use Rattle.joining.specs.Joined.{emitIn, guardIn, guardsIn, argumentAt, valuesIn}
 use Rattle.joining.specs.Decisions.{Decided, joinedIn}
 use Rattle.joining.specs.declared.Picks.{Picks}
@@ -105,11 +106,11 @@ module _ (quads : List ℕ) (count : ℕ) (sets conds : List ℕ) (wire : ℕ �
       let size : length (arguments (gateAt (gatesIn quads count) m)) ≡ 2 = ap (λ (i : Gate). length (arguments i)) g in
       let guards : map (emission.guardOf [] (gatesIn quads count) sets wire) ms ≡ guardsIn conds wire sets ms = map-same _ (λ m. guardIn conds wire (getD sets m 0)) ms
       (λ m i. guard-same held m) in
-      let places : map (emission.valuesAt [] (gatesIn quads count) sets wire ms) (upto (length (arguments (gateAt (gatesIn quads count) m)))) ≡ valuesIn quads wire 0 ms ∷ valuesIn quads wire 1 ms ∷ [] =
-      ap (λ (i : ℕ). map (emission.valuesAt [] (gatesIn quads count) sets wire ms) (upto i)) size ∙ ap₂ (λ (a b : List ℕ). a ∷ b ∷ []) (values-at ms below two 0 (omega arith))
-      (values-at ms below two 1 (omega arith)) in
-      ap (λ (o : Operation). emission.joined n o (map (emission.guardOf [] (gatesIn quads count) sets wire) ms)
-      (map (emission.valuesAt [] (gatesIn quads count) sets wire ms) (upto (length (arguments (gateAt (gatesIn quads count) m)))))) op
-      ∙ ap₂ (λ (gs : List Record) (pl : List (List ℕ)). emission.joined n (operationOf (codeAt quads m)) gs pl) guards places
+      let first : emission.valuesAt [] (gatesIn quads count) sets wire ms 0 ≡ valuesIn quads wire 0 ms = values-at ms below two 0 (omega arith) in
+      let second : emission.valuesAt [] (gatesIn quads count) sets wire ms 1 ≡ valuesIn quads wire 1 ms = values-at ms below two 1 (omega arith) in
+      emit-two [] (gatesIn quads count) sets wire n m k l size
+      ∙ ap₂ (λ (o : Operation) (gs : List Record). emission.joined n o gs
+      (emission.valuesAt [] (gatesIn quads count) sets wire ms 0 ∷ emission.valuesAt [] (gatesIn quads count) sets wire ms 1 ∷ [])) op guards
+      ∙ ap₂ (λ (a b : List ℕ). emission.joined n (operationOf (codeAt quads m)) (guardsIn conds wire sets ms) (a ∷ b ∷ [])) first second
       ∙ joined-decided n (operationOf (codeAt quads m)) (guardsIn conds wire sets ms) (length ms) (length-map ms (λ m. guardIn conds wire (getD sets m 0))) (valuesIn quads wire 0 ms) (valuesIn quads wire 1 ms)
       (picks .first) (picks .second) (d .at-first) (d .at-second)

@@ -1,7 +1,7 @@
 -- Laws of the parts of a joined group: guards, a pick, the operation, each written or not by the decision. Assumes nothing.
 use Prim.Native.Nat.{ℕ, suc, _+_, _*_, _≤_}
 use mathlib.Core.Path.{_≡_, refl, sym, ap, ap₂, _∙_}
-use mathlib.Core.Bool.{Bool, true, false, cond}
+use mathlib.Core.Bool.{Bool, true, false, cond, _||_, true≢false}
 use mathlib.Core.List.{List, [], _∷_, append-nil}
 use native.Mathlib.Omega.{arith}
 use lib.ListN.{length, getD}
@@ -30,12 +30,17 @@ pub one-most : (b : Bool) → cond b 1 0 ≤ 1
 one-most true = omega arith
 one-most false = omega arith
 
-module _ (size : ℕ) (picks : Picks) (b : Bool) (e : b ≡ hasPick picks) (x y : ℕ) (f : x ≡ cond (picks .first) 1 0) (g : y ≡ cond (picks .second) 1 0) where
-  pub count-guarded : b ≡ true → size + (x + y) + 1 ≡ countIn size picks
-  count-guarded h = rw (f, g, sym e ∙ h)
+module _ (size : ℕ) (picks : Picks) (b : Bool) (e : b ≡ hasPick picks) where
+  pub count-guarded : (x y : ℕ) → x ≡ cond (picks .first) 1 0 → y ≡ cond (picks .second) 1 0 → b ≡ true → size + x + y + 1 ≡ countIn size picks
+  count-guarded x y f g h = rw (f, g, sym e ∙ h) (omega arith)
 
-  pub count-bare : b ≡ false → x + y + 1 ≡ countIn size picks
-  count-bare h = rw (f, g, sym e ∙ h) (omega arith)
+  pub count-bare : b ≡ false → 1 ≡ countIn size picks
+  count-bare h = go (picks .first) (picks .second) (sym e ∙ h)
+    where
+      go : (x y : Bool) → (x || y) ≡ false → 1 ≡ cond (x || y) size 0 + (cond x 1 0 + cond y 1 0) + 1
+      go true y z = absurd (true≢false z)
+      go false true z = absurd (true≢false z)
+      go false false z = refl
 
 -- nothing is written
 pub none-put : (R : List Record) (d : List ℕ) → R ≡ [] → (0 ≡ length (recordsBytes writtenVersion R)) × (d ≡ over (recordsBytes writtenVersion R) d)

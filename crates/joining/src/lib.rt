@@ -169,7 +169,8 @@ pub struct Picks {
     pub second: bool,
 }
 
-// Whether all members of a joined group have the same wire at argument place k: each is compared with the first.
+// Whether all members of a joined group have the same wire at argument place k: each is compared with the first. An argument is a gate; what is
+// compared is the wire that stands for it.
 fn one_wire(
     plan: &[u8],
     at: usize,
@@ -236,11 +237,10 @@ pub fn records_in(plan: &[u8], at: usize, picks: Picks) -> u16
     requires { ⌜ at < length (now plan) ⌝ }
     ensures { λ r. ⌜ r ≡ countIn (getD (now (plan .entry)) at 0) picks ⌝ }
 {
-    let picked = picks_at(picks.first) + picks_at(picks.second);
     if has_pick(picks) {
-        return (plan[at] as u16) + picked + 1;
+        return (plan[at] as u16) + picks_at(picks.first) + picks_at(picks.second) + 1;
     }
-    picked + 1
+    1
 }
 
 // The guards of a joined group, or nothing where it has no pick to read them; gives their bytes.

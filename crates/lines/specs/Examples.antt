@@ -14,8 +14,8 @@ ten : decimal 10 ≡ 49 ∷ 48 ∷ []
 unfolding decimal digits
 ten = refl
 
--- R1 with P1: `accepted 6 9 33 28`
-r1-p1 : lineOf (success 6 9 124 33 28) ≡ accepted ++ (32 ∷ 54 ∷ 32 ∷ 57 ∷ 32 ∷ 51 ∷ 51 ∷ 32 ∷ 50 ∷ 56 ∷ 10 ∷ [])
+-- R1 with P1 (document 02, C-18): `accepted 6 8 33 24`
+r1-p1 : lineOf (success 6 8 114 33 24) ≡ accepted ++ (32 ∷ 54 ∷ 32 ∷ 56 ∷ 32 ∷ 51 ∷ 51 ∷ 32 ∷ 50 ∷ 52 ∷ 10 ∷ [])
 unfolding lineOf line spaced decimal digits
 r1-p1 = refl
 
@@ -38,8 +38,8 @@ circle : lineOf (refusal 30 0) ≡ refused ++ (32 ∷ 51 ∷ 48 ∷ 10 ∷ [])
 unfolding lineOf placed line spaced decimal digits
 circle = refl
 
--- two entries that cost 66 and then 61: `total 2 0 66 61 5`
-saved : totalLine 2 0 66 61 ≡ total ++ (32 ∷ 50 ∷ 32 ∷ 48 ∷ 32 ∷ 54 ∷ 54 ∷ 32 ∷ 54 ∷ 49 ∷ 32 ∷ 53 ∷ 10 ∷ [])
+-- two entries that cost 66 and then 57: `total 2 0 66 57 9`
+saved : totalLine 2 0 66 57 ≡ total ++ (32 ∷ 50 ∷ 32 ∷ 48 ∷ 32 ∷ 54 ∷ 54 ∷ 32 ∷ 53 ∷ 55 ∷ 32 ∷ 57 ∷ 10 ∷ [])
 unfolding totalLine spacedLess spaced decimal digits
 saved = refl
 

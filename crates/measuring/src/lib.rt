@@ -71,14 +71,14 @@ fn rested_by(plan: &[u8], at: usize, needs: &[u64; NEED_WORDS]) -> usize
     n
 }
 
-// What guards or a pick come to, but for how many they are.
+// The bytes and the cost of the guards of a group, or of a pick.
 struct Part {
     bytes: usize,
     cost: usize,
 }
 
 // The bytes of a guard, but for the wires that it reads: two and its table.
-const GUARD: usize = 2 + records::WRITTEN_TABLE;
+const GUARD_BYTES: usize = 2 + records::WRITTEN_TABLE;
 
 // The guards of a joined group, members rising; nothing where no pick remains: then the conditions are not even counted.
 fn size_kept(plan: &[u8], at: usize, needs: &[u64; NEED_WORDS], picks: Picks) -> Part
@@ -89,7 +89,7 @@ fn size_kept(plan: &[u8], at: usize, needs: &[u64; NEED_WORDS], picks: Picks) ->
         let size = plan[at] as usize;
         let n = rested_by(plan, at, needs);
         return Part {
-            bytes: GUARD * size + 2 * n,
+            bytes: GUARD_BYTES * size + 2 * n,
             cost: size,
         };
     }

@@ -5,43 +5,39 @@ use borrow.Author.Needs.{needs}
 use Rattle.joining.proofs.records_in.Statement.{statement}
 use Rattle.joining.proofs.records_in.Tie as tie
 
-add-picked : tie.Need-add-picked
-add-picked c = record { fits = omega (arith, c .before .picks-at .ensures, one-most (c .before .before .before .args .picks .first), c .picks-at2 .ensures, one-most (c .before .before .before .args .picks .second)) }
-
 cast-result : tie.Need-cast-result
-cast-result c = record { fits = omega (arith, c .shared-slice-known2 .given (c .before .before .before .before .before .before .args .at)) }
+cast-result c = record { fits = omega (arith, c .shared-slice-known2 .given (c .before .before .before .before .args .at)) }
 
 add-result : tie.Need-add-result
-add-result c = record { fits = omega (arith, c .shared-slice-known2 .given (c .before .before .before .before .before .before .args .at), c .before .before .before .before .picks-at .ensures, one-most (c .before .before .before .before .before .before .args .picks .first), c .before .before .before .picks-at2 .ensures, one-most (c .before .before .before .before .before .before .args .picks .second)) }
+add-result c = record { fits = omega (arith, c .before .shared-slice-known2 .given (c .before .before .before .before .before .args .at), c .picks-at .ensures, one-most (c .before .before .before .before .before .args .picks .first)) }
 
 add-result-2 : tie.Need-add-result-2
-add-result-2 c = record { fits = omega (arith, c .shared-slice-known2 .given (c .before .before .before .before .before .before .args .at), c .before .before .before .before .picks-at .ensures, one-most (c .before .before .before .before .before .before .args .picks .first), c .before .before .before .picks-at2 .ensures, one-most (c .before .before .before .before .before .before .args .picks .second)) }
+add-result-2 c = record { fits = omega (arith, c .before .before .shared-slice-known2 .given (c .before .before .before .before .before .before .args .at), c .before .picks-at .ensures, one-most (c .before .before .before .before .before .before .args .picks .first), c .picks-at2 .ensures, one-most (c .before .before .before .before .before .before .args .picks .second)) }
+
+add-result-3 : tie.Need-add-result-3
+add-result-3 c = record { fits = omega (arith, c .before .before .shared-slice-known2 .given (c .before .before .before .before .before .before .args .at), c .before .picks-at .ensures, one-most (c .before .before .before .before .before .before .args .picks .first), c .picks-at2 .ensures, one-most (c .before .before .before .before .before .before .args .picks .second)) }
 
 returns : tie.Need-returns
 returns c =
     let a = c .before .before .before .before .before .before .args in
-    count-guarded (getD (a .plan .now) (a .at) 0) (a .picks) _ (c .before .before .has-pick .ensures) _ _ (c .before .before .before .before .picks-at .ensures) (c .before .before .before .picks-at2 .ensures) (c .before .if1 .taken)
-
-add-result-3 : tie.Need-add-result-3
-add-result-3 c = record { fits = omega (arith, c .before .before .before .picks-at .ensures, one-most (c .before .before .before .before .before .args .picks .first), c .before .before .picks-at2 .ensures, one-most (c .before .before .before .before .before .args .picks .second)) }
+    count-guarded (getD (a .plan .now) (a .at) 0) (a .picks) _ (c .before .before .before .before .has-pick .ensures) _ _ (c .before .picks-at .ensures) (c .picks-at2 .ensures) (c .before .before .before .if1 .taken)
 
 returns-2 : tie.Need-returns-2
 returns-2 c =
-    let a = c .before .before .before .before .before .args in
-    count-bare (getD (a .plan .now) (a .at) 0) (a .picks) _ (c .before .has-pick .ensures) _ _ (c .before .before .before .picks-at .ensures) (c .before .before .picks-at2 .ensures) (c .if1 .left)
+    let a = c .before .before .before .args in
+    count-bare (getD (a .plan .now) (a .at) 0) (a .picks) _ (c .before .has-pick .ensures) (c .if1 .left)
 
 pub records-in-spec : {M : Type 1} → statement M
 records-in-spec =
     tie.close
     (tie.spec
     (λ c κs. search needs)
-    (λ c κs. search needs)
-    add-picked
-    (λ c κs. search needs)
     (λ c. search needs)
     cast-result
+    (λ c κs. search needs)
     add-result
+    (λ c κs. search needs)
     add-result-2
-    returns
     add-result-3
+    returns
     returns-2)
