@@ -59,7 +59,7 @@ abbrev pub argumentWires : ℕ → List (List ℕ) → List ℕ
 argumentWires n [] = []
 argumentWires n (values ∷ places) = cond (oneWire values) (getD values 0 0 ∷ argumentWires n places) (n ∷ argumentWires (suc n) places)
 
--- a joined group, from its members' guards and, for each argument place, its members' wires at that place: n is the first guard's wire.
+-- a joined group, from its members' guards and, for each argument place, its members' wires at that place: n is the first record's wire.
 -- The one place that says which guards and picks there are and what the operation reads.
 abbrev pub joined : ℕ → Operation → List Record → List (List ℕ) → List Record
 joined n op guards places =
