@@ -123,6 +123,7 @@ pub fn equal_cases() -> Vec<Case> {
     for moved in eight.moved.drain(..) {
         list.add(moved.0, moved.1);
     }
+    equal::add_behind(&mut list);
     before.push(eight);
     behind(&before, list.cases)
 }

@@ -8,7 +8,9 @@ mod gates;
 mod kept;
 mod late;
 mod longest;
+mod odd;
 mod places;
+mod read;
 mod unneeded;
 
 use super::circuits::run_case;
@@ -29,6 +31,12 @@ pub fn add(list: &mut List) {
     conditions::add(list);
     longest::add(list);
     kept::add(list);
+}
+
+/// Those that were found after the others were stored; they come behind all of them.
+pub fn add_behind(list: &mut List) {
+    odd::add(list);
+    read::add(list);
 }
 
 /// Ifs on v0, v1 and so on, each inside the second block of the one before, so that so many ends exclude each other.

@@ -178,7 +178,9 @@ impl Taken for Figures {
 }
 
 impl Figures {
-    /// What the picks of both places give.
+    /// What picks of both places give. At a place without a pick, where all members have one wire, this is that wire's figure as in
+    /// the file as long as a member is needed; where none is, it is 0 here and in the file the wire's figure still. Nothing needs
+    /// the group's wire then, so no result shows this.
     #[inline(always)]
     fn picked(&self, circuit: &Planned, plan: &[u8], begins: usize) -> (u32, u32) {
         let mut setting = 0;
