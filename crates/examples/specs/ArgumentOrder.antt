@@ -31,7 +31,7 @@ use Rattle.plan.specs.Rows.{planRow, planAnswer}
 use Rattle.plan.specs.Examples.{p1}
 use Rattle.records.specs.Records.{recordsCost}
 use Rattle.records.specs.Records as records
-use Rattle.fused.specs.Emission.{oneWire}
+use Rattle.fused.specs.Emission.{oneWire, joined}
 use Rattle.fused.specs.FusedCircuit.{written, fused, recordsOf, fusedFile}
 use Rattle.fused.specs.Answers.{fusedCounts, writeAnswer}
 use Rattle.records.specs.Examples.{file3}
@@ -72,19 +72,19 @@ pub ordered-accepted : map (λ s. writeAnswer s no-groups 25) (from-two 0x21 0x0
 unfolding number kindOf workingOf operationOf codeOf readMark readCount readKinds readHeader readVariable readWord readBit operationWith exprWith readExpr readAssign branchWith
     statementWith blockWith blockFuel readBlock readRule applyGate makeExpr assignsIn assigns choices makeStatement makeBlock plainCircuit conditions collect numbers
     preconditions preconditionSets costs wholeWithin ruleAnswer restsOn rests groupsIn groups restsOf waitsFor order planRow planAnswer bytesOf spread tableOver table
-    oneWire written fused fusedFile recordsCost fusedCounts writeAnswer
+    oneWire joined written fused fusedFile recordsCost fusedCounts writeAnswer
 ordered-accepted = refl
 
 pub difference-ordered : fusedFile (from-two 0x21 0x00 0 1) no-groups ≡ fusedFile (from-two 0x21 0x00 1 0) no-groups → ⊥
 unfolding number kindOf workingOf operationOf codeOf readMark readCount readKinds readHeader readVariable readWord readBit operationWith exprWith readExpr readAssign branchWith
     statementWith blockWith blockFuel readBlock readRule applyGate makeExpr assignsIn assigns choices makeStatement makeBlock plainCircuit conditions collect numbers
-    preconditions preconditionSets restsOn rests groupsIn groups restsOf waitsFor order bytesOf spread tableOver table oneWire written fused fusedFile
+    preconditions preconditionSets restsOn rests groupsIn groups restsOf waitsFor order bytesOf spread tableOver table oneWire joined written fused fusedFile
 difference-ordered e = omega (arith, ap (λ (f : List ℕ). getD f 16 0) e)
 
 pub less-than-ordered : fusedFile (from-two 0x23 0x01 0 1) no-groups ≡ fusedFile (from-two 0x23 0x01 1 0) no-groups → ⊥
 unfolding number kindOf workingOf operationOf codeOf readMark readCount readKinds readHeader readVariable readWord readBit operationWith exprWith readExpr readAssign branchWith
     statementWith blockWith blockFuel readBlock readRule applyGate makeExpr assignsIn assigns choices makeStatement makeBlock plainCircuit conditions collect numbers
-    preconditions preconditionSets restsOn rests groupsIn groups restsOf waitsFor order bytesOf spread tableOver table oneWire written fused fusedFile
+    preconditions preconditionSets restsOn rests groupsIn groups restsOf waitsFor order bytesOf spread tableOver table oneWire joined written fused fusedFile
 less-than-ordered e = omega (arith, ap (λ (f : List ℕ). getD f 16 0) e)
 
 -- By gate, not by wire. A bit and two words: if v0 then (v1 := v1 × v2; v2 := v2 + v2; v1 := v2 + v1) else (if v1 < v2 then v1 := v2 × v2).
@@ -108,7 +108,7 @@ pub late-accepted : writeAnswer late late-plan 145 ≡ success 11 13 145 79 70
 unfolding number kindOf workingOf operationOf codeOf readMark readCount readKinds readHeader readVariable readWord readBit operationWith exprWith readExpr readAssign branchWith
     statementWith blockWith blockFuel readBlock readRule applyGate makeExpr assignsIn assigns choices makeStatement makeBlock plainCircuit conditions collect numbers
     preconditions preconditionSets costs wholeWithin ruleAnswer restsOn rests groupsIn groups restsOf waitsFor order planRow planAnswer bytesOf spread tableOver table
-    oneWire written fused fusedFile recordsCost fusedCounts writeAnswer
+    oneWire joined written fused fusedFile recordsCost fusedCounts writeAnswer
 late-accepted = refl
 
 -- gate 5 takes gate 3 first, and its record gate 3's wire, which is 8, before gate 4's, which is 3
@@ -121,5 +121,5 @@ late-gate = refl
 pub late-record : getD (recordsOf late late-plan) 9 (records.word 0) ≡ records.operation Sum (8 ∷ 3 ∷ [])
 unfolding number kindOf workingOf operationOf codeOf readMark readCount readKinds readHeader readVariable readWord readBit operationWith exprWith readExpr readAssign branchWith
     statementWith blockWith blockFuel readBlock readRule applyGate makeExpr assignsIn assigns choices makeStatement makeBlock plainCircuit conditions collect numbers
-    preconditions preconditionSets restsOn rests groupsIn groups restsOf waitsFor order bytesOf spread tableOver table oneWire written fused fusedFile
+    preconditions preconditionSets restsOn rests groupsIn groups restsOf waitsFor order bytesOf spread tableOver table oneWire joined written fused fusedFile
 late-record = refl

@@ -25,7 +25,7 @@ use Rattle.plan.specs.Order.{order}
 use Rattle.plan.specs.Rows.{planRow, planAnswer}
 use Rattle.plan.specs.Examples.{p1}
 use Rattle.records.specs.Records.{recordsCost}
-use Rattle.fused.specs.Emission.{oneWire}
+use Rattle.fused.specs.Emission.{oneWire, joined}
 use Rattle.fused.specs.FusedCircuit.{written, fused, fusedFile}
 use Rattle.fused.specs.Answers.{fusedCounts, fusedAnswer}
 use Rattle.lines.specs.Line.{digits, decimal, spaced, line, accepted, refused, placed, lineOf}
@@ -57,7 +57,7 @@ pub saved-nine : reportOf two-of-r1 ≡ first-line ++ (second-line ++ (total ++ 
 unfolding number kindOf workingOf operationOf codeOf readMark readCount readKinds readHeader readVariable readWord readBit operationWith exprWith readExpr readAssign branchWith
     statementWith blockWith blockFuel readBlock readRule applyGate makeExpr assignsIn assigns choices makeStatement makeBlock plainCircuit conditions collect numbers
     preconditions preconditionSets costs wholeWithin ruleAnswer restsOn rests groupsIn groups restsOf waitsFor order planRow planAnswer bytesOf spread tableOver table
-    oneWire written fused fusedFile recordsCost fusedCounts fusedAnswer digits decimal spaced line placed lineOf spacedLess totalLine flatMap headed hasPart hasEntry entryAnswer plus
+    oneWire joined written fused fusedFile recordsCost fusedCounts fusedAnswer digits decimal spaced line placed lineOf spacedLess totalLine flatMap headed hasPart hasEntry entryAnswer plus
     reportFrom reportOf
 saved-nine = refl
 
@@ -73,7 +73,7 @@ pub lost-nine : reportOf (batchOf (dearer ∷ [])) ≡ accepted ++ (32 ∷ 56 �
 unfolding number kindOf workingOf operationOf codeOf readMark readCount readKinds readHeader readVariable readWord readBit operationWith exprWith readExpr readAssign branchWith
     statementWith blockWith blockFuel readBlock readRule applyGate makeExpr assignsIn assigns choices makeStatement makeBlock plainCircuit conditions collect numbers
     preconditions preconditionSets costs wholeWithin ruleAnswer restsOn rests groupsIn groups restsOf waitsFor order planRow planAnswer bytesOf spread tableOver table
-    oneWire written fused fusedFile recordsCost fusedCounts fusedAnswer digits decimal spaced line placed lineOf spacedLess totalLine flatMap headed hasPart hasEntry entryAnswer plus
+    oneWire joined written fused fusedFile recordsCost fusedCounts fusedAnswer digits decimal spaced line placed lineOf spacedLess totalLine flatMap headed hasPart hasEntry entryAnswer plus
     reportFrom reportOf
 lost-nine = refl
 
@@ -83,7 +83,7 @@ pub not-whole : map reportOf ((two-of-r1 ++ (0x00 ∷ [])) ∷ take 95 two-of-r1
 unfolding number kindOf workingOf operationOf codeOf readMark readCount readKinds readHeader readVariable readWord readBit operationWith exprWith readExpr readAssign branchWith
     statementWith blockWith blockFuel readBlock readRule applyGate makeExpr assignsIn assigns choices makeStatement makeBlock plainCircuit conditions collect numbers
     preconditions preconditionSets costs wholeWithin ruleAnswer restsOn rests groupsIn groups restsOf waitsFor order planRow planAnswer bytesOf spread tableOver table
-    oneWire written fused fusedFile recordsCost fusedCounts fusedAnswer digits decimal spaced line placed lineOf spacedLess totalLine flatMap headed hasPart hasEntry entryAnswer plus
+    oneWire joined written fused fusedFile recordsCost fusedCounts fusedAnswer digits decimal spaced line placed lineOf spacedLess totalLine flatMap headed hasPart hasEntry entryAnswer plus
     reportFrom reportOf
 not-whole = refl
 

@@ -27,7 +27,7 @@ use Rattle.plan.specs.Order.{order}
 use Rattle.plan.specs.Rows.{planRow, planAnswer}
 use Rattle.plan.specs.Examples.{p1}
 use Rattle.records.specs.Records.{recordsCost}
-use Rattle.fused.specs.Emission.{oneWire}
+use Rattle.fused.specs.Emission.{oneWire, joined}
 use Rattle.fused.specs.FusedCircuit.{written, fused, fusedFile}
 use Rattle.fused.specs.Answers.{fusedCounts, writeAnswer}
 
@@ -50,7 +50,7 @@ pub no-pick-file : fusedFile r1-equal p1 ≡
     ∷ []
 unfolding number kindOf workingOf operationOf codeOf readMark readCount readKinds readHeader readVariable readWord readBit operationWith exprWith readExpr readAssign branchWith
     statementWith blockWith blockFuel readBlock readRule applyGate makeExpr assignsIn assigns choices makeStatement makeBlock plainCircuit conditions collect numbers
-    preconditions preconditionSets restsOn rests groupsIn groups restsOf waitsFor order bytesOf spread tableOver table oneWire written fused fusedFile
+    preconditions preconditionSets restsOn rests groupsIn groups restsOf waitsFor order bytesOf spread tableOver table oneWire joined written fused fusedFile
 no-pick-file = refl
 
 -- a pick at neither place, at the first (R1 itself), at the second
@@ -58,7 +58,7 @@ pub picks-counted : map (λ s. writeAnswer s p1 114) (r1-equal ∷ r1 ∷ r1-fir
 unfolding number kindOf workingOf operationOf codeOf readMark readCount readKinds readHeader readVariable readWord readBit operationWith exprWith readExpr readAssign branchWith
     statementWith blockWith blockFuel readBlock readRule applyGate makeExpr assignsIn assigns choices makeStatement makeBlock plainCircuit conditions collect numbers
     preconditions preconditionSets costs wholeWithin ruleAnswer restsOn rests groupsIn groups restsOf waitsFor order planRow planAnswer bytesOf spread tableOver table
-    oneWire written fused fusedFile recordsCost fusedCounts writeAnswer
+    oneWire joined written fused fusedFile recordsCost fusedCounts writeAnswer
 picks-counted = refl
 
 -- "the same wire of the fused circuit": v1 := (v1 × v2) × v2 in both blocks, gates 3 and 4, 5 and 6. Gates 4 and 6 read the gates 3 and 5, which are one wire where these are joined
@@ -75,7 +75,7 @@ pub chain-counted : map (λ G. writeAnswer chained (planBytes 8 G) 124) (((3 ∷
 unfolding number kindOf workingOf operationOf codeOf readMark readCount readKinds readHeader readVariable readWord readBit operationWith exprWith readExpr readAssign branchWith
     statementWith blockWith blockFuel readBlock readRule applyGate makeExpr assignsIn assigns choices makeStatement makeBlock plainCircuit conditions collect numbers
     preconditions preconditionSets costs wholeWithin ruleAnswer restsOn rests groupsIn groups restsOf waitsFor order planRow planAnswer bytesOf spread tableOver table
-    oneWire written fused fusedFile recordsCost fusedCounts writeAnswer
+    oneWire joined written fused fusedFile recordsCost fusedCounts writeAnswer
 chain-counted = refl
 
 -- "Who waits for whom is judged as before". v3 := v0 × v1 and v4 := v0 × v1, working words, then if v0 < v1 then v2 := v3 else v2 := v4: the products 5 and 6 rest on the condition
@@ -102,7 +102,7 @@ pub late-file : fusedFile late (planBytes 9 ((5 ∷ 6 ∷ []) ∷ [])) ≡
     ∷ []
 unfolding number kindOf workingOf operationOf codeOf readMark readCount readKinds readHeader readVariable readWord readBit operationWith exprWith readExpr readAssign branchWith
     statementWith blockWith blockFuel readBlock readRule applyGate makeExpr assignsIn assigns choices makeStatement makeBlock plainCircuit conditions collect numbers
-    preconditions preconditionSets restsOn rests groupsIn groups restsOf waitsFor order bytesOf spread tableOver table oneWire written fused fusedFile
+    preconditions preconditionSets restsOn rests groupsIn groups restsOf waitsFor order bytesOf spread tableOver table oneWire joined written fused fusedFile
 late-file = refl
 
 -- and a circle through such a condition is 30: R2 (example 6) with v1 × v2 in its first block, so that the products 4 and 7 read one wire at each place

@@ -30,7 +30,7 @@ use Rattle.plan.specs.Groups.{groups, restsOf, waitsFor}
 use Rattle.plan.specs.Order.{order}
 use Rattle.plan.specs.Rows.{planRow, planAnswer}
 use Rattle.records.specs.Records.{recordsCost}
-use Rattle.fused.specs.Emission.{oneWire}
+use Rattle.fused.specs.Emission.{oneWire, joined}
 use Rattle.fused.specs.FusedCircuit.{written, fused, fusedFile}
 use Rattle.fused.specs.Answers.{fusedCounts, writeAnswer}
 use Rattle.direct.specs.Inputs.{inputRow}
@@ -69,7 +69,7 @@ pub plan-then : map (λ k. writeAnswer (scraps k) products 152) (0x00 ∷ 0x02 �
 unfolding number kindOf workingOf operationOf codeOf readMark readCount readKinds readHeader readVariable readWord readBit operationWith exprWith readExpr readAssign branchWith
     statementWith blockWith blockFuel readBlock readRule applyGate makeExpr assignsIn assigns choices makeStatement makeBlock plainCircuit conditions collect numbers
     preconditions preconditionSets costs wholeWithin ruleAnswer restsOn rests groupsIn groups restsOf waitsFor order planRow planAnswer bytesOf spread tableOver table
-    oneWire written fused fusedFile recordsCost fusedCounts writeAnswer
+    oneWire joined written fused fusedFile recordsCost fusedCounts writeAnswer
 plan-then = refl
 
 -- a direct run writes 0 for them

@@ -14,7 +14,7 @@ use Rattle.emitting.specs.Emitted.{wireIn, Grouped, Coded, Writable}
 use Rattle.joining.specs.Joined.{Joinable, JoinWritable}
 use Rattle.filing.specs.Staged.{stage, Turnable}
 
--- it can be measured
+-- group q, listed at the place at of the plan p, or alone where the place is 0, can be measured
 pub record Measurable (quads p group : List ℕ) (at q : ℕ) : Type 0 where
   pub alone : at ≡ 0 → Coded quads q
   pub joins : (at ≡ 0 → ⊥) → Joinable quads p group at

@@ -61,7 +61,7 @@ argumentWires n (values ∷ places) = cond (oneWire values) (getD values 0 0 ∷
 
 -- a joined group, from its members' guards and, for each argument place, its members' wires at that place: n is the first record's wire.
 -- The one place that says which guards and picks there are and what the operation reads.
-abbrev pub joined : ℕ → Operation → List Record → List (List ℕ) → List Record
+unfoldable pub joined : ℕ → Operation → List Record → List (List ℕ) → List Record
 joined n op guards places =
     let kept = guarded (picked places) guards in
     kept ++ (map (λ values. pick (pairs n values)) (picked places) ++ (operation op (argumentWires (n + length kept) places) ∷ []))

@@ -8,7 +8,9 @@ use lib.ListN.{length, getD, length-map}
 use Rattle.words.specs.Lists.{_∈_, upto}
 use Rattle.words.specs.MemberLaws.{from-below, map-in, getD-in}
 use Rattle.codes.specs.declared.Operation.{Operation}
-use Rattle.records.specs.Records.{Record, pairWires, reads}
+use Rattle.records.specs.Records.{Record, input, word, bit, operation, choice, pairWires, reads}
+use Rattle.codes.specs.declared.Kind.{Kind}
+use Rattle.reading.specs.Header.{kindAt}
 use Rattle.records.specs.RecordLaws.{ReadsBefore, Below, along-map}
 use Rattle.gates.specs.Gates.{Gate, Gates, gateAt, arguments}
 use Rattle.gates.specs.Gates as gate
@@ -23,6 +25,15 @@ alone-reads s wire (gate.word n) = refl
 alone-reads s wire (gate.bit b) = refl
 alone-reads s wire (gate.operation op l) = refl
 alone-reads s wire (gate.choice c a b) = refl
+
+-- what holds of every record but picks and guards holds of a gate alone
+pub alone-any : (P : Record → Type 0) → ((k : Kind) (x : ℕ) → P (input k x)) → ((n : ℕ) → P (word n)) → ((b : ℕ) → P (bit b))
+    → ((op : Operation) (l : List ℕ) → P (operation op l)) → ((c a b : ℕ) → P (choice c a b)) → (s : List ℕ) (wire : ℕ → ℕ) (k : Gate) → P (alone s wire k)
+alone-any P i w b o c s wire (gate.start x) = i (kindAt s x) x
+alone-any P i w b o c s wire (gate.word n) = w n
+alone-any P i w b o c s wire (gate.bit x) = b x
+alone-any P i w b o c s wire (gate.operation op l) = o op (map wire l)
+alone-any P i w b o c s wire (gate.choice x y z) = c (wire x) (wire y) (wire z)
 
 mapped-below : (wire : ℕ → ℕ) (n : ℕ) (l : List ℕ) → ((a : ℕ) → a ∈ l → wire a < n) → (w : ℕ) → w ∈ map wire l → w < n
 mapped-below wire n l h w m = let r = map-in wire w l m in rw (r .2) (h (r .0) (r .1))

@@ -24,7 +24,7 @@ use Rattle.plan.specs.Order.{order}
 use Rattle.plan.specs.Rows.{planRow, planAnswer}
 use Rattle.settings.specs.Guards.{spread, tableOver, table}
 use Rattle.plan.specs.Examples.{p1}
-use Rattle.fused.specs.Emission.{oneWire}
+use Rattle.fused.specs.Emission.{oneWire, joined}
 use Rattle.fused.specs.FusedCircuit.{written, fused, fusedFile}
 use Rattle.records.specs.Records.{recordsCost}
 use Rattle.records.specs.Examples.{file3}
@@ -34,7 +34,7 @@ use Rattle.fused.specs.Answers.{fusedCounts, writeAnswer}
 pub example-3 : fusedFile r1 p1 ≡ file3
 unfolding number kindOf workingOf operationOf codeOf readMark readCount readKinds readHeader readVariable readWord readBit operationWith exprWith readExpr readAssign branchWith
     statementWith blockWith blockFuel readBlock readRule applyGate makeExpr assignsIn assigns choices makeStatement makeBlock plainCircuit conditions collect numbers
-    preconditions preconditionSets restsOn rests groupsIn groups restsOf waitsFor order bytesOf spread tableOver table oneWire written fused fusedFile
+    preconditions preconditionSets restsOn rests groupsIn groups restsOf waitsFor order bytesOf spread tableOver table oneWire joined written fused fusedFile
 example-3 = refl
 
 -- its counts: 6 gates, 8 wires, 114 bytes, cost 33 before and 24 after; a buffer of 113: 50
@@ -42,14 +42,14 @@ pub example-3-answer : writeAnswer r1 p1 114 ≡ success 6 8 114 33 24
 unfolding number kindOf workingOf operationOf codeOf readMark readCount readKinds readHeader readVariable readWord readBit operationWith exprWith readExpr readAssign branchWith
     statementWith blockWith blockFuel readBlock readRule applyGate makeExpr assignsIn assigns choices makeStatement makeBlock plainCircuit conditions collect numbers
     preconditions preconditionSets costs wholeWithin ruleAnswer restsOn rests groupsIn groups restsOf waitsFor order planRow planAnswer bytesOf spread tableOver table
-    oneWire written fused fusedFile recordsCost fusedCounts writeAnswer
+    oneWire joined written fused fusedFile recordsCost fusedCounts writeAnswer
 example-3-answer = refl
 
 pub example-3-short : writeAnswer r1 p1 113 ≡ refusal 50 0
 unfolding number kindOf workingOf operationOf codeOf readMark readCount readKinds readHeader readVariable readWord readBit operationWith exprWith readExpr readAssign branchWith
     statementWith blockWith blockFuel readBlock readRule applyGate makeExpr assignsIn assigns choices makeStatement makeBlock plainCircuit conditions collect numbers
     preconditions preconditionSets costs wholeWithin ruleAnswer restsOn rests groupsIn groups restsOf waitsFor order planRow planAnswer bytesOf spread tableOver table
-    oneWire written fused fusedFile recordsCost fusedCounts writeAnswer
+    oneWire joined written fused fusedFile recordsCost fusedCounts writeAnswer
 example-3-short = refl
 
 -- Document 02, C-13: a word, a working word and a working bit: v1 := v0 + v0, then v0 := v1 × v1
@@ -74,5 +74,5 @@ pub example-working : fusedFile working-rule working-plan ≡
     ∷ []
 unfolding number kindOf workingOf operationOf codeOf readMark readCount readKinds readHeader readVariable readWord readBit operationWith exprWith readExpr readAssign branchWith
     statementWith blockWith blockFuel readBlock readRule applyGate makeExpr assignsIn assigns choices makeStatement makeBlock plainCircuit conditions collect numbers
-    preconditions preconditionSets restsOn rests groupsIn groups restsOf waitsFor order bytesOf spread tableOver table oneWire written fused fusedFile
+    preconditions preconditionSets restsOn rests groupsIn groups restsOf waitsFor order bytesOf spread tableOver table oneWire joined written fused fusedFile
 example-working = refl

@@ -18,8 +18,9 @@ use Rattle.needed.specs.Pass.{rulePreconditions}
 use Rattle.plan.specs.PlanFile.{groupsIn, EachGroup}
 use Rattle.plan.specs.Groups.{groupOf, members}
 use Rattle.plan.specs.Order.{order}
-use Rattle.fused.specs.Emission.{alone, gateOperation, pairs, picked, guarded, guardOf, valuesAt, emit}
+use Rattle.fused.specs.Emission.{alone, gateOperation, pairs, picked, guarded, joined, guardOf, valuesAt, emit}
 use Rattle.fused.specs.FusedCircuit.{groupRecords, written, fused, recordsOf}
+use Rattle.fused.specs.EmitLaws.{alone-any}
 use Rattle.fused.specs.JoinedParts.{pickOf, operationReads}
 use Rattle.fused.specs.SizeJoined.{picked-each, values-each}
 use Rattle.fused.specs.KindedLaws.{pairs-guards}
@@ -35,13 +36,6 @@ ReadIn R i (operation op l) = Unit {0}
 ReadIn R i (choice c a b) = Unit {0}
 ReadIn R i (pick l) = Unit {0}
 ReadIn R i (guard cs t) = (j : ℕ) × (l : List Pair) × (recordIn R j ≡ pick l) × (i ∈ guardsOf l)
-
-alone-read : (R : List Record) (i : ℕ) (s : List ℕ) (wire : ℕ → ℕ) (k : Gate) → ReadIn R i (alone s wire k)
-alone-read R i s wire (gate.start x) = tt
-alone-read R i s wire (gate.word n) = tt
-alone-read R i s wire (gate.bit b) = tt
-alone-read R i s wire (gate.operation op l) = tt
-alone-read R i s wire (gate.choice c a b) = tt
 
 picks-read : (R : List Record) (n : ℕ) (picks : List (List ℕ)) (op : Operation) (l : List ℕ) (at : ℕ)
     → Along (ReadIn R) at (map (pickOf n) picks ++ (operation op l ∷ []))
@@ -73,8 +67,9 @@ module _ (s : List ℕ) (C : Gates) (sets : List ℕ) (wire : ℕ → ℕ) where
 
   emit-read : (R before after : List Record) (ms : List ℕ) → R ≡ before ++ (emit s C sets wire (length before) ms ++ after)
       → Along (ReadIn R) (length before) (emit s C sets wire (length before) ms)
+  unfolding joined
   emit-read R before after [] e = tt
-  emit-read R before after (m ∷ []) e = (alone-read R (length before) s wire (gateAt C m), tt)
+  emit-read R before after (m ∷ []) e = (alone-any (ReadIn R (length before)) (λ k x. tt) (λ n. tt) (λ b. tt) (λ op l. tt) (λ c a b. tt) s wire (gateAt C m), tt)
   emit-read R before after (m ∷ k ∷ l) e =
       let places : List (List ℕ) = map (valuesAt s C sets wire (m ∷ k ∷ l)) (upto (length (arguments (gateAt C m)))) in
       joined-read R before after (gateOperation (gateAt C m)) (m ∷ k ∷ l) (picked places)

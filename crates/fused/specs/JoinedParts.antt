@@ -88,6 +88,7 @@ module _ (n : ℕ) (guards : List Record) (places : List (List ℕ)) where
 -- how many records it has
 pub joined-count : (n : ℕ) (op : Operation) (guards : List Record) (places : List (List ℕ))
     → length (joined n op guards places) ≡ length (guarded (picked places) guards) + length (picked places) + 1
+unfolding joined
 joined-count n op guards places =
     rw (length-append (guarded (picked places) guards) _, length-append (map (pickOf n) (picked places)) _, length-map (picked places) (pickOf n)) (omega arith)
 
@@ -96,6 +97,7 @@ pub joined-along : (P : ℕ → Record → Type 0) (n : ℕ) (op : Operation) (g
     → ((i : ℕ) → i ∈ ks → oneWire (F i) ≡ false → (j : ℕ) → n + length guards ≤ j → P j (pickOf n (F i)))
     → P (operationWire n guards (map F ks)) (operation op (operationReads n guards (map F ks)))
     → Along P n (joined n op guards (map F ks))
+unfolding joined
 joined-along P n op guards F ks g h o =
     along-append P (guarded (picked (map F ks)) guards) _ n (some (picked (map F ks)))
     (along-append P (map (pickOf n) (picked (map F ks))) _ (behindGuards n guards (map F ks)) (behind (picked (map F ks)) (picks-along P n F ks (n + length guards) h))
@@ -123,13 +125,16 @@ module _ (P : ℕ → Record → Type 0) (n : ℕ) (op : Operation) (guards : Li
 
   -- along all guards where a place has a pick
   pub joined-guards : (i : ℕ) → i ∈ ks → oneWire (F i) ≡ false → Along P n guards
+  unfolding joined
   joined-guards i m f = rw (guards-kept F guards ks i m f) at (along-left P kept (picks ++ last) n h)
 
   pub joined-picks : Along P (behindGuards n guards (map F ks)) (map (pickOf n) (picked (map F ks)))
+  unfolding joined
   joined-picks = along-left P picks last (n + length kept) (along-right P kept (picks ++ last) n h)
 
   -- its last wire is the operation's
   pub joined-last : P (n + length (joined n op guards (map F ks)) - 1) (operation op (operationReads n guards (map F ks)))
+  unfolding joined
   joined-last =
       let e : n + length (joined n op guards (map F ks)) - 1 ≡ n + length kept + length picks =
       rw (joined-count n op guards (map F ks), length-map (picked (map F ks)) (pickOf n)) (omega arith) in

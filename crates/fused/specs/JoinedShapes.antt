@@ -23,7 +23,7 @@ use Rattle.plan.specs.Rows.{planAnswer}
 use Rattle.fused.specs.Emission.{alone, gateOperation, pairs, oneWire, joined, guardOf, valuesAt, emit}
 use Rattle.fused.specs.FusedCircuit.{recordsOf, wireOf}
 use Rattle.fused.specs.JoinedParts.{joined-along}
-use Rattle.fused.specs.EmitLaws.{emit-two}
+use Rattle.fused.specs.EmitLaws.{alone-any, emit-two}
 use Rattle.fused.specs.KindedLaws.{pairs-values}
 use Rattle.fused.specs.BoundLaws.{fused-along}
 use Rattle.fused.specs.PlannedLaws.{planned-joined, planned-two}
@@ -34,17 +34,21 @@ use Rattle.fused.specs.GroupStands.{stands-as, group-stands}
 module _ (n : ℕ) (op : Operation) (guards : List Record) (a b : List ℕ) where
   pub both-picked : oneWire a ≡ false → oneWire b ≡ false
       → joined n op guards (a ∷ b ∷ []) ≡ guards ++ (pick (pairs n a) ∷ pick (pairs n b) ∷ operation op ((n + length guards) ∷ suc (n + length guards) ∷ []) ∷ [])
+  unfolding joined
   both-picked x y = rw (x, y)
 
   pub first-picked : oneWire a ≡ false → oneWire b ≡ true
       → joined n op guards (a ∷ b ∷ []) ≡ guards ++ (pick (pairs n a) ∷ operation op ((n + length guards) ∷ getD b 0 0 ∷ []) ∷ [])
+  unfolding joined
   first-picked x y = rw (x, y)
 
   pub second-picked : oneWire a ≡ true → oneWire b ≡ false
       → joined n op guards (a ∷ b ∷ []) ≡ guards ++ (pick (pairs n b) ∷ operation op (getD a 0 0 ∷ (n + length guards) ∷ []) ∷ [])
+  unfolding joined
   second-picked x y = rw (x, y)
 
   pub none-picked : oneWire a ≡ true → oneWire b ≡ true → joined n op guards (a ∷ b ∷ []) ≡ operation op (getD a 0 0 ∷ getD b 0 0 ∷ []) ∷ []
+  unfolding joined
   none-picked x y = rw (x, y)
 
 -- Every group of two or more of an accepted plan is a joined group; wires are those of the whole circuit.
@@ -86,16 +90,9 @@ Differs (choice c a b) = Unit {0}
 Differs (pick l) = oneWire (valuesOf l) ≡ false
 Differs (guard cs t) = Unit {0}
 
-alone-differs : (s : List ℕ) (wire : ℕ → ℕ) (k : Gate) → Differs (alone s wire k)
-alone-differs s wire (gate.start x) = tt
-alone-differs s wire (gate.word n) = tt
-alone-differs s wire (gate.bit b) = tt
-alone-differs s wire (gate.operation op l) = tt
-alone-differs s wire (gate.choice c a b) = tt
-
 emit-differs : (s : List ℕ) (C : Gates) (sets : List ℕ) (wire : ℕ → ℕ) (n : ℕ) (ms : List ℕ) → Along (λ i. Differs) n (emit s C sets wire n ms)
 emit-differs s C sets wire n [] = tt
-emit-differs s C sets wire n (m ∷ []) = (alone-differs s wire (gateAt C m), tt)
+emit-differs s C sets wire n (m ∷ []) = (alone-any Differs (λ k x. tt) (λ n. tt) (λ b. tt) (λ op l. tt) (λ c a b. tt) s wire (gateAt C m), tt)
 emit-differs s C sets wire n (m ∷ k ∷ l) =
     joined-along (λ i. Differs) n (gateOperation (gateAt C m)) (map (guardOf s C sets wire) (m ∷ k ∷ l)) (valuesAt s C sets wire (m ∷ k ∷ l))
     (upto (length (arguments (gateAt C m))))

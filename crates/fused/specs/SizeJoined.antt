@@ -13,7 +13,7 @@ use Rattle.codes.specs.declared.Operation.{Operation}
 use Rattle.records.specs.Versions.{writtenVersion, tableBytes}
 use Rattle.records.specs.Records.{Record, operation, pick, recordsCost}
 use Rattle.records.specs.CircuitFile.{recordBytes, recordsBytes}
-use Rattle.records.specs.SizeLaws.{operation-size, pick-size, guard-size, size-append, size-one, cost-none, cost-more, cost-append, cost-one}
+use Rattle.records.specs.SizeLaws.{operation-size, pick-size, guard-size, size-append, size-one, cost-none, cost-more, cost-append, cost-one, cost-ones}
 use Rattle.gates.specs.Gates.{Gates}
 use Rattle.plan.specs.PlanFile.{EachGroup}
 use Rattle.plan.specs.Groups.{restsOf}
@@ -73,6 +73,7 @@ module _ (n : ℕ) (op : Operation) (guards : List Record) (places : List (List 
   module _ (k : ℕ) (each : EachGroup (λ values. length values ≡ k) places) where
     pub joined-size : length (recordsBytes writtenVersion (joined n op guards places)) ≡ length (recordsBytes writtenVersion (guarded (picked places) guards))
         + length (picked places) * (2 + 4 * k) + (1 + 2 * length places)
+    unfolding joined
     joined-size =
         rw (
           size-append writtenVersion kept (picks n (picked places) ++ (last ∷ [])),
@@ -85,6 +86,7 @@ module _ (n : ℕ) (op : Operation) (guards : List Record) (places : List (List 
         (omega arith)
 
     pub joined-cost : recordsCost (joined n op guards places) ≡ recordsCost (guarded (picked places) guards) + length (picked places) * (2 * k) + entryOf op .cost
+    unfolding joined
     joined-cost =
         rw (
           cost-append kept (picks n (picked places) ++ (last ∷ [])),
@@ -119,8 +121,7 @@ module _ (s : List ℕ) (C : Gates) (sets : List ℕ) (wire : ℕ → ℕ) where
 
   -- a guard costs 1
   pub guards-cost : (ms : List ℕ) → recordsCost (map (guardOf s C sets wire) ms) ≡ length ms
-  guards-cost [] = cost-none
-  guards-cost (m ∷ ms) = cost-more (guardOf s C sets wire m) (map (guardOf s C sets wire) ms) ∙ rw (guards-cost ms) (omega arith)
+  guards-cost = cost-ones (guardOf s C sets wire) (λ m. refl)
 
   -- at each place as many wires as members
   pub values-each : (ms l : List ℕ) → EachGroup (λ values. length values ≡ length ms) (map (valuesAt s C sets wire ms) l)

@@ -24,6 +24,7 @@ use Rattle.needed.specs.PassLaws.{needed-sound}
 use Rattle.plan.specs.Groups.{members}
 use Rattle.fused.specs.Emission.{alone, gateOperation, pairs, oneWire, guardOf, valuesAt, emit}
 use Rattle.fused.specs.FusedCircuit.{Written, groupRecords, written}
+use Rattle.fused.specs.EmitLaws.{alone-any}
 use Rattle.fused.specs.JoinedParts.{joined-along, joined-guards}
 use Rattle.fused.specs.PickLaws.{is-bit, Guarding, guards-hold}
 use Rattle.fused.specs.JoinedLaws.{Joined, members-once, joined-one}
@@ -51,13 +52,6 @@ module _ (W : ℕ → ℕ) where
         let u : isOne (W n) ≡ false = ap isOne e ∙ is-bit (on m) ∙ t in
         rw (u, zero-add) (guards-one ms (suc n) g o (λ i k x y. h i k (inr x) (inr y))))
 
-  alone-one : (s : List ℕ) (wire : ℕ → ℕ) (i : ℕ) (k : Gate) → OneGuard W i (alone s wire k)
-  alone-one s wire i (gate.start x) = tt
-  alone-one s wire i (gate.word n) = tt
-  alone-one s wire i (gate.bit b) = tt
-  alone-one s wire i (gate.operation op l) = tt
-  alone-one s wire i (gate.choice c a b) = tt
-
   module _ (s : List ℕ) (C : Gates) (wanted : List ℕ) (earlier : Earlier C) (inside : (g : ℕ) → g ∈ wanted → g < length C) (few : length (conditions C) ≤ mostConditions)
       (group : ℕ → ℕ) (joins : Joined C wanted group) where
     abbrev sets : List ℕ
@@ -72,7 +66,7 @@ module _ (W : ℕ → ℕ) where
 
         go : (ms : List ℕ) → members (length C) group p ≡ ms → Along (GivesGuard W) n (emit s C sets wire n ms) → Along (OneGuard W) n (emit s C sets wire n ms)
         go [] e h = tt
-        go (a ∷ []) e h = (alone-one s wire n (gateAt C a), tt)
+        go (a ∷ []) e h = (alone-any (OneGuard W n) (λ k x. tt) (λ n. tt) (λ b. tt) (λ op l. tt) (λ c a b. tt) s wire (gateAt C a), tt)
         go (a ∷ j ∷ l) e h =
             joined-along (OneGuard W) n op guards (valuesAt s C sets wire ms) ks (along-map (OneGuard W) (guardOf s C sets wire) ms n n (omega arith) (λ i m k b. tt))
             (λ i m f k b. guards-one on (λ q. wire (getD (arguments (gateAt C q)) i 0)) ms n (held i m f) (rw e at (members-once (length C) group p))

@@ -34,6 +34,7 @@ use Rattle.records.specs.FormatLaws.{well-row}
 use Rattle.fused.specs.Emission.{alone, gateOperation, guardOf, valuesAt, emit}
 use Rattle.fused.specs.FusedCircuit.{recordsOf, outputWire, outputWires, fusedFile}
 use Rattle.fused.specs.OutputLaws.{outputs-length, output-at, working-wire}
+use Rattle.fused.specs.EmitLaws.{alone-any}
 use Rattle.fused.specs.JoinedParts.{joined-along}
 use Rattle.fused.specs.BoundLaws.{fused-along, fused-bounded}
 use Rattle.fused.specs.FitLaws.{table-below}
@@ -44,12 +45,6 @@ use Rattle.fused.specs.InputLaws.{input-first, input-last}
 use Rattle.fused.specs.FusedFigures.{reads-earlier, result-earlier, output-earlier}
 
 -- only a guard has a table
-alone-table : (s : List ℕ) (wire : ℕ → ℕ) (k : Gate) → TableFits (alone s wire k)
-alone-table s wire (gate.start x) = tt
-alone-table s wire (gate.word n) = tt
-alone-table s wire (gate.bit b) = tt
-alone-table s wire (gate.operation op l) = tt
-alone-table s wire (gate.choice c a b) = tt
 
 module _ (s : List ℕ) (C : Gates) (sets : List ℕ) (wire : ℕ → ℕ) where
   -- that of a member is over the conditions whose wires the guard reads
@@ -58,7 +53,7 @@ module _ (s : List ℕ) (C : Gates) (sets : List ℕ) (wire : ℕ → ℕ) where
 
   emit-tables : (n : ℕ) (ms : List ℕ) → Along (λ i. TableFits) n (emit s C sets wire n ms)
   emit-tables n [] = tt
-  emit-tables n (m ∷ []) = (alone-table s wire (gateAt C m), tt)
+  emit-tables n (m ∷ []) = (alone-any TableFits (λ k x. tt) (λ n. tt) (λ b. tt) (λ op l. tt) (λ c a b. tt) s wire (gateAt C m), tt)
   emit-tables n (m ∷ k ∷ l) =
       joined-along (λ i. TableFits) n (gateOperation (gateAt C m)) (map (guardOf s C sets wire) (m ∷ k ∷ l)) (valuesAt s C sets wire (m ∷ k ∷ l))
       (upto (length (arguments (gateAt C m))))

@@ -26,6 +26,7 @@ use Rattle.records.specs.Records.{Record, pick}
 use Rattle.records.specs.Records as records
 use Rattle.fused.specs.Emission as emission
 use Rattle.fused.specs.EmitLaws.{emit-two}
+use Rattle.fused.specs.JoinedShapes.{both-picked, first-picked, second-picked, none-picked}
 use Rattle.joining.specs.Joined.{emitIn, guardIn, guardsIn, argumentAt, valuesIn}
 use Rattle.joining.specs.Decisions.{Decided, joinedIn}
 use Rattle.joining.specs.declared.Picks.{Picks}
@@ -74,8 +75,13 @@ joined-decided : (n : ℕ) (op : Operation) (guards : List Record) (size : ℕ) 
     ++ ((cond p (pick (emission.pairs n a) ∷ []) [] ++ cond q (pick (emission.pairs n b) ∷ []) [])
     ++ (records.operation op (cond p (n + size) (getD a 0 0) ∷ cond q (n + size + cond p 1 0) (getD b 0 0) ∷ []) ∷ []))
 joined-decided n op guards size e a b p q ep eq =
-    split (emission.oneWire a) (λ x. split (emission.oneWire b) (λ y. rw (ep, eq, x, y)) (λ y. rw (ep, eq, x, y, e, add-zero (n + size))))
-    (λ x. split (emission.oneWire b) (λ y. rw (ep, eq, x, y, e)) (λ y. rw (ep, eq, x, y, e, add-one (n + size))))
+    split (emission.oneWire a)
+    (λ x. split (emission.oneWire b)
+    (λ y. none-picked n op guards a b x y ∙ rw (ep, eq, x, y))
+    (λ y. second-picked n op guards a b x y ∙ rw (ep, eq, x, y, e, add-zero (n + size))))
+    (λ x. split (emission.oneWire b)
+    (λ y. first-picked n op guards a b x y ∙ rw (ep, eq, x, y, e))
+    (λ y. both-picked n op guards a b x y ∙ rw (ep, eq, x, y, e, add-one (n + size))))
 
 -- The records of a joined group.
 

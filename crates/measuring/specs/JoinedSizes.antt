@@ -19,7 +19,7 @@ use Rattle.plan.specs.NumberLaws.{length-group, member-in}
 use Rattle.records.specs.Versions.{writtenVersion, tableBytes}
 use Rattle.records.specs.Records.{Record, pick, recordsCost}
 use Rattle.records.specs.CircuitFile.{recordBytes, recordsBytes}
-use Rattle.records.specs.SizeLaws.{size-append, cost-none, cost-more, cost-one, cost-append}
+use Rattle.records.specs.SizeLaws.{size-append, cost-none, cost-one, cost-append, cost-ones}
 use Rattle.joining.specs.Joined.{emitIn, guardIn, guardsIn, pairsIn, Joinable}
 use Rattle.joining.specs.Decisions.{Decided, hasPick, countIn, keptIn, placeIn, picksIn, operationIn, fusedIn, joinedIn}
 use Rattle.joining.specs.GuardLaws.{guard-size}
@@ -41,10 +41,6 @@ guards-long conds wire sets (m ∷ ms) =
     let z : length (recordBytes writtenVersion (guardIn conds wire (getD sets m 0))) + length (recordsBytes writtenVersion (guardsIn conds wire sets ms)) ≡ (2 + tableBytes writtenVersion) * suc (length ms) + 2 *
     (length (rests mostConditions (getD sets m 0)) + restedBy sets ms) = omega (arith, a, b) in
     z)
-
-guards-cost : (conds : List ℕ) (wire : ℕ → ℕ) (sets ms : List ℕ) → recordsCost (guardsIn conds wire sets ms) ≡ length ms
-guards-cost conds wire sets [] = cost-none
-guards-cost conds wire sets (m ∷ ms) = rw cost-more (omega (arith, guards-cost conds wire sets ms))
 
 -- The decision made: what the guards and each of the two places come to, and the whole group.
 
@@ -87,7 +83,7 @@ module _ (quads sets conds : List ℕ) (wire : ℕ → ℕ) (n : ℕ) (p : List 
         cost-append (picksIn quads wire n (groupAt p at) picks) (operationIn quads wire n (groupAt p at) picks ∷ []),
         cost-append (placeIn quads wire n 0 (groupAt p at) (picks .first)) (placeIn quads wire n 1 (groupAt p at) (picks .second)),
         cond-map recordsCost (hasPick picks) (guardsIn conds wire sets (groupAt p at)) []
-            ∙ ap₂ (λ (x y : ℕ). cond (hasPick picks) x y) (guards-cost conds wire sets (groupAt p at) ∙ length-group p at) cost-none,
+            ∙ ap₂ (λ (x y : ℕ). cond (hasPick picks) x y) (cost-ones (λ m. guardIn conds wire (getD sets m 0)) (λ m. refl) (groupAt p at) ∙ length-group p at) cost-none,
         place-cost 0 (picks .first),
         place-cost 1 (picks .second),
         cost-one (operationIn quads wire n (groupAt p at) picks),

@@ -1,6 +1,6 @@
 -- Laws for document 01, "The fused circuit file": the bytes of each form of record, and bytes and costs of records one after another. Assumes nothing.
 use mathlib.Core.Path.{_≡_, refl, sym, ap, _∙_}
-use mathlib.Core.List.{List, [], _∷_, _++_, append-assoc, append-nil}
+use mathlib.Core.List.{List, [], _∷_, _++_, map, append-assoc, append-nil}
 use Prim.Native.Nat.{ℕ, suc, _+_, _*_, _<_}
 use native.Mathlib.Numerals.{add-one}
 use native.Mathlib.Omega.{arith}
@@ -80,6 +80,11 @@ size-one ver r = rw length-append (omega arith)
 
 pub cost-one : (r : Record) → recordsCost (r ∷ []) ≡ recordCost r
 cost-one r = omega (arith, cost-more r [], cost-none)
+
+-- records made from a list that cost 1 each, as guards do
+pub cost-ones : (F : ℕ → Record) → ((m : ℕ) → recordCost (F m) ≡ 1) → (ms : List ℕ) → recordsCost (map F ms) ≡ length ms
+cost-ones F one [] = cost-none
+cost-ones F one (m ∷ ms) = omega (arith, cost-more (F m) (map F ms), one m, cost-ones F one ms)
 
 -- a file: 8 bytes, its records, two bytes an output
 pub file-size : (ver : Version) (v : ℕ) (R : List Record) (outputs : List ℕ) → length (fileBytes ver v R outputs) ≡ 8 + length (recordsBytes ver R) + 2 * length outputs
