@@ -5,7 +5,7 @@ use native.Mathlib.Omega.{arith}
 use mathlib.Core.Path.{_≡_, refl, sym, ap}
 use mathlib.Core.List.{List, [], _∷_}
 use mathlib.Core.Bool.{Bool, true, false, _&&_, _||_, false≢true, cond}
-use mathlib.Core.Logic.{_⊎_, inl, inr}
+use mathlib.Core.Logic.{_⊎_, inl, inr, _↔_}
 use lib.ListN.{length, getD}
 use lib.Dec.{eqb, ltb, leb}
 use borrow.Author.Tests.{eq-eqb, ne-eqb, le-ltb, lt-ltb, le-leb, lt-leb, eqb-true, leb-true, ltb-false}
@@ -77,6 +77,26 @@ unfolding someAbove
 none-above kinds inputs [] x m h = absurd m
 none-above kinds inputs (y ∷ l) x (inl e) h = rw e (or-none (aboveBit kinds inputs y) (someAbove kinds inputs l) h .0)
 none-above kinds inputs (y ∷ l) x (inr m) h = none-above kinds inputs l x m (or-none (aboveBit kinds inputs y) (someAbove kinds inputs l) h .1)
+
+-- 41: no bit variable's input is above 1
+pub above-right : (v : ℕ) (kinds : ℕ → Kind) (inputs : List ℕ)
+    → (someAbove kinds inputs (upto v) ≡ false) ↔ ((x : ℕ) → x < v → kinds x ≡ kind.Bit → getD inputs x 0 ≤ 1)
+unfolding someAbove
+above-right v kinds inputs = (
+  λ h x l k. low (kinds x) (getD inputs x 0) k (none-above kinds inputs (upto v) x (from-in 0 v x (omega arith) (omega arith)) h),
+  λ h. none (upto v) (λ x m. high (kinds x) (getD inputs x 0) (h x (omega (arith, from-below 0 v x m)))),
+)
+  where
+    low : (k : Kind) (n : ℕ) → k ≡ kind.Bit → (ltb 1 n && sameKind k kind.Bit) ≡ false → n ≤ 1
+    low k n e h = split (ltb 1 n) (λ t. let z : true ≡ false = rw (t, e) at h in absurd (false≢true (sym z))) (λ t. ltb-false 1 n t)
+
+    high : (k : Kind) (n : ℕ) → (k ≡ kind.Bit → n ≤ 1) → (ltb 1 n && sameKind k kind.Bit) ≡ false
+    high kind.Word n h = split (ltb 1 n) (λ t. rw t) (λ t. rw t)
+    high kind.Bit n h = rw (le-ltb 1 n (h refl))
+
+    none : (l : List ℕ) → ((x : ℕ) → x ∈ l → aboveBit kinds inputs x ≡ false) → someAbove kinds inputs l ≡ false
+    none [] h = refl
+    none (x ∷ l) h = rw (h x (inl refl), none l (λ y m. h y (inr m)))
 
 fits-kind : (k : Kind) (n : ℕ) → n < 4294967296 → (ltb 1 n && sameKind k kind.Bit) ≡ false → Fits k n
 fits-kind kind.Word n w h = w

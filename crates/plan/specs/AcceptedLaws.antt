@@ -27,7 +27,7 @@ use Rattle.circuit.specs.Whole.{ruleAnswer}
 use Rattle.circuit.specs.WholeLaws.{accepted}
 use Rattle.plan.specs.PlanFile.{mark, leastBytes, mostBytes, groupsCounted, groupsIn, Plan, EachGroup, Rising, Apart}
 use Rattle.plan.specs.Groups.{smallest, groupOf}
-use Rattle.plan.specs.Rows.{everyGroup, rises, groupsRise, Row, layoutRows, joinRows, orderRows, rows, planRow, planAnswer}
+use Rattle.plan.specs.Rows.{everyGroup, rises, groupsRise, Row, layoutRows, joinRows, orderRows, rows, firstFailing, planRow, planAnswer}
 use Rattle.plan.specs.Accepted.{LaidOut, Exist, GroupsRise, Acceptable}
 use Rattle.plan.specs.FailingLaws.{Hold, none-fails, hold-both, fails-at}
 use Rattle.plan.specs.GroupLaws.{groupOf-named}
@@ -125,6 +125,11 @@ row-right s p h =
       λ e. holds-to s (r .0) (r .1) (r .2) (a .conds) p (none-fails (rows s p) refl .0 e),
       λ x. none-fails (rows s p) refl .1 (holds-back s (r .0) (r .1) (r .2) (a .conds) p x),
     )
+
+-- the row that refuses a plan is the first failing one
+pub row-first : (s p : List ℕ) → planRow s p ≡ firstFailing (rows s p)
+unfolding planRow
+row-first s p = refl
 
 -- row 32 is the one exactly when the rows 20 to 26 hold and the groups are out of order
 row-32 : (s p : List ℕ) → (planRow s p ≡ 32) ↔ (Hold (layoutRows (gateCount s) p) × (groupsRise (groupsIn p) ≡ false))

@@ -22,7 +22,7 @@ use Rattle.plan.specs.Rows.{everyGroup, isCostly, operationByte, alike, 
 use Rattle.plan.specs.Accepted.{OneCostly, NoTwoNeeded}
 
 -- a costly gate is a costly operation
-costly-gate : (k : Gate) → isCostly k ≡ true → (op : Operation) × (costly op ≡ true) × (l : List ℕ) × (k ≡ operation op l)
+pub costly-gate : (k : Gate) → isCostly k ≡ true → (op : Operation) × (costly op ≡ true) × (l : List ℕ) × (k ≡ operation op l)
 costly-gate (start x) h = absurd (false≢true h)
 costly-gate (word n) h = absurd (false≢true h)
 costly-gate (bit b) h = absurd (false≢true h)

@@ -56,6 +56,19 @@ pub passed-row : (f : List ℕ) → Passed f → circuitRow f ≡ 0
 unfolding circuitRow
 passed-row f p = rw (headed-right f .1 (p .head), laid-right f (p .head) .1 (p .layout), standing-right f .1 (p .stand))
 
+-- the row by its three tests, in their order
+pub row-60 : (f : List ℕ) → headed f ≡ false → circuitRow f ≡ 60
+unfolding circuitRow
+row-60 f a = rw a
+
+pub row-61 : (f : List ℕ) → headed f ≡ true → laid f ≡ false → circuitRow f ≡ 61
+unfolding circuitRow
+row-61 f a b = rw (a, b)
+
+pub row-62 : (f : List ℕ) → headed f ≡ true → laid f ≡ true → standing f ≡ false → circuitRow f ≡ 62
+unfolding circuitRow
+row-62 f a b c = rw (a, b, c)
+
 -- the file of a well-formed circuit passes
 pub well-row : (ver : Version) (v : ℕ) (R : List Record) (outputs : List ℕ) → WellFormed ver v R outputs → circuitRow (fileBytes ver v R outputs) ≡ 0
 well-row ver v R outputs w =

@@ -3,7 +3,7 @@ use Prim.Native.Nat.{ℕ, zero, suc, _+_, _*_, _^_, _≤_, _<_}
 use mathlib.Core.Path.{_≡_, refl, sym, ap, _∙_}
 use mathlib.Core.List.{List, [], _∷_}
 use mathlib.Core.Bool.{true, _&&_}
-use mathlib.Core.Logic.{_↔_, ⊎-elim}
+use mathlib.Core.Logic.{_⊎_, inl, inr, _↔_, ⊎-elim}
 use native.Mathlib.Omega.{arith}
 use lib.Dec.{eqb, leb}
 use lib.ListN.{length, take, getD}
@@ -37,6 +37,17 @@ marked-as ver f e h =
     let q : take 5 f ≡ mark ver = same-right (take 5 f) (mark ver) .0 h in
     let n : versionIn f ≡ ver = ap versionOf (sym (getD-take 5 f 4 0 (omega arith)) ∙ ap (λ (l : List ℕ). getD l 4 0) q) ∙ e in
     q ∙ ap mark (sym n)
+
+-- "another mark or version" is neither of the two
+pub mark-either : (f : List ℕ) → (take 5 f ≡ mark (versionIn f)) ↔ ((take 5 f ≡ mark one) ⊎ (take 5 f ≡ mark two))
+mark-either f = (go (versionIn f), ⊎-elim (λ e. named one refl e) (λ e. named two refl e))
+  where
+    go : (ver : Version) → take 5 f ≡ mark ver → (take 5 f ≡ mark one) ⊎ (take 5 f ≡ mark two)
+    go one e = inl e
+    go two e = inr e
+
+    named : (ver : Version) → versionOf (getD (mark ver) 4 0) ≡ ver → take 5 f ≡ mark ver → take 5 f ≡ mark (versionIn f)
+    named ver n e = marked-as ver f n (same-right (take 5 f) (mark ver) .1 e)
 
 marked-to : (f : List ℕ) → marked f ≡ true → take 5 f ≡ mark (versionIn f)
 marked-to f h = ⊎-elim (marked-as one f refl) (marked-as two f refl) (either (markedAs one f) (markedAs two f) h)
