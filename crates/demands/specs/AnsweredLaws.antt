@@ -1,99 +1,206 @@
--- Laws of answers: each takes what arrived, or refuses by a row of the table; and a refusal leaves a lent buffer as it was. Assumes nothing.
-use Prim.Native.Nat.{ℕ, _≤_}
+-- Laws of answers: each operation answers by the rows of the table; and a refusal leaves a lent buffer as it was. Assumes nothing.
+use Prim.Native.Nat.{ℕ, _≤_, _<_}
 use native.Mathlib.Omega.{arith}
-use mathlib.Core.Path.{_≡_, refl, subst⁻¹}
+use mathlib.Core.Path.{_≡_, refl, sym, ap, subst, _∙_}
+use mathlib.Core.Bool.{true, true≢false}
 use mathlib.Core.List.{List}
-use mathlib.Core.Logic.{_⊎_, inl, inr}
+use mathlib.Core.Logic.{_⊎_, inl, inr, _↔_}
 use lib.Dec.{eqb, leb}
-use lib.ListN.{length}
-use borrow.Author.Tests.{ne-eqb, eqb-true, eqb-false, leb-true, leb-false}
-use Rattle.words.specs.TestLaws.{split, same?}
-use Rattle.answers.specs.Answers.{refusal}
+use lib.ListN.{length, take}
+use borrow.Author.Tests.{ne-eqb, eqb-true, eqb-false, eq-eqb, leb-true, leb-false, le-leb}
+use Rattle.words.specs.Lists.{every}
+use Rattle.words.specs.MemberLaws.{every-right, same-right}
+use Rattle.words.specs.TestLaws.{split, same?, both, and}
+use Rattle.answers.specs.Answers.{refusal, answerOf}
+use Rattle.answers.specs.Parsing.{Parsed, parsed, refused, stepOf, IsRead}
+use Rattle.answers.specs.ParsingLaws.{is-read, read-is}
 use Rattle.answers.specs.declared.Answer.{Answer}
-use Rattle.reading.specs.RowLaws.{ByteRow}
+use Rattle.reading.specs.Header.{variables, kindAt}
+use Rattle.reading.specs.Tree.{Block}
+use Rattle.reading.specs.Rule.{readRule}
+use Rattle.reading.specs.RowLaws as bytes
+use Rattle.codes.specs.declared.Kind.{Kind}
+use Rattle.codes.specs.Inputs.{someAbove, inputsRow}
+use Rattle.codes.specs.InputLaws.{above-right, row-count, row-bit, row-room, row-none}
+use Rattle.words.specs.Lists.{upto}
+use Rattle.gates.specs.Limits.{mostGates, mostConditions}
+use Rattle.gates.specs.Gates.{Gates, gateAt, conditions}
+use Rattle.gates.specs.PlainCircuit.{gatesOf, gateCount}
+use Rattle.needed.specs.Needed.{wantedOf}
+use Rattle.needed.specs.Pass.{rulePreconditions}
+use Rattle.needed.specs.RulePreconditions.{rule-earlier, wanted-inside, rule-exclude}
 use Rattle.circuit.specs.Whole.{ruleAnswer}
-use Rattle.circuit.specs.WholeLaws.{RuleCases, rule-cases}
+use Rattle.circuit.specs.WholeLaws.{Accepted, accepted, answer-refused, answer-whole, whole-gates, whole-conditions, whole-success}
 use Rattle.direct.specs.Inputs.{inputRow}
-use Rattle.direct.specs.RangeLaws.{input-range}
+use Rattle.direct.specs.InputLaws.{row-is}
 use Rattle.direct.specs.Direct.{runAnswer}
-use Rattle.direct.specs.DirectLaws.{rule-answer, inputs-answer, run-answer}
-use Rattle.plan.specs.Rows.{planRow, planAnswer}
-use Rattle.plan.specs.AcceptedLaws.{answer-rule, answer-row, answer-accepted}
-use Rattle.plan.specs.RangeLaws.{row-range}
+use Rattle.direct.specs.DirectLaws.{inputs-answer, run-answer, run-number}
+use Rattle.plan.specs.PlanFile.{leastBytes, mostBytes, mark, gatesCounted, groupsCounted, groupsIn, EachGroup, Rising, Apart}
+use Rattle.plan.specs.Groups.{groupOf}
+use Rattle.plan.specs.Rows.{isCostly, rows, planRow, planAnswer}
+use Rattle.plan.specs.Accepted.{Exist}
+use Rattle.plan.specs.GroupLaws.{groupOf-named}
+use Rattle.plan.specs.WaitLaws.{placed-right}
+use Rattle.plan.specs.RowLaws.{each-right, ends-right, joins-right, apart-right}
+use Rattle.plan.specs.MemberLaws.{costly-gate, costly-right, parted-right}
+use Rattle.plan.specs.AcceptedLaws.{rising-exist, order-right, row-first, answer-row, answer-accepted, answer-number}
 use Rattle.fused.specs.FusedCircuit.{fusedFile}
 use Rattle.fused.specs.Answers.{fusedAnswer, writeAnswer, writtenOver}
-use Rattle.fused.specs.AnswerLaws.{fused-refused, fused-taken, write-refused, write-short, write-taken}
+use Rattle.fused.specs.AnswerLaws.{fused-taken, write-short, write-taken}
 use Rattle.running.specs.FusedRun.{fusedResults}
-use Rattle.demands.specs.Table.{TableRow, bySize, onByte, pastEnd, overGates, overConditions, ofPlan, ofGroupOrder, ofInputs, ofBuffer, Answered}
-
--- a refusal by a row of the table
-refused-by : {size number place : ℕ} → TableRow size number place → Answered size (refusal number place)
-refused-by r = inr (r, refl)
-
--- an answer taken over
-same-answered : (size : ℕ) {a b : Answer} → a ≡ b → Answered size b → Answered size a
-same-answered size e h = subst⁻¹ (Answered size) e h
+use Rattle.demands.specs.Table.{TableRow, AnsweredBy, ByteRow, bySize, onByte, pastEnd, ruleRows, AllCostly, planRows, inputRows, bufferRows}
+use Rattle.demands.specs.TableLaws.{Outcome, taken-by, refused-by, answered-by, Tells, tests-tell}
 
 -- rows 1 to 9
-byte-row : (s : List ℕ) (number place : ℕ) → ByteRow s number place → TableRow (length s) number place
+byte-row : (s : List ℕ) (number place : ℕ) → bytes.ByteRow s number place → ByteRow (length s) number place
 byte-row s number place r = go (same? number 1) (same? number 4)
   where
-    go : (number ≡ 1) ⊎ (number ≡ 1 → ⊥) → (number ≡ 4) ⊎ (number ≡ 4 → ⊥) → TableRow (length s) number place
+    go : (number ≡ 1) ⊎ (number ≡ 1 → ⊥) → (number ≡ 4) ⊎ (number ≡ 4 → ⊥) → ByteRow (length s) number place
     go (inl e) f = rw (e, r .sized e) bySize
     go (inr n) (inl e) = rw (e, r .ended e) pastEnd
     go (inr n) (inr m) = let lo : 2 ≤ number = omega (arith, r .least) in onByte lo (r .most) m (r .inside n m)
 
--- rows 1 to 11
-pub rule-answered : (s : List ℕ) → Answered (length s) (ruleAnswer s)
-rule-answered s = go (ruleAnswer s) (rule-cases s)
+pub rule-bytes : (s : List ℕ) → IsRead (readRule s) ⊎ ((number : ℕ) × (place : ℕ) × ByteRow (length s) number place × (ruleAnswer s ≡ refusal number place))
+rule-bytes s = go (readRule s) refl (bytes.rule-rows s)
   where
-    go : (a : Answer) → RuleCases s a → Answered (length s) a
-    go a (inl (number, place, r, e)) = same-answered (length s) e (refused-by (byte-row s number place r))
-    go a (inr (inl e)) = same-answered (length s) e (refused-by overGates)
-    go a (inr (inr (inl e))) = same-answered (length s) e (refused-by overConditions)
-    go a (inr (inr (inr e))) = inl e
+    go : (m : Parsed Block) → readRule s ≡ m → bytes.ByteRows s m
+        → IsRead (readRule s) ⊎ ((number : ℕ) × (place : ℕ) × ByteRow (length s) number place × (ruleAnswer s ≡ refusal number place))
+    go (parsed b n) e r = inl (read-is (readRule s) e)
+    go (refused number place) e r =
+        inr (
+          number,
+          place,
+          byte-row s number place r,
+          sym (answer-refused s (refusal number place) (ap (λ (m : Parsed Block). answerOf (stepOf m)) (sym e)) (λ z. omega (arith, r .least))),
+        )
 
--- rows 40 to 42, after an answer that stands before the inputs
-pub run-answered : (size : ℕ) (before : Answer) (s inputs : List ℕ) (room : ℕ) → Answered size before → Answered size (runAnswer before s inputs room)
-run-answered size before s inputs room h =
-    split (eqb (before .number) 0)
-    (λ t. let zero = eqb-true _ _ t in inputs-row zero (input-range s inputs room))
-    (λ t. same-answered size (rule-answer before s inputs (eqb-false _ _ t) room) h)
+-- rows 10 and 11, of a rule that is read byte by byte
+pub rule-rows : (s : List ℕ) → IsRead (readRule s) → AnsweredBy (ruleRows s) (length s) (ruleAnswer s)
+rule-rows s h =
+    let C = gatesOf s in
+    let e = answer-whole s h in
+    split (leb (length C) mostGates)
+    (λ t. let few = leb-true _ _ t in
+    split (leb (length (conditions C)) mostConditions)
+    (λ u. let l = leb-true _ _ u in
+    let q = e ∙ whole-success mostGates mostConditions C (length s) few l in
+    taken-by (ruleRows s) (length s) (ruleAnswer s) refl (few, (l, tt)) (ap (λ (a : Answer). a .number) q) (ap (λ (a : Answer). a .place) q))
+    (λ u. let l = leb-false _ _ u in
+    refused-by 1 (ruleRows s) (length s) (ruleAnswer s) refl (omega arith) (few, λ k. omega arith)
+    (e ∙ whole-conditions mostGates mostConditions C (length s) few l)))
+    (λ t. let l = leb-false _ _ t in
+    refused-by 0 (ruleRows s) (length s) (ruleAnswer s) refl (omega arith) (λ k. omega arith) (e ∙ whole-gates mostGates mostConditions C (length s) l))
+
+-- rows 20 to 26, 32 and 27 to 30, of a plan for an accepted rule
+all-costly : (C : Gates) (G : List ℕ) → (every (λ g. isCostly (gateAt C g)) G ≡ true) ↔ AllCostly C G
+all-costly C G = (
+  λ h g m. costly-gate (gateAt C g) (every-right (λ i. isCostly (gateAt C i)) G .0 h g m),
+  λ h. every-right (λ i. isCostly (gateAt C i)) G .1 (λ g m. let (op, c, l, e) = h g m in ap isCostly e ∙ c),
+)
+
+module _ (s p : List ℕ) (z : ruleAnswer s .number ≡ 0) where
+  plan-tells : Tells (rows s p) (planRows s p)
+  plan-tells =
+      let a = accepted s z in
+      let (b, n, read) = is-read (readRule s) (a .read) in
+      let C = gatesOf s in
+      let Gs = groupsIn p in
+      let sets = rulePreconditions s in
+      let size = (λ t. let (lo, hi) = both (leb leastBytes (length p)) _ t in (leb-true _ _ lo, leb-true _ _ hi), λ (lo, hi). and (le-leb _ _ lo) (le-leb _ _ hi)) in
+      let costly = each-right _ (AllCostly C) (all-costly C) Gs in (
+        refl,
+        size,
+        λ _. (
+          refl,
+          same-right (take 5 p) mark,
+          λ _. (
+            refl,
+            (eqb-true _ _, eq-eqb _ _),
+            λ _. (
+              refl,
+              ends-right (groupsCounted p) p leastBytes,
+              λ _. (
+                refl,
+                each-right _ _ joins-right Gs,
+                λ joins. (
+                  refl,
+                  rising-exist (gateCount s) Gs,
+                  λ (rising, _). (
+                    refl,
+                    apart-right Gs,
+                    λ once. (
+                      refl,
+                      order-right Gs,
+                      λ _. (
+                        refl,
+                        costly,
+                        λ c. (
+                          refl,
+                          (λ t. costly-right C Gs joins .0 (costly .1 c, t), λ o. costly-right C Gs joins .1 o .1),
+                          λ _. (
+                            refl,
+                            each-right _ _ (parted-right C (wantedOf s) sets (rule-exclude s b n read (a .conds))) Gs,
+                            λ _. (
+                              refl,
+                              placed-right C (wantedOf s) (rule-earlier s b n read) (wanted-inside s b n read) (a .conds) (groupOf Gs) (groupOf-named Gs joins rising once),
+                              λ _.
+                                  tt,
+                            ),
+                          ),
+                        ),
+                      ),
+                    ),
+                  ),
+                ),
+              ),
+            ),
+          ),
+        ),
+      )
+
+  pub plan-rows : AnsweredBy (planRows s p) 0 (planAnswer s p)
+  plan-rows =
+      let n : planAnswer s p .number ≡ planRow s p = answer-number s p z in
+      answered-by (planRows s p) 0 (planAnswer s p) refl
+      (subst (Outcome (planRows s p)) (sym (n ∙ row-first s p)) (tests-tell (rows s p) (planRows s p) plan-tells))
+      (λ e. ap (λ (a : Answer). a .place) (answer-accepted s p z (sym n ∙ e) ∙ accepted s z .answer))
+      (λ f. answer-row s p z (λ e. f (n ∙ e)) ∙ ap (λ (k : ℕ). refusal k 0) (sym n))
+
+-- rows 40 to 42, of v variables of these kinds, after an answer that stands before the inputs
+pub inputs-rows : (v : ℕ) (kinds : ℕ → Kind) (inputs : List ℕ) (room : ℕ) (a : Answer) → a .number ≡ inputsRow v kinds inputs room → (a .number ≡ 0 → a .place ≡ 0)
+    → ((a .number ≡ 0 → ⊥) → a ≡ refusal (a .number) 0) → AnsweredBy (inputRows v kinds inputs room) 0 a
+inputs-rows v kinds inputs room a e place whole = answered-by (inputRows v kinds inputs room) 0 a refl (subst (Outcome (inputRows v kinds inputs room)) (sym e) outcome) place whole
   where
-    inputs-row : before .number ≡ 0 → (inputRow s inputs room ≡ 0) ⊎ ((40 ≤ inputRow s inputs room) × (inputRow s inputs room ≤ 42)) → Answered size
-        (runAnswer before s inputs room)
-    inputs-row zero (inl e) = same-answered size (run-answer before s inputs zero room e) h
-    inputs-row zero (inr (lo, hi)) =
-        same-answered size (inputs-answer before s inputs zero room (λ z. omega arith)) (refused-by (ofInputs lo hi))
+    outcome : Outcome (inputRows v kinds inputs room) (inputsRow v kinds inputs room)
+    outcome =
+        split (eqb (length inputs) v)
+        (λ t. let n = eqb-true _ _ t in
+        split (someAbove kinds inputs (upto v))
+        (λ u. inr (1, omega arith, (n, λ h. true≢false (sym u ∙ above-right v kinds inputs .1 h)), row-bit v kinds inputs room n u))
+        (λ u. let low = above-right v kinds inputs .0 u in
+        split (leb v room)
+        (λ w. let l = leb-true _ _ w in inl ((n, (low, (l, tt))), row-none v kinds inputs room n u l))
+        (λ w. let l = leb-false _ _ w in inr (2, omega arith, (n, (low, λ h. omega arith)), row-room v kinds inputs room n u l))))
+        (λ t. let n = eqb-false _ _ t in inr (0, omega arith, n, row-count v kinds inputs room n))
 
--- rows 20 to 30 and 32, after the rule's
-pub plan-answered : (s p : List ℕ) → Answered (length s) (planAnswer s p)
-plan-answered s p =
-    split (eqb (ruleAnswer s .number) 0)
-    (λ t. plan-row (eqb-true _ _ t) (row-range s p))
-    (λ t. same-answered (length s) (answer-rule s p (eqb-false _ _ t)) (rule-answered s))
-  where
-    plan-row : ruleAnswer s .number ≡ 0 → (planRow s p ≡ 0) ⊎ (((20 ≤ planRow s p) × (planRow s p ≤ 30)) ⊎ (planRow s p ≡ 32)) → Answered (length s) (planAnswer s p)
-    plan-row zero (inl e) = same-answered (length s) (answer-accepted s p zero e) (rule-answered s)
-    plan-row zero (inr (inl (lo, hi))) = same-answered (length s) (answer-row s p zero (λ z. omega arith)) (refused-by (ofPlan lo hi))
-    plan-row zero (inr (inr e)) = same-answered (length s) (answer-row s p zero (λ z. omega arith)) (rw e (refused-by ofGroupOrder))
+pub run-rows : (before : Answer) (s inputs : List ℕ) (room : ℕ) → before .number ≡ 0 → before .place ≡ 0
+    → AnsweredBy (inputRows (variables s) (kindAt s) inputs room) 0 (runAnswer before s inputs room)
+run-rows before s inputs room z place =
+    let n = run-number before s inputs z room in
+    inputs-rows (variables s) (kindAt s) inputs room (runAnswer before s inputs room) (n ∙ row-is s inputs room)
+    (λ e. ap (λ (a : Answer). a .place) (run-answer before s inputs z room (sym n ∙ e)) ∙ place)
+    (λ f. inputs-answer before s inputs z room (λ e. f (n ∙ e)) ∙ ap (λ (k : ℕ). refusal k 0) (sym n))
 
--- an accepted plan's answer with all five counts
-pub fused-answered : (s p : List ℕ) → Answered (length s) (fusedAnswer s p)
-fused-answered s p =
-    split (eqb (planAnswer s p .number) 0)
-    (λ t. inl (fused-taken s p (eqb-true _ _ t)))
-    (λ t. same-answered (length s) (fused-refused s p (eqb-false _ _ t)) (plan-answered s p))
-
--- row 50, after the plan's
-pub write-answered : (s p : List ℕ) (room : ℕ) → Answered (length s) (writeAnswer s p room)
-write-answered s p room =
-    split (eqb (planAnswer s p .number) 0)
-    (λ t. let h = eqb-true _ _ t in
+-- row 50, of an accepted plan
+pub write-rows : (s p : List ℕ) (room : ℕ) → planAnswer s p .number ≡ 0 → AnsweredBy (bufferRows s p room) 0 (writeAnswer s p room)
+write-rows s p room h =
     split (leb (length (fusedFile s p)) room)
-    (λ u. same-answered (length s) (write-taken s p room h (leb-true _ _ u)) (fused-answered s p))
-    (λ u. same-answered (length s) (write-short s p room h (leb-false _ _ u)) (refused-by ofBuffer)))
-    (λ t. same-answered (length s) (write-refused s p room (eqb-false _ _ t)) (plan-answered s p))
+    (λ u. let l = leb-true _ _ u in
+    let e = write-taken s p room h l in
+    let (number, place) = fused-taken s p h in
+    taken-by (bufferRows s p room) 0 (writeAnswer s p room) refl (l, tt) (ap (λ (a : Answer). a .number) e ∙ number) (ap (λ (a : Answer). a .place) e ∙ place))
+    (λ u. let l = leb-false _ _ u in
+    refused-by 0 (bufferRows s p room) 0 (writeAnswer s p room) refl (omega arith) (λ k. omega arith) (write-short s p room h l))
 
 -- a refusal writes to no buffer
 pub write-untouched : (s p buffer : List ℕ) → (writeAnswer s p (length buffer) .number ≡ 0 → ⊥) → writtenOver s p buffer ≡ buffer

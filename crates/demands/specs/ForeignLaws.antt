@@ -1,19 +1,19 @@
--- Laws for document 02, C-11: circuit files are answered by the table; our own are read, and their runs give what the direct run of their rule gives. Assumes nothing.
+-- Laws for document 02, C-11: circuit files are answered by the rows of the table; our own are read, and their runs give what the direct run of their rule gives. Assumes nothing.
 use Prim.Native.Nat.{ℕ, _≤_, _<_}
 use native.Mathlib.Omega.{arith}
-use mathlib.Core.Path.{_≡_, refl, sym, ap, subst⁻¹, _∙_}
-use mathlib.Core.Bool.{true, false}
+use mathlib.Core.Path.{_≡_, refl, sym, ap, _∙_}
+use mathlib.Core.Bool.{true, false, true≢false}
 use mathlib.Core.List.{List, []}
-use mathlib.Core.Logic.{_⊎_, inl, inr, _↔_}
+use mathlib.Core.Logic.{_↔_}
 use lib.Dec.{eqb, ltb}
 use lib.ListN.{length, take}
 use borrow.Author.Tests.{eqb-true, eqb-false, ltb-true, ltb-false}
 use Rattle.words.specs.Buffers.{over}
 use Rattle.words.specs.Numbers.{Bytes, Words}
 use Rattle.words.specs.TestLaws.{split}
-use Rattle.answers.specs.Answers.{success}
+use Rattle.answers.specs.Answers.{success, refusal}
 use Rattle.answers.specs.declared.Answer.{Answer}
-use Rattle.codes.specs.InputLaws.{inputs-range, row-same}
+use Rattle.codes.specs.InputLaws.{row-same}
 use Rattle.reading.specs.Header.{variables, kindAt}
 use Rattle.circuit.specs.Whole.{ruleAnswer}
 use Rattle.direct.specs.Inputs.{inputRow}
@@ -29,7 +29,10 @@ use Rattle.records.specs.CircuitFile.{recordBytes, fileBytes}
 use Rattle.records.specs.FileFigures.{sizeAt, fileVariables, wireCount, fileRecords}
 use Rattle.records.specs.LaidOut.{recordPlace}
 use Rattle.records.specs.FileLaws.{count-found, file-part}
-use Rattle.records.specs.CircuitRows.{circuitRow}
+use Rattle.records.specs.CircuitRows.{headed, laid, standing, circuitRow}
+use Rattle.records.specs.RowLaws.{mark-either, headed-right, laid-right}
+use Rattle.records.specs.StandingLaws.{standing-right}
+use Rattle.records.specs.FormatLaws.{row-60, row-61, row-62, passed-row}
 use Rattle.records.specs.WellFormed.{WellFormed}
 use Rattle.records.specs.FormatLaws as format
 use Rattle.fused.specs.FusedCircuit.{recordsOf, outputWires, fusedFile}
@@ -40,26 +43,44 @@ use Rattle.foreign.specs.Foreign.{circuitAnswer, recordPart, circuitRunAnswer, 
 use Rattle.foreign.specs.RefusalLaws.{fileInputsRow}
 use Rattle.foreign.specs.RunLaws.{file-answer, inputs-answer, run-answer, run-number, run-results, refused-results}
 use Rattle.foreign.specs.ReadLaws.{refused-answer, taken-answer, answer-number, part-refused, part-past, part-shown}
-use Rattle.demands.specs.Table.{Answered, ofInputs, ofCircuit}
+use Rattle.demands.specs.Table.{AnsweredBy, FailsAt, numberOf, Headed, circuitRows, inputRows}
+use Rattle.demands.specs.TableLaws.{taken-by, refused-by}
+use Rattle.demands.specs.AnsweredLaws.{inputs-rows}
 
--- by the table
-pub circuit-answered : (f : List ℕ) → Answered (length f) (circuitAnswer f)
-circuit-answered f = go (format.row-range f)
-  where
-    go : (circuitRow f ≡ 0) ⊎ ((60 ≤ circuitRow f) × (circuitRow f ≤ 62)) → Answered (length f) (circuitAnswer f)
-    go (inl z) = subst⁻¹ (Answered (length f)) (taken-answer f z) (inl (refl, refl))
-    go (inr (lo, hi)) = subst⁻¹ (Answered (length f)) (refused-answer f (λ z. omega arith)) (inr (ofCircuit lo hi, refl))
+-- by the table: rows 60 to 62
+pub table-headed : (f : List ℕ) → (headed f ≡ true) ↔ Headed f
+table-headed f = (
+  λ t. let h = headed-right f .0 t in
+      record { long = h .long; short = h .short; marked = mark-either f .0 (h .marked); some = h .some; few = h .few; wires = h .wires },
+  λ h. headed-right f .1 (record { long = h .long; short = h .short; marked = mark-either f .1 (h .marked); some = h .some; few = h .few; wires = h .wires }),
+)
 
-pub run-answered : (f inputs : List ℕ) (room : ℕ) → Answered (length f) (circuitRunAnswer f inputs room)
-run-answered f inputs room =
-    split (eqb (circuitAnswer f .number) 0)
-    (λ t. go (eqb-true _ _ t) (inputs-range (fileVariables f) (wireKind (fileRecords f)) inputs room))
-    (λ t. subst⁻¹ (Answered (length f)) (file-answer f inputs (eqb-false _ _ t) room) (circuit-answered f))
+pub circuit-rows : (f : List ℕ) → AnsweredBy (circuitRows f) 0 (circuitAnswer f)
+circuit-rows f =
+    split (headed f)
+    (λ t. let head = table-headed f .0 t in
+    let laid-out = laid-right f (headed-right f .0 t) in
+    split (laid f)
+    (λ u. let layout = laid-out .0 u in
+    split (standing f)
+    (λ w. let stand = standing-right f .0 w in
+    let e = taken-answer f (passed-row f (record { head = headed-right f .0 t; layout = layout; stand = stand })) in
+    taken-by (circuitRows f) 0 (circuitAnswer f) refl (head, (layout, (stand, tt))) (ap (λ (a : Answer). a .number) e) (ap (λ (a : Answer). a .place) e))
+    (λ w. refused 2 (omega arith) (head, (layout, λ s. true≢false (sym (standing-right f .1 s) ∙ w))) (row-62 f t u w) (λ z. omega (arith, row-62 f t u w))))
+    (λ u. refused 1 (omega arith) (head, λ l. true≢false (sym (laid-out .1 l) ∙ u)) (row-61 f t u) (λ z. omega (arith, row-61 f t u))))
+    (λ t. refused 0 (omega arith) (λ h. true≢false (sym (table-headed f .1 h) ∙ t)) (row-60 f t) (λ z. omega (arith, row-60 f t)))
   where
-    go : circuitAnswer f .number ≡ 0 → (fileInputsRow f inputs room ≡ 0) ⊎ ((40 ≤ fileInputsRow f inputs room) × (fileInputsRow f inputs room ≤ 42))
-        → Answered (length f) (circuitRunAnswer f inputs room)
-    go a (inl z) = subst⁻¹ (Answered (length f)) (run-answer f inputs a room z) (circuit-answered f)
-    go a (inr (lo, hi)) = subst⁻¹ (Answered (length f)) (inputs-answer f inputs a room (λ z. omega arith)) (inr (ofInputs lo hi, refl))
+    refused : (k : ℕ) → k < 3 → FailsAt k (circuitRows f) → circuitRow f ≡ numberOf k (circuitRows f) → (circuitRow f ≡ 0 → ⊥) → AnsweredBy (circuitRows f) 0 (circuitAnswer f)
+    refused k i g e n = refused-by k (circuitRows f) 0 (circuitAnswer f) refl i g (refused-answer f n ∙ ap (λ (x : ℕ). refusal x 0) e)
+
+-- and 40 to 42, of a file that is read
+pub circuit-run-rows : (f inputs : List ℕ) (room : ℕ) → circuitAnswer f .number ≡ 0
+    → AnsweredBy (inputRows (fileVariables f) (wireKind (fileRecords f)) inputs room) 0 (circuitRunAnswer f inputs room)
+circuit-run-rows f inputs room z =
+    let n = run-number f inputs z room in
+    inputs-rows (fileVariables f) (wireKind (fileRecords f)) inputs room (circuitRunAnswer f inputs room) n
+    (λ e. ap (λ (a : Answer). a .place) (run-answer f inputs z room (sym n ∙ e) ∙ taken-answer f (sym (answer-number f) ∙ z)))
+    (λ g. inputs-answer f inputs z room (λ e. g (n ∙ e)) ∙ ap (λ (k : ℕ). refusal k 0) (sym n))
 
 -- the format, and what follows from it
 pub circuit-format : (f : List ℕ) → Bytes f

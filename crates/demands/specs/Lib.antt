@@ -1,4 +1,5 @@
 pub mod Table
+pub mod TableLaws
 pub mod AnsweredLaws
 pub mod FusedRunLaws
 pub mod OrderLaws

@@ -1,10 +1,10 @@
 -- Laws for document 02, C-17: both versions of a circuit file: what is written, what is refused, what both hold. Assumes nothing.
 use Prim.Native.Nat.{ℕ, _+_, _-_, _%_, _^_, _≤_, _<_}
 use native.Mathlib.Omega.{arith}
-use mathlib.Core.Path.{_≡_, sym, ap, subst, _∙_}
-use mathlib.Core.Bool.{true, false, true≢false}
+use mathlib.Core.Path.{_≡_, refl, sym, ap, subst, _∙_}
+use mathlib.Core.Bool.{true}
 use mathlib.Core.List.{List, [], _∷_}
-use mathlib.Core.Logic.{_↔_}
+use mathlib.Core.Logic.{_↔_, ⊎-elim}
 use lib.ListN.{length, take}
 use lib.Pow.{pow-mono}
 use native.Mathlib.Nat.{lt-of-lt-of-le}
@@ -21,9 +21,8 @@ use Rattle.records.specs.FileFigures.{recordAt, versionIn, wireCount, fileRecor
 use Rattle.records.specs.FileLaws.{file-figures}
 use Rattle.records.specs.LaidOut.{Bounded, recordPlace, LaidOut}
 use Rattle.records.specs.FitRecords.{ReadsBack, AllReadBack}
-use Rattle.records.specs.CircuitRows.{headed, laid, circuitRow}
+use Rattle.records.specs.CircuitRows.{headed}
 use Rattle.records.specs.WellFormed.{WellFormed}
-use Rattle.records.specs.RowLaws.{headed-right, laid-right}
 use Rattle.records.specs.FormatLaws.{row-passed}
 use Rattle.records.specs.InverseLaws.{laid-bounded}
 use Rattle.plan.specs.Rows.{planAnswer}
@@ -31,7 +30,10 @@ use Rattle.fused.specs.FusedCircuit.{recordsOf, fusedFile}
 use Rattle.fused.specs.BoundLaws.{fused-bounded}
 use Rattle.fused.specs.WellFormedLaws.{fused-is}
 use Rattle.foreign.specs.Foreign.{circuitAnswer}
-use Rattle.foreign.specs.ReadLaws.{refused-answer, answer-number}
+use Rattle.foreign.specs.ReadLaws.{answer-number}
+use Rattle.demands.specs.Table.{circuitRows}
+use Rattle.demands.specs.TableLaws.{refuses-with}
+use Rattle.demands.specs.ForeignLaws.{table-headed, circuit-rows}
 
 -- what is written has the mark and version of the second
 pub written-two : (s p : List ℕ) → take 5 (fusedFile s p) ≡ mark two
@@ -39,27 +41,15 @@ written-two s p = ap (take 5) (fused-is s p)
 
 -- another mark or version is 60
 pub other-version : (f : List ℕ) → (take 5 f ≡ mark one → ⊥) → (take 5 f ≡ mark two → ⊥) → circuitAnswer f ≡ refusal 60 0
-unfolding circuitRow
-other-version f a b = split (headed f) (λ t. absurd (go (versionIn f) (headed-right f .0 t .marked))) (λ t. refused-answer f (λ z. sixty z t) ∙ rw t)
-  where
-    go : (ver : Version) → take 5 f ≡ mark ver → ⊥
-    go one e = a e
-    go two e = b e
-
-    sixty : circuitRow f ≡ 0 → headed f ≡ false → ⊥
-    sixty z t = true≢false (sym (headed-right f .1 (row-passed f z .head)) ∙ t)
+other-version f a b = refuses-with 0 (circuitRows f) 0 (circuitAnswer f) refl (circuit-rows f) (omega arith) (λ h. ⊎-elim a b (h .marked))
 
 -- a guard of more wires than the file's version admits is 61; so of a file that is read each guard keeps within them
 pub over-guard : (f : List ℕ) → headed f ≡ true → (i : ℕ) → i < wireCount f → (cs : List ℕ) (t : ℕ) → recordAt f (recordPlace f i) ≡ guard cs t
     → mostGuardWires (versionIn f) < length cs → circuitAnswer f ≡ refusal 61 0
-unfolding circuitRow
-over-guard f h i l cs t e more = split (laid f) (λ y. absurd (full (laid-right f (headed-right f .0 h) .0 y))) (λ y. refused-answer f (λ z. sixty-one z y) ∙ rw (h, y))
+over-guard f h i l cs t e more = refuses-with 1 (circuitRows f) 0 (circuitAnswer f) refl (circuit-rows f) (omega arith) (table-headed f .0 h, full)
   where
     full : LaidOut f → ⊥
     full o = let k : length cs ≤ mostGuardWires (versionIn f) = subst (Bounded (versionIn f)) e (o .whole i l .bounded) in omega arith
-
-    sixty-one : circuitRow f ≡ 0 → laid f ≡ false → ⊥
-    sixty-one z y = true≢false (sym (laid-right f (headed-right f .0 h) .1 (row-passed f z .layout)) ∙ y)
 
 pub guards-within : (f : List ℕ) → circuitAnswer f .number ≡ 0 → (i : ℕ) → i < length (fileRecords f) → (cs : List ℕ) (t : ℕ) → recordIn (fileRecords f) i ≡ guard cs t
     → length cs ≤ mostGuardWires (versionIn f)
