@@ -1,6 +1,8 @@
 pub mod Table
+pub mod Promises
 pub mod AnsweredLaws
 pub mod FusedRunLaws
+pub mod WrittenRunLaws
 pub mod OrderLaws
 pub mod ForeignLaws
 pub mod WorkingLaws
@@ -8,6 +10,7 @@ pub mod BatchLaws
 pub mod EightLaws
 pub mod VersionLaws
 pub mod Demands
+pub mod Sentences
 pub mod C11
 pub mod C12
 pub mod C13
