@@ -3,6 +3,7 @@ pub mod Promises
 pub mod AnsweredLaws
 pub mod FusedRunLaws
 pub mod WrittenRunLaws
+pub mod SentenceLaws
 pub mod OrderLaws
 pub mod ForeignLaws
 pub mod WorkingLaws
