@@ -1,11 +1,12 @@
 -- Document 02, C-13, "Working figures are not results": its sentences, each quoted above its theorems. s is a rule's bytes, p a plan's.
-use Prim.Native.Nat.{ℕ, _<_}
+use Prim.Native.Nat.{ℕ, _+_, _<_}
 use mathlib.Core.Path.{_≡_}
 use mathlib.Core.Bool.{true, false}
 use mathlib.Core.List.{List}
 use mathlib.Core.Logic.{_↔_}
 use lib.ListN.{length, getD, set}
 use Rattle.codes.specs.Inputs.{FiguresFit}
+use Rattle.codes.specs.declared.Kind.the-variants as kind
 use Rattle.words.specs.Lists.{_∈_}
 use Rattle.words.specs.Numbers.{Bytes}
 use Rattle.reading.specs.Header.{variables, kindAt, workingAt}
@@ -28,6 +29,20 @@ use Rattle.fused.specs.FusedCircuit.{fusedFile}
 use Rattle.fused.specs.FusedFigures as figures
 use Rattle.foreign.specs.Foreign.{circuitAnswer}
 use Rattle.demands.specs.WorkingLaws as working
+use Rattle.demands.specs.KindLaws as kinds
+
+-- "From now on kind 02 is a working word and 03 a working bit": what the kind byte of variable x says, 02 and 03 as here, 00 and 01 as before,
+pub working-word : (s : List ℕ) (x : ℕ) → getD s (6 + x) 0 ≡ 0x02 → (kindAt s x ≡ kind.Word) × (workingAt s x ≡ true)
+working-word = kinds.working-word-said
+
+pub working-bit : (s : List ℕ) (x : ℕ) → getD s (6 + x) 0 ≡ 0x03 → (kindAt s x ≡ kind.Bit) × (workingAt s x ≡ true)
+working-bit = kinds.working-bit-said
+
+pub result-word : (s : List ℕ) (x : ℕ) → getD s (6 + x) 0 ≡ 0x00 → (kindAt s x ≡ kind.Word) × (workingAt s x ≡ false)
+result-word = kinds.word-said
+
+pub result-bit : (s : List ℕ) (x : ℕ) → getD s (6 + x) 0 ≡ 0x01 → (kindAt s x ≡ kind.Bit) × (workingAt s x ≡ false)
+result-bit = kinds.bit-said
 
 -- "Only the other variables' last gates are needed from the start": what is wanted are the outputs of the variables that do not work,
 pub wanted-are : (s : List ℕ) (g : ℕ) → (g ∈ wantedOf s) ↔ ((x : ℕ) × (x < variables s) × (workingAt s x ≡ false) × (g ≡ getD (outputsOf s) x 0))

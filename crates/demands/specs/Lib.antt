@@ -7,6 +7,7 @@ pub mod SentenceLaws
 pub mod OrderLaws
 pub mod ForeignLaws
 pub mod WorkingLaws
+pub mod KindLaws
 pub mod BatchLaws
 pub mod EightLaws
 pub mod VersionLaws
