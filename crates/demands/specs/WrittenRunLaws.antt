@@ -1,6 +1,5 @@
 -- Laws of the result places after a run that is answered with 0: directly, of the fused circuit, of a circuit file. Assumes nothing.
 use Prim.Native.Nat.{ℕ, _≤_, _<_}
-use native.Mathlib.Omega.{arith}
 use mathlib.Core.Path.{_≡_, sym, ap, subst⁻¹, _∙_}
 use mathlib.Core.List.{List}
 use lib.Dec.{eqb}
