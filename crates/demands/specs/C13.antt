@@ -1,14 +1,16 @@
 -- Document 02, C-13, "Working figures are not results": its sentences, each quoted above its theorems. s is a rule's bytes, p a plan's.
-use Prim.Native.Nat.{ℕ, _<_}
+use Prim.Native.Nat.{ℕ, _+_, _≤_, _<_}
 use mathlib.Core.Path.{_≡_}
 use mathlib.Core.Bool.{true, false}
 use mathlib.Core.List.{List}
 use mathlib.Core.Logic.{_↔_}
-use lib.ListN.{length, getD, set}
+use lib.ListN.{length, getD, set, take}
 use Rattle.codes.specs.Inputs.{FiguresFit}
+use Rattle.codes.specs.declared.Kind.the-variants as kind
 use Rattle.words.specs.Lists.{_∈_}
 use Rattle.words.specs.Numbers.{Bytes}
-use Rattle.reading.specs.Header.{variables, kindAt, workingAt}
+use Rattle.answers.specs.Answers.{refusal}
+use Rattle.reading.specs.Header.{mark, variables, kindAt, workingAt}
 use Rattle.reading.specs.Tree.{Block}
 use Rattle.reading.specs.Format.{ruleBytes, WellFormed}
 use Rattle.reading.specs.OnlyWorking.{OnlyWorking, MoreWorking}
@@ -28,6 +30,20 @@ use Rattle.fused.specs.FusedCircuit.{fusedFile}
 use Rattle.fused.specs.FusedFigures as figures
 use Rattle.foreign.specs.Foreign.{circuitAnswer}
 use Rattle.demands.specs.WorkingLaws as working
+use Rattle.demands.specs.KindLaws as kinds
+
+-- "From now on kind 02 is a working word and 03 a working bit": what the kind byte of variable x says, 02 and 03 as here, 00 and 01 as before,
+pub working-word : (s : List ℕ) (x : ℕ) → getD s (6 + x) 0 ≡ 0x02 → (kindAt s x ≡ kind.Word) × (workingAt s x ≡ true)
+working-word = kinds.working-word-said
+
+pub working-bit : (s : List ℕ) (x : ℕ) → getD s (6 + x) 0 ≡ 0x03 → (kindAt s x ≡ kind.Bit) × (workingAt s x ≡ true)
+working-bit = kinds.working-bit-said
+
+pub result-word : (s : List ℕ) (x : ℕ) → getD s (6 + x) 0 ≡ 0x00 → (kindAt s x ≡ kind.Word) × (workingAt s x ≡ false)
+result-word = kinds.word-said
+
+pub result-bit : (s : List ℕ) (x : ℕ) → getD s (6 + x) 0 ≡ 0x01 → (kindAt s x ≡ kind.Bit) × (workingAt s x ≡ false)
+result-bit = kinds.bit-said
 
 -- "Only the other variables' last gates are needed from the start": what is wanted are the outputs of the variables that do not work,
 pub wanted-are : (s : List ℕ) (g : ℕ) → (g ∈ wantedOf s) ↔ ((x : ℕ) × (x < variables s) × (workingAt s x ≡ false) × (g ≡ getD (outputsOf s) x 0))
@@ -66,6 +82,12 @@ working-written = written.writes-working
 
 pub result-written : (s inputs : List ℕ) (x : ℕ) → x < variables s → workingAt s x ≡ false → getD (runWrites s inputs) x 0 ≡ getD (runRule s inputs) x 0
 result-written = written.writes-result
+
+-- "Refusal 3 now begins above kind 03": a rule of 6 to 4,096 bytes, its mark and version right and V in 1 to 32, is 3 at the kind byte of variable x, where it has that byte
+-- and those before it are at most 03, exactly when that byte is above 03;
+pub kind-refused : (s : List ℕ) → 6 ≤ length s → length s ≤ 4096 → take 5 s ≡ mark → 1 ≤ variables s → variables s ≤ 32
+    → (x : ℕ) → x < variables s → 6 + x < length s → ((y : ℕ) → y < x → getD s (6 + y) 0 ≤ 0x03) → (ruleAnswer s ≡ refusal 3 (6 + x)) ↔ (0x03 < getD s (6 + x) 0)
+kind-refused = kinds.kind-refused
 
 -- "and the circuit reader admits FF FF as an output": any output of any file that is read may be made FF FF; running it then writes 0 there, and else what it wrote.
 pub no-wire-read : (ver : Version) (v : ℕ) (R : List Record) (outputs : List ℕ) → circuits.WellFormed ver v R outputs → (x : ℕ)
