@@ -2,7 +2,7 @@
 use Prim.Native.Nat.{ℕ, _≤_, _<_}
 use native.Mathlib.Omega.{arith}
 use mathlib.Core.Path.{_≡_, refl, sym, ap, subst, _∙_}
-use mathlib.Core.Bool.{true, true≢false}
+use mathlib.Core.Bool.{true, true≢false, _&&_}
 use mathlib.Core.List.{List}
 use mathlib.Core.Logic.{_⊎_, inl, inr, _↔_}
 use lib.Dec.{eqb, leb}
@@ -49,7 +49,7 @@ use Rattle.fused.specs.Answers.{fusedAnswer, writeAnswer, writtenOver}
 use Rattle.fused.specs.AnswerLaws.{fused-taken, write-short, write-taken}
 use Rattle.running.specs.FusedRun.{fusedResults}
 use Rattle.demands.specs.Table.{TableRow, AnsweredBy, ByteRow, bySize, onByte, pastEnd, ruleRows, AllCostly, planRows, inputRows, bufferRows}
-use Rattle.demands.specs.TableLaws.{Outcome, taken-by, refused-by, answered-by, Tells, tests-tell}
+use Rattle.demands.specs.TableLaws.{Outcome, taken-by, refused-by, answered-by, Tells, none, _then_, tests-tell}
 
 -- rows 1 to 9
 byte-row : (s : List ℕ) (number place : ℕ) → bytes.ByteRow s number place → ByteRow (length s) number place
@@ -92,6 +92,9 @@ rule-rows s h =
     refused-by 0 (ruleRows s) (length s) (ruleAnswer s) refl (omega arith) (λ k. omega arith) (e ∙ whole-gates mostGates mostConditions C (length s) l))
 
 -- rows 20 to 26, 32 and 27 to 30, of a plan for an accepted rule
+sized : (a b n : ℕ) → ((leb a n && leb n b) ≡ true) ↔ ((a ≤ n) × (n ≤ b))
+sized a b n = (λ t. let (lo, hi) = both (leb a n) _ t in (leb-true _ _ lo, leb-true _ _ hi), λ (lo, hi). and (le-leb _ _ lo) (le-leb _ _ hi))
+
 all-costly : (C : Gates) (G : List ℕ) → (every (λ g. isCostly (gateAt C g)) G ≡ true) ↔ AllCostly C G
 all-costly C G = (
   λ h g m. costly-gate (gateAt C g) (every-right (λ i. isCostly (gateAt C i)) G .0 h g m),
@@ -106,63 +109,26 @@ module _ (s p : List ℕ) (z : ruleAnswer s .number ≡ 0) where
       let C = gatesOf s in
       let Gs = groupsIn p in
       let sets = rulePreconditions s in
-      let size = (λ t. let (lo, hi) = both (leb leastBytes (length p)) _ t in (leb-true _ _ lo, leb-true _ _ hi), λ (lo, hi). and (le-leb _ _ lo) (le-leb _ _ hi)) in
-      let costly = each-right _ (AllCostly C) (all-costly C) Gs in (
-        refl,
-        size,
-        λ _. (
-          refl,
-          same-right (take 5 p) mark,
-          λ _. (
-            refl,
-            (eqb-true _ _, eq-eqb _ _),
-            λ _. (
-              refl,
-              ends-right (groupsCounted p) p leastBytes,
-              λ _. (
-                refl,
-                each-right _ _ joins-right Gs,
-                λ joins. (
-                  refl,
-                  rising-exist (gateCount s) Gs,
-                  λ (rising, _). (
-                    refl,
-                    apart-right Gs,
-                    λ once. (
-                      refl,
-                      order-right Gs,
-                      λ _. (
-                        refl,
-                        costly,
-                        λ c. (
-                          refl,
-                          (λ t. costly-right C Gs joins .0 (costly .1 c, t), λ o. costly-right C Gs joins .1 o .1),
-                          λ _. (
-                            refl,
-                            each-right _ _ (parted-right C (wantedOf s) sets (rule-exclude s b n read (a .conds))) Gs,
-                            λ _. (
-                              refl,
-                              placed-right C (wantedOf s) (rule-earlier s b n read) (wanted-inside s b n read) (a .conds) (groupOf Gs) (groupOf-named Gs joins rising once),
-                              λ _.
-                                  tt,
-                            ),
-                          ),
-                        ),
-                      ),
-                    ),
-                  ),
-                ),
-              ),
-            ),
-          ),
-        ),
-      )
+      let costly = each-right _ (AllCostly C) (all-costly C) Gs in
+      sized leastBytes mostBytes (length p) then λ _.
+      same-right (take 5 p) mark then λ _.
+      (eqb-true _ _, eq-eqb _ _) then λ _.
+      ends-right (groupsCounted p) p leastBytes then λ _.
+      each-right _ _ joins-right Gs then λ joins.
+      rising-exist (gateCount s) Gs then λ (rising, _).
+      apart-right Gs then λ once.
+      order-right Gs then λ _.
+      costly then λ c.
+      (λ t. costly-right C Gs joins .0 (costly .1 c, t), λ o. costly-right C Gs joins .1 o .1) then λ _.
+      each-right _ _ (parted-right C (wantedOf s) sets (rule-exclude s b n read (a .conds))) Gs then λ _.
+      placed-right C (wantedOf s) (rule-earlier s b n read) (wanted-inside s b n read) (a .conds) (groupOf Gs) (groupOf-named Gs joins rising once) then λ _.
+      none
 
   pub plan-rows : AnsweredBy (planRows s p) 0 (planAnswer s p)
   plan-rows =
       let n : planAnswer s p .number ≡ planRow s p = answer-number s p z in
       answered-by (planRows s p) 0 (planAnswer s p) refl
-      (subst (Outcome (planRows s p)) (sym (n ∙ row-first s p)) (tests-tell (rows s p) (planRows s p) plan-tells))
+      (subst (Outcome (planRows s p)) (sym (n ∙ row-first s p)) (tests-tell (rows s p) (planRows s p) refl plan-tells))
       (λ e. ap (λ (a : Answer). a .place) (answer-accepted s p z (sym n ∙ e) ∙ accepted s z .answer))
       (λ f. answer-row s p z (λ e. f (n ∙ e)) ∙ ap (λ (k : ℕ). refusal k 0) (sym n))
 
@@ -183,13 +149,20 @@ inputs-rows v kinds inputs room a e place whole = answered-by (inputRows v kinds
         (λ w. let l = leb-false _ _ w in inr (2, omega arith, (n, (low, λ h. omega arith)), row-room v kinds inputs room n u l))))
         (λ t. let n = eqb-false _ _ t in inr (0, omega arith, n, row-count v kinds inputs room n))
 
-pub run-rows : (before : Answer) (s inputs : List ℕ) (room : ℕ) → before .number ≡ 0 → before .place ≡ 0
+run-rows : (before : Answer) (s inputs : List ℕ) (room : ℕ) → before .number ≡ 0 → before .place ≡ 0
     → AnsweredBy (inputRows (variables s) (kindAt s) inputs room) 0 (runAnswer before s inputs room)
 run-rows before s inputs room z place =
     let n = run-number before s inputs z room in
     inputs-rows (variables s) (kindAt s) inputs room (runAnswer before s inputs room) (n ∙ row-is s inputs room)
     (λ e. ap (λ (a : Answer). a .place) (run-answer before s inputs z room (sym n ∙ e)) ∙ place)
     (λ f. inputs-answer before s inputs z room (λ e. f (n ∙ e)) ∙ ap (λ (k : ℕ). refusal k 0) (sym n))
+
+pub rule-run-rows : (s inputs : List ℕ) (room : ℕ) → ruleAnswer s .number ≡ 0 → AnsweredBy (inputRows (variables s) (kindAt s) inputs room) 0 (runAnswer (ruleAnswer s) s inputs room)
+rule-run-rows s inputs room z = run-rows (ruleAnswer s) s inputs room z (ap (λ (a : Answer). a .place) (accepted s z .answer))
+
+pub fused-run-rows : (s p inputs : List ℕ) (room : ℕ) → planAnswer s p .number ≡ 0
+    → AnsweredBy (inputRows (variables s) (kindAt s) inputs room) 0 (runAnswer (fusedAnswer s p) s inputs room)
+fused-run-rows s p inputs room h = let (number, place) = fused-taken s p h in run-rows (fusedAnswer s p) s inputs room number place
 
 -- row 50, of an accepted plan
 pub write-rows : (s p : List ℕ) (room : ℕ) → planAnswer s p .number ≡ 0 → AnsweredBy (bufferRows s p room) 0 (writeAnswer s p room)

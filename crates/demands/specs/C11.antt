@@ -10,8 +10,6 @@ use Rattle.words.specs.Numbers.{Bytes, Words}
 use Rattle.codes.specs.Codes.{Fits}
 use Rattle.answers.specs.Answers.{success}
 use Rattle.reading.specs.Header.{variables, kindAt}
-use Rattle.circuit.specs.Whole.{ruleAnswer}
-use Rattle.direct.specs.Direct.{runAnswer, runResults}
 use Rattle.plan.specs.Rows.{planAnswer}
 use Rattle.records.specs.Versions.{Version, writtenVersion}
 use Rattle.records.specs.Records.{Pair, Record, pick, guard, recordIn, ReadsEarlier, pickFigure, guardFigure}
@@ -23,6 +21,7 @@ use Rattle.records.specs.WellFormed as circuits
 use Rattle.fused.specs.FusedCircuit.{recordsOf, fusedFile}
 use Rattle.fused.specs.PickSums as picks
 use Rattle.foreign.specs.Foreign.{circuitAnswer, recordPart, circuitRunAnswer, circuitRunResults}
+use Rattle.demands.specs.Promises.{OwnAsDirect}
 use Rattle.demands.specs.ForeignLaws as foreign
 
 -- "We want to read a circuit file": which files are read, said without a reader: those that are the bytes, in a version, of a list of records
@@ -66,11 +65,7 @@ pub own-read : (s p : List ℕ) → Bytes s → planAnswer s p .number ≡ 0
     → circuitAnswer (fusedFile s p) ≡ success 0 (length (recordsOf s p)) (length (fusedFile s p)) 0 0
 own-read = foreign.own-read
 
--- "and gives the figures of its rule": its run is refused just where the rule's direct run is, with the same number, and writes what that writes.
-pub own-number : (s p : List ℕ) → Bytes s → planAnswer s p .number ≡ 0 → (inputs : List ℕ) (room : ℕ)
-    → circuitRunAnswer (fusedFile s p) inputs room .number ≡ runAnswer (ruleAnswer s) s inputs room .number
-own-number = foreign.own-number
-
-pub own-results : (s p : List ℕ) → Bytes s → planAnswer s p .number ≡ 0 → (inputs : List ℕ) → Words inputs → (results : List ℕ)
-    → circuitRunResults (fusedFile s p) inputs results ≡ runResults (ruleAnswer s) s inputs results
-own-results = foreign.own-results
+-- "and gives the figures of its rule": its run is refused just where the rule's direct run is, with the same number and place, and writes what that writes; "On success reading and
+-- running count the file's wires and bytes."
+pub own-run : (f inputs : List ℕ) → Words inputs → (results : List ℕ) → OwnAsDirect f inputs results (circuitRunAnswer f inputs (length results)) (circuitRunResults f inputs results)
+own-run = foreign.own-run

@@ -1,7 +1,7 @@
 -- Laws for document 02, C-11: circuit files are answered by the rows of the table; our own are read, and their runs give what the direct run of their rule gives. Assumes nothing.
 use Prim.Native.Nat.{ℕ, _≤_, _<_}
 use native.Mathlib.Omega.{arith}
-use mathlib.Core.Path.{_≡_, refl, sym, ap, _∙_}
+use mathlib.Core.Path.{_≡_, refl, sym, ap, subst⁻¹, _∙_}
 use mathlib.Core.Bool.{true, false, true≢false}
 use mathlib.Core.List.{List, []}
 use mathlib.Core.Logic.{_↔_}
@@ -16,6 +16,7 @@ use Rattle.answers.specs.declared.Answer.{Answer}
 use Rattle.codes.specs.InputLaws.{row-same}
 use Rattle.reading.specs.Header.{variables, kindAt}
 use Rattle.circuit.specs.Whole.{ruleAnswer}
+use Rattle.circuit.specs.WholeLaws.{accepted}
 use Rattle.direct.specs.Inputs.{inputRow}
 use Rattle.direct.specs.InputLaws.{row-is, inputs-count, inputs-fit}
 use Rattle.direct.specs.Direct.{runAnswer, runResults}
@@ -46,6 +47,7 @@ use Rattle.foreign.specs.ReadLaws.{refused-answer, taken-answer, answer-number,
 use Rattle.demands.specs.Table.{AnsweredBy, FailsAt, numberOf, Headed, circuitRows, inputRows}
 use Rattle.demands.specs.TableLaws.{taken-by, refused-by}
 use Rattle.demands.specs.AnsweredLaws.{inputs-rows}
+use Rattle.demands.specs.Promises.{AsDirect, OwnAsDirect}
 
 -- by the table: rows 60 to 62
 pub table-headed : (f : List ℕ) → (headed f ≡ true) ↔ Headed f
@@ -129,6 +131,25 @@ module _ (s p : List ℕ) (bytes : Bytes s) (h : planAnswer s p .number ≡ 0) w
   own-number inputs room =
       run-number f inputs (ap (λ (a : Answer). a .number) own-read) room ∙ rows inputs room ∙ sym (direct.run-number (ruleAnswer s) s inputs (plan-accepted s p .0 h .0) room)
 
+  own-counts : (inputs : List ℕ) (room : ℕ) → circuitRunAnswer (fusedFile s p) inputs room .number ≡ 0
+      → circuitRunAnswer (fusedFile s p) inputs room ≡ success 0 (length (recordsOf s p)) (length (fusedFile s p)) 0 0
+  own-counts inputs room z =
+      let taken = ap (λ (a : Answer). a .number) own-read in
+      run-answer f inputs taken room (sym (run-number f inputs taken room) ∙ z) ∙ own-read
+
+  own-place : (inputs : List ℕ) (room : ℕ) → circuitRunAnswer (fusedFile s p) inputs room .place ≡ runAnswer (ruleAnswer s) s inputs room .place
+  own-place inputs room =
+      let taken = ap (λ (a : Answer). a .number) own-read in
+      let zero = plan-accepted s p .0 h .0 in
+      let e = rows inputs room in
+      split (eqb (inputRow s inputs room) 0)
+      (λ t. let z = eqb-true _ _ t in
+      ap (λ (a : Answer). a .place) (run-answer f inputs taken room (e ∙ z) ∙ own-read)
+      ∙ sym (ap (λ (a : Answer). a .place) (direct.run-answer (ruleAnswer s) s inputs zero room z ∙ accepted s zero .answer)))
+      (λ t. let n = eqb-false _ _ t in
+      ap (λ (a : Answer). a .place) (inputs-answer f inputs taken room (λ z. n (sym e ∙ z)))
+      ∙ sym (ap (λ (a : Answer). a .place) (direct.inputs-answer (ruleAnswer s) s inputs zero room n)))
+
   pub own-results : (inputs : List ℕ) → Words inputs → (results : List ℕ) → circuitRunResults (fusedFile s p) inputs results ≡ runResults (ruleAnswer s) s inputs results
   own-results inputs words results =
       let e = own-number inputs (length results) in
@@ -143,3 +164,16 @@ module _ (s p : List ℕ) (bytes : Bytes s) (h : planAnswer s p .number ≡ 0) w
       (λ t.
       let n = eqb-false _ _ t in
       refused-results f inputs results (λ z. n (sym e ∙ z)) ∙ sym (direct.refused-results (ruleAnswer s) s inputs results n))
+
+-- a run of one of them, whichever rule and plan it is of
+pub own-run : (f inputs : List ℕ) → Words inputs → (results : List ℕ) → OwnAsDirect f inputs results (circuitRunAnswer f inputs (length results)) (circuitRunResults f inputs results)
+own-run f inputs words results s p bytes h e =
+    subst⁻¹ (λ (g : List ℕ). AsDirect s inputs results (circuitRunAnswer g inputs (length results)) (circuitRunResults g inputs results)
+    × (circuitRunAnswer g inputs (length results) .number ≡ 0 → circuitRunAnswer g inputs (length results) ≡ success 0 (length (recordsOf s p)) (length g) 0 0)) e (
+      record {
+        number = own-number s p bytes h inputs (length results);
+        place = own-place s p bytes h inputs (length results);
+        results = own-results s p bytes h inputs words results;
+      },
+      λ z. own-counts s p bytes h inputs (length results) z,
+    )

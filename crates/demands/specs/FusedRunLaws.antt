@@ -21,9 +21,10 @@ use Rattle.gates.specs.PlainCircuit.{gatesOf, outputsOf}
 use Rattle.gates.specs.OutputLaws.{output-figures}
 use Rattle.gates.specs.StartLaws.{read-run}
 use Rattle.circuit.specs.Whole.{ruleAnswer}
+use Rattle.circuit.specs.WholeLaws.{accepted}
 use Rattle.direct.specs.Inputs.{inputRow}
 use Rattle.direct.specs.Direct.{runAnswer, runResults}
-use Rattle.direct.specs.DirectLaws.{rule-answer, inputs-answer, run-answer, answered-results, refused-results}
+use Rattle.direct.specs.DirectLaws.{rule-answer, inputs-answer, run-answer, answered-rule, answered-inputs, answered-results, refused-results}
 use Rattle.plan.specs.Rows.{planAnswer}
 use Rattle.plan.specs.AcceptedLaws.{plan-accepted}
 use Rattle.fused.specs.FusedCircuit.{fusedFile}
@@ -32,9 +33,11 @@ use Rattle.records.specs.FileFigures.{fileRecords}
 use Rattle.fused.specs.FitPlan.{fused-found}
 use Rattle.fused.specs.FusedFigures.{reads-earlier, output-earlier}
 use Rattle.fused.specs.Answers.{fusedAnswer, writeAnswer, writtenOver}
-use Rattle.fused.specs.AnswerLaws.{fused-refused, fused-taken, answer-bytes, write-refused, write-short, write-taken}
+use Rattle.fused.specs.AnswerLaws.{fused-refused, fused-taken, fused-plan, answer-bytes, write-refused, write-short, write-taken}
 use Rattle.running.specs.FusedRun.{fusedResults}
 use Rattle.running.specs.ResultLaws.{fused-results}
+use Rattle.demands.specs.Promises.{FusedAsDirect}
+use Rattle.demands.specs.AnsweredLaws.{fused-untouched}
 
 -- the plain circuit beside the direct run
 pub plain-figures : (s inputs : List ℕ) → IsRead (readRule s) → length inputs ≡ variables s → map (figureAt inputs (gatesOf s)) (outputsOf s) ≡ runRule s inputs
@@ -51,6 +54,14 @@ module _ (a b : Answer) (x : a .number ≡ 0) (y : b .number ≡ 0) (s inputs : 
       ap (λ (c : Answer). c .number) (run-answer a s inputs x room z) ∙ x ∙ sym y ∙ ap (λ (c : Answer). c .number) (sym (run-answer b s inputs y room z)))
       (λ t. let n = eqb-false _ _ t in
       ap (λ (c : Answer). c .number) (inputs-answer a s inputs x room n ∙ sym (inputs-answer b s inputs y room n)))
+
+  pub places-same : (room : ℕ) → a .place ≡ 0 → b .place ≡ 0 → runAnswer a s inputs room .place ≡ runAnswer b s inputs room .place
+  places-same room p q =
+      split (eqb (inputRow s inputs room) 0)
+      (λ t. let z = eqb-true _ _ t in
+      ap (λ (c : Answer). c .place) (run-answer a s inputs x room z) ∙ p ∙ sym q ∙ ap (λ (c : Answer). c .place) (sym (run-answer b s inputs y room z)))
+      (λ t. let n = eqb-false _ _ t in
+      ap (λ (c : Answer). c .place) (inputs-answer a s inputs x room n ∙ sym (inputs-answer b s inputs y room n)))
 
   pub results-same : (results : List ℕ) → runResults a s inputs results ≡ runResults b s inputs results
   results-same results =
@@ -87,23 +98,48 @@ module _ (s p : List ℕ) where
       let e = fused-refused s p n in
       rule-answer (fusedAnswer s p) s inputs (λ z. n (ap (λ (a : Answer). a .number) (sym e) ∙ z)) room ∙ e
 
+  -- writing that is answered with 0: an accepted plan, with its five counts
+  pub written-answer : (room : ℕ) → writeAnswer s p room .number ≡ 0 → (planAnswer s p .number ≡ 0) × (writeAnswer s p room ≡ fusedAnswer s p)
+  written-answer room h =
+      split (eqb (planAnswer s p .number) 0)
+      (λ t. let z = eqb-true _ _ t in
+      split (leb (length (fusedFile s p)) room)
+      (λ u. (z, write-taken s p room z (leb-true _ _ u)))
+      (λ u. absurd (omega (arith, number (write-short s p room z (leb-false _ _ u))))))
+      (λ t. let n = eqb-false _ _ t in absurd (n (number (write-refused s p room n))))
+    where
+      number : {a : Answer} → writeAnswer s p room ≡ a → a .number ≡ 0
+      number e = ap (λ (c : Answer). c .number) (sym e) ∙ h
+
+  -- so a run of it is as the direct run is, or refused as the plan is
+  pub same-run : Bytes s → (inputs : List ℕ) → Words inputs → (results : List ℕ)
+      → FusedAsDirect s p inputs results (runAnswer (fusedAnswer s p) s inputs (length results)) (fusedResults s p inputs results)
+  same-run bytes inputs words results =
+      record {
+        accepted = λ h. record {
+          number = same-number h inputs (length results);
+          place = places-same (fusedAnswer s p) (ruleAnswer s) (fused-zero h) (rule-zero h) s inputs (length results)
+              (fused-taken s p h .1) (ap (λ (a : Answer). a .place) (accepted s (rule-zero h) .answer));
+          results = same-results h bytes inputs words results;
+        };
+        counts = counts;
+        refused = λ n. (plan-number n inputs (length results), fused-untouched s p inputs results (λ z. n (fused-plan s p (answered-rule (fusedAnswer s p) s inputs (length results) z))));
+      }
+    where
+      counts : runAnswer (fusedAnswer s p) s inputs (length results) .number ≡ 0 → (room : ℕ) → writeAnswer s p room .number ≡ 0
+          → runAnswer (fusedAnswer s p) s inputs (length results) ≡ writeAnswer s p room
+      counts z room w =
+          let e = run-answer (fusedAnswer s p) s inputs (answered-rule (fusedAnswer s p) s inputs (length results) z) (length results)
+          (answered-inputs (fusedAnswer s p) s inputs (length results) z) in
+          e ∙ sym (written-answer room w .1)
+
   -- a file that is written: its bytes, and nothing after them
   pub file-written : (buffer : List ℕ) → writeAnswer s p (length buffer) .number ≡ 0
       → (take (writeAnswer s p (length buffer) .bytes) (writtenOver s p buffer) ≡ fusedFile s p)
       × (drop (writeAnswer s p (length buffer) .bytes) (writtenOver s p buffer) ≡ drop (length (fusedFile s p)) buffer)
   unfolding writtenOver over
   file-written buffer h =
+      let (taken, e) = written-answer (length buffer) h in
+      let bytes : writeAnswer s p (length buffer) .bytes ≡ length (fusedFile s p) = ap (λ (c : Answer). c .bytes) e ∙ answer-bytes s p taken in
       rw (eq-eqb _ _ h, bytes)
       (take-at (fusedFile s p) _ (length (fusedFile s p)) refl, drop-at (fusedFile s p) _ (length (fusedFile s p)) refl)
-    where
-      number : {a : Answer} → writeAnswer s p (length buffer) ≡ a → a .number ≡ 0
-      number e = ap (λ (c : Answer). c .number) (sym e) ∙ h
-
-      bytes : writeAnswer s p (length buffer) .bytes ≡ length (fusedFile s p)
-      bytes =
-          split (eqb (planAnswer s p .number) 0)
-          (λ t. let z = eqb-true _ _ t in
-          split (leb (length (fusedFile s p)) (length buffer))
-          (λ u. ap (λ (c : Answer). c .bytes) (write-taken s p (length buffer) z (leb-true _ _ u)) ∙ answer-bytes s p z)
-          (λ u. absurd (omega (arith, number (write-short s p (length buffer) z (leb-false _ _ u))))))
-          (λ t. let n = eqb-false _ _ t in absurd (n (number (write-refused s p (length buffer) n))))

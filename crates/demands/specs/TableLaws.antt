@@ -6,7 +6,7 @@ use mathlib.Core.Bool.{Bool, true, false, not, true≢false, _&&_}
 use mathlib.Core.List.{List, [], _∷_, map}
 use mathlib.Core.Logic.{_⊎_, inl, inr, _↔_}
 use lib.Dec.{eqb, ltb}
-use lib.ListN.{length}
+use lib.ListN.{length, getD, drop}
 use borrow.Author.Tests.{eqb-false, ltb-true, not-true}
 use Rattle.words.specs.Lists.{_∈_, every}
 use Rattle.words.specs.MemberLaws.{every-right}
@@ -113,21 +113,18 @@ refuses-with k l place a d h i f = go (h .listed)
     go (inl (z, _)) = absurd (number-some k l d i (sym n ∙ z))
     go (inr (j, _, e)) = e ∙ ap (λ (x : ℕ). refusal x place) (sym (ap (λ (b : Answer). b .number) e) ∙ n)
 
--- Tests beside facts: of each row the same number; the test holds exactly when the fact does, where the facts before it hold.
-abbrev pub Tells : List Row → List TableRow → Type 0
-Tells [] [] = Unit {0}
-Tells [] (r ∷ l) = ⊥
-Tells (t ∷ T) [] = ⊥
-Tells (t ∷ T) (row n fact ∷ l) = (t .refuses ≡ n) × ((t .holds ≡ true) ↔ fact) × (fact → Tells T l)
+-- Tests beside facts: of each row the test holds exactly when the fact does, where the facts before it hold.
+infixr 4 _then_
+pub data Tells : List Row → List TableRow → Type 1 where
+  none : Tells [] []
+  _then_ : {t : Row} {T : List Row} {n : ℕ} {fact : Type 0} {l : List TableRow} → ((t .holds ≡ true) ↔ fact) → (fact → Tells T l) → Tells (t ∷ T) (row n fact ∷ l)
 
-pub tests-tell : (T : List Row) (l : List TableRow) → Tells T l → Outcome l (firstFailing T)
-tests-tell [] [] h = inl (tt, refl)
-tests-tell [] (r ∷ l) h = absurd h
-tests-tell (t ∷ T) [] h = absurd h
-tests-tell (t ∷ T) (row n fact ∷ l) (e, (to, back), rest) =
+pub tests-tell : (T : List Row) (l : List TableRow) → map (λ (t : Row). t .refuses) T ≡ numbers l → Tells T l → Outcome l (firstFailing T)
+tests-tell [] [] e none = inl (tt, refl)
+tests-tell (t ∷ T) (row n fact ∷ l) e ((to, back) then rest) =
     split (t .holds)
-    (λ u. rw u (go (to u) (tests-tell T l (rest (to u)))))
-    (λ u. rw u (inr (0, omega arith, λ f. true≢false (sym (back f) ∙ u), e)))
+    (λ u. rw u (go (to u) (tests-tell T l (ap (drop 1) e) (rest (to u)))))
+    (λ u. rw u (inr (0, omega arith, λ f. true≢false (sym (back f) ∙ u), ap (λ (k : List ℕ). getD k 0 0) e)))
   where
     go : fact → Outcome l (firstFailing T) → Outcome (row n fact ∷ l) (firstFailing T)
     go f (inl (h, z)) = inl ((f, h), z)

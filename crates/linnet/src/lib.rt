@@ -1,4 +1,4 @@
-// The tool as C and Rust call it: each operation passed on, with the promise that it has.
+// The tool as C and Rust call it: each operation passed on, with the promise that it has, and with what the demands say of the very bytes and words that it is lent.
 use answers::Answer;
 use foreign::Part;
 use gates::MOST_CONDITIONS;
@@ -13,6 +13,7 @@ ghost use Rattle.fused.specs.Answers.{fusedAnswer, writeAnswer, writtenOver};
 ghost use Rattle.running.specs.FusedRun.{fusedResults};
 ghost use Rattle.direct.specs.Direct.{runAnswer, runResults};
 ghost use Rattle.foreign.specs.Foreign.{circuitAnswer, partStart, partLength, recordPart, circuitRunAnswer, circuitRunResults};
+ghost use Rattle.demands.specs.Promises.{RunWritten, AcceptedExactly, FileReadsEarlier, FileGives, FusedAsDirect, OwnAsDirect, OnlyArray};
 
 // Reads a rule: its refusal by rows 1 to 11, or its gates and their cost.
 #[no_mangle]
@@ -27,6 +28,7 @@ pub extern "C" fn linnet_read_rule(rule: &[u8]) -> Answer
 pub extern "C" fn linnet_run_rule(rule: &[u8], inputs: &[u32], results: &mut [u32]) -> Answer
     ensures answer { λ r. ⌜ r ≡ runAnswer (ruleAnswer (now (rule .entry))) (now (rule .entry)) (now (inputs .entry)) (length (now (results .entry))) ⌝ }
     ensures results { λ _. ⌜ now (results .exit) ≡ runResults (ruleAnswer (now (rule .entry))) (now (rule .entry)) (now (inputs .entry)) (now (results .entry)) ⌝ }
+    ensures written { λ r. ⌜ r .number ≡ 0 → RunWritten (now (rule .entry)) (now (inputs .entry)) (now (results .entry)) (now (results .exit)) ⌝ }
 {
     direct::run(rule, inputs, results)
 }
@@ -45,6 +47,7 @@ pub extern "C" fn linnet_show_plain(rule: &[u8]) -> Shown
     ensures answer { λ r. ⌜ r .answer ≡ ruleAnswer (now (rule .entry)) ⌝ }
     ensures rows { λ r. ⌜ r .rows ≡ builtQuads (now (rule .entry)) ⌝ }
     ensures needs { λ r. ⌜ setsIn (r .needs) ≡ builtNeeds (now (rule .entry)) ⌝ }
+    ensures once { λ r. ⌜ OnlyArray (r .needs) (builtNeeds (now (rule .entry))) ⌝ }
 {
     let mut shown = Shown {
         answer: answers::refused(0, 0),
@@ -69,7 +72,8 @@ pub extern "C" fn linnet_show_plain(rule: &[u8]) -> Shown
 // Operation 03: checks a plan for a rule.
 #[no_mangle]
 pub extern "C" fn linnet_check_plan(rule: &[u8], plan: &[u8]) -> Answer
-    ensures { λ r. ⌜ r ≡ planAnswer (now (rule .entry)) (now (plan .entry)) ⌝ }
+    ensures answer { λ r. ⌜ r ≡ planAnswer (now (rule .entry)) (now (plan .entry)) ⌝ }
+    ensures accepted { λ r. ⌜ AcceptedExactly (now (rule .entry)) (now (plan .entry)) r ⌝ }
 {
     checking::check_plan(rule, plan)
 }
@@ -79,6 +83,8 @@ pub extern "C" fn linnet_check_plan(rule: &[u8], plan: &[u8]) -> Answer
 pub extern "C" fn linnet_write_fused(rule: &[u8], plan: &[u8], out: &mut [u8]) -> Answer
     ensures answer { λ r. ⌜ r ≡ writeAnswer (now (rule .entry)) (now (plan .entry)) (length (now (out .entry))) ⌝ }
     ensures file { λ _. ⌜ now (out .exit) ≡ writtenOver (now (rule .entry)) (now (plan .entry)) (now (out .entry)) ⌝ }
+    ensures earlier { λ r. ⌜ r .number ≡ 0 → FileReadsEarlier (take (r .bytes) (now (out .exit))) ⌝ }
+    ensures figures { λ r. ⌜ r .number ≡ 0 → FileGives (now (rule .entry)) (take (r .bytes) (now (out .exit))) ⌝ }
 {
     writing::write(rule, plan, out)
 }
@@ -93,6 +99,7 @@ pub extern "C" fn linnet_run_fused(
 ) -> Answer
     ensures answer { λ r. ⌜ r ≡ runAnswer (fusedAnswer (now (rule .entry)) (now (plan .entry))) (now (rule .entry)) (now (inputs .entry)) (length (now (results .entry))) ⌝ }
     ensures results { λ _. ⌜ now (results .exit) ≡ fusedResults (now (rule .entry)) (now (plan .entry)) (now (inputs .entry)) (now (results .entry)) ⌝ }
+    ensures direct { λ r. ⌜ FusedAsDirect (now (rule .entry)) (now (plan .entry)) (now (inputs .entry)) (now (results .entry)) r (now (results .exit)) ⌝ }
 {
     running::run(rule, plan, inputs, results)
 }
@@ -120,6 +127,7 @@ pub extern "C" fn linnet_record(file: &[u8], wire: usize) -> Part
 pub extern "C" fn linnet_run_circuit(file: &[u8], inputs: &[u32], results: &mut [u32]) -> Answer
     ensures answer { λ r. ⌜ r ≡ circuitRunAnswer (now (file .entry)) (now (inputs .entry)) (length (now (results .entry))) ⌝ }
     ensures results { λ _. ⌜ now (results .exit) ≡ circuitRunResults (now (file .entry)) (now (inputs .entry)) (now (results .entry)) ⌝ }
+    ensures own { λ r. ⌜ OwnAsDirect (now (file .entry)) (now (inputs .entry)) (now (results .entry)) r (now (results .exit)) ⌝ }
 {
     foreign::run(file, inputs, results)
 }
