@@ -1,7 +1,7 @@
 -- Document 02, C-17, "Eight conditions": its sentences, each quoted above its theorems. s is a rule's bytes, p a plan's, f a circuit file's.
 use Prim.Native.Nat.{ℕ, _+_, _-_, _*_, _/_, _%_, _^_, _≤_, _<_}
 use native.Mathlib.Omega.{arith}
-use mathlib.Core.Path.{_≡_, refl}
+use mathlib.Core.Path.{_≡_, refl, sym, _∙_}
 use mathlib.Core.Bool.{true}
 use mathlib.Core.List.{List, _∷_, _++_, map}
 use mathlib.Core.Logic.{_↔_}
@@ -17,6 +17,7 @@ use Rattle.settings.specs.Settings.{settingOf, numberOf}
 use Rattle.settings.specs.Sets.{has, excludes, rests}
 use Rattle.settings.specs.Guards.{table}
 use Rattle.settings.specs.GuardLaws as guards
+use Rattle.settings.specs.HeldLaws as held
 use Rattle.reading.specs.Tree.{Block}
 use Rattle.reading.specs.Blocks.{readStatement}
 use Rattle.reading.specs.Rule.{readRule}
@@ -41,6 +42,7 @@ use Rattle.fused.specs.SizeBounds as sizes
 use Rattle.fused.specs.Answers.{fusedAnswer, writeAnswer}
 use Rattle.fused.specs.AnswerLaws as answers
 use Rattle.foreign.specs.Foreign.{circuitAnswer}
+use Rattle.demands.specs.Promises.{OneArray}
 use Rattle.demands.specs.EightLaws as laws
 use Rattle.demands.specs.VersionLaws as versions
 
@@ -70,6 +72,11 @@ any-precondition = preconditions.precondition-right
 pub own-precondition : (s : List ℕ) → ruleAnswer s .number ≡ 0 → (g j : ℕ) → j < 256
     → (has (getD (rulePreconditions s) g 0) j ≡ true) ↔ Needed (gatesOf s) (wantedOf s) (settingOf (conditions (gatesOf s)) j) g
 own-precondition = laws.own-precondition
+
+-- (and where code holds the preconditions in words, these are fixed by them;)
+pub one-array : (sets : List ℕ) → OneArray sets
+unfolding OneArray
+one-array sets a b m n f g e h = held.sets-once a b 256 m n f g (e ∙ sym h)
 
 -- and a guard's table has, at what its wires hold, the bit of the set;
 pub any-guard : (n s j : ℕ) → j < 2 ^ n → has (table n s) (numberOf (rests n s) (bit j)) ≡ has s j

@@ -106,14 +106,17 @@ file-fixed = runs.file-written
 -- Demand 3. "A plan is accepted exactly when it is laid out, names existing gates once, joins one costly operation a group, joins no two gates that some setting
 -- needs together, and leaves no group waiting for itself, conditions of joined gates counted." (Document 02, C-15: and has its groups in order.)
 pub plan-accepted : (s p : List ℕ) → AcceptedExactly s p (planAnswer s p)
+unfolding AcceptedExactly
 plan-accepted = laws.plan-accepted
 
 -- "Then every record reads only earlier wires,"
 pub reads-earlier : (s p : List ℕ) → Bytes s → planAnswer s p .number ≡ 0 → FileReadsEarlier (fusedFile s p)
+unfolding FileReadsEarlier
 reads-earlier s p bytes h = runs.file-earlier s p h bytes
 
 -- "and the file's own records"
 pub file-run : (s p : List ℕ) → Bytes s → planAnswer s p .number ≡ 0 → FileGives s (fusedFile s p)
+unfolding FileGives
 file-run = figures.file-result
 
 -- "and every run of it give every variable the figure of a direct run" (on inputs that are words, as all that arrive are).

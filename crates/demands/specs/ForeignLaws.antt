@@ -167,6 +167,7 @@ module _ (s p : List ℕ) (bytes : Bytes s) (h : planAnswer s p .number ≡ 0) w
 
 -- a run of one of them, whichever rule and plan it is of
 pub own-run : (f inputs : List ℕ) → Words inputs → (results : List ℕ) → OwnAsDirect f inputs results (circuitRunAnswer f inputs (length results)) (circuitRunResults f inputs results)
+unfolding OwnAsDirect
 own-run f inputs words results s p bytes h e =
     subst⁻¹ (λ (g : List ℕ). AsDirect s inputs results (circuitRunAnswer g inputs (length results)) (circuitRunResults g inputs results)
     × (circuitRunAnswer g inputs (length results) .number ≡ 0 → circuitRunAnswer g inputs (length results) ≡ success 0 (length (recordsOf s p)) (length g) 0 0)) e (

@@ -22,3 +22,4 @@ pub mod C15
 pub mod C16
 pub mod C17
 pub mod C18
+pub mod PromiseLaws

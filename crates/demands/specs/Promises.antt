@@ -1,6 +1,6 @@
 -- Document 01, demand 3 and "Refusals by place": what the exported operations promise of the very bytes and words that they are lent (crates/linnet/src/lib.rt), and the theorems
 -- of Demands.antt and C11.antt say of the definitions. s is a rule's bytes, p a plan's, f a circuit file's; a is an answer, before and after are result places.
-use Prim.Native.Nat.{ℕ, _^_, _<_}
+use Prim.Native.Nat.{ℕ, _<_}
 use mathlib.Core.Path.{_≡_}
 use mathlib.Core.Bool.{true, false}
 use mathlib.Core.List.{List}
@@ -10,6 +10,7 @@ use Rattle.words.specs.Numbers.{Bytes}
 use Rattle.answers.specs.Answers.{success}
 use Rattle.answers.specs.declared.Answer.{Answer}
 use Rattle.codes.specs.Inputs.{FiguresFit}
+use Rattle.bitsets.specs.Words.{Fit}
 use Rattle.settings.specs.Held.{setsIn}
 use Rattle.reading.specs.Header.{variables, kindAt, workingAt}
 use Rattle.gates.specs.Running.{runRule}
@@ -37,16 +38,16 @@ pub record FileWritten (f inputs before after : List ℕ) : Type 0 where
   pub places : length after ≡ length before
 
 -- "A plan is accepted exactly when it is laid out, names existing gates once, .." (demand 3), of the answer of its check
-abbrev pub AcceptedExactly : List ℕ → List ℕ → Answer → Type 0
+unfoldable pub AcceptedExactly : List ℕ → List ℕ → Answer → Type 0
 AcceptedExactly s p a = (a .number ≡ 0) ↔ ((ruleAnswer s .number ≡ 0) × Acceptable s p)
 
 -- "Then every record reads only earlier wires,"
-abbrev pub FileReadsEarlier : List ℕ → Type 0
+unfoldable pub FileReadsEarlier : List ℕ → Type 0
 FileReadsEarlier f = ReadsEarlier (fileRecords f)
 
 -- "and the file's own records .. give every variable the figure of a direct run": worked out record by record, on inputs of their variables' kinds (row 41 refuses others), the
 -- bytes f give every result variable (document 02, C-13) of the rule s the figure of its direct run
-abbrev pub FileGives : List ℕ → List ℕ → Type 0
+unfoldable pub FileGives : List ℕ → List ℕ → Type 0
 FileGives s f =
     (inputs : List ℕ) → FiguresFit (variables s) (kindAt s) inputs → length inputs ≡ variables s → (x : ℕ) → x < variables s → workingAt s x ≡ false
     → getD (fileFigures f inputs) x 0 ≡ getD (runRule s inputs) x 0
@@ -68,11 +69,11 @@ pub record FusedAsDirect (s p inputs before : List ℕ) (a : Answer) (after : Li
 
 -- document 02, C-11: "Every file that our writer makes is read and gives the figures of its rule": a run of f, where f is the file of any rule and accepted plan, is as the direct
 -- run of that rule is, and where it is answered with 0 it counts the file's wires and bytes
-abbrev pub OwnAsDirect : (f inputs before : List ℕ) → Answer → List ℕ → Type 0
+unfoldable pub OwnAsDirect : (f inputs before : List ℕ) → Answer → List ℕ → Type 0
 OwnAsDirect f inputs before a after =
     (s p : List ℕ) → Bytes s → planAnswer s p .number ≡ 0 → f ≡ fusedFile s p
     → AsDirect s inputs before a after × (a .number ≡ 0 → a ≡ success 0 (length (recordsOf s p)) (length f) 0 0)
 
--- the words of an array that holds these sets (document 02, C-17: a set of 256 settings is four words of 64 bits): no other array of as many words holds them
-abbrev pub OnlyArray : List ℕ → List ℕ → Type 0
-OnlyArray words sets = (other : List ℕ) → length other ≡ length words → ((i : ℕ) → i < length other → getD other i 0 < 2 ^ 64) → setsIn other ≡ sets → other ≡ words
+-- document 02, C-17: "a precondition is a set of 256 settings", in code four words of 64 bits: sets leave one possible array of 1,024 words, those of 256 gates
+unfoldable pub OneArray : List ℕ → Type 0
+OneArray sets = (a b : List ℕ) → length a ≡ 1024 → length b ≡ 1024 → Fit a → Fit b → setsIn a ≡ sets → setsIn b ≡ sets → a ≡ b

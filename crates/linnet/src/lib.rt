@@ -13,7 +13,7 @@ ghost use Rattle.fused.specs.Answers.{fusedAnswer, writeAnswer, writtenOver};
 ghost use Rattle.running.specs.FusedRun.{fusedResults};
 ghost use Rattle.direct.specs.Direct.{runAnswer, runResults};
 ghost use Rattle.foreign.specs.Foreign.{circuitAnswer, partStart, partLength, recordPart, circuitRunAnswer, circuitRunResults};
-ghost use Rattle.demands.specs.Promises.{RunWritten, AcceptedExactly, FileReadsEarlier, FileGives, FusedAsDirect, OwnAsDirect, OnlyArray};
+ghost use Rattle.demands.specs.Promises.{RunWritten, AcceptedExactly, FileReadsEarlier, FileGives, FusedAsDirect, OwnAsDirect, OneArray};
 
 // Reads a rule: its refusal by rows 1 to 11, or its gates and their cost.
 #[no_mangle]
@@ -28,7 +28,7 @@ pub extern "C" fn linnet_read_rule(rule: &[u8]) -> Answer
 pub extern "C" fn linnet_run_rule(rule: &[u8], inputs: &[u32], results: &mut [u32]) -> Answer
     ensures answer { λ r. ⌜ r ≡ runAnswer (ruleAnswer (now (rule .entry))) (now (rule .entry)) (now (inputs .entry)) (length (now (results .entry))) ⌝ }
     ensures results { λ _. ⌜ now (results .exit) ≡ runResults (ruleAnswer (now (rule .entry))) (now (rule .entry)) (now (inputs .entry)) (now (results .entry)) ⌝ }
-    ensures written { λ r. ⌜ r .number ≡ 0 → RunWritten (now (rule .entry)) (now (inputs .entry)) (now (results .entry)) (now (results .exit)) ⌝ }
+    ensures written { λ r. ⌜ (r .number ≡ 0 → RunWritten (now (rule .entry)) (now (inputs .entry)) (now (results .entry)) (now (results .exit))) ⌝ }
 {
     direct::run(rule, inputs, results)
 }
@@ -47,7 +47,7 @@ pub extern "C" fn linnet_show_plain(rule: &[u8]) -> Shown
     ensures answer { λ r. ⌜ r .answer ≡ ruleAnswer (now (rule .entry)) ⌝ }
     ensures rows { λ r. ⌜ r .rows ≡ builtQuads (now (rule .entry)) ⌝ }
     ensures needs { λ r. ⌜ setsIn (r .needs) ≡ builtNeeds (now (rule .entry)) ⌝ }
-    ensures once { λ r. ⌜ OnlyArray (r .needs) (builtNeeds (now (rule .entry))) ⌝ }
+    ensures once { λ _. ⌜ OneArray (builtNeeds (now (rule .entry))) ⌝ }
 {
     let mut shown = Shown {
         answer: answers::refused(0, 0),
@@ -83,8 +83,8 @@ pub extern "C" fn linnet_check_plan(rule: &[u8], plan: &[u8]) -> Answer
 pub extern "C" fn linnet_write_fused(rule: &[u8], plan: &[u8], out: &mut [u8]) -> Answer
     ensures answer { λ r. ⌜ r ≡ writeAnswer (now (rule .entry)) (now (plan .entry)) (length (now (out .entry))) ⌝ }
     ensures file { λ _. ⌜ now (out .exit) ≡ writtenOver (now (rule .entry)) (now (plan .entry)) (now (out .entry)) ⌝ }
-    ensures earlier { λ r. ⌜ r .number ≡ 0 → FileReadsEarlier (take (r .bytes) (now (out .exit))) ⌝ }
-    ensures figures { λ r. ⌜ r .number ≡ 0 → FileGives (now (rule .entry)) (take (r .bytes) (now (out .exit))) ⌝ }
+    ensures earlier { λ r. ⌜ (r .number ≡ 0 → FileReadsEarlier (take (r .bytes) (now (out .exit)))) ⌝ }
+    ensures figures { λ r. ⌜ (r .number ≡ 0 → FileGives (now (rule .entry)) (take (r .bytes) (now (out .exit)))) ⌝ }
 {
     writing::write(rule, plan, out)
 }
