@@ -10,6 +10,8 @@ pub mod WorkingLaws
 pub mod KindLaws
 pub mod BatchLaws
 pub mod EightLaws
+pub mod GuardTables
+pub mod GuardTableLaws
 pub mod VersionLaws
 pub mod Demands
 pub mod Sentences
