@@ -7,8 +7,7 @@ use mathlib.Core.List.{List}
 use mathlib.Core.Logic.{_↔_}
 use lib.ListN.{length, getD, take}
 use lib.Dec.{ltb, leb, eqb}
-use lib.Seq.{getD-take}
-use borrow.Author.Tests.{eqb-true, eqb-false, leb-true, leb-false, lt-ltb, le-leb}
+use borrow.Author.Tests.{eqb-true, eqb-false, leb-true, leb-false}
 use Rattle.words.specs.TestLaws.{split}
 use Rattle.codes.specs.Codes.{codeOf, entryOf, sameKind}
 use Rattle.codes.specs.declared.Kind.{Kind}
@@ -17,19 +16,20 @@ use Rattle.codes.specs.declared.Operation.{Operation}
 use Rattle.codes.specs.declared.Form.{Form}
 use Rattle.codes.specs.declared.Form.the-variants.{End, Assign, Skip, Branch, Variable, Word, Bit, Apply, Unknown}
 use Rattle.answers.specs.Answers.{refusal}
-use Rattle.answers.specs.Parsing.{Parsed, parsed, refused, stepOf, unless, _>>=_, readMark}
+use Rattle.answers.specs.Parsing.{Parsed, parsed, refused, stepOf, unless, _>>=_}
 use Rattle.answers.specs.declared.Answer.{Answer}
 use Rattle.reading.specs.Limits.{mostVariables, lastKind, deepest, nested}
-use Rattle.reading.specs.Header.{mark, kindOf, workingOf, variables, kindAt, workingAt, readCount, readKinds, readHeader}
+use Rattle.reading.specs.Header.{mark, kindOf, workingOf, variables, kindAt, workingAt, readKinds}
 use Rattle.reading.specs.Tree.{Expr, Block}
 use Rattle.reading.specs.Expressions.{readVariable, readWord, readBit, secondWith, operationWith, exprForm, exprWith, readExpr}
 use Rattle.reading.specs.Blocks.{readAssign, branchWith, statementForm, statementWith, closedOr, blockWith, blockFuel, readBlock}
 use Rattle.reading.specs.Rule.{readRule}
-use Rattle.reading.specs.RuleLaws.{kinds-wrong, kinds-more, rule-is}
+use Rattle.reading.specs.RuleLaws.{kinds-wrong, rule-is}
 use Rattle.gates.specs.Limits.{mostGates, mostConditions}
 use Rattle.gates.specs.Gates.{conditions}
 use Rattle.gates.specs.PlainCircuit.{gatesOf}
 use Rattle.circuit.specs.Whole.{wholeWithin, afterBytes, ruleAnswer}
+use Rattle.demands.specs.HeaderLaws.{answer-bytes, kinds-passed, header-is}
 
 -- what a kind byte says
 module _ (s : List ℕ) (x : ℕ) where
@@ -172,11 +172,6 @@ module _ (place : ℕ) where
         test (ltb at (length s)) 4 (length s) _ (λ e q. omega arith)
         (test (leb (getD s at 0) lastKind) 3 at _ (λ e q. omega arith) (kinds-not n (at + 1) (omega arith)))
 
--- the answer of a rule that is refused byte by byte
-pub answer-bytes : (s : List ℕ) {number place : ℕ} → readRule s ≡ refused number place → ruleAnswer s ≡ refusal number place
-unfolding ruleAnswer
-answer-bytes s e = rw e
-
 whole-not : (s : List ℕ) → wholeWithin mostGates mostConditions (gatesOf s) (length s) .number ≡ 3 → ⊥
 unfolding wholeWithin
 whole-not s h =
@@ -194,44 +189,18 @@ answer-elsewhere s place h = go (readRule s) h
     go (parsed b n) h e = whole-not s (ap (λ (a : Answer). a .number) e)
     go (refused number p) h e = h (ap (λ (a : Answer). a .number) e) (ap (λ (a : Answer). a .place) e)
 
--- kind bytes that stand there and are in range are passed over
-kinds-passed : (x n : ℕ) (s : List ℕ) (at : ℕ) → x ≤ n → at + x ≤ length s → ((y : ℕ) → y < x → getD s (at + y) 0 ≤ lastKind)
-    → readKinds n s at ≡ readKinds (n - x) s (at + x)
-kinds-passed zero n s at few inside known = let a : n - 0 ≡ n = omega arith in let b : at + 0 ≡ at = omega arith in rw (a, b)
-kinds-passed (suc x) n s at few inside known =
-    let a : n - x - 1 ≡ n - suc x = omega arith in
-    let b : at + x + 1 ≡ at + suc x = omega arith in
-    kinds-passed x n s at (omega arith) (omega arith) (λ y l. known y (omega arith))
-    ∙ rw (a, b) at (kinds-more s (at + x) (n - x) (omega arith) (omega arith) (known x (omega arith)))
-
 -- a rule of a right size, with its mark and version and V in range
 module _ (s : List ℕ) (lo : 6 ≤ length s) (hi : length s ≤ 4096) (marked : take 5 s ≡ mark) (some : 1 ≤ variables s) (few : variables s ≤ mostVariables) where
-  byte-is : (i : ℕ) → i < 5 → getD s i 0 ≡ getD mark i 0
-  byte-is i l = sym (getD-take 5 s i 0 l) ∙ ap (λ (m : List ℕ). getD m i 0) marked
-
-  header-is : readHeader s ≡ readKinds (variables s) s 6
-  unfolding readHeader readMark readCount
-  header-is =
-      rw (
-        byte-is 0 (omega arith),
-        byte-is 1 (omega arith),
-        byte-is 2 (omega arith),
-        byte-is 3 (omega arith),
-        byte-is 4 (omega arith),
-        lt-ltb 0 (variables s) (omega arith),
-        le-leb _ _ few,
-      )
-
   module _ (x : ℕ) (one : x < variables s) (there : 6 + x < length s) (known : (y : ℕ) → y < x → getD s (6 + y) 0 ≤ lastKind) where
     kind-wrong : lastKind < getD s (6 + x) 0 → readRule s ≡ refused 3 (6 + x)
     kind-wrong h =
         rule-is s lo hi
-        ∙ rw (header-is ∙ kinds-passed x (variables s) s 6 (omega arith) (omega arith) known ∙ kinds-wrong s (6 + x) (variables s - x) (omega arith) there h)
+        ∙ rw (header-is s marked some few ∙ kinds-passed x (variables s) s 6 (omega arith) (omega arith) known ∙ kinds-wrong s (6 + x) (variables s - x) (omega arith) there h)
 
     kind-right : getD s (6 + x) 0 ≤ lastKind → Elsewhere (6 + x) (readRule s)
     kind-right h =
         let more : (y : ℕ) → y < suc x → getD s (6 + y) 0 ≤ lastKind = λ y l. split (eqb y x) (λ t. rw (eqb-true y x t) h) (λ t. known y (let n = eqb-false y x t in omega arith)) in
-        let kinds = header-is ∙ kinds-passed (suc x) (variables s) s 6 (omega arith) (omega arith) more in
+        let kinds = header-is s marked some few ∙ kinds-passed (suc x) (variables s) s 6 (omega arith) (omega arith) more in
         rw (rule-is s lo hi, kinds)
         (after (6 + x) (readKinds (variables s - suc x) s (6 + suc x)) _ (kinds-not (6 + x) s (variables s - suc x) (6 + suc x) (omega arith))
         (λ u at. after (6 + x) (readBlock s nested at) _ (block-elsewhere (6 + x) s nested at) (λ b n. test (6 + x) (leb (length s) n) 9 n _ (λ e q. omega arith) tt)))
@@ -239,5 +208,5 @@ module _ (s : List ℕ) (lo : 6 ≤ length s) (hi : length s ≤ 4096) (marked :
     pub kind-refused : (ruleAnswer s ≡ refusal 3 (6 + x)) ↔ (lastKind < getD s (6 + x) 0)
     kind-refused = (
       λ e. split (leb (getD s (6 + x) 0) lastKind) (λ t. absurd (answer-elsewhere s (6 + x) (kind-right (leb-true _ _ t)) e)) (λ t. leb-false _ _ t),
-      λ h. answer-bytes s (kind-wrong h),
+      λ h. answer-bytes s (ap stepOf (sym (kind-wrong h))),
     )

@@ -7,9 +7,12 @@ pub mod SentenceLaws
 pub mod OrderLaws
 pub mod ForeignLaws
 pub mod WorkingLaws
+pub mod HeaderLaws
 pub mod KindLaws
 pub mod BatchLaws
 pub mod EightLaws
+pub mod NestedIfs
+pub mod NestedIfLaws
 pub mod GuardTables
 pub mod GuardTableLaws
 pub mod VersionLaws
