@@ -8,6 +8,7 @@ pub mod OrderLaws
 pub mod ForeignLaws
 pub mod WorkingLaws
 pub mod HeaderLaws
+pub mod RefusalLaws
 pub mod KindLaws
 pub mod BatchLaws
 pub mod EightLaws
