@@ -4,24 +4,47 @@ use native.Mathlib.Omega.{arith}
 use mathlib.Core.Path.{_≡_, sym, ap, _∙_}
 use mathlib.Core.List.{List}
 use lib.ListN.{length, getD, take}
+use lib.Dec.{leb}
 use lib.Seq.{getD-take}
-use borrow.Author.Tests.{lt-ltb, le-leb}
+use borrow.Author.Tests.{lt-ltb, le-leb, leb-true, leb-false}
+use Rattle.words.specs.TestLaws.{split}
 use Rattle.answers.specs.Answers.{refusal}
-use Rattle.answers.specs.Parsing.{parsed, stepOf, readMark}
+use Rattle.answers.specs.Parsing.{Parsed, parsed, refused, stepOf, readMark}
+use Rattle.answers.specs.declared.Answer.{Answer}
 use Rattle.answers.specs.declared.Step.{Step}
 use Rattle.answers.specs.declared.Step.the-variants.{Refused}
 use Rattle.reading.specs.Limits.{mostVariables, lastKind}
 use Rattle.reading.specs.Header.{mark, variables, HasKinds, readCount, readKinds, readHeader}
+use Rattle.reading.specs.Tree.{Block}
 use Rattle.reading.specs.Rule.{readRule}
 use Rattle.reading.specs.RuleLaws.{kinds-none, kinds-more}
 use Rattle.gates.specs.Limits.{mostGates, mostConditions}
+use Rattle.gates.specs.Gates.{Gates, conditions}
 use Rattle.gates.specs.PlainCircuit.{gatesOf}
 use Rattle.circuit.specs.Whole.{wholeWithin, afterBytes, ruleAnswer}
+use Rattle.circuit.specs.WholeLaws.{whole-gates, whole-conditions, whole-success}
 
 -- the answer of a rule that is refused byte by byte
 pub answer-bytes : (s : List ℕ) {number place : ℕ} → Refused number place ≡ stepOf (readRule s) → ruleAnswer s ≡ refusal number place
 unfolding ruleAnswer
 answer-bytes s e = ap (λ (r : Step). afterBytes r (wholeWithin mostGates mostConditions (gatesOf s) (length s))) (sym e)
+
+-- and what such an answer says of its reading: rows 10 and 11 are above 9
+pub answer-refused : (s : List ℕ) (number place : ℕ) → 1 ≤ number → number ≤ 9 → ruleAnswer s ≡ refusal number place → readRule s ≡ refused number place
+unfolding ruleAnswer
+answer-refused s number place lo hi = go (readRule s)
+  where
+    whole : (C : Gates) → wholeWithin mostGates mostConditions C (length s) .number ≡ number → ⊥
+    whole C h =
+        split (leb (length C) mostGates)
+        (λ t. split (leb (length (conditions C)) mostConditions)
+        (λ u. let z : 0 ≡ number = sym (ap (λ (a : Answer). a .number) (whole-success mostGates mostConditions C (length s) (leb-true _ _ t) (leb-true _ _ u))) ∙ h in omega arith)
+        (λ u. let z : 11 ≡ number = sym (ap (λ (a : Answer). a .number) (whole-conditions mostGates mostConditions C (length s) (leb-true _ _ t) (leb-false _ _ u))) ∙ h in omega arith))
+        (λ t. let z : 10 ≡ number = sym (ap (λ (a : Answer). a .number) (whole-gates mostGates mostConditions C (length s) (leb-false _ _ t))) ∙ h in omega arith)
+
+    go : (m : Parsed Block) → afterBytes (stepOf m) (wholeWithin mostGates mostConditions (gatesOf s) (length s)) ≡ refusal number place → m ≡ refused number place
+    go (parsed b n) e = absurd (whole (gatesOf s) (ap (λ (a : Answer). a .number) e))
+    go (refused k p) e = let x : k ≡ number = ap (λ (a : Answer). a .number) e in let y : p ≡ place = ap (λ (a : Answer). a .place) e in rw (x, y)
 
 -- kind bytes that stand there and are in range are passed over
 pub kinds-passed : (x n : ℕ) (s : List ℕ) (at : ℕ) → x ≤ n → at + x ≤ length s → ((y : ℕ) → y < x → getD s (at + y) 0 ≤ lastKind)

@@ -1,7 +1,7 @@
 -- Laws for document 02, C-13: what each kind byte says, and that 3 is the answer at a kind byte exactly when it is above 03. Assumes nothing.
 use Prim.Native.Nat.{ℕ, zero, suc, _+_, _-_, _≤_, _<_}
 use native.Mathlib.Omega.{arith}
-use mathlib.Core.Path.{_≡_, refl, sym, ap, _∙_}
+use mathlib.Core.Path.{_≡_, refl, sym, ap, subst, _∙_}
 use mathlib.Core.Bool.{Bool, true, false}
 use mathlib.Core.List.{List}
 use mathlib.Core.Logic.{_↔_}
@@ -15,8 +15,7 @@ use Rattle.codes.specs.declared.Kind.the-variants as kind
 use Rattle.codes.specs.declared.Form.{Form}
 use Rattle.codes.specs.declared.Form.the-variants.{End, Assign, Skip, Branch, Variable, Word, Bit, Apply, Unknown}
 use Rattle.answers.specs.Answers.{refusal}
-use Rattle.answers.specs.Parsing.{Parsed, parsed, refused, stepOf, unless}
-use Rattle.answers.specs.declared.Answer.{Answer}
+use Rattle.answers.specs.Parsing.{Parsed, refused, stepOf, unless}
 use Rattle.reading.specs.Limits.{mostVariables, lastKind, deepest, nested}
 use Rattle.reading.specs.Header.{mark, kindOf, workingOf, variables, kindAt, workingAt, readKinds}
 use Rattle.reading.specs.Tree.{Block}
@@ -24,11 +23,8 @@ use Rattle.reading.specs.Expressions.{readExpr}
 use Rattle.reading.specs.Blocks.{readAssign, branchWith, statementForm, statementWith, closedOr, blockWith, blockFuel, readBlock}
 use Rattle.reading.specs.Rule.{readRule}
 use Rattle.reading.specs.RuleLaws.{kinds-wrong, rule-is}
-use Rattle.gates.specs.Limits.{mostGates, mostConditions}
-use Rattle.gates.specs.Gates.{conditions}
-use Rattle.gates.specs.PlainCircuit.{gatesOf}
-use Rattle.circuit.specs.Whole.{wholeWithin, afterBytes, ruleAnswer}
-use Rattle.demands.specs.HeaderLaws.{answer-bytes, kinds-passed, header-is}
+use Rattle.circuit.specs.Whole.{ruleAnswer}
+use Rattle.demands.specs.HeaderLaws.{answer-bytes, answer-refused, kinds-passed, header-is}
 use Rattle.demands.specs.RefusalLaws.{Refuses, test, after, refuses-too, InExpr, expr-row}
 
 -- what a kind byte says
@@ -118,24 +114,6 @@ kinds-elsewhere s place (suc n) at l =
     test (Elsewhere place) (ltb at (length s)) 4 (length s) _ (λ f e q. omega arith)
     (λ t. test (Elsewhere place) (leb (getD s at 0) lastKind) 3 at _ (λ f e q. omega arith) (λ u. kinds-elsewhere s place n (at + 1) (omega arith)))
 
--- rows 10 and 11 are not 3
-whole-not : (s : List ℕ) → wholeWithin mostGates mostConditions (gatesOf s) (length s) .number ≡ 3 → ⊥
-unfolding wholeWithin
-whole-not s h =
-    split (leb (length (gatesOf s)) mostGates)
-    (λ t. split (leb (length (conditions (gatesOf s))) mostConditions)
-    (λ u. let z : 0 ≡ 3 = rw (t, u) at h in omega arith)
-    (λ u. let z : 11 ≡ 3 = rw (t, u) at h in omega arith))
-    (λ t. let z : 10 ≡ 3 = rw t at h in omega arith)
-
-answer-elsewhere : (s : List ℕ) (place : ℕ) → Refuses (Elsewhere place) (readRule s) → ruleAnswer s ≡ refusal 3 place → ⊥
-unfolding ruleAnswer
-answer-elsewhere s place h = go (readRule s) h
-  where
-    go : (m : Parsed Block) → Refuses (Elsewhere place) m → afterBytes (stepOf m) (wholeWithin mostGates mostConditions (gatesOf s) (length s)) ≡ refusal 3 place → ⊥
-    go (parsed b n) h e = whole-not s (ap (λ (a : Answer). a .number) e)
-    go (refused number p) h e = h (ap (λ (a : Answer). a .number) e) (ap (λ (a : Answer). a .place) e)
-
 -- a rule of a right size, with its mark and version and V in range
 module _ (s : List ℕ) (lo : 6 ≤ length s) (hi : length s ≤ 4096) (marked : take 5 s ≡ mark) (some : 1 ≤ variables s) (few : variables s ≤ mostVariables) where
   module _ (x : ℕ) (one : x < variables s) (there : 6 + x < length s) (known : (y : ℕ) → y < x → getD s (6 + y) 0 ≤ lastKind) where
@@ -155,6 +133,6 @@ module _ (s : List ℕ) (lo : 6 ≤ length s) (hi : length s ≤ 4096) (marked :
 
     pub kind-refused : (ruleAnswer s ≡ refusal 3 (6 + x)) ↔ (lastKind < getD s (6 + x) 0)
     kind-refused = (
-      λ e. split (leb (getD s (6 + x) 0) lastKind) (λ t. absurd (answer-elsewhere s (6 + x) (kind-right (leb-true _ _ t)) e)) (λ t. leb-false _ _ t),
+      λ e. split (leb (getD s (6 + x) 0) lastKind) (λ t. absurd (subst (Refuses (Elsewhere (6 + x))) (answer-refused s 3 (6 + x) (omega arith) (omega arith) e) (kind-right (leb-true _ _ t)) refl refl)) (λ t. leb-false _ _ t),
       λ h. answer-bytes s (ap stepOf (sym (kind-wrong h))),
     )

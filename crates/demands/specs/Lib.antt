@@ -14,6 +14,7 @@ pub mod BatchLaws
 pub mod EightLaws
 pub mod NestedIfs
 pub mod NestedIfLaws
+pub mod NinthIfLaws
 pub mod GuardTables
 pub mod GuardTableLaws
 pub mod VersionLaws
