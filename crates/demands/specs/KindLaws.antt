@@ -131,8 +131,11 @@ module _ (s : List ℕ) (lo : 6 ≤ length s) (hi : length s ≤ 4096) (marked :
         (λ u at p. after (Elsewhere (6 + x)) (readBlock s nested at) _ (refuses-too Late (Elsewhere (6 + x)) (λ k p l e q. omega arith) (readBlock s nested at) (block-late s nested at))
         (λ b n q. test (Elsewhere (6 + x)) (leb (length s) n) 9 n _ (λ f e q. omega arith) (λ t. tt))))
 
+    kind-taken : getD s (6 + x) 0 ≤ lastKind → ruleAnswer s ≡ refusal 3 (6 + x) → ⊥
+    kind-taken h e = subst (Refuses (Elsewhere (6 + x))) (answer-refused s 3 (6 + x) (omega arith) (omega arith) e) (kind-right h) refl refl
+
     pub kind-refused : (ruleAnswer s ≡ refusal 3 (6 + x)) ↔ (lastKind < getD s (6 + x) 0)
     kind-refused = (
-      λ e. split (leb (getD s (6 + x) 0) lastKind) (λ t. absurd (subst (Refuses (Elsewhere (6 + x))) (answer-refused s 3 (6 + x) (omega arith) (omega arith) e) (kind-right (leb-true _ _ t)) refl refl)) (λ t. leb-false _ _ t),
+      λ e. split (leb (getD s (6 + x) 0) lastKind) (λ t. absurd (kind-taken (leb-true _ _ t) e)) (λ t. leb-false _ _ t),
       λ h. answer-bytes s (ap stepOf (sym (kind-wrong h))),
     )

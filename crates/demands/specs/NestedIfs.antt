@@ -12,14 +12,14 @@ use Rattle.reading.specs.Format.{exprBytes, statementBytes, blockBytes, kindIn,
 abbrev pub WellExpr : List ℕ → Expr → Kind → Type 0
 WellExpr kinds e k = Typed (length kinds) (kindIn kinds) e k × WordsFit e k × Shallow e k
 
--- a statement and a block that may stand where n ifs are around them
+-- a statement and a block that may stand where n ifs are around them: their expressions are so, and with those n their ifs nest to 8 at most
 abbrev pub WellStatement : List ℕ → ℕ → Statement → Type 0
 WellStatement kinds n t = EachExprIn (length kinds) (kindIn kinds) (WellExpr kinds) t × (n + nestingIn t ≤ 8)
 
 abbrev pub WellBlock : List ℕ → ℕ → Block → Type 0
 WellBlock kinds n b = EachExpr (length kinds) (kindIn kinds) (WellExpr kinds) b × (n + nesting b ≤ 8)
 
--- from the block's first byte on: past a statement that stays outside, into the first block of an if, or past it into its second
+-- n is how many ifs are around the place. From the rule's first statement on, one step after another: past a statement, into the first block of an if, past that block into its second
 pub data Leads (kinds : List ℕ) : ℕ → List ℕ → Type 0 where
   outset : Leads kinds 0 []
   past : {n : ℕ} {pre : List ℕ} → Leads kinds n pre → (t : Statement) → WellStatement kinds n t → Leads kinds n (pre ++ statementBytes t)

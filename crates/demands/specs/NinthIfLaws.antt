@@ -40,11 +40,11 @@ use Rattle.demands.specs.HeaderLaws.{answer-refused}
 use Rattle.demands.specs.RefusalLaws.{Refuses, test, after, refuses-too, InExpr, expr-row}
 use Rattle.demands.specs.NestedIfs.{WellExpr, Leads, outset, past, intoFirst, intoSecond}
 
+good : (s : List ℕ) (k : Kind) (from : ℕ) (e : Expr) (n : ℕ) → ExprFound s k deepest from e n → Good s e k
+good s k from e n r = record { typed = r .typed; words = r .words; shallow = r .shallow }
+
 -- a statement that was read, as `block-found` has it of a block
 module _ (s : List ℕ) (nest at : ℕ) (inside : at < length s) where
-  good : (k : Kind) (from : ℕ) (e : Expr) (n : ℕ) → ExprFound s k deepest from e n → Good s e k
-  good k from e n r = record { typed = r .typed; words = r .words; shallow = r .shallow }
-
   assign-found : getD s at 0 ≡ 0x01 → Finds (StatementFound s nest at) (readAssign s at)
   unfolding readAssign nestingIn statementBytes
   assign-found c =
@@ -52,7 +52,7 @@ module _ (s : List ℕ) (nest at : ℕ) (inside : at < length s) where
       (λ i. finds-unless (ltb (getD s (at + 1) 0) (variables s)) 6 (at + 1) _
       (λ x. finds-then (readExpr deepest s (kindAt s (getD s (at + 1) 0)) (at + 2)) _ (expr-found s deepest (kindAt s (getD s (at + 1) 0)) (at + 2))
       (λ e n r. found (record {
-        each = (ltb-true _ _ x, good (kindAt s (getD s (at + 1) 0)) (at + 2) e n r);
+        each = (ltb-true _ _ x, good s (kindAt s (getD s (at + 1) 0)) (at + 2) e n r);
         nests = omega arith;
         bytes = λ b. drop-two s at 0x01 (ltb-true _ _ i) c ∙ ap (λ (l : List ℕ). 0x01 ∷ (getD s (at + 1) 0 ∷ l)) (r .bytes b);
       }))))
@@ -65,7 +65,7 @@ module _ (s : List ℕ) (nest at : ℕ) (inside : at < length s) where
       (λ e n r. finds-then (readBlock s (nest - 1) n) _ (block-found s (nest - 1) n)
       (λ x m p. finds-then (readBlock s (nest - 1) m) _ (block-found s (nest - 1) m)
       (λ y l q. found (record {
-        each = (good kind.Bit (at + 1) e n r, p .each, q .each);
+        each = (good s kind.Bit (at + 1) e n r, p .each, q .each);
         nests = let w : 0 < nest = ltb-true _ _ z in omega (arith, p .nests, q .nests);
         bytes = λ b.
             drop-one s at 0x03 inside c ∙ ap (λ (u : List ℕ). 0x03 ∷ u) (r .bytes b
@@ -145,7 +145,7 @@ module _ (s kinds : List ℕ) (bytes : Bytes s) (v : length kinds ≡ variables 
           test-past = forward-read (readExpr deepest s kind.Bit (at + 1)) (expr-forward deepest s kind.Bit (at + 1)) p
 
           well-test : WellExpr kinds e kind.Bit
-          well-test = well-expr e kind.Bit (good s nest at inside kind.Bit (at + 1) e m test-found)
+          well-test = well-expr e kind.Bit (good s kind.Bit (at + 1) e m test-found)
 
           first-there : drop body s ≡ pre ++ (0x03 ∷ (exprBytes e ++ drop m s))
           first-there = i .there ∙ ap (λ (l : List ℕ). pre ++ l) (drop-one s at 0x03 inside c ∙ ap (λ (l : List ℕ). 0x03 ∷ l) (test-found .bytes bytes))
