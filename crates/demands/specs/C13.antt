@@ -32,7 +32,7 @@ use Rattle.foreign.specs.Foreign.{circuitAnswer}
 use Rattle.demands.specs.WorkingLaws as working
 use Rattle.demands.specs.KindLaws as kinds
 
--- "From now on kind 02 is a working word and 03 a working bit": what the kind byte of variable x says, 02 and 03 as here, 00 and 01 as before,
+-- "From now on kind 02 is a working word and 03 a working bit": what the kind byte of variable x says, 02 and 03 as here, 00 and 01 as before.
 pub working-word : (s : List ℕ) (x : ℕ) → getD s (6 + x) 0 ≡ 0x02 → (kindAt s x ≡ kind.Word) × (workingAt s x ≡ true)
 working-word = kinds.working-word-said
 

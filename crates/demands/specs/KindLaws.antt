@@ -1,35 +1,31 @@
 -- Laws for document 02, C-13: what each kind byte says, and that 3 is the answer at a kind byte exactly when it is above 03. Assumes nothing.
 use Prim.Native.Nat.{ℕ, zero, suc, _+_, _-_, _≤_, _<_}
 use native.Mathlib.Omega.{arith}
-use mathlib.Core.Path.{_≡_, refl, sym, ap, _∙_}
+use mathlib.Core.Path.{_≡_, refl, sym, ap, subst, _∙_}
 use mathlib.Core.Bool.{Bool, true, false}
 use mathlib.Core.List.{List}
 use mathlib.Core.Logic.{_↔_}
 use lib.ListN.{length, getD, take}
 use lib.Dec.{ltb, leb, eqb}
-use lib.Seq.{getD-take}
-use borrow.Author.Tests.{eqb-true, eqb-false, leb-true, leb-false, lt-ltb, le-leb}
+use borrow.Author.Tests.{eqb-true, eqb-false, leb-true, leb-false}
 use Rattle.words.specs.TestLaws.{split}
-use Rattle.codes.specs.Codes.{codeOf, entryOf, sameKind}
+use Rattle.codes.specs.Codes.{codeOf}
 use Rattle.codes.specs.declared.Kind.{Kind}
 use Rattle.codes.specs.declared.Kind.the-variants as kind
-use Rattle.codes.specs.declared.Operation.{Operation}
 use Rattle.codes.specs.declared.Form.{Form}
 use Rattle.codes.specs.declared.Form.the-variants.{End, Assign, Skip, Branch, Variable, Word, Bit, Apply, Unknown}
 use Rattle.answers.specs.Answers.{refusal}
-use Rattle.answers.specs.Parsing.{Parsed, parsed, refused, stepOf, unless, _>>=_, readMark}
-use Rattle.answers.specs.declared.Answer.{Answer}
+use Rattle.answers.specs.Parsing.{Parsed, refused, stepOf, unless}
 use Rattle.reading.specs.Limits.{mostVariables, lastKind, deepest, nested}
-use Rattle.reading.specs.Header.{mark, kindOf, workingOf, variables, kindAt, workingAt, readCount, readKinds, readHeader}
-use Rattle.reading.specs.Tree.{Expr, Block}
-use Rattle.reading.specs.Expressions.{readVariable, readWord, readBit, secondWith, operationWith, exprForm, exprWith, readExpr}
+use Rattle.reading.specs.Header.{mark, kindOf, workingOf, variables, kindAt, workingAt, readKinds}
+use Rattle.reading.specs.Tree.{Block}
+use Rattle.reading.specs.Expressions.{readExpr}
 use Rattle.reading.specs.Blocks.{readAssign, branchWith, statementForm, statementWith, closedOr, blockWith, blockFuel, readBlock}
 use Rattle.reading.specs.Rule.{readRule}
-use Rattle.reading.specs.RuleLaws.{kinds-wrong, kinds-more, rule-is}
-use Rattle.gates.specs.Limits.{mostGates, mostConditions}
-use Rattle.gates.specs.Gates.{conditions}
-use Rattle.gates.specs.PlainCircuit.{gatesOf}
-use Rattle.circuit.specs.Whole.{wholeWithin, afterBytes, ruleAnswer}
+use Rattle.reading.specs.RuleLaws.{kinds-wrong, rule-is}
+use Rattle.circuit.specs.Whole.{ruleAnswer}
+use Rattle.demands.specs.HeaderLaws.{answer-bytes, answer-refused, kinds-passed, header-is}
+use Rattle.demands.specs.RefusalLaws.{Refuses, test, after, refuses-too, InExpr, expr-row}
 
 -- what a kind byte says
 module _ (s : List ℕ) (x : ℕ) where
@@ -49,195 +45,97 @@ module _ (s : List ℕ) (x : ℕ) where
   unfolding kindOf workingOf
   working-bit-said e = rw e (refl, refl)
 
--- what was read, or a refusal that is not 3 at the place
-module _ (place : ℕ) where
-  abbrev Elsewhere : {A : Type 0} → Parsed A → Type 0
-  Elsewhere (parsed a n) = Unit {0}
-  Elsewhere (refused number p) = number ≡ 3 → p ≡ place → ⊥
+-- no block is refused with a number below 4
+abbrev Late : ℕ → ℕ → Type 0
+Late number place = 4 ≤ number
 
-  test : {A : Type 0} (t : Bool) (k p : ℕ) (m : Parsed A) → (k ≡ 3 → p ≡ place → ⊥) → Elsewhere m → Elsewhere (unless t k p m)
-  test true k p m n h = h
-  test false k p m n h = n
+module _ (s : List ℕ) where
+  late : {A : Type 0} (t : Bool) (k p : ℕ) (m : Parsed A) → leb 4 k ≡ true → Refuses Late m → Refuses Late (unless t k p m)
+  late t k p m l h = test Late t k p m (λ e. leb-true 4 k l) (λ e. h)
 
-  after : {A B : Type 0} (m : Parsed A) (f : A → ℕ → Parsed B) → Elsewhere m → ((a : A) (n : ℕ) → Elsewhere (f a n)) → Elsewhere (m >>= f)
-  after (parsed a n) f h g = g a n
-  after (refused k p) f h g = h
+  expr-late : (want : Kind) (at : ℕ) → Refuses Late (readExpr deepest s want at)
+  expr-late want at = refuses-too (InExpr s) Late (λ k p r. r .least) (readExpr deepest s want at) (expr-row s deepest want at)
 
-  module _ (s : List ℕ) where
-    -- no expression, statement or block is refused with 3
-    variable-not : (want : Kind) (deep at : ℕ) → Elsewhere (readVariable s want deep at)
-    unfolding readVariable
-    variable-not want deep at =
-        test (ltb 0 deep) 8 at _ (λ e q. omega arith)
-        (test (ltb (at + 1) (length s)) 4 (length s) _ (λ e q. omega arith)
-        (test (ltb (getD s (at + 1) 0) (variables s)) 6 (at + 1) _ (λ e q. omega arith)
-        (test (sameKind (kindAt s (getD s (at + 1) 0)) want) 7 (at + 1) _ (λ e q. omega arith) tt)))
+  assign-late : (at : ℕ) → Refuses Late (readAssign s at)
+  unfolding readAssign
+  assign-late at =
+      late (ltb (at + 1) (length s)) 4 (length s) _ refl
+      (late (ltb (getD s (at + 1) 0) (variables s)) 6 (at + 1) _ refl
+      (after Late (readExpr deepest s (kindAt s (getD s (at + 1) 0)) (at + 2)) _ (expr-late (kindAt s (getD s (at + 1) 0)) (at + 2)) (λ e n q. tt)))
 
-    word-not : (want : Kind) (deep at : ℕ) → Elsewhere (readWord s want deep at)
-    unfolding readWord
-    word-not want deep at =
-        test (sameKind kind.Word want) 7 at _ (λ e q. omega arith)
-        (test (ltb 0 deep) 8 at _ (λ e q. omega arith) (test (leb 5 (length s - at)) 4 (length s) _ (λ e q. omega arith) tt))
+  module _ (block : ℕ → ℕ → Parsed Block) (lates : (k a : ℕ) → Refuses Late (block k a)) where
+    branch-late : (nest at : ℕ) → Refuses Late (branchWith block s nest at)
+    unfolding branchWith
+    branch-late nest at =
+        late (ltb 0 nest) 8 at _ refl
+        (after Late (readExpr deepest s kind.Bit (at + 1)) _ (expr-late kind.Bit (at + 1))
+        (λ c n p. after Late (block (nest - 1) n) _ (lates (nest - 1) n) (λ x m q. after Late (block (nest - 1) m) _ (lates (nest - 1) m) (λ y l r. tt))))
 
-    bit-not : (want : Kind) (deep at : ℕ) → Elsewhere (readBit s want deep at)
-    unfolding readBit
-    bit-not want deep at =
-        test (sameKind kind.Bit want) 7 at _ (λ e q. omega arith)
-        (test (ltb 0 deep) 8 at _ (λ e q. omega arith)
-        (test (ltb (at + 1) (length s)) 4 (length s) _ (λ e q. omega arith) (test (leb (getD s (at + 1) 0) 1) 5 (at + 1) _ (λ e q. omega arith) tt)))
+    statement-late : (f : Form) (nest at : ℕ) → Refuses Late (statementForm f block s nest at)
+    statement-late End nest at = omega arith
+    statement-late Assign nest at = assign-late at
+    statement-late Skip nest at = tt
+    statement-late Branch nest at = branch-late nest at
+    statement-late Variable nest at = omega arith
+    statement-late Word nest at = omega arith
+    statement-late Bit nest at = omega arith
+    statement-late (Apply op) nest at = omega arith
+    statement-late Unknown nest at = omega arith
 
-    module _ (argument : Kind → ℕ → Parsed Expr) (nots : (k : Kind) (a : ℕ) → Elsewhere (argument k a)) where
-      second-not : (t : Bool) (op : Operation) (x : Expr) (n : ℕ) → Elsewhere (secondWith t argument op x n)
-      second-not true op x n = tt
-      second-not false op x n = after (argument (entryOf op .takes) n) _ (nots (entryOf op .takes) n) (λ y m. tt)
+    closed-late : (t : Bool) (nest at : ℕ) → Refuses Late (closedOr t block s nest at)
+    unfolding statementWith
+    closed-late true nest at = tt
+    closed-late false nest at =
+        after Late (statementForm (codeOf (getD s at 0) .form) block s nest at) _ (statement-late (codeOf (getD s at 0) .form) nest at)
+        (λ x n p. after Late (block nest n) _ (lates nest n) (λ b m q. tt))
 
-      operation-not : (op : Operation) (want : Kind) (deep at : ℕ) → Elsewhere (operationWith argument op want deep at)
-      unfolding operationWith
-      operation-not op want deep at =
-          test (sameKind (entryOf op .gives) want) 7 at _ (λ e q. omega arith)
-          (test (ltb 0 deep) 8 at _ (λ e q. omega arith)
-          (after (argument (entryOf op .takes) (at + 1)) _ (nots (entryOf op .takes) (at + 1)) (λ x n. second-not (eqb (entryOf op .arity) 1) op x n)))
+    with-late : (nest at : ℕ) → Refuses Late (blockWith block s nest at)
+    unfolding blockWith
+    with-late nest at = late (ltb at (length s)) 4 (length s) _ refl (closed-late (eqb (getD s at 0) 0x00) nest at)
 
-      form-not : (f : Form) (want : Kind) (deep at : ℕ) → Elsewhere (exprForm f s argument want deep at)
-      form-not End want deep at = λ e q. omega arith
-      form-not Assign want deep at = λ e q. omega arith
-      form-not Skip want deep at = λ e q. omega arith
-      form-not Branch want deep at = λ e q. omega arith
-      form-not Variable want deep at = variable-not want deep at
-      form-not Word want deep at = word-not want deep at
-      form-not Bit want deep at = bit-not want deep at
-      form-not (Apply op) want deep at = operation-not op want deep at
-      form-not Unknown want deep at = λ e q. omega arith
+  fuel-late : (fuel nest at : ℕ) → Refuses Late (blockFuel fuel s nest at)
+  unfolding blockFuel
+  fuel-late zero nest at = omega arith
+  fuel-late (suc fuel) nest at = with-late (blockFuel fuel s) (λ k a. fuel-late fuel k a) nest at
 
-      with-not : (want : Kind) (deep at : ℕ) → Elsewhere (exprWith argument s want deep at)
-      unfolding exprWith
-      with-not want deep at = test (ltb at (length s)) 4 (length s) _ (λ e q. omega arith) (form-not (codeOf (getD s at 0) .form) want deep at)
+  block-late : (nest at : ℕ) → Refuses Late (readBlock s nest at)
+  unfolding readBlock
+  block-late nest at = fuel-late (suc (length s)) nest at
 
-    expr-not : (deep : ℕ) (want : Kind) (at : ℕ) → Elsewhere (readExpr deep s want at)
-    unfolding readExpr
-    expr-not zero want at = with-not (λ k a. refused 8 a) (λ k a e q. omega arith) want 0 at
-    expr-not (suc deep) want at = with-not (readExpr deep s) (λ k a. expr-not deep k a) want (suc deep) at
+-- a refusal that is not 3 at the place
+abbrev Elsewhere : ℕ → ℕ → ℕ → Type 0
+Elsewhere place k p = k ≡ 3 → p ≡ place → ⊥
 
-    assign-not : (at : ℕ) → Elsewhere (readAssign s at)
-    unfolding readAssign
-    assign-not at =
-        test (ltb (at + 1) (length s)) 4 (length s) _ (λ e q. omega arith)
-        (test (ltb (getD s (at + 1) 0) (variables s)) 6 (at + 1) _ (λ e q. omega arith)
-        (after (readExpr deepest s (kindAt s (getD s (at + 1) 0)) (at + 2)) _ (expr-not deepest (kindAt s (getD s (at + 1) 0)) (at + 2)) (λ e n. tt)))
-
-    module _ (block : ℕ → ℕ → Parsed Block) (nots : (k a : ℕ) → Elsewhere (block k a)) where
-      branch-not : (nest at : ℕ) → Elsewhere (branchWith block s nest at)
-      unfolding branchWith
-      branch-not nest at =
-          test (ltb 0 nest) 8 at _ (λ e q. omega arith)
-          (after (readExpr deepest s kind.Bit (at + 1)) _ (expr-not deepest kind.Bit (at + 1))
-          (λ c n. after (block (nest - 1) n) _ (nots (nest - 1) n) (λ x m. after (block (nest - 1) m) _ (nots (nest - 1) m) (λ y l. tt))))
-
-      statement-not : (f : Form) (nest at : ℕ) → Elsewhere (statementForm f block s nest at)
-      statement-not End nest at = λ e q. omega arith
-      statement-not Assign nest at = assign-not at
-      statement-not Skip nest at = tt
-      statement-not Branch nest at = branch-not nest at
-      statement-not Variable nest at = λ e q. omega arith
-      statement-not Word nest at = λ e q. omega arith
-      statement-not Bit nest at = λ e q. omega arith
-      statement-not (Apply op) nest at = λ e q. omega arith
-      statement-not Unknown nest at = λ e q. omega arith
-
-      closed-not : (t : Bool) (nest at : ℕ) → Elsewhere (closedOr t block s nest at)
-      unfolding statementWith
-      closed-not true nest at = tt
-      closed-not false nest at =
-          after (statementForm (codeOf (getD s at 0) .form) block s nest at) _ (statement-not (codeOf (getD s at 0) .form) nest at)
-          (λ x n. after (block nest n) _ (nots nest n) (λ b m. tt))
-
-      block-not : (nest at : ℕ) → Elsewhere (blockWith block s nest at)
-      unfolding blockWith
-      block-not nest at = test (ltb at (length s)) 4 (length s) _ (λ e q. omega arith) (closed-not (eqb (getD s at 0) 0x00) nest at)
-
-    fuel-not : (fuel nest at : ℕ) → Elsewhere (blockFuel fuel s nest at)
-    unfolding blockFuel
-    fuel-not zero nest at = λ e q. omega arith
-    fuel-not (suc fuel) nest at = block-not (blockFuel fuel s) (λ k a. fuel-not fuel k a) nest at
-
-    block-elsewhere : (nest at : ℕ) → Elsewhere (readBlock s nest at)
-    unfolding readBlock
-    block-elsewhere nest at = fuel-not (suc (length s)) nest at
-
-    -- nor a kind byte after the place, there
-    kinds-not : (n at : ℕ) → place < at → Elsewhere (readKinds n s at)
-    unfolding readKinds
-    kinds-not zero at l = tt
-    kinds-not (suc n) at l =
-        test (ltb at (length s)) 4 (length s) _ (λ e q. omega arith)
-        (test (leb (getD s at 0) lastKind) 3 at _ (λ e q. omega arith) (kinds-not n (at + 1) (omega arith)))
-
--- the answer of a rule that is refused byte by byte
-pub answer-bytes : (s : List ℕ) {number place : ℕ} → readRule s ≡ refused number place → ruleAnswer s ≡ refusal number place
-unfolding ruleAnswer
-answer-bytes s e = rw e
-
-whole-not : (s : List ℕ) → wholeWithin mostGates mostConditions (gatesOf s) (length s) .number ≡ 3 → ⊥
-unfolding wholeWithin
-whole-not s h =
-    split (leb (length (gatesOf s)) mostGates)
-    (λ t. split (leb (length (conditions (gatesOf s))) mostConditions)
-    (λ u. let z : 0 ≡ 3 = rw (t, u) at h in omega arith)
-    (λ u. let z : 11 ≡ 3 = rw (t, u) at h in omega arith))
-    (λ t. let z : 10 ≡ 3 = rw t at h in omega arith)
-
-answer-elsewhere : (s : List ℕ) (place : ℕ) → Elsewhere place (readRule s) → ruleAnswer s ≡ refusal 3 place → ⊥
-unfolding ruleAnswer
-answer-elsewhere s place h = go (readRule s) h
-  where
-    go : (m : Parsed Block) → Elsewhere place m → afterBytes (stepOf m) (wholeWithin mostGates mostConditions (gatesOf s) (length s)) ≡ refusal 3 place → ⊥
-    go (parsed b n) h e = whole-not s (ap (λ (a : Answer). a .number) e)
-    go (refused number p) h e = h (ap (λ (a : Answer). a .number) e) (ap (λ (a : Answer). a .place) e)
-
--- kind bytes that stand there and are in range are passed over
-kinds-passed : (x n : ℕ) (s : List ℕ) (at : ℕ) → x ≤ n → at + x ≤ length s → ((y : ℕ) → y < x → getD s (at + y) 0 ≤ lastKind)
-    → readKinds n s at ≡ readKinds (n - x) s (at + x)
-kinds-passed zero n s at few inside known = let a : n - 0 ≡ n = omega arith in let b : at + 0 ≡ at = omega arith in rw (a, b)
-kinds-passed (suc x) n s at few inside known =
-    let a : n - x - 1 ≡ n - suc x = omega arith in
-    let b : at + x + 1 ≡ at + suc x = omega arith in
-    kinds-passed x n s at (omega arith) (omega arith) (λ y l. known y (omega arith))
-    ∙ rw (a, b) at (kinds-more s (at + x) (n - x) (omega arith) (omega arith) (known x (omega arith)))
+-- a kind byte after it is refused elsewhere
+kinds-elsewhere : (s : List ℕ) (place n at : ℕ) → place < at → Refuses (Elsewhere place) (readKinds n s at)
+unfolding readKinds
+kinds-elsewhere s place zero at l = tt
+kinds-elsewhere s place (suc n) at l =
+    test (Elsewhere place) (ltb at (length s)) 4 (length s) _ (λ f e q. omega arith)
+    (λ t. test (Elsewhere place) (leb (getD s at 0) lastKind) 3 at _ (λ f e q. omega arith) (λ u. kinds-elsewhere s place n (at + 1) (omega arith)))
 
 -- a rule of a right size, with its mark and version and V in range
 module _ (s : List ℕ) (lo : 6 ≤ length s) (hi : length s ≤ 4096) (marked : take 5 s ≡ mark) (some : 1 ≤ variables s) (few : variables s ≤ mostVariables) where
-  byte-is : (i : ℕ) → i < 5 → getD s i 0 ≡ getD mark i 0
-  byte-is i l = sym (getD-take 5 s i 0 l) ∙ ap (λ (m : List ℕ). getD m i 0) marked
-
-  header-is : readHeader s ≡ readKinds (variables s) s 6
-  unfolding readHeader readMark readCount
-  header-is =
-      rw (
-        byte-is 0 (omega arith),
-        byte-is 1 (omega arith),
-        byte-is 2 (omega arith),
-        byte-is 3 (omega arith),
-        byte-is 4 (omega arith),
-        lt-ltb 0 (variables s) (omega arith),
-        le-leb _ _ few,
-      )
-
   module _ (x : ℕ) (one : x < variables s) (there : 6 + x < length s) (known : (y : ℕ) → y < x → getD s (6 + y) 0 ≤ lastKind) where
     kind-wrong : lastKind < getD s (6 + x) 0 → readRule s ≡ refused 3 (6 + x)
     kind-wrong h =
         rule-is s lo hi
-        ∙ rw (header-is ∙ kinds-passed x (variables s) s 6 (omega arith) (omega arith) known ∙ kinds-wrong s (6 + x) (variables s - x) (omega arith) there h)
+        ∙ rw (header-is s marked some few ∙ kinds-passed x (variables s) s 6 (omega arith) (omega arith) known ∙ kinds-wrong s (6 + x) (variables s - x) (omega arith) there h)
 
-    kind-right : getD s (6 + x) 0 ≤ lastKind → Elsewhere (6 + x) (readRule s)
+    kind-right : getD s (6 + x) 0 ≤ lastKind → Refuses (Elsewhere (6 + x)) (readRule s)
     kind-right h =
         let more : (y : ℕ) → y < suc x → getD s (6 + y) 0 ≤ lastKind = λ y l. split (eqb y x) (λ t. rw (eqb-true y x t) h) (λ t. known y (let n = eqb-false y x t in omega arith)) in
-        let kinds = header-is ∙ kinds-passed (suc x) (variables s) s 6 (omega arith) (omega arith) more in
+        let kinds = header-is s marked some few ∙ kinds-passed (suc x) (variables s) s 6 (omega arith) (omega arith) more in
         rw (rule-is s lo hi, kinds)
-        (after (6 + x) (readKinds (variables s - suc x) s (6 + suc x)) _ (kinds-not (6 + x) s (variables s - suc x) (6 + suc x) (omega arith))
-        (λ u at. after (6 + x) (readBlock s nested at) _ (block-elsewhere (6 + x) s nested at) (λ b n. test (6 + x) (leb (length s) n) 9 n _ (λ e q. omega arith) tt)))
+        (after (Elsewhere (6 + x)) (readKinds (variables s - suc x) s (6 + suc x)) _ (kinds-elsewhere s (6 + x) (variables s - suc x) (6 + suc x) (omega arith))
+        (λ u at p. after (Elsewhere (6 + x)) (readBlock s nested at) _ (refuses-too Late (Elsewhere (6 + x)) (λ k p l e q. omega arith) (readBlock s nested at) (block-late s nested at))
+        (λ b n q. test (Elsewhere (6 + x)) (leb (length s) n) 9 n _ (λ f e q. omega arith) (λ t. tt))))
+
+    kind-taken : getD s (6 + x) 0 ≤ lastKind → ruleAnswer s ≡ refusal 3 (6 + x) → ⊥
+    kind-taken h e = subst (Refuses (Elsewhere (6 + x))) (answer-refused s 3 (6 + x) (omega arith) (omega arith) e) (kind-right h) refl refl
 
     pub kind-refused : (ruleAnswer s ≡ refusal 3 (6 + x)) ↔ (lastKind < getD s (6 + x) 0)
     kind-refused = (
-      λ e. split (leb (getD s (6 + x) 0) lastKind) (λ t. absurd (answer-elsewhere s (6 + x) (kind-right (leb-true _ _ t)) e)) (λ t. leb-false _ _ t),
-      λ h. answer-bytes s (kind-wrong h),
+      λ e. split (leb (getD s (6 + x) 0) lastKind) (λ t. absurd (kind-taken (leb-true _ _ t) e)) (λ t. leb-false _ _ t),
+      λ h. answer-bytes s (ap stepOf (sym (kind-wrong h))),
     )

@@ -8,9 +8,16 @@ pub mod SentenceLaws
 pub mod OrderLaws
 pub mod ForeignLaws
 pub mod WorkingLaws
+pub mod HeaderLaws
+pub mod RefusalLaws
 pub mod KindLaws
 pub mod BatchLaws
 pub mod EightLaws
+pub mod NestedIfs
+pub mod NestedIfLaws
+pub mod NinthIfLaws
+pub mod GuardTables
+pub mod GuardTableLaws
 pub mod VersionLaws
 pub mod Demands
 pub mod Sentences

@@ -1,16 +1,21 @@
 -- Document 01: sentences of its own beside the demands, each quoted above its theorems. s is a rule's bytes, p a plan's, f a circuit file's.
-use Prim.Native.Nat.{ℕ, _≤_}
+use Prim.Native.Nat.{ℕ, _+_, _≤_, _<_}
 use mathlib.Core.Path.{_≡_}
 use mathlib.Core.List.{List}
-use lib.ListN.{length}
+use lib.ListN.{length, getD}
 use Rattle.words.specs.Numbers.{Bytes, Words}
+use Rattle.settings.specs.Settings.{settingOf}
 use Rattle.circuit.specs.Whole.{ruleAnswer}
 use Rattle.direct.specs.Direct.{runAnswer, runResults}
 use Rattle.direct.specs.DirectLaws as direct
+use Rattle.gates.specs.PlainCircuit.{gateCount}
+use Rattle.plan.specs.PlanFile.{Rising}
 use Rattle.plan.specs.Rows.{planAnswer}
 use Rattle.plan.specs.AcceptedLaws as plans
+use Rattle.records.specs.Records.{recordIn}
 use Rattle.records.specs.FileFigures.{wireCount}
-use Rattle.fused.specs.FusedCircuit.{recordsOf, fusedFile}
+use Rattle.fused.specs.FusedCircuit.{recordsOf, wireOf, fusedFile}
+use Rattle.fused.specs.JoinedGates.{joinedWith, picksWith}
 use Rattle.fused.specs.SizeBounds as sizes
 use Rattle.fused.specs.Answers.{fusedAnswer, writeAnswer}
 use Rattle.fused.specs.AnswerLaws as answers
@@ -19,6 +24,23 @@ use Rattle.foreign.specs.Foreign.{circuitRunAnswer, circuitRunResults}
 use Rattle.demands.specs.Promises.{RunWritten, FileWritten}
 use Rattle.demands.specs.WrittenRunLaws as written
 use Rattle.demands.specs.SentenceLaws as laws
+use Rattle.demands.specs.GuardTables.{Gives, MemberGuard}
+use Rattle.demands.specs.GuardTableLaws as guards
+
+-- "A larger one is: for each member, rising, a guard over the conditions it rests on, rising, whose table bit j is 1 when the member is needed under the settings that give those
+-- conditions, in that order, the bits of j, else 0, table bits above the first 2^d zero": of an accepted plan, where gate m is joined and its group has a pick (C-18: else it has no
+-- guards), its members rise, and the first of its records, from wire n on, are their guards, each as that sentence has it; the picks and the operation follow (`group-records`, C18).
+pub members-rise : (s p : List ℕ) (m : ℕ) → Rising (joinedWith s p m)
+members-rise = guards.members-rise
+
+pub guard-records : (s p : List ℕ) → planAnswer s p .number ≡ 0 → (m : ℕ) → m < gateCount s → 2 ≤ length (joinedWith s p m) → 0 < picksWith s p m
+    → (n : ℕ) × (wireOf s p m ≡ n + length (joinedWith s p m) + picksWith s p m)
+    × ((i : ℕ) → i < length (joinedWith s p m) → MemberGuard s p (getD (joinedWith s p m) i 0) (recordIn (recordsOf s p) (n + i)))
+guard-records = guards.guards-stand
+
+-- (For every j some setting gives them its bits, so every bit of the table is told.)
+pub bits-given : (conds : List ℕ) → Rising conds → (j : ℕ) → Gives (settingOf conds j) conds j
+bits-given = guards.bits-given
 
 -- "At most 640 wires": of an accepted plan, the records, and the wires that the file itself counts;
 pub most-wires : (s p : List ℕ) → planAnswer s p .number ≡ 0 → length (recordsOf s p) ≤ 640
