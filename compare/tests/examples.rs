@@ -169,7 +169,7 @@ fn example_4_refusals_of_reading() {
 }
 
 #[test]
-fn readings_of_design_section_7() {
+fn readings_where_document_01_leaves_a_choice() {
     let with = |tail: &str| {
         let mut bytes = hex("52 55 4C 00 01 02 00 01");
         bytes.extend(hex(tail));

@@ -26,9 +26,6 @@ pub const ROOM: usize = CONDITIONS as usize;
 // The words of a set in a lent array.
 pub const WORDS: usize = bitsets::WORDS;
 
-// The bytes of a set.
-pub const BYTES: usize = 8 * WORDS;
-
 // The conditions whose settings a word tells apart.
 const WORD_CONDITIONS: u8 = 6;
 
