@@ -81,7 +81,7 @@ pub after-conditions : (s p : List ℕ) → planAnswer s p .number ≡ 0 → (m 
     → (c : ℕ) → c ∈ restsOf (gatesOf s) (rulePreconditions s) m → wireOf s p c < wireOf s p m
 after-conditions = equal.condition-earlier
 
--- "The accuracy demand stands with this shape of record" (`file-run` and `same-results`, Demands): the wire of a gate that is needed has the plain circuit's figure, whatever its group,
+-- "The accuracy demand stands with this shape of record" (`file-run` and `same-run`, Demands): the wire of a gate that is needed has the plain circuit's figure, whatever its group,
 pub needed-figure : (s p : List ℕ) → Bytes s → planAnswer s p .number ≡ 0 → (inputs : List ℕ) → FiguresFit (variables s) (kindAt s) inputs
     → (g : ℕ) → Needed (gatesOf s) (wantedOf s) (λ c. isOne (figureAt inputs (gatesOf s) c)) g
     → wireFigure inputs (recordsOf s p) (wireOf s p g) ≡ figureAt inputs (gatesOf s) g

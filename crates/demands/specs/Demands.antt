@@ -16,10 +16,15 @@ use Rattle.reading.specs.RuleFormat as format
 use Rattle.gates.specs.Running.{runRule}
 use Rattle.gates.specs.Gates.{figureAt}
 use Rattle.gates.specs.PlainCircuit.{gatesOf, outputsOf}
+use Rattle.settings.specs.Settings.{Setting}
+use Rattle.needed.specs.Needed.{Needed, wantedOf}
 use Rattle.circuit.specs.Whole.{ruleAnswer}
 use Rattle.direct.specs.Direct.{runAnswer, runResults}
 use Rattle.direct.specs.DirectLaws as direct
 use Rattle.plan.specs.Rows.{planAnswer}
+use Rattle.plan.specs.PlanFile.{groupsIn}
+use Rattle.plan.specs.Groups.{groupOf, Waits, Chain}
+use Rattle.plan.specs.SameGroups.{Joined}
 use Rattle.plan.specs.AcceptedLaws as laws
 use Rattle.records.specs.WireKinds.{wireKind}
 use Rattle.records.specs.FileFigures.{fileVariables, fileRecords}
@@ -32,6 +37,7 @@ use Rattle.foreign.specs.RunLaws as files-run
 use Rattle.demands.specs.Table.{AnsweredBy, ByteRow, ruleRows, planRows, inputRows, bufferRows, circuitRows}
 use Rattle.demands.specs.Promises.{AcceptedExactly, FileReadsEarlier, FileGives, FusedAsDirect}
 use Rattle.demands.specs.AnsweredLaws as answers
+use Rattle.demands.specs.FaultLaws as faults
 use Rattle.demands.specs.FusedRunLaws as runs
 use Rattle.demands.specs.ForeignLaws as foreign
 
@@ -54,6 +60,14 @@ rule-rows = answers.rule-rows
 -- 20 to 30 and 32, for an accepted rule;
 pub plan-rows : (s p : List ℕ) → ruleAnswer s .number ≡ 0 → AnsweredBy (planRows s p) 0 (planAnswer s p)
 plan-rows = answers.plan-rows
+
+-- (of 29, two members that some setting needs together; of 30, a group that a chain of waits leads back to;)
+pub two-needed : (s p : List ℕ) → ruleAnswer s .number ≡ 0 → planAnswer s p .number ≡ 29
+    → (g : ℕ) × (h : ℕ) × Joined (groupsIn p) g h × (g ≡ h → ⊥) × (σ : Setting) × Needed (gatesOf s) (wantedOf s) σ g × Needed (gatesOf s) (wantedOf s) σ h
+two-needed = faults.two-needed
+
+pub waits-for-itself : (s p : List ℕ) → ruleAnswer s .number ≡ 0 → planAnswer s p .number ≡ 30 → (g : ℕ) × Chain (Waits (gatesOf s) (wantedOf s) (groupOf (groupsIn p))) g g
+waits-for-itself = faults.waits-for-itself
 
 -- 40 to 42, for an accepted rule, and for an accepted plan where its circuit is run;
 pub run-rows : (s inputs : List ℕ) (room : ℕ) → ruleAnswer s .number ≡ 0 → AnsweredBy (inputRows (variables s) (kindAt s) inputs room) 0 (runAnswer (ruleAnswer s) s inputs room)

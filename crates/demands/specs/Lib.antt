@@ -2,6 +2,7 @@ pub mod Table
 pub mod TableLaws
 pub mod Promises
 pub mod AnsweredLaws
+pub mod FaultLaws
 pub mod FusedRunLaws
 pub mod WrittenRunLaws
 pub mod SentenceLaws

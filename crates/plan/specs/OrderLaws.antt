@@ -4,7 +4,7 @@ use mathlib.Core.Path.{_≡_, refl, sym, ap, _∙_}
 use mathlib.Core.Bool.{true, false, not, false≢true, true≢false}
 use mathlib.Core.List.{List, [], _∷_}
 use mathlib.Core.Option.{Option, none, some}
-use mathlib.Core.Logic.{inl, inr, _↔_}
+use mathlib.Core.Logic.{_⊎_, inl, inr, _↔_, ⊎-elim}
 use Prim.Native.Nat.{ℕ, zero, suc, _≤_, _<_}
 use native.Mathlib.Omega.{arith}
 use lib.Dec.{eqb}
@@ -167,13 +167,15 @@ module _ (waits : ℕ → List ℕ) where
         some-length [] a k = absurd k
         some-length (x ∷ l) a k = omega arith
 
-    places : ((p : ℕ) → p ∈ gs → Chained p p → ⊥) → (k : ℕ) (done : List ℕ) → length (left gs done) ≤ k → (p : ℕ) → p ∈ gs → p ∈ schedule waits gs k done
-    places free zero done h p m = all-written done (omega arith) p m
-    places free (suc k) done h p m = go (firstReady waits done gs) refl (λ d l. places free k (d ∷ done) l p m)
+    -- a group is placed, or some group waits in a circle
+    places : (k : ℕ) (done : List ℕ) → length (left gs done) ≤ k → (p : ℕ) → p ∈ gs → (p ∈ schedule waits gs k done) ⊎ ((u : ℕ) × (u ∈ gs) × Chained u u)
+    places zero done h p m = inl (all-written done (omega arith) p m)
+    places (suc k) done h p m = go (firstReady waits done gs) refl (λ d l. places k (d ∷ done) l p m)
       where
-        go : (f : Option ℕ) → firstReady waits done gs ≡ f → ((d : ℕ) → length (left gs (d ∷ done)) ≤ k → p ∈ schedule waits gs k (d ∷ done))
-            → p ∈ elim f [ none ↦ done | some d ↦ schedule waits gs k (d ∷ done) ]
-        go none e ih = split (elem p done) (elem→∈ p done) (λ t. let c = stuck done e p m t in absurd (free (c .0) (c .1) (c .2)))
+        go : (f : Option ℕ) → firstReady waits done gs ≡ f
+            → ((d : ℕ) → length (left gs (d ∷ done)) ≤ k → (p ∈ schedule waits gs k (d ∷ done)) ⊎ ((u : ℕ) × (u ∈ gs) × Chained u u))
+            → (p ∈ elim f [ none ↦ done | some d ↦ schedule waits gs k (d ∷ done) ]) ⊎ ((u : ℕ) × (u ∈ gs) × Chained u u)
+        go none e ih = split (elem p done) (λ t. inl (elem→∈ p done t)) (λ t. inr (stuck done e p m t))
         go (some d) e ih =
             let r = first-some done gs d e in
             ih d (omega (arith, left-lt d done gs (ready-means done d (r .1) .0) (r .0)))
@@ -182,9 +184,12 @@ module _ (waits : ℕ → List ℕ) where
     left-all [] = refl
     left-all (x ∷ l) = ap (λ (r : List ℕ). x ∷ r) (left-all l)
 
+    pub schedule-or : (p : ℕ) → p ∈ gs → (p ∈ schedule waits gs (length gs) []) ⊎ ((u : ℕ) × (u ∈ gs) × Chained u u)
+    schedule-or = places (length gs) [] (rw left-all (omega arith))
+
     -- the order of writing places every group exactly when no group waits in a circle
     pub schedule-all : ((p : ℕ) → p ∈ gs → Chained p p → ⊥) ↔ ((p : ℕ) → p ∈ gs → p ∈ schedule waits gs (length gs) [])
     schedule-all = (
-      λ free p m. places free (length gs) [] (rw left-all (omega arith)) p m,
+      λ free p m. ⊎-elim (λ x. x) (λ (u, k, c). absurd (free u k c)) (schedule-or p m),
       λ all p m c. ordered-no-circle (schedule waits gs (length gs) []) (schedule-ordered gs (length gs) [] tt) p (all p m) c,
     )

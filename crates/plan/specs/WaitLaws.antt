@@ -1,15 +1,15 @@
 -- Laws of waits: the groups listed for a group are those that it waits for;
 -- so the order of writing places every group exactly when no group waits for itself by a chain.
-use mathlib.Core.Path.{_≡_}
-use mathlib.Core.Bool.{true, cond}
+use mathlib.Core.Path.{_≡_, sym, _∙_}
+use mathlib.Core.Bool.{true, false, true≢false, cond}
 use mathlib.Core.List.{List, [], map}
 use mathlib.Core.Logic.{_⊎_, inl, inr, _↔_}
 use Prim.Native.Nat.{ℕ, _≤_, _<_}
 use lib.Dec.{leb}
 use borrow.Author.Tests.{leb-true}
 use lib.ListN.{length}
-use Rattle.words.specs.Lists.{_∈_, flat}
-use Rattle.words.specs.MemberLaws.{flat-in, map-in, append-in}
+use Rattle.words.specs.Lists.{_∈_, elem, flat}
+use Rattle.words.specs.MemberLaws.{∈→elem, flat-in, map-in, append-in}
 use Rattle.words.specs.TestLaws.{split}
 use Rattle.settings.specs.Settings.{Once}
 use Rattle.gates.specs.Gates.{Gates, gateAt, arguments, Earlier, conditions}
@@ -19,8 +19,8 @@ use Rattle.plan.specs.Groups.{Named, groups, members, RestsOn, Waits, Ch
 use Rattle.plan.specs.Order.{order, Ordered}
 use Rattle.plan.specs.Rows.{placed}
 use Rattle.plan.specs.Accepted.{NoCircle}
-use Rattle.plan.specs.CircleLaws.{allIn-each, allIn-back}
-use Rattle.plan.specs.OrderLaws.{schedule-all, schedule-ordered, schedule-from, schedule-once}
+use Rattle.plan.specs.CircleLaws.{allIn-each, allIn-back, missing}
+use Rattle.plan.specs.OrderLaws.{schedule-or, schedule-all, schedule-ordered, schedule-from, schedule-once}
 use Rattle.plan.specs.GroupLaws.{group-in, of-member}
 use Rattle.plan.specs.RestLaws.{rests-right}
 use Rattle.plan.specs.ReadsLaws.{waits-argument, waits-rests, waits-closed}
@@ -91,6 +91,22 @@ module _ (C : Gates) (wanted : List ℕ) (earlier : Earlier C) (inside : (g : �
     λ t. order-places named .0 (allIn-each (groups (length C) group) (order C sets group) t),
     λ free. allIn-back (groups (length C) group) (order C sets group) (order-places named .1 free),
   )
+
+  -- so where 30 is answered there is such a group
+  pub circle-found : Named group → placed C (preconditionSets mostConditions C wanted) group ≡ false → (p : ℕ) × Chain (Waits C wanted group) p p
+  unfolding order
+  circle-found named t = let (q, m, f) = missing gs (order C sets group) t in go q f (all q m)
+    where
+      gs : List ℕ
+      gs = groups (length C) group
+
+      all : (q : ℕ) → q ∈ gs → (q ∈ order C sets group) ⊎ ((u : ℕ) × (u ∈ gs) × Chain (λ x y. y ∈ waitsFor C sets group x) u u)
+      all = schedule-or (waitsFor C sets group) gs (λ p q _ h. waits-closed C earlier sets group (λ x _. named x) p q h)
+
+      go : (q : ℕ) → elem q (order C sets group) ≡ false → (q ∈ order C sets group) ⊎ ((u : ℕ) × (u ∈ gs) × Chain (λ x y. y ∈ waitsFor C sets group x) u u)
+          → (p : ℕ) × Chain (Waits C wanted group) p p
+      go q f (inl m) = absurd (true≢false (sym (∈→elem q (order C sets group) m) ∙ f))
+      go q f (inr (u, _, c)) = (u, chain-map (λ x y h. waits-right x y .0 h) c)
 
 -- what the order of writing places: each group after those that it waits for, groups only, each once
 module _ (C : Gates) (sets : List ℕ) (group : ℕ → ℕ) where
