@@ -34,7 +34,7 @@ use Rattle.circuit.specs.WholeLaws.{Accepted, accepted, answer-refused, answer-
 use Rattle.direct.specs.Inputs.{inputRow}
 use Rattle.direct.specs.InputLaws.{row-is}
 use Rattle.direct.specs.Direct.{runAnswer}
-use Rattle.direct.specs.DirectLaws.{inputs-answer, run-answer, run-number}
+use Rattle.direct.specs.DirectLaws.{rule-answer, inputs-answer, run-answer, run-number}
 use Rattle.plan.specs.PlanFile.{leastBytes, mostBytes, mark, gatesCounted, groupsCounted, groupsIn, EachGroup, Rising, Apart}
 use Rattle.plan.specs.Groups.{groupOf}
 use Rattle.plan.specs.Rows.{isCostly, rows, planRow, planAnswer}
@@ -43,12 +43,12 @@ use Rattle.plan.specs.GroupLaws.{groupOf-named}
 use Rattle.plan.specs.WaitLaws.{placed-right}
 use Rattle.plan.specs.RowLaws.{each-right, ends-right, joins-right, apart-right}
 use Rattle.plan.specs.MemberLaws.{costly-gate, costly-right, parted-right}
-use Rattle.plan.specs.AcceptedLaws.{rising-exist, order-right, row-first, answer-row, answer-accepted, answer-number}
+use Rattle.plan.specs.AcceptedLaws.{rising-exist, order-right, row-first, answer-rule, answer-row, answer-accepted, answer-number}
 use Rattle.fused.specs.FusedCircuit.{fusedFile}
 use Rattle.fused.specs.Answers.{fusedAnswer, writeAnswer, writtenOver}
-use Rattle.fused.specs.AnswerLaws.{fused-taken, write-short, write-taken}
+use Rattle.fused.specs.AnswerLaws.{fused-refused, fused-taken, write-refused, write-short, write-taken}
 use Rattle.running.specs.FusedRun.{fusedResults}
-use Rattle.demands.specs.Table.{TableRow, AnsweredBy, ByteRow, bySize, onByte, pastEnd, ruleRows, AllCostly, planRows, inputRows, bufferRows}
+use Rattle.demands.specs.Table.{AnsweredBy, AnsweredAfter, ByteRow, bySize, onByte, pastEnd, RuleAnswered, ruleRows, AllCostly, planRows, inputRows, runRows, bufferRows}
 use Rattle.demands.specs.TableLaws.{Outcome, taken-by, refused-by, answered-by, Tells, none, _then_, tests-tell}
 
 -- rows 1 to 9
@@ -60,7 +60,7 @@ byte-row s number place r = go (same? number 1) (same? number 4)
     go (inr n) (inl e) = rw (e, r .ended e) pastEnd
     go (inr n) (inr m) = let lo : 2 ≤ number = omega (arith, r .least) in onByte lo (r .most) m (r .inside n m)
 
-pub rule-bytes : (s : List ℕ) → IsRead (readRule s) ⊎ ((number : ℕ) × (place : ℕ) × ByteRow (length s) number place × (ruleAnswer s ≡ refusal number place))
+rule-bytes : (s : List ℕ) → IsRead (readRule s) ⊎ ((number : ℕ) × (place : ℕ) × ByteRow (length s) number place × (ruleAnswer s ≡ refusal number place))
 rule-bytes s = go (readRule s) refl (bytes.rule-rows s)
   where
     go : (m : Parsed Block) → readRule s ≡ m → bytes.ByteRows s m
@@ -75,7 +75,7 @@ rule-bytes s = go (readRule s) refl (bytes.rule-rows s)
         )
 
 -- rows 10 and 11, of a rule that is read byte by byte
-pub rule-rows : (s : List ℕ) → IsRead (readRule s) → AnsweredBy (ruleRows s) (length s) (ruleAnswer s)
+rule-rows : (s : List ℕ) → IsRead (readRule s) → AnsweredBy (ruleRows s) (length s) (ruleAnswer s)
 rule-rows s h =
     let C = gatesOf s in
     let e = answer-whole s h in
@@ -90,6 +90,9 @@ rule-rows s h =
     (e ∙ whole-conditions mostGates mostConditions C (length s) few l)))
     (λ t. let l = leb-false _ _ t in
     refused-by 0 (ruleRows s) (length s) (ruleAnswer s) refl (omega arith) (λ k. omega arith) (e ∙ whole-gates mostGates mostConditions C (length s) l))
+
+pub rule-answered : (s : List ℕ) → RuleAnswered s (ruleAnswer s)
+rule-answered s = record { bytes = rule-bytes s; whole = rule-rows s }
 
 -- rows 20 to 26, 32 and 27 to 30, of a plan for an accepted rule
 sized : (a b n : ℕ) → ((leb a n && leb n b) ≡ true) ↔ ((a ≤ n) × (n ≤ b))
@@ -124,13 +127,16 @@ module _ (s p : List ℕ) (z : ruleAnswer s .number ≡ 0) where
       placed-right C (wantedOf s) (rule-earlier s b n read) (wanted-inside s b n read) (a .conds) (groupOf Gs) (groupOf-named Gs joins rising once) then λ _.
       none
 
-  pub plan-rows : AnsweredBy (planRows s p) 0 (planAnswer s p)
+  plan-rows : AnsweredBy (planRows s p) 0 (planAnswer s p)
   plan-rows =
       let n : planAnswer s p .number ≡ planRow s p = answer-number s p z in
       answered-by (planRows s p) 0 (planAnswer s p) refl
       (subst (Outcome (planRows s p)) (sym (n ∙ row-first s p)) (tests-tell (rows s p) (planRows s p) refl plan-tells))
       (λ e. ap (λ (a : Answer). a .place) (answer-accepted s p z (sym n ∙ e) ∙ accepted s z .answer))
       (λ f. answer-row s p z (λ e. f (n ∙ e)) ∙ ap (λ (k : ℕ). refusal k 0) (sym n))
+
+pub plan-answered : (s p : List ℕ) → AnsweredAfter (ruleAnswer s) (planRows s p) (planAnswer s p)
+plan-answered s p = record { stands = answer-rule s p; decided = plan-rows s p }
 
 -- rows 40 to 42, of v variables of these kinds, after an answer that stands before the inputs
 pub inputs-rows : (v : ℕ) (kinds : ℕ → Kind) (inputs : List ℕ) (room : ℕ) (a : Answer) → a .number ≡ inputsRow v kinds inputs room → (a .number ≡ 0 → a .place ≡ 0)
@@ -157,15 +163,28 @@ run-rows before s inputs room z place =
     (λ e. ap (λ (a : Answer). a .place) (run-answer before s inputs z room (sym n ∙ e)) ∙ place)
     (λ f. inputs-answer before s inputs z room (λ e. f (n ∙ e)) ∙ ap (λ (k : ℕ). refusal k 0) (sym n))
 
-pub rule-run-rows : (s inputs : List ℕ) (room : ℕ) → ruleAnswer s .number ≡ 0 → AnsweredBy (inputRows (variables s) (kindAt s) inputs room) 0 (runAnswer (ruleAnswer s) s inputs room)
-rule-run-rows s inputs room z = run-rows (ruleAnswer s) s inputs room z (ap (λ (a : Answer). a .place) (accepted s z .answer))
+-- a refused plan's answer is that of running its circuit
+pub plan-number : (s p : List ℕ) → (planAnswer s p .number ≡ 0 → ⊥) → (inputs : List ℕ) (room : ℕ) → runAnswer (fusedAnswer s p) s inputs room ≡ planAnswer s p
+plan-number s p n inputs room =
+    let e = fused-refused s p n in
+    rule-answer (fusedAnswer s p) s inputs (λ z. n (ap (λ (a : Answer). a .number) (sym e) ∙ z)) room ∙ e
 
-pub fused-run-rows : (s p inputs : List ℕ) (room : ℕ) → planAnswer s p .number ≡ 0
-    → AnsweredBy (inputRows (variables s) (kindAt s) inputs room) 0 (runAnswer (fusedAnswer s p) s inputs room)
-fused-run-rows s p inputs room h = let (number, place) = fused-taken s p h in run-rows (fusedAnswer s p) s inputs room number place
+pub run-answered : (s inputs : List ℕ) (room : ℕ) → AnsweredAfter (ruleAnswer s) (runRows s inputs room) (runAnswer (ruleAnswer s) s inputs room)
+run-answered s inputs room =
+    record {
+      stands = λ h. rule-answer (ruleAnswer s) s inputs h room;
+      decided = λ z. run-rows (ruleAnswer s) s inputs room z (ap (λ (a : Answer). a .place) (accepted s z .answer));
+    }
+
+pub fused-run-answered : (s p inputs : List ℕ) (room : ℕ) → AnsweredAfter (planAnswer s p) (runRows s inputs room) (runAnswer (fusedAnswer s p) s inputs room)
+fused-run-answered s p inputs room =
+    record {
+      stands = λ h. plan-number s p h inputs room;
+      decided = λ h. let (number, place) = fused-taken s p h in run-rows (fusedAnswer s p) s inputs room number place;
+    }
 
 -- row 50, of an accepted plan
-pub write-rows : (s p : List ℕ) (room : ℕ) → planAnswer s p .number ≡ 0 → AnsweredBy (bufferRows s p room) 0 (writeAnswer s p room)
+write-rows : (s p : List ℕ) (room : ℕ) → planAnswer s p .number ≡ 0 → AnsweredBy (bufferRows s p room) 0 (writeAnswer s p room)
 write-rows s p room h =
     split (leb (length (fusedFile s p)) room)
     (λ u. let l = leb-true _ _ u in
@@ -174,6 +193,9 @@ write-rows s p room h =
     taken-by (bufferRows s p room) 0 (writeAnswer s p room) refl (l, tt) (ap (λ (a : Answer). a .number) e ∙ number) (ap (λ (a : Answer). a .place) e ∙ place))
     (λ u. let l = leb-false _ _ u in
     refused-by 0 (bufferRows s p room) 0 (writeAnswer s p room) refl (omega arith) (λ k. omega arith) (write-short s p room h l))
+
+pub write-answered : (s p : List ℕ) (room : ℕ) → AnsweredAfter (planAnswer s p) (bufferRows s p room) (writeAnswer s p room)
+write-answered s p room = record { stands = write-refused s p room; decided = write-rows s p room }
 
 -- a refusal writes to no buffer
 pub write-untouched : (s p buffer : List ℕ) → (writeAnswer s p (length buffer) .number ≡ 0 → ⊥) → writtenOver s p buffer ≡ buffer

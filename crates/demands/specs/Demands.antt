@@ -3,12 +3,11 @@
 use Prim.Native.Nat.{ℕ}
 use mathlib.Core.Path.{_≡_}
 use mathlib.Core.List.{List, map}
-use mathlib.Core.Logic.{_⊎_, _↔_}
+use mathlib.Core.Logic.{_↔_}
 use lib.ListN.{length, take, drop}
 use Rattle.words.specs.Numbers.{Bytes, Words}
-use Rattle.answers.specs.Answers.{refusal}
 use Rattle.answers.specs.Parsing.{parsed, IsRead}
-use Rattle.reading.specs.Header.{variables, kindAt}
+use Rattle.reading.specs.Header.{variables}
 use Rattle.reading.specs.Tree.{Block}
 use Rattle.reading.specs.Rule.{readRule}
 use Rattle.reading.specs.Format.{ruleBytes, WellFormed}
@@ -26,25 +25,23 @@ use Rattle.plan.specs.PlanFile.{groupsIn}
 use Rattle.plan.specs.Groups.{groupOf, Waits, Chain}
 use Rattle.plan.specs.SameGroups.{Joined}
 use Rattle.plan.specs.AcceptedLaws as laws
-use Rattle.records.specs.WireKinds.{wireKind}
-use Rattle.records.specs.FileFigures.{fileVariables, fileRecords}
 use Rattle.fused.specs.FusedCircuit.{fusedFile}
 use Rattle.fused.specs.Answers.{fusedAnswer, writeAnswer, writtenOver}
 use Rattle.fused.specs.FusedFigures as figures
 use Rattle.running.specs.FusedRun.{fusedResults}
 use Rattle.foreign.specs.Foreign.{circuitAnswer, circuitRunAnswer, circuitRunResults}
 use Rattle.foreign.specs.RunLaws as files-run
-use Rattle.demands.specs.Table.{AnsweredBy, ByteRow, ruleRows, planRows, inputRows, bufferRows, circuitRows}
+use Rattle.demands.specs.Table.{AnsweredBy, AnsweredAfter, RuleAnswered, planRows, runRows, bufferRows, circuitRows, fileRunRows}
 use Rattle.demands.specs.Promises.{AcceptedExactly, FileReadsEarlier, FileGives, FusedAsDirect}
 use Rattle.demands.specs.AnsweredLaws as answers
 use Rattle.demands.specs.FaultLaws as faults
 use Rattle.demands.specs.FusedRunLaws as runs
 use Rattle.demands.specs.ForeignLaws as foreign
 
--- Demand 1. "Whatever arrives as rule, plan or inputs: the tool ends; it takes it, or refuses with the number and place of document 01's table": a rule is read byte by byte, or refused by
--- a row of 1 to 9;
-pub rule-bytes : (s : List ℕ) → IsRead (readRule s) ⊎ ((number : ℕ) × (place : ℕ) × ByteRow (length s) number place × (ruleAnswer s ≡ refusal number place))
-rule-bytes = answers.rule-bytes
+-- Demand 1. "Whatever arrives as rule, plan or inputs: the tool ends; it takes it, or refuses with the number and place of document 01's table": row by row, a number is answered exactly
+-- when the facts of the rows before it hold and its own fails. Rule, 1 to 11:
+pub rule-answered : (s : List ℕ) → RuleAnswered s (ruleAnswer s)
+rule-answered = answers.rule-answered
 
 -- (which rules rows 1 to 9 take, and as what, without a reader: a file that is the bytes of a well-formed tree, and that tree)
 pub rule-format : (s : List ℕ) → Bytes s → IsRead (readRule s) ↔ ((kinds : List ℕ) × (b : Block) × WellFormed kinds b × (s ≡ ruleBytes kinds b))
@@ -53,15 +50,11 @@ rule-format = format.rule-format
 pub rule-back : (kinds : List ℕ) (b : Block) → WellFormed kinds b → readRule (ruleBytes kinds b) ≡ parsed b (length (ruleBytes kinds b))
 rule-back = format.rule-back
 
--- then the rows decide, each place's after those before it: a number is answered exactly when the facts of the rows before it hold and its own fails. 10 and 11, at the file's length;
-pub rule-rows : (s : List ℕ) → IsRead (readRule s) → AnsweredBy (ruleRows s) (length s) (ruleAnswer s)
-rule-rows = answers.rule-rows
+-- Plan, 20 to 30 and 32, after the rule's:
+pub plan-answered : (s p : List ℕ) → AnsweredAfter (ruleAnswer s) (planRows s p) (planAnswer s p)
+plan-answered = answers.plan-answered
 
--- 20 to 30 and 32, for an accepted rule;
-pub plan-rows : (s p : List ℕ) → ruleAnswer s .number ≡ 0 → AnsweredBy (planRows s p) 0 (planAnswer s p)
-plan-rows = answers.plan-rows
-
--- (of 29, two members that some setting needs together; of 30, a group that a chain of waits leads back to;)
+-- (of 29, two members that some setting needs together; of 30, a group that a chain of waits leads back to)
 pub two-needed : (s p : List ℕ) → ruleAnswer s .number ≡ 0 → planAnswer s p .number ≡ 29
     → (g : ℕ) × (h : ℕ) × Joined (groupsIn p) g h × (g ≡ h → ⊥) × (σ : Setting) × Needed (gatesOf s) (wantedOf s) σ g × Needed (gatesOf s) (wantedOf s) σ h
 two-needed = faults.two-needed
@@ -69,27 +62,23 @@ two-needed = faults.two-needed
 pub waits-for-itself : (s p : List ℕ) → ruleAnswer s .number ≡ 0 → planAnswer s p .number ≡ 30 → (g : ℕ) × Chain (Waits (gatesOf s) (wantedOf s) (groupOf (groupsIn p))) g g
 waits-for-itself = faults.waits-for-itself
 
--- 40 to 42, for an accepted rule, and for an accepted plan where its circuit is run;
-pub run-rows : (s inputs : List ℕ) (room : ℕ) → ruleAnswer s .number ≡ 0 → AnsweredBy (inputRows (variables s) (kindAt s) inputs room) 0 (runAnswer (ruleAnswer s) s inputs room)
-run-rows = answers.rule-run-rows
+-- Inputs, 40 to 42, after the rule's, and after the plan's where its circuit is run:
+pub run-answered : (s inputs : List ℕ) (room : ℕ) → AnsweredAfter (ruleAnswer s) (runRows s inputs room) (runAnswer (ruleAnswer s) s inputs room)
+run-answered = answers.run-answered
 
-pub fused-run-rows : (s p inputs : List ℕ) (room : ℕ) → planAnswer s p .number ≡ 0
-    → AnsweredBy (inputRows (variables s) (kindAt s) inputs room) 0 (runAnswer (fusedAnswer s p) s inputs room)
-fused-run-rows = answers.fused-run-rows
+pub fused-run-answered : (s p inputs : List ℕ) (room : ℕ) → AnsweredAfter (planAnswer s p) (runRows s inputs room) (runAnswer (fusedAnswer s p) s inputs room)
+fused-run-answered = answers.fused-run-answered
 
--- 50, for an accepted plan;
-pub write-rows : (s p : List ℕ) (room : ℕ) → planAnswer s p .number ≡ 0 → AnsweredBy (bufferRows s p room) 0 (writeAnswer s p room)
-write-rows = answers.write-rows
+-- Circuit buffer, 50, after the plan's:
+pub write-answered : (s p : List ℕ) (room : ℕ) → AnsweredAfter (planAnswer s p) (bufferRows s p room) (writeAnswer s p room)
+write-answered = answers.write-answered
 
--- 60 to 62 of a circuit file (document 02, C-11), and 40 to 42 where it is read and run.
-pub circuit-rows : (f : List ℕ) → AnsweredBy (circuitRows f) 0 (circuitAnswer f)
-circuit-rows = foreign.circuit-rows
+-- Circuit file (document 02, C-11), 60 to 62, and its inputs after them:
+pub circuit-answered : (f : List ℕ) → AnsweredBy (circuitRows f) 0 (circuitAnswer f)
+circuit-answered = foreign.circuit-answered
 
-pub circuit-run-rows : (f inputs : List ℕ) (room : ℕ) → circuitAnswer f .number ≡ 0
-    → AnsweredBy (inputRows (fileVariables f) (wireKind (fileRecords f)) inputs room) 0 (circuitRunAnswer f inputs room)
-circuit-run-rows = foreign.circuit-run-rows
-
--- (What is refused before is answered as it was: `rule-before-plan` and its like, Sentences.)
+pub circuit-run-answered : (f inputs : List ℕ) (room : ℕ) → AnsweredAfter (circuitAnswer f) (fileRunRows f inputs room) (circuitRunAnswer f inputs room)
+circuit-run-answered = foreign.circuit-run-answered
 
 -- "a refusal writes no byte of a lent buffer."
 pub run-untouched : (s inputs results : List ℕ) → (runAnswer (ruleAnswer s) s inputs (length results) .number ≡ 0 → ⊥)

@@ -44,7 +44,7 @@ use Rattle.foreign.specs.Foreign.{circuitAnswer, recordPart, circuitRunAnswer, 
 use Rattle.foreign.specs.RefusalLaws.{fileInputsRow}
 use Rattle.foreign.specs.RunLaws.{file-answer, inputs-answer, run-answer, run-number, run-results, refused-results}
 use Rattle.foreign.specs.ReadLaws.{refused-answer, taken-answer, answer-number, part-refused, part-past, part-shown}
-use Rattle.demands.specs.Table.{AnsweredBy, FailsAt, numberOf, Headed, circuitRows, inputRows}
+use Rattle.demands.specs.Table.{AnsweredBy, AnsweredAfter, FailsAt, numberOf, Headed, circuitRows, fileRunRows}
 use Rattle.demands.specs.TableLaws.{taken-by, refused-by}
 use Rattle.demands.specs.AnsweredLaws.{inputs-rows}
 use Rattle.demands.specs.Promises.{AsDirect, OwnAsDirect}
@@ -57,8 +57,8 @@ table-headed f = (
   λ h. headed-right f .1 (record { long = h .long; short = h .short; marked = mark-either f .1 (h .marked); some = h .some; few = h .few; wires = h .wires }),
 )
 
-pub circuit-rows : (f : List ℕ) → AnsweredBy (circuitRows f) 0 (circuitAnswer f)
-circuit-rows f =
+pub circuit-answered : (f : List ℕ) → AnsweredBy (circuitRows f) 0 (circuitAnswer f)
+circuit-answered f =
     split (headed f)
     (λ t. let head = table-headed f .0 t in
     let laid-out = laid-right f (headed-right f .0 t) in
@@ -75,14 +75,16 @@ circuit-rows f =
     refused : (k : ℕ) → k < 3 → FailsAt k (circuitRows f) → circuitRow f ≡ numberOf k (circuitRows f) → (circuitRow f ≡ 0 → ⊥) → AnsweredBy (circuitRows f) 0 (circuitAnswer f)
     refused k i g e n = refused-by k (circuitRows f) 0 (circuitAnswer f) refl i g (refused-answer f n ∙ ap (λ (x : ℕ). refusal x 0) e)
 
--- and 40 to 42, of a file that is read
-pub circuit-run-rows : (f inputs : List ℕ) (room : ℕ) → circuitAnswer f .number ≡ 0
-    → AnsweredBy (inputRows (fileVariables f) (wireKind (fileRecords f)) inputs room) 0 (circuitRunAnswer f inputs room)
-circuit-run-rows f inputs room z =
-    let n = run-number f inputs z room in
-    inputs-rows (fileVariables f) (wireKind (fileRecords f)) inputs room (circuitRunAnswer f inputs room) n
-    (λ e. ap (λ (a : Answer). a .place) (run-answer f inputs z room (sym n ∙ e) ∙ taken-answer f (sym (answer-number f) ∙ z)))
-    (λ g. inputs-answer f inputs z room (λ e. g (n ∙ e)) ∙ ap (λ (k : ℕ). refusal k 0) (sym n))
+-- and 40 to 42
+pub circuit-run-answered : (f inputs : List ℕ) (room : ℕ) → AnsweredAfter (circuitAnswer f) (fileRunRows f inputs room) (circuitRunAnswer f inputs room)
+circuit-run-answered f inputs room = record { stands = λ h. file-answer f inputs h room; decided = decided }
+  where
+    decided : circuitAnswer f .number ≡ 0 → AnsweredBy (fileRunRows f inputs room) 0 (circuitRunAnswer f inputs room)
+    decided z =
+        let n = run-number f inputs z room in
+        inputs-rows (fileVariables f) (wireKind (fileRecords f)) inputs room (circuitRunAnswer f inputs room) n
+        (λ e. ap (λ (a : Answer). a .place) (run-answer f inputs z room (sym n ∙ e) ∙ taken-answer f (sym (answer-number f) ∙ z)))
+        (λ g. inputs-answer f inputs z room (λ e. g (n ∙ e)) ∙ ap (λ (k : ℕ). refusal k 0) (sym n))
 
 -- the format, and what follows from it
 pub circuit-format : (f : List ℕ) → Bytes f

@@ -37,7 +37,7 @@ use Rattle.fused.specs.AnswerLaws.{fused-refused, fused-taken, fused-plan, answ
 use Rattle.running.specs.FusedRun.{fusedResults}
 use Rattle.running.specs.ResultLaws.{fused-results}
 use Rattle.demands.specs.Promises.{FusedAsDirect}
-use Rattle.demands.specs.AnsweredLaws.{fused-untouched}
+use Rattle.demands.specs.AnsweredLaws.{plan-number, fused-untouched}
 
 -- the plain circuit beside the direct run
 pub plain-figures : (s inputs : List ℕ) → IsRead (readRule s) → length inputs ≡ variables s → map (figureAt inputs (gatesOf s)) (outputsOf s) ≡ runRule s inputs
@@ -92,12 +92,6 @@ module _ (s p : List ℕ) where
         let e = reads-earlier s p h in
         subst ReadsEarlier (sym (fused-found s p h bytes e (output-earlier s p h) .0)) e
 
-  -- a plan that is refused
-  pub plan-number : (planAnswer s p .number ≡ 0 → ⊥) → (inputs : List ℕ) (room : ℕ) → runAnswer (fusedAnswer s p) s inputs room ≡ planAnswer s p
-  plan-number n inputs room =
-      let e = fused-refused s p n in
-      rule-answer (fusedAnswer s p) s inputs (λ z. n (ap (λ (a : Answer). a .number) (sym e) ∙ z)) room ∙ e
-
   -- writing that is answered with 0: an accepted plan, with its five counts
   pub written-answer : (room : ℕ) → writeAnswer s p room .number ≡ 0 → (planAnswer s p .number ≡ 0) × (writeAnswer s p room ≡ fusedAnswer s p)
   written-answer room h =
@@ -123,7 +117,7 @@ module _ (s p : List ℕ) where
           results = same-results h bytes inputs words results;
         };
         counts = counts;
-        refused = λ n. (plan-number n inputs (length results), fused-untouched s p inputs results (λ z. n (fused-plan s p (answered-rule (fusedAnswer s p) s inputs (length results) z))));
+        refused = λ n. (plan-number s p n inputs (length results), fused-untouched s p inputs results (λ z. n (fused-plan s p (answered-rule (fusedAnswer s p) s inputs (length results) z))));
       }
     where
       counts : runAnswer (fusedAnswer s p) s inputs (length results) .number ≡ 0 → (room : ℕ) → writeAnswer s p room .number ≡ 0

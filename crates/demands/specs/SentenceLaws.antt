@@ -20,7 +20,7 @@ use Rattle.fused.specs.FitPlan.{fused-found}
 use Rattle.fused.specs.FusedFigures.{reads-earlier, output-earlier}
 use Rattle.fused.specs.Answers.{fusedAnswer, writeAnswer}
 use Rattle.fused.specs.AnswerLaws.{fused-refused, write-refused, write-taken}
-use Rattle.demands.specs.FusedRunLaws.{plan-number}
+use Rattle.demands.specs.AnsweredLaws.{plan-number}
 
 -- the wires that our own file counts
 pub wires-counted : (s p : List ℕ) → Bytes s → planAnswer s p .number ≡ 0 → wireCount (fusedFile s p) ≤ mostWires

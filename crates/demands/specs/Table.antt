@@ -7,11 +7,14 @@ use mathlib.Core.Logic.{_⊎_, _↔_}
 use lib.ListN.{length, getD, take}
 use Rattle.words.specs.Lists.{_∈_}
 use Rattle.answers.specs.Answers.{refusal}
+use Rattle.answers.specs.Parsing.{IsRead}
 use Rattle.answers.specs.declared.Answer.{Answer}
 use Rattle.codes.specs.Codes.{costly}
 use Rattle.codes.specs.declared.Kind.{Kind}
 use Rattle.codes.specs.declared.Kind.the-variants as kind
 use Rattle.codes.specs.declared.Operation.{Operation}
+use Rattle.reading.specs.Header.{variables, kindAt}
+use Rattle.reading.specs.Rule.{readRule}
 use Rattle.gates.specs.Limits.{mostGates, mostConditions}
 use Rattle.gates.specs.Gates.{Gates, gateAt, operation, conditions}
 use Rattle.gates.specs.PlainCircuit.{gatesOf, gateCount}
@@ -25,6 +28,7 @@ use Rattle.records.specs.Limits.{mostFileBytes, mostFileVariables, mostWires}
 use Rattle.records.specs.CircuitFile.{mark}
 use Rattle.records.specs.FileFigures.{firstRecord, fileVariables, wireCount, fileRecords, fileOutputs}
 use Rattle.records.specs.LaidOut.{LaidOut}
+use Rattle.records.specs.WireKinds.{wireKind}
 use Rattle.records.specs.WellFormed.{Standing}
 use Rattle.fused.specs.FusedCircuit.{fusedFile}
 
@@ -54,6 +58,11 @@ pub record AnsweredBy (rows : List TableRow) (place : ℕ) (a : Answer) : Type 0
   pub refused : (k : ℕ) → k < length rows → (a .number ≡ numberOf k rows) ↔ FailsAt k rows
   pub listed : ((a .number ≡ 0) × (a .place ≡ 0)) ⊎ ((k : ℕ) × (k < length rows) × (a ≡ refusal (numberOf k rows) place))
 
+-- "Rule comes before plan, plan before inputs or buffer": what was refused before is answered as it was; else the rows decide, at place 0
+pub record AnsweredAfter (before : Answer) (rows : List TableRow) (a : Answer) : Type 0 where
+  pub stands : (before .number ≡ 0 → ⊥) → a ≡ before
+  pub decided : before .number ≡ 0 → AnsweredBy rows 0 a
+
 -- rule, byte by byte: 1 to 9. "the place is the file's length for 4, .. the offending byte for 2, 3 and 5 to 9, else 0"; which byte offends, and by which number, is what reading says (`readRule`)
 pub data ByteRow (size : ℕ) : ℕ → ℕ → Type 0 where
   bySize : ByteRow size 1 0
@@ -66,6 +75,11 @@ ruleRows s =
     row 10 (length (gatesOf s) ≤ mostGates)
     ∷ row 11 (length (conditions (gatesOf s)) ≤ mostConditions)
     ∷ []
+
+-- what reading a rule answers: one of 1 to 9, or, where it is read byte by byte, by these two
+pub record RuleAnswered (s : List ℕ) (a : Answer) : Type 0 where
+  pub bytes : IsRead (readRule s) ⊎ ((number : ℕ) × (place : ℕ) × ByteRow (length s) number place × (a ≡ refusal number place))
+  pub whole : IsRead (readRule s) → AnsweredBy (ruleRows s) (length s) a
 
 -- every member of the group is a costly operation
 abbrev pub AllCostly : Gates → List ℕ → Type 0
@@ -97,6 +111,10 @@ inputRows v kinds inputs room =
     ∷ row 42 (v ≤ room)
     ∷ []
 
+-- those of a rule's variables
+abbrev pub runRows : List ℕ → List ℕ → ℕ → List TableRow
+runRows s inputs room = inputRows (variables s) (kindAt s) inputs room
+
 -- circuit buffer: 50: shorter than the file
 abbrev pub bufferRows : List ℕ → List ℕ → ℕ → List TableRow
 bufferRows s p room = row 50 (length (fusedFile s p) ≤ room) ∷ []
@@ -117,3 +135,7 @@ circuitRows f =
     ∷ row 61 (LaidOut f)
     ∷ row 62 (Standing (fileVariables f) (fileRecords f) (fileOutputs f))
     ∷ []
+
+-- and the inputs of such a file's variables, each of the kind of its input's wire
+abbrev pub fileRunRows : List ℕ → List ℕ → ℕ → List TableRow
+fileRunRows f inputs room = inputRows (fileVariables f) (wireKind (fileRecords f)) inputs room

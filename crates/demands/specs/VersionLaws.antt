@@ -33,7 +33,7 @@ use Rattle.foreign.specs.Foreign.{circuitAnswer}
 use Rattle.foreign.specs.ReadLaws.{answer-number}
 use Rattle.demands.specs.Table.{circuitRows}
 use Rattle.demands.specs.TableLaws.{refuses-with}
-use Rattle.demands.specs.ForeignLaws.{table-headed, circuit-rows}
+use Rattle.demands.specs.ForeignLaws.{table-headed, circuit-answered}
 
 -- what is written has the mark and version of the second
 pub written-two : (s p : List ℕ) → take 5 (fusedFile s p) ≡ mark two
@@ -41,12 +41,12 @@ written-two s p = ap (take 5) (fused-is s p)
 
 -- another mark or version is 60
 pub other-version : (f : List ℕ) → (take 5 f ≡ mark one → ⊥) → (take 5 f ≡ mark two → ⊥) → circuitAnswer f ≡ refusal 60 0
-other-version f a b = refuses-with 0 (circuitRows f) 0 (circuitAnswer f) refl (circuit-rows f) (omega arith) (λ h. ⊎-elim a b (h .marked))
+other-version f a b = refuses-with 0 (circuitRows f) 0 (circuitAnswer f) refl (circuit-answered f) (omega arith) (λ h. ⊎-elim a b (h .marked))
 
 -- a guard of more wires than the file's version admits is 61; so of a file that is read each guard keeps within them
 pub over-guard : (f : List ℕ) → headed f ≡ true → (i : ℕ) → i < wireCount f → (cs : List ℕ) (t : ℕ) → recordAt f (recordPlace f i) ≡ guard cs t
     → mostGuardWires (versionIn f) < length cs → circuitAnswer f ≡ refusal 61 0
-over-guard f h i l cs t e more = refuses-with 1 (circuitRows f) 0 (circuitAnswer f) refl (circuit-rows f) (omega arith) (table-headed f .0 h, full)
+over-guard f h i l cs t e more = refuses-with 1 (circuitRows f) 0 (circuitAnswer f) refl (circuit-answered f) (omega arith) (table-headed f .0 h, full)
   where
     full : LaidOut f → ⊥
     full o = let k : length cs ≤ mostGuardWires (versionIn f) = subst (Bounded (versionIn f)) e (o .whole i l .bounded) in omega arith
