@@ -20,7 +20,8 @@ returns c =
     let answer = wrote .ensures .0 in
     let put = c .before .before .before .write-line in
     let g = wrote .ok in
-    let short = length-lineOf (wrote .result) (omega (arith, g), (omega (arith, g), tt)) (omega (arith, g), (omega (arith, g), (omega (arith, g), (omega (arith, g), tt)))) in
+    let short = length-lineOf (wrote .result) (omega (arith, g), (omega (arith, g), tt))
+    (omega (arith, g), (omega (arith, g), (omega (arith, g), (omega (arith, g), tt)))) in
     let whole = put-fits (lineOf (wrote .result)) (now (a .line)) (omega (arith, short, c .before .before .before .before .before .before .before .before .before .before .before .before .before .pre)) in (
       ap (λ (x : Answer). eqb (x .number) 0) answer,
       (
