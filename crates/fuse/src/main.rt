@@ -1,7 +1,14 @@
 // Reads rule.rul and rule.pln in the current folder, writes fused.cir there if the plan is accepted, and prints one line.
-use answers::Answer;
 use libc::STDOUT_FILENO;
+ghost use mathlib.Core.Path.{_≡_};
+ghost use mathlib.Core.Bool.{true};
+ghost use Prim.Native.Nat.{_≤_};
+ghost use lib.Dec.{eqb};
+ghost use lib.ListN.{length};
 ghost use Rattle.io.specs.Counts.{Counts};
+ghost use Rattle.words.specs.Buffers.{over};
+ghost use Rattle.fused.specs.Answers.{writeAnswer, writtenOver};
+ghost use Rattle.lines.specs.Line.{lineOf};
 
 // Nothing is left to read: a read answers 0, neither a byte nor a failure.
 fn at_end(fd: i32) -> bool {
@@ -59,37 +66,51 @@ fn save(bytes: &[u8]) -> bool {
     false
 }
 
-// The line is whole before any of it is printed, and is printed in one write.
-fn print_line(a: Answer) -> bool {
-    let mut line = [0u8; lines::LONGEST];
-    let n = lines::write_line(a, &mut line);
-    io::write_all(STDOUT_FILENO, &line[0..n])
+// What is to be saved and printed: whether there is a file, and how many bytes of the file and of the line stand in their buffers.
+struct Fused {
+    accepted: bool,
+    bytes: usize,
+    line: usize,
 }
 
-// Saves the file of an accepted plan and prints the line; there is no line where the file could not be saved.
-// The writer's promise keeps the count of bytes within the buffer; asking it again spares a proof.
-fn finish(a: Answer, out: &[u8]) -> bool {
-    if a.number != 0 {
-        return print_line(a);
+// All that the program says of a rule and a plan, whole before any of it is saved or printed: the file of an accepted plan, and the line.
+// The line buffer holds the longest line.
+fn fuse_rule(rule: &[u8], plan: &[u8], file: &mut [u8], line: &mut [u8]) -> Fused
+    requires { ⌜ 93 ≤ length (now line) ⌝ }
+    ensures accepted { λ r. ⌜ r .accepted ≡ eqb (writeAnswer (now (rule .entry)) (now (plan .entry)) (length (now (file .entry))) .number) 0 ⌝ }
+    ensures bytes { λ r. ⌜ r .bytes ≡ writeAnswer (now (rule .entry)) (now (plan .entry)) (length (now (file .entry))) .bytes ⌝ }
+    ensures saved { λ _. ⌜ now (file .exit) ≡ writtenOver (now (rule .entry)) (now (plan .entry)) (now (file .entry)) ⌝ }
+    ensures counted { λ r. ⌜ r .line ≡ length (lineOf (writeAnswer (now (rule .entry)) (now (plan .entry)) (length (now (file .entry))))) ⌝ }
+    ensures printed { λ _. ⌜ now (line .exit) ≡ over (lineOf (writeAnswer (now (rule .entry)) (now (plan .entry)) (length (now (file .entry))))) (now (line .entry)) ⌝ }
+    ensures within { λ r. ⌜ (r .accepted ≡ true → r .bytes ≤ length (now (file .exit))) × (r .line ≤ length (now (line .exit))) ⌝ }
+{
+    let answer = writing::write(rule, plan, file);
+    let n = lines::write_line(answer, line);
+    Fused {
+        accepted: answer.number == 0,
+        bytes: answer.bytes,
+        line: n,
     }
-    let n = a.bytes;
-    if n <= out.len() {
-        if save(&out[0..n]) {
-            return print_line(a);
-        }
-    }
-    true
 }
 
-// One byte more than each limit is read, so that a file too long is seen to be.
+// One byte more than each limit is read, so that a file too long is seen to be. There is no line where the file could not be saved, and the line is
+// printed in one write.
 fn main() {
     let mut rule = [0u8; 4097];
     let mut plan = [0u8; 1025];
-    let mut out = [0u8; 16384];
+    let mut file = [0u8; 16384];
+    let mut line = [0u8; lines::LONGEST];
     let r = read_file(b"rule.rul", &mut rule);
     let p = read_file(b"rule.pln", &mut plan);
-    let a = writing::write(&rule[..r], &plan[..p], &mut out);
-    if !finish(a, &out) {
+    let fused = fuse_rule(&rule[..r], &plan[..p], &mut file, &mut line);
+    let bytes = fused.bytes;
+    let n = fused.line;
+    if fused.accepted {
+        if !save(&file[0..bytes]) {
+            return;
+        }
+    }
+    if !io::write_all(STDOUT_FILENO, &line[0..n]) {
         os::fail(b"standard output");
     }
 }
