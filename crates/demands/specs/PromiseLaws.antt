@@ -11,12 +11,35 @@ use Rattle.plan.specs.Rows.{planAnswer}
 use Rattle.fused.specs.FusedCircuit.{fusedFile}
 use Rattle.fused.specs.Answers.{fusedAnswer, writeAnswer, writtenOver}
 use Rattle.running.specs.FusedRun.{fusedResults}
-use Rattle.foreign.specs.Foreign.{circuitRunAnswer, circuitRunResults}
+use Rattle.foreign.specs.Foreign.{circuitAnswer, circuitRunAnswer, circuitRunResults}
+use Rattle.demands.specs.Table.{AnsweredBy, AnsweredAfter, RuleAnswered, planRows, runRows, bufferRows, circuitRows, fileRunRows}
 use Rattle.demands.specs.Promises.{RunWritten, AcceptedExactly, FileReadsEarlier, FileGives, FusedAsDirect, OwnAsDirect}
 use Rattle.demands.specs.FusedRunLaws.{written-answer, file-written}
 use Rattle.demands.specs.Demands as demands
 use Rattle.demands.specs.Sentences as sentences
 use Rattle.demands.specs.C11 as circuits
+
+-- what is answered is answered by the table
+pub rule-told : (s : List ℕ) (a : Answer) → a ≡ ruleAnswer s → RuleAnswered s a
+rule-told s a e = subst⁻¹ (RuleAnswered s) e (demands.rule-answered s)
+
+pub plan-told : (s p : List ℕ) (a : Answer) → a ≡ planAnswer s p → AnsweredAfter (ruleAnswer s) (planRows s p) a
+plan-told s p a e = subst⁻¹ (AnsweredAfter (ruleAnswer s) (planRows s p)) e (demands.plan-answered s p)
+
+pub run-told : (s inputs : List ℕ) (room : ℕ) (a : Answer) → a ≡ runAnswer (ruleAnswer s) s inputs room → AnsweredAfter (ruleAnswer s) (runRows s inputs room) a
+run-told s inputs room a e = subst⁻¹ (AnsweredAfter (ruleAnswer s) (runRows s inputs room)) e (demands.run-answered s inputs room)
+
+pub fused-told : (s p inputs : List ℕ) (room : ℕ) (a : Answer) → a ≡ runAnswer (fusedAnswer s p) s inputs room → AnsweredAfter (planAnswer s p) (runRows s inputs room) a
+fused-told s p inputs room a e = subst⁻¹ (AnsweredAfter (planAnswer s p) (runRows s inputs room)) e (demands.fused-run-answered s p inputs room)
+
+pub write-told : (s p : List ℕ) (room : ℕ) (a : Answer) → a ≡ writeAnswer s p room → AnsweredAfter (planAnswer s p) (bufferRows s p room) a
+write-told s p room a e = subst⁻¹ (AnsweredAfter (planAnswer s p) (bufferRows s p room)) e (demands.write-answered s p room)
+
+pub circuit-told : (f : List ℕ) (a : Answer) → a ≡ circuitAnswer f → AnsweredBy (circuitRows f) 0 a
+circuit-told f a e = subst⁻¹ (AnsweredBy (circuitRows f) 0) e (demands.circuit-answered f)
+
+pub file-told : (f inputs : List ℕ) (room : ℕ) (a : Answer) → a ≡ circuitRunAnswer f inputs room → AnsweredAfter (circuitAnswer f) (fileRunRows f inputs room) a
+file-told f inputs room a e = subst⁻¹ (AnsweredAfter (circuitAnswer f) (fileRunRows f inputs room)) e (demands.circuit-run-answered f inputs room)
 
 -- the check of a plan
 pub checked : (s p : List ℕ) (a : Answer) → a ≡ planAnswer s p → AcceptedExactly s p a

@@ -13,12 +13,14 @@ ghost use Rattle.fused.specs.Answers.{fusedAnswer, writeAnswer, writtenOver};
 ghost use Rattle.running.specs.FusedRun.{fusedResults};
 ghost use Rattle.direct.specs.Direct.{runAnswer, runResults};
 ghost use Rattle.foreign.specs.Foreign.{circuitAnswer, partStart, partLength, recordPart, circuitRunAnswer, circuitRunResults};
+ghost use Rattle.demands.specs.Table.{AnsweredBy, AnsweredAfter, RuleAnswered, planRows, runRows, bufferRows, circuitRows, fileRunRows};
 ghost use Rattle.demands.specs.Promises.{RunWritten, AcceptedExactly, FileReadsEarlier, FileGives, FusedAsDirect, OwnAsDirect, OneArray};
 
 // Reads a rule: its refusal by rows 1 to 11, or its gates and their cost.
 #[no_mangle]
 pub extern "C" fn linnet_read_rule(rule: &[u8]) -> Answer
-    ensures { λ r. ⌜ r ≡ ruleAnswer (now (rule .entry)) ⌝ }
+    ensures answer { λ r. ⌜ r ≡ ruleAnswer (now (rule .entry)) ⌝ }
+    ensures table { λ r. ⌜ RuleAnswered (now (rule .entry)) r ⌝ }
 {
     circuit::read_rule(rule)
 }
@@ -28,6 +30,7 @@ pub extern "C" fn linnet_read_rule(rule: &[u8]) -> Answer
 pub extern "C" fn linnet_run_rule(rule: &[u8], inputs: &[u32], results: &mut [u32]) -> Answer
     ensures answer { λ r. ⌜ r ≡ runAnswer (ruleAnswer (now (rule .entry))) (now (rule .entry)) (now (inputs .entry)) (length (now (results .entry))) ⌝ }
     ensures results { λ _. ⌜ now (results .exit) ≡ runResults (ruleAnswer (now (rule .entry))) (now (rule .entry)) (now (inputs .entry)) (now (results .entry)) ⌝ }
+    ensures table { λ r. ⌜ AnsweredAfter (ruleAnswer (now (rule .entry))) (runRows (now (rule .entry)) (now (inputs .entry)) (length (now (results .entry)))) r ⌝ }
     ensures written { λ r. ⌜ (r .number ≡ 0 → RunWritten (now (rule .entry)) (now (inputs .entry)) (now (results .entry)) (now (results .exit))) ⌝ }
 {
     direct::run(rule, inputs, results)
@@ -73,6 +76,7 @@ pub extern "C" fn linnet_show_plain(rule: &[u8]) -> Shown
 #[no_mangle]
 pub extern "C" fn linnet_check_plan(rule: &[u8], plan: &[u8]) -> Answer
     ensures answer { λ r. ⌜ r ≡ planAnswer (now (rule .entry)) (now (plan .entry)) ⌝ }
+    ensures table { λ r. ⌜ AnsweredAfter (ruleAnswer (now (rule .entry))) (planRows (now (rule .entry)) (now (plan .entry))) r ⌝ }
     ensures accepted { λ r. ⌜ AcceptedExactly (now (rule .entry)) (now (plan .entry)) r ⌝ }
 {
     checking::check_plan(rule, plan)
@@ -83,6 +87,7 @@ pub extern "C" fn linnet_check_plan(rule: &[u8], plan: &[u8]) -> Answer
 pub extern "C" fn linnet_write_fused(rule: &[u8], plan: &[u8], out: &mut [u8]) -> Answer
     ensures answer { λ r. ⌜ r ≡ writeAnswer (now (rule .entry)) (now (plan .entry)) (length (now (out .entry))) ⌝ }
     ensures file { λ _. ⌜ now (out .exit) ≡ writtenOver (now (rule .entry)) (now (plan .entry)) (now (out .entry)) ⌝ }
+    ensures table { λ r. ⌜ AnsweredAfter (planAnswer (now (rule .entry)) (now (plan .entry))) (bufferRows (now (rule .entry)) (now (plan .entry)) (length (now (out .entry)))) r ⌝ }
     ensures earlier { λ r. ⌜ (r .number ≡ 0 → FileReadsEarlier (take (r .bytes) (now (out .exit)))) ⌝ }
     ensures figures { λ r. ⌜ (r .number ≡ 0 → FileGives (now (rule .entry)) (take (r .bytes) (now (out .exit)))) ⌝ }
 {
@@ -99,6 +104,8 @@ pub extern "C" fn linnet_run_fused(
 ) -> Answer
     ensures answer { λ r. ⌜ r ≡ runAnswer (fusedAnswer (now (rule .entry)) (now (plan .entry))) (now (rule .entry)) (now (inputs .entry)) (length (now (results .entry))) ⌝ }
     ensures results { λ _. ⌜ now (results .exit) ≡ fusedResults (now (rule .entry)) (now (plan .entry)) (now (inputs .entry)) (now (results .entry)) ⌝ }
+    ensures table { λ r. ⌜ AnsweredAfter (planAnswer (now (rule .entry)) (now (plan .entry)))
+        (runRows (now (rule .entry)) (now (inputs .entry)) (length (now (results .entry)))) r ⌝ }
     ensures direct { λ r. ⌜ FusedAsDirect (now (rule .entry)) (now (plan .entry)) (now (inputs .entry)) (now (results .entry)) r (now (results .exit)) ⌝ }
 {
     running::run(rule, plan, inputs, results)
@@ -107,7 +114,8 @@ pub extern "C" fn linnet_run_fused(
 // Operation 07: reads a circuit file of any house.
 #[no_mangle]
 pub extern "C" fn linnet_read_circuit(file: &[u8]) -> Answer
-    ensures { λ r. ⌜ r ≡ circuitAnswer (now (file .entry)) ⌝ }
+    ensures answer { λ r. ⌜ r ≡ circuitAnswer (now (file .entry)) ⌝ }
+    ensures table { λ r. ⌜ AnsweredBy (circuitRows (now (file .entry))) 0 r ⌝ }
 {
     foreign::read(file)
 }
@@ -127,6 +135,7 @@ pub extern "C" fn linnet_record(file: &[u8], wire: usize) -> Part
 pub extern "C" fn linnet_run_circuit(file: &[u8], inputs: &[u32], results: &mut [u32]) -> Answer
     ensures answer { λ r. ⌜ r ≡ circuitRunAnswer (now (file .entry)) (now (inputs .entry)) (length (now (results .entry))) ⌝ }
     ensures results { λ _. ⌜ now (results .exit) ≡ circuitRunResults (now (file .entry)) (now (inputs .entry)) (now (results .entry)) ⌝ }
+    ensures table { λ r. ⌜ AnsweredAfter (circuitAnswer (now (file .entry))) (fileRunRows (now (file .entry)) (now (inputs .entry)) (length (now (results .entry)))) r ⌝ }
     ensures own { λ r. ⌜ OwnAsDirect (now (file .entry)) (now (inputs .entry)) (now (results .entry)) r (now (results .exit)) ⌝ }
 {
     foreign::run(file, inputs, results)

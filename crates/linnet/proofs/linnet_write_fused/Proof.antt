@@ -1,7 +1,8 @@
 use borrow.Author.Needs.{needs}
 use native.Mathlib.Omega.{arith}
+use lib.ListN.{length}
 use Rattle.words.specs.Numbers.{Bytes}
-use Rattle.demands.specs.PromiseLaws.{written-earlier, written-gives}
+use Rattle.demands.specs.PromiseLaws.{write-told, written-earlier, written-gives}
 use Rattle.linnet.proofs.linnet_write_fused.Statement.{statement}
 use Rattle.linnet.proofs.linnet_write_fused.Tie as tie
 
@@ -14,8 +15,11 @@ returns c =
       (
         search needs,
         (
-          λ z. written-earlier (d .rule .now) (d .plan .now) (d .out .now) a _ (search needs) (search needs) z bytes,
-          λ z. written-gives (d .rule .now) (d .plan .now) (d .out .now) a _ (search needs) (search needs) z bytes,
+          write-told (d .rule .now) (d .plan .now) (length (d .out .now)) _ (search needs),
+          (
+            λ z. written-earlier (d .rule .now) (d .plan .now) (d .out .now) a _ (search needs) (search needs) z bytes,
+            λ z. written-gives (d .rule .now) (d .plan .now) (d .out .now) a _ (search needs) (search needs) z bytes,
+          ),
         ),
       ),
     )
