@@ -48,7 +48,7 @@ fn want_all(wanted: &[u16], sets: &mut [u64; NEED_WORDS])
     }
 }
 
-// The same of an argument of an operation. Where s is the whole set no set is read for it, so no gate's turn waits for what the last one stored.
+// The set s of an operation is put to that of its argument g. Where s is the whole set no set is read for it, so no gate's turn waits for what the last one stored.
 fn hand_to(sets: &mut [u64; NEED_WORDS], g: GateId, s: Set)
     requires { ⌜ g .0 < 256 ⌝ }
     ensures { λ r. ⌜ setsIn (now (sets .exit)) ≡ addNumber (g .0) (setOf s) (setsIn (now (sets .entry))) ⌝ }
@@ -90,7 +90,7 @@ fn hand_choice(
 }
 
 // Gate g hands its set on to what it asks for; its row is read once. A starting value or a constant asks for nothing, and its set is not read.
-// What stands in the row is a gate's number only where the code says so.
+// A number of the row is a gate's only where the code says so: not has one argument, every other operation two, a choice three.
 fn hand(
     quads: &[u32; 1024],
     count: usize,
