@@ -163,7 +163,8 @@ fn operation_wires(file: &[u8], at: usize, i: WireId, bits: &[bool; records::MOS
         × (at + (1 + 2 * codeOf (getD (now file) at 0) .arity) ≤ length (now file))
         × (i .0 ≤ mostWires)
         ⌝ }
-    ensures { λ r. ⌜ r ≡ every (fits (i .0) (heldKind (now (bits .entry))) (codeOf (getD (now (file .entry)) at 0) .takes)) (wiresBy 2 (codeOf (getD (now (file .entry)) at 0) .arity) (now (file .entry)) (at + 1)) ⌝ }
+    ensures { λ r. ⌜ r ≡ every (fits (i .0) (heldKind (now (bits .entry))) (codeOf (getD (now (file .entry)) at 0) .takes))
+        (wiresBy 2 (codeOf (getD (now (file .entry)) at 0) .arity) (now (file .entry)) (at + 1)) ⌝ }
 {
     let c = codes::code_of(file[at]);
     let takes = c.takes;

@@ -24,7 +24,8 @@ record-place-requires c κs =
 record-size-requires : tie.Need-record-size-requires
 record-size-requires c κs =
     rw (c .record-place .ensures)
-    (row-passed _ (sym (c .before .before .before .before .before .circuit-row .ensures) ∙ c .before .before .before .before .if1 .left) .layout .whole (c .before .before .before .before .before .before .before .args .wire .0)
+    (row-passed _ (sym (c .before .before .before .before .before .circuit-row .ensures) ∙ c .before .before .before .before .if1 .left) .layout .whole
+    (c .before .before .before .before .before .before .before .args .wire .0)
     (omega (arith, c .before .if2 .left, c .before .before .before .read16 .ensures)))
 
 returns-3 : tie.Need-returns-3

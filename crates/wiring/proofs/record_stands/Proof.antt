@@ -65,16 +65,28 @@ returns-5 : tie.Need-returns-5
 returns-5 c = bit-in _ _ (c .before .before .before .before .before .before .pre .1) _ _ _ (omega (arith, c .before .if3 .left, c .before .before .before .wide16 .ensures .0)) (c .match .keys2)
 
 returns-6 : tie.Need-returns-6
-returns-6 c = choice-in _ _ (c .before .before .before .before .before .before .before .pre .1) _ _ _ (omega (arith, c .before .before .if3 .left, c .before .before .before .before .wide16 .ensures .0)) (c .before .match .keys3) _ (c .choice-wires .ensures)
+returns-6 c =
+    choice-in _ _ (c .before .before .before .before .before .before .before .pre .1) _ _ _
+    (omega (arith, c .before .before .if3 .left, c .before .before .before .before .wide16 .ensures .0))
+    (c .before .match .keys3) _ (c .choice-wires .ensures)
 
 returns-7 : tie.Need-returns-7
-returns-7 c = pick-in _ _ (c .before .before .before .before .before .before .before .before .before .pre .1) _ _ _ (omega (arith, c .before .before .before .before .if3 .left, c .before .before .before .before .before .before .wide16 .ensures .0)) (c .before .before .before .match .keys4) _ (c .before .wide82 .ensures .0) _ (c .pick-wires .ensures)
+returns-7 c =
+    pick-in _ _ (c .before .before .before .before .before .before .before .before .before .pre .1) _ _ _
+    (omega (arith, c .before .before .before .before .if3 .left, c .before .before .before .before .before .before .wide16 .ensures .0))
+    (c .before .before .before .match .keys4) _ (c .before .wide82 .ensures .0) _ (c .pick-wires .ensures)
 
 returns-8 : tie.Need-returns-8
-returns-8 c = guard-in _ _ (c .before .before .before .before .before .before .before .before .pre .1) _ _ _ (omega (arith, c .before .before .before .if3 .left, c .before .before .before .before .before .wide16 .ensures .0)) (c .before .before .match .keys5) _ (c .guard-wires .ensures)
+returns-8 c =
+    guard-in _ _ (c .before .before .before .before .before .before .before .before .pre .1) _ _ _
+    (omega (arith, c .before .before .before .if3 .left, c .before .before .before .before .before .wide16 .ensures .0))
+    (c .before .before .match .keys5) _ (c .guard-wires .ensures)
 
 returns-9 : tie.Need-returns-9
-returns-9 c = operation-in _ _ (c .before .before .before .before .before .before .before .pre .1) _ _ _ (omega (arith, c .before .before .if3 .left, c .before .before .before .before .wide16 .ensures .0)) (other _ (c .before .before .before .if1 .left) (c .before .match .rest)) _ (c .operation-wires .ensures)
+returns-9 c =
+    operation-in _ _ (c .before .before .before .before .before .before .before .pre .1) _ _ _
+    (omega (arith, c .before .before .if3 .left, c .before .before .before .before .wide16 .ensures .0))
+    (other _ (c .before .before .before .if1 .left) (c .before .match .rest)) _ (c .operation-wires .ensures)
 
 pub record-stands-spec : {M : Type 1} → statement M
 record-stands-spec =
