@@ -1,10 +1,12 @@
 // Reads a conformance stream on standard input and prints one line a case (shared/CONFORMANCE.md).
 // Operations 01 to 09; any other ends the stream with `refused`.
 use answers::Answer;
+use gates::GateId;
 use gates::MOST_CONDITIONS;
 use libc::STDIN_FILENO;
 use libc::STDOUT_FILENO;
 use needed::NEED_WORDS;
+use records::WireId;
 ghost use Prim.Native.Nat.{_*_, _≤_, _<_};
 ghost use lib.ListN.{length};
 
@@ -138,11 +140,11 @@ fn print_hex(n: u64, width: usize)
     print(&text[0..width]);
 }
 
-// Set g of lent words, the highest word first.
-fn print_set(needs: &[u64; NEED_WORDS], g: usize)
-    requires { ⌜ g < 256 ⌝ }
+// Gate g's set of the lent words, the highest word first.
+fn print_set(needs: &[u64; NEED_WORDS], g: GateId)
+    requires { ⌜ g .0 < 256 ⌝ }
 {
-    let s = settings::load(needs, g);
+    let s = settings::load(needs, words::wide16(g.0));
     print_hex(s.w3, 16);
     print_hex(s.w2, 16);
     print_hex(s.w1, 16);
@@ -150,17 +152,18 @@ fn print_set(needs: &[u64; NEED_WORDS], g: usize)
 }
 
 // A gate: CODE.A.B.C.NEEDS.
-fn print_gate(quads: &[u32; 1024], needs: &[u64; NEED_WORDS], g: usize)
-    requires { ⌜ g < 256 ⌝ }
+fn print_gate(quads: &[u32; 1024], needs: &[u64; NEED_WORDS], g: GateId)
+    requires { ⌜ g .0 < 256 ⌝ }
 {
+    let i = words::wide16(g.0);
     print(b" ");
-    print_hex(wide(quads[4 * g]), 2);
+    print_hex(wide(quads[4 * i]), 2);
     print(b".");
-    number(wide(quads[4 * g + 1]));
+    number(wide(quads[4 * i + 1]));
     print(b".");
-    number(wide(quads[4 * g + 2]));
+    number(wide(quads[4 * i + 2]));
     print(b".");
-    number(wide(quads[4 * g + 3]));
+    number(wide(quads[4 * i + 3]));
     print(b".");
     print_set(needs, g);
 }
@@ -170,7 +173,7 @@ fn print_gates(quads: &[u32; 1024], needs: &[u64; NEED_WORDS], count: usize) {
     let mut g: usize = 0;
     while g < 256 {
         if g < count {
-            print_gate(quads, needs, g);
+            print_gate(quads, needs, GateId(g as u16));
         }
         g += 1;
     }
@@ -262,7 +265,7 @@ fn circuit_line(rule: &[u8]) {
 }
 
 // One record of a circuit file, or `-` for none.
-fn record_line(file: &[u8], wire: usize) {
+fn record_line(file: &[u8], wire: WireId) {
     print_answer(foreign::read(file));
     print(b" | ");
     let part = foreign::record(file, wire);
@@ -276,7 +279,7 @@ fn file_line(file: &[u8], inputs: &[u32], results: &mut [u32]) {
 }
 
 // The line of a case, but for an operation that is not built.
-fn work(operation: u8, number: usize, room: usize, rule: &[u8], plan: &[u8], inputs: &[u32]) -> bool
+fn work(operation: u8, number: u16, room: usize, rule: &[u8], plan: &[u8], inputs: &[u32]) -> bool
     requires { ⌜ room ≤ 65535 ⌝ }
 {
     match operation {
@@ -296,7 +299,7 @@ fn work(operation: u8, number: usize, room: usize, rule: &[u8], plan: &[u8], inp
         }
         6 => circuit_line(rule),
         7 => print_answer(foreign::read(rule)),
-        8 => record_line(rule, number),
+        8 => record_line(rule, WireId(number)),
         9 => {
             let mut results = [UNTOUCHED; 65535];
             file_line(rule, inputs, &mut results[0..room]);
@@ -328,7 +331,7 @@ fn fields(head: [u8; 6]) -> bool {
     }
     work(
         head[0],
-        words::read16(&head, 2) as usize,
+        words::read16(&head, 2),
         words::read16(&head, 4) as usize,
         &first[0..n],
         &second[0..m],

@@ -82,6 +82,13 @@ module _ (f : List ℕ) where
     pub part-past : circuitRow f ≡ 0 → wireCount f ≤ w → PartIs 0 0
     part-past h l = part-none (rw (eq-eqb _ _ h, le-ltb _ _ l))
 
+    -- a number of more than two bytes is no wire of any file
+    pub part-wide : 65535 < w → PartIs 0 0
+    part-wide h =
+        split (eqb (circuitRow f) 0)
+        (λ t. let z = eqb-true _ _ t in part-past z (omega (arith, h, row-passed f z .head .wires)))
+        (λ t. part-refused (eqb-false _ _ t))
+
     pub part-shown : circuitRow f ≡ 0 → w < wireCount f → (a n : ℕ) → a ≡ recordPlace f w → n ≡ sizeAt f a → PartIs a n
     unfolding partStart partLength
     part-shown h l a n e q = let t : shown f w ≡ true = rw (eq-eqb _ _ h, lt-ltb _ _ l) in part-is a n (rw t e) (rw (t, ← e) q)

@@ -1,6 +1,7 @@
 // Document 02, C-11: circuit files from any house: read, one record of them shown, and run.
 use answers::Answer;
 use codes::Kind;
+use records::WireId;
 ghost use mathlib.Core.Path.{_≡_};
 ghost use Prim.Native.Nat.{_<_};
 ghost use lib.ListN.{length, take, drop};
@@ -47,13 +48,13 @@ pub fn read(file: &[u8]) -> Answer
 }
 
 // The place of a wire's record in a file that is read.
-fn record_place(file: &[u8], wire: usize) -> usize
-    requires { ⌜ (circuitRow (now file) ≡ 0) × (wire < wireCount (now file)) ⌝ }
-    ensures { λ r. ⌜ r ≡ recordPlace (now (file .entry)) wire ⌝ }
+fn record_place(file: &[u8], wire: WireId) -> usize
+    requires { ⌜ (circuitRow (now file) ≡ 0) × (wire .0 < wireCount (now file)) ⌝ }
+    ensures { λ r. ⌜ r ≡ recordPlace (now (file .entry)) (wire .0) ⌝ }
 {
     let mut at: usize = 8;
-    let mut i: usize = 0;
-    while i < wire {
+    let mut i: u16 = 0;
+    while i < wire.0 {
         at = at + parts::record_size(file, at);
         i = i + 1;
     }
@@ -68,10 +69,10 @@ pub struct Part {
 }
 
 // The part of the file that holds a wire's record; 0 and 0 for a refused file or a number that is no wire.
-pub fn part_of(file: &[u8], wire: usize) -> Part
-    ensures start { λ r. ⌜ r .start ≡ partStart (now (file .entry)) wire ⌝ }
-    ensures length { λ r. ⌜ r .length ≡ partLength (now (file .entry)) wire ⌝ }
-    ensures bytes { λ r. ⌜ take (r .length) (drop (r .start) (now (file .entry))) ≡ recordPart (now (file .entry)) wire ⌝ }
+pub fn part_of(file: &[u8], wire: WireId) -> Part
+    ensures start { λ r. ⌜ r .start ≡ partStart (now (file .entry)) (wire .0) ⌝ }
+    ensures length { λ r. ⌜ r .length ≡ partLength (now (file .entry)) (wire .0) ⌝ }
+    ensures bytes { λ r. ⌜ take (r .length) (drop (r .start) (now (file .entry))) ≡ recordPart (now (file .entry)) (wire .0) ⌝ }
 {
     if circuit_row(file) != 0 {
         return Part {
@@ -79,7 +80,7 @@ pub fn part_of(file: &[u8], wire: usize) -> Part
             length: 0,
         };
     }
-    if words::wide16(words::read16(file, 6)) <= wire {
+    if words::read16(file, 6) <= wire.0 {
         return Part {
             start: 0,
             length: 0,
@@ -93,8 +94,8 @@ pub fn part_of(file: &[u8], wire: usize) -> Part
 }
 
 // That part itself, inside the caller's file: nothing is moved.
-pub fn record<'a>(file: &'a [u8], wire: usize) -> &'a [u8]
-    ensures { λ r. ⌜ now r ≡ recordPart (now (file .entry)) wire ⌝ }
+pub fn record<'a>(file: &'a [u8], wire: WireId) -> &'a [u8]
+    ensures { λ r. ⌜ now r ≡ recordPart (now (file .entry)) (wire .0) ⌝ }
 {
     let p = part_of(file, wire);
     let start = p.start;

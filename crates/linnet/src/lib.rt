@@ -3,6 +3,7 @@ use answers::Answer;
 use foreign::Part;
 use gates::MOST_CONDITIONS;
 use needed::NEED_WORDS;
+use records::WireId;
 ghost use mathlib.Core.Path.{_≡_};
 ghost use lib.ListN.{length, take, drop};
 ghost use Rattle.settings.specs.Held.{setsIn};
@@ -127,7 +128,14 @@ pub extern "C" fn linnet_record(file: &[u8], wire: usize) -> Part
     ensures length { λ r. ⌜ r .length ≡ partLength (now (file .entry)) wire ⌝ }
     ensures bytes { λ r. ⌜ take (r .length) (drop (r .start) (now (file .entry))) ≡ recordPart (now (file .entry)) wire ⌝ }
 {
-    foreign::part_of(file, wire)
+    // Here a number of C's becomes a wire's or none: one of more than two bytes is no wire.
+    if 65535 < wire {
+        return Part {
+            start: 0,
+            length: 0,
+        };
+    }
+    foreign::part_of(file, WireId(wire as u16))
 }
 
 // Operation 09: runs a circuit file on inputs.

@@ -2,13 +2,9 @@
 use Prim.Native.Nat.{ℕ, suc, _-_, _≤_, _<_}
 use mathlib.Core.Path.{_≡_, refl, sym, ap, _∙_}
 use mathlib.Core.List.{List, [], _∷_}
-use mathlib.Core.Bool.{Bool, true, false, false≢true}
 use mathlib.Core.Logic.{inl, inr}
 use native.Mathlib.Omega.{arith}
-use lib.Dec.{ltb}
 use lib.ListN.{getD}
-use borrow.Author.Tests.{ltb-true, ltb-false}
-use Rattle.words.specs.TestLaws.{split}
 use Rattle.words.specs.Lists.{_∈_, Inside}
 use Rattle.codes.specs.Codes.{entryOf, operationOf}
 use Rattle.codes.specs.CodeLaws.{two-arguments, one-argument}
@@ -20,7 +16,7 @@ use Rattle.needed.specs.StepLaws.{hand-choice}
 use Rattle.needed.specs.Held.{choiceCode, Applies, argumentsOf, codeAt, firstAt, secondAt, thirdAt, gatesIn}
 use Rattle.needed.specs.HeldLaws.{gates-at}
 use Rattle.needed.specs.RankLaws.{Found, rank-found, rank-at}
-use Rattle.needed.specs.Passing.{addNumber, addNumbers, oneOrTwo, handGate, Passable}
+use Rattle.needed.specs.Passing.{addNumber, addNumbers, handGate, Passable}
 use Rattle.needed.specs.PassingLaws.{add-all}
 use Rattle.needed.specs.QuadLaws.{KindIn, chooses, is-word, is-bit, applies, starts, choice-in, word-in, bit-in, applied-in, kind-in}
 use Rattle.gates.specs.Limits.{mostConditions, mostSettings}
@@ -61,52 +57,45 @@ module _ (quads ranks : List ℕ) (count i : ℕ) (p : Passable quads ranks coun
       (secondAt quads i) (thirdAt quads i) (getD M i 0) M in
       n ∙ rw (choice-at, k) (sym (rw (condition-found .same) at u))
 
--- An operation: one argument or two, which are gates, and what they get.
+-- An operation: its arguments are gates, and each gets its set: not has one, every other two.
 
-module _ (a b : ℕ) where
-  pub first-inside : (two : Bool) → Inside 256 (oneOrTwo two a b) → a < 256
-  first-inside true i = i a (inl refl)
-  first-inside false i = i a (inl refl)
+abbrev arguments : List ℕ → ℕ → List ℕ
+arguments quads i = argumentsOf (entryOf (operationOf (codeAt quads i))) (firstAt quads i) (secondAt quads i)
 
-  pub second-inside : (two : Bool) → two ≡ true → Inside 256 (oneOrTwo two a b) → b < 256
-  second-inside true e i = i b (inr (inl refl))
-  second-inside false e i = absurd (false≢true e)
+module _ (quads ranks : List ℕ) (count i : ℕ) (p : Passable quads ranks count) (l : i < count) where
+  module _ (h : Applies (codeAt quads i)) where
+    operation-at : gateAt (gatesIn quads count) i ≡ operation (operationOf (codeAt quads i)) (arguments quads i)
+    operation-at = gates-at quads count i l ∙ applied-in quads i h
 
-  pub one-handed : (two : Bool) → two ≡ false → (s : ℕ) (M N : List ℕ) → N ≡ addNumber a s M → N ≡ addNumbers (oneOrTwo two a b) s M
-  unfolding addNumbers
-  one-handed two e s M N q = rw e q
+    operation-inside : Inside 256 (arguments quads i)
+    operation-inside x m = let k : x < i = p .earlier i x (rw operation-at m) in omega (arith, p .room)
 
-  pub two-handed : (two : Bool) → two ≡ true → (s : ℕ) (M N O : List ℕ) → N ≡ addNumber a s M → O ≡ addNumber b s N → O ≡ addNumbers (oneOrTwo two a b) s M
-  unfolding addNumbers
-  two-handed two e s M N O q r = rw e (r ∙ ap (addNumber b s) q)
+    operation-hands : (M : List ℕ) → addNumbers (arguments quads i) (getD M i 0) M ≡ handGate (gatesIn quads count) i M
+    unfolding handGate
+    operation-hands M = rw operation-at (sym (add-all mostSettings (conditions (gatesIn quads count)) _ (getD M i 0) M))
 
-  -- how many, by the code
-  module _ (code : ℕ) (h : Applies code) where
-    code-arguments : argumentsOf (entryOf (operationOf code)) a b ≡ oneOrTwo (ltb code 0x27) a b
-    code-arguments =
-        split (ltb code 0x27) (λ t. rw (t, two-arguments code (h .0) (ltb-true _ _ t)))
-        (λ t. let e : code ≡ 0x27 = omega (arith, h .1, ltb-false code 0x27 t) in rw (t, one-argument code e))
+  module _ (k : 0x20 ≤ codeAt quads i) (t : codeAt quads i < 0x27) where
+    both : arguments quads i ≡ firstAt quads i ∷ secondAt quads i ∷ []
+    both = rw (two-arguments (codeAt quads i) k t)
 
-    pub code-inside : Inside 256 (argumentsOf (entryOf (operationOf code)) a b) → Inside 256 (oneOrTwo (ltb code 0x27) a b)
-    code-inside i x m = i x (rw code-arguments m)
+    pub two-inside : (firstAt quads i < 256) × (secondAt quads i < 256)
+    two-inside = let j = rw both at (operation-inside (k, omega arith)) in (j _ (inl refl), j _ (inr (inl refl)))
 
-    pub code-handed : (s t : ℕ) (M N : List ℕ) → s ≡ t → N ≡ addNumbers (oneOrTwo (ltb code 0x27) a b) t M
-        → N ≡ addNumbers (argumentsOf (entryOf (operationOf code)) a b) s M
-    code-handed s t M N e q = rw (code-arguments, e) q
+    pub two-hands : (M N O : List ℕ) → N ≡ addNumber (firstAt quads i) (getD M i 0) M → O ≡ addNumber (secondAt quads i) (getD M i 0) N
+        → O ≡ handGate (gatesIn quads count) i M
+    unfolding addNumbers
+    two-hands M N O n o = o ∙ ap (addNumber (secondAt quads i) (getD M i 0)) n ∙ rw both at (operation-hands (k, omega arith) M)
 
-module _ (quads ranks : List ℕ) (count i : ℕ) (p : Passable quads ranks count) (l : i < count) (h : Applies (codeAt quads i)) where
-  operation-at : gateAt (gatesIn quads count) i
-      ≡ operation (operationOf (codeAt quads i)) (argumentsOf (entryOf (operationOf (codeAt quads i))) (firstAt quads i) (secondAt quads i))
-  operation-at = gates-at quads count i l ∙ applied-in quads i h
+  module _ (t : codeAt quads i ≡ 0x27) where
+    only : arguments quads i ≡ firstAt quads i ∷ []
+    only = rw (one-argument (codeAt quads i) t)
 
-  pub operation-inside : Inside 256 (argumentsOf (entryOf (operationOf (codeAt quads i))) (firstAt quads i) (secondAt quads i))
-  operation-inside x m = let k : x < i = p .earlier i x (rw operation-at m) in omega (arith, p .room)
+    pub one-inside : firstAt quads i < 256
+    one-inside = (rw only at (operation-inside (omega arith, omega arith))) _ (inl refl)
 
-  pub operation-hands : (M N : List ℕ)
-      → N ≡ addNumbers (argumentsOf (entryOf (operationOf (codeAt quads i))) (firstAt quads i) (secondAt quads i)) (getD M i 0) M
-      → N ≡ handGate (gatesIn quads count) i M
-  unfolding handGate
-  operation-hands M N n = n ∙ rw operation-at (sym (add-all mostSettings (conditions (gatesIn quads count)) _ (getD M i 0) M))
+    pub one-hands : (M N : List ℕ) → N ≡ addNumber (firstAt quads i) (getD M i 0) M → N ≡ handGate (gatesIn quads count) i M
+    unfolding addNumbers
+    one-hands M N n = n ∙ rw only at (operation-hands (omega arith, omega arith) M)
 
 -- Neither: a starting value or a constant.
 pub none-hands : (quads : List ℕ) (count i : ℕ) → i < count → (codeAt quads i ≡ choiceCode → ⊥) → (Applies (codeAt quads i) → ⊥) → (M : List ℕ)

@@ -2,7 +2,6 @@
 use Prim.Native.Nat.{ℕ, _≤_}
 use mathlib.Core.Path.{_≡_}
 use mathlib.Core.List.{List, [], _∷_}
-use mathlib.Core.Bool.{Bool, true, false}
 use lib.ListN.{length, getD, set}
 use Rattle.gates.specs.Gates.{Gates, gateAt, Earlier, conditions}
 use Rattle.gates.specs.Limits.{mostGates, mostConditions, mostSettings}
@@ -21,11 +20,6 @@ addNumber a s M = set M a (union (getD M a 0) s)
 unfoldable pub addNumbers : List ℕ → ℕ → List ℕ → List ℕ
 addNumbers [] s M = M
 addNumbers (a ∷ l) s M = addNumbers l s (addNumber a s M)
-
--- what an operation's set goes to: one argument, or two
-abbrev pub oneOrTwo : Bool → ℕ → ℕ → List ℕ
-oneOrTwo true a b = a ∷ b ∷ []
-oneOrTwo false a b = a ∷ []
 
 -- gate i hands its set on
 unfoldable pub handGate : Gates → ℕ → List ℕ → List ℕ

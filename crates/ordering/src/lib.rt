@@ -59,13 +59,14 @@ fn highest(x: u64) -> usize
 }
 
 // Group p is held up by group q: it is noted there, unless a lower one is.
-fn hold(watch: &mut [u8; 256], q: usize, p: GateId)
-    requires { ⌜ (q < 256) × ((p .0 < 256) × (length (now watch) ≡ 256)) ⌝ }
-    ensures { λ r. ⌜ now (watch .exit) ≡ lowered q (p .0) (now (watch .entry)) ⌝ }
+fn hold(watch: &mut [u8; 256], q: GateId, p: GateId)
+    requires { ⌜ (q .0 < 256) × ((p .0 < 256) × (length (now watch) ≡ 256)) ⌝ }
+    ensures { λ r. ⌜ now (watch .exit) ≡ lowered (q .0) (p .0) (now (watch .entry)) ⌝ }
 {
+    let i = q.0 as usize;
     let b = p.0 as u8;
-    if b < watch[q] {
-        watch[q] = b;
+    if b < watch[i] {
+        watch[i] = b;
     }
 }
 
@@ -98,7 +99,8 @@ fn next_ready(
                 }
                 let both = waits[4 * p + w] & left[w];
                 if both != 0 {
-                    hold(watch, 64 * w + highest(both), GateId(p as u16));
+                    let q = 64 * w + highest(both);
+                    hold(watch, GateId(q as u16), GateId(p as u16));
                     seen[p] = w as u8;
                     break 'waits;
                 }

@@ -18,25 +18,22 @@ use Rattle.records.specs.CircuitRows.{outputStands}
 use Rattle.parts.specs.HeldKinds.{kindBy, heldKind}
 use Rattle.wiring.specs.Wires.{fits, wiresBy}
 
+-- a kind, wanted as a bit and as a word; b: whether it is a bit
+pub kind-bit : (b : Bool) → b ≡ sameKind (kindBy b) kind.Bit
+kind-bit true = refl
+kind-bit false = refl
+
+pub kind-word : (b : Bool) → not b ≡ sameKind (kindBy b) kind.Word
+kind-word true = refl
+kind-word false = refl
+
 -- a wire: n is its number as the code has it
-module _ (i : ℕ) (bits : List Bool) (n w : ℕ) (e : n ≡ w) where
-  pub wire-late : (k : ℕ → Kind) (j : Kind) → i ≤ n → false ≡ fits i k j w
-  wire-late k j h = rw (le-ltb w i (omega (arith, e)))
+module _ (i n w : ℕ) (e : n ≡ w) (k : ℕ → Kind) (j : Kind) where
+  pub wire-late : i ≤ n → false ≡ fits i k j w
+  wire-late h = rw (le-ltb w i (omega (arith, e)))
 
-  module _ (h : n < i) (b : Bool) (q : b ≡ getD bits w false) where
-    pub wire-bit : b ≡ fits i (heldKind bits) kind.Bit w
-    wire-bit = rw (lt-ltb w i (omega (arith, e)), ← q) (go b)
-      where
-        go : (b : Bool) → b ≡ sameKind (kindBy b) kind.Bit
-        go true = refl
-        go false = refl
-
-    pub wire-word : not b ≡ fits i (heldKind bits) kind.Word w
-    wire-word = rw (lt-ltb w i (omega (arith, e)), ← q) (go b)
-      where
-        go : (b : Bool) → not b ≡ sameKind (kindBy b) kind.Word
-        go true = refl
-        go false = refl
+  pub wire-early : n < i → (b : Bool) → b ≡ sameKind (k n) j → b ≡ fits i k j w
+  wire-early h b q = rw (← e, lt-ltb n i h) q
 
 -- an output: n is its number as the code has it
 module _ (count : ℕ) (k : ℕ → Kind) (x n w : ℕ) (e : n ≡ w) where

@@ -1,6 +1,7 @@
 // Document 02, C-11, row 62: the records of a circuit file that is laid out, and its outputs: inputs first, earlier wires only, kinds as the table says, no table
-// bit too many. Which wires are bits lies in an array that is filled record by record.
+// bit too many. Which wires are bits lies in an array that is filled record by record. A record's number is its wire's, a `WireId`.
 use codes::Kind;
+use records::WireId;
 ghost use mathlib.Core.Path.{_≡_};
 ghost use mathlib.Core.Bool.{true, cond, _&&_};
 ghost use Prim.Native.Nat.{_+_, _*_, _^_, _<_, _≤_};
@@ -8,7 +9,7 @@ ghost use lib.Dec.{eqb, ltb};
 ghost use lib.ListN.{length, getD};
 ghost use Rattle.words.specs.Lists.{every};
 ghost use Rattle.words.specs.Numbers.{numberAt};
-ghost use Rattle.codes.specs.Codes.{codeOf};
+ghost use Rattle.codes.specs.Codes.{sameKind, codeOf};
 ghost use Rattle.records.specs.Versions.{two, mostGuardWires, tableBytes};
 ghost use Rattle.records.specs.WireKinds.{wireKind};
 ghost use Rattle.records.specs.FileFigures.{versionIn, wiresAt, recordAt, fileVariables, wireCount, fileRecords};
@@ -20,21 +21,29 @@ ghost use Rattle.parts.specs.HeldKinds.{kindBy, heldKind};
 ghost use Rattle.parts.specs.TableLaws.{HoldsKinds};
 ghost use Rattle.wiring.specs.Wires.{fits, wiresBy, usedBytes, topByte};
 
+// A wire is a bit, or a word, as is wanted.
+fn of_kind(bits: &[bool; records::MOST_WIRES], w: WireId, want: bool) -> bool
+    requires { ⌜ w .0 < mostWires ⌝ }
+    ensures { λ r. ⌜ r ≡ sameKind (heldKind (now (bits .entry)) (w .0)) (kindBy want) ⌝ }
+{
+    let bit = parts::is_bit(bits, w);
+    if want { bit } else { !bit }
+}
+
 // A wire that record i may read as a bit, or as a word.
 fn wire_fits(
     file: &[u8],
     at: usize,
-    i: usize,
+    i: WireId,
     bits: &[bool; records::MOST_WIRES],
     want: bool,
 ) -> bool
-    requires { ⌜ (at + 2 ≤ length (now file)) × (i ≤ mostWires) ⌝ }
-    ensures { λ r. ⌜ r ≡ fits i (heldKind (now (bits .entry))) (kindBy want) (numberAt 2 (now (file .entry)) at) ⌝ }
+    requires { ⌜ (at + 2 ≤ length (now file)) × (i .0 ≤ mostWires) ⌝ }
+    ensures { λ r. ⌜ r ≡ fits (i .0) (heldKind (now (bits .entry))) (kindBy want) (numberAt 2 (now (file .entry)) at) ⌝ }
 {
     let w = parts::wire_at(file, at);
-    if words::wide16(w.0) < i {
-        let bit = parts::is_bit(bits, w);
-        if want { bit } else { !bit }
+    if w.0 < i.0 {
+        of_kind(bits, w, want)
     } else {
         false
     }
@@ -46,7 +55,7 @@ fn all_fit(
     at: usize,
     step: usize,
     count: usize,
-    i: usize,
+    i: WireId,
     bits: &[bool; records::MOST_WIRES],
     want: bool,
 ) -> bool
@@ -54,9 +63,9 @@ fn all_fit(
         (length (now file) ≤ mostFileBytes)
         × (2 ≤ step) × (step ≤ 4)
         × (at + step * count + 2 ≤ length (now file) + step)
-        × (i ≤ mostWires)
+        × (i .0 ≤ mostWires)
         ⌝ }
-    ensures { λ r. ⌜ r ≡ every (fits i (heldKind (now (bits .entry))) (kindBy want)) (wiresBy step count (now (file .entry)) at) ⌝ }
+    ensures { λ r. ⌜ r ≡ every (fits (i .0) (heldKind (now (bits .entry))) (kindBy want)) (wiresBy step count (now (file .entry)) at) ⌝ }
 {
     let mut here = at;
     let mut left = count;
@@ -76,20 +85,20 @@ fn all_alike(
     at: usize,
     step: usize,
     count: usize,
-    i: usize,
+    i: WireId,
     bits: &[bool; records::MOST_WIRES],
 ) -> bool
     requires { ⌜
         (length (now file) ≤ mostFileBytes)
         × (2 ≤ step) × (step ≤ 4)
         × (at + step * count + 2 ≤ length (now file) + step)
-        × (i ≤ mostWires)
+        × (i .0 ≤ mostWires)
         × (1 ≤ count)
         ⌝ }
-    ensures { λ r. ⌜ r ≡ every (fits i (heldKind (now (bits .entry))) (heldKind (now (bits .entry)) (numberAt 2 (now (file .entry)) at))) (wiresBy step count (now (file .entry)) at) ⌝ }
+    ensures { λ r. ⌜ r ≡ every (fits (i .0) (heldKind (now (bits .entry))) (heldKind (now (bits .entry)) (numberAt 2 (now (file .entry)) at))) (wiresBy step count (now (file .entry)) at) ⌝ }
 {
     let first = parts::wire_at(file, at);
-    if words::wide16(first.0) < i {
+    if first.0 < i.0 {
         let want = parts::is_bit(bits, first);
         all_fit(file, at, step, count, i, bits, want)
     } else {
@@ -148,13 +157,14 @@ fn table_fits(file: &[u8], at: usize, size: usize, d: u8) -> bool
 }
 
 // An operation, 20 to 27: its one or two wires are of the kind that it takes.
-fn operation_wires(file: &[u8], at: usize, i: usize, bits: &[bool; records::MOST_WIRES]) -> bool
+fn operation_wires(file: &[u8], at: usize, i: WireId, bits: &[bool; records::MOST_WIRES]) -> bool
     requires { ⌜
         (length (now file) ≤ mostFileBytes)
         × (at + (1 + 2 * codeOf (getD (now file) at 0) .arity) ≤ length (now file))
-        × (i ≤ mostWires)
+        × (i .0 ≤ mostWires)
         ⌝ }
-    ensures { λ r. ⌜ r ≡ every (fits i (heldKind (now (bits .entry))) (codeOf (getD (now (file .entry)) at 0) .takes)) (wiresBy 2 (codeOf (getD (now (file .entry)) at 0) .arity) (now (file .entry)) (at + 1)) ⌝ }
+    ensures { λ r. ⌜ r ≡ every (fits (i .0) (heldKind (now (bits .entry))) (codeOf (getD (now (file .entry)) at 0) .takes))
+        (wiresBy 2 (codeOf (getD (now (file .entry)) at 0) .arity) (now (file .entry)) (at + 1)) ⌝ }
 {
     let c = codes::code_of(file[at]);
     let takes = c.takes;
@@ -163,10 +173,10 @@ fn operation_wires(file: &[u8], at: usize, i: usize, bits: &[bool; records::MOST
 }
 
 // A choice, 30: its condition is a bit, its two values are alike.
-fn choice_wires(file: &[u8], at: usize, i: usize, bits: &[bool; records::MOST_WIRES]) -> bool
-    requires { ⌜ (length (now file) ≤ mostFileBytes) × (at + 7 ≤ length (now file)) × (i ≤ mostWires) ⌝ }
-    ensures { λ r. ⌜ r ≡ (fits i (heldKind (now (bits .entry))) (kindBy true) (numberAt 2 (now (file .entry)) (at + 1))
-        && every (fits i (heldKind (now (bits .entry))) (heldKind (now (bits .entry)) (numberAt 2 (now (file .entry)) (at + 3)))) (wiresBy 2 2 (now (file .entry)) (at + 3))) ⌝ }
+fn choice_wires(file: &[u8], at: usize, i: WireId, bits: &[bool; records::MOST_WIRES]) -> bool
+    requires { ⌜ (length (now file) ≤ mostFileBytes) × (at + 7 ≤ length (now file)) × (i .0 ≤ mostWires) ⌝ }
+    ensures { λ r. ⌜ r ≡ (fits (i .0) (heldKind (now (bits .entry))) (kindBy true) (numberAt 2 (now (file .entry)) (at + 1))
+        && every (fits (i .0) (heldKind (now (bits .entry))) (heldKind (now (bits .entry)) (numberAt 2 (now (file .entry)) (at + 3)))) (wiresBy 2 2 (now (file .entry)) (at + 3))) ⌝ }
 {
     if wire_fits(file, at + 1, i, bits, true) {
         all_alike(file, at + 3, 2, 2, i, bits)
@@ -180,12 +190,12 @@ fn pick_wires(
     file: &[u8],
     at: usize,
     count: usize,
-    i: usize,
+    i: WireId,
     bits: &[bool; records::MOST_WIRES],
 ) -> bool
-    requires { ⌜ (length (now file) ≤ mostFileBytes) × (at + 4 * count ≤ length (now file)) × (1 ≤ count) × (i ≤ mostWires) ⌝ }
-    ensures { λ r. ⌜ r ≡ (every (fits i (heldKind (now (bits .entry))) (kindBy true)) (wiresBy 4 count (now (file .entry)) at)
-        && every (fits i (heldKind (now (bits .entry))) (heldKind (now (bits .entry)) (numberAt 2 (now (file .entry)) (at + 2)))) (wiresBy 4 count (now (file .entry)) (at + 2))) ⌝ }
+    requires { ⌜ (length (now file) ≤ mostFileBytes) × (at + 4 * count ≤ length (now file)) × (1 ≤ count) × (i .0 ≤ mostWires) ⌝ }
+    ensures { λ r. ⌜ r ≡ (every (fits (i .0) (heldKind (now (bits .entry))) (kindBy true)) (wiresBy 4 count (now (file .entry)) at)
+        && every (fits (i .0) (heldKind (now (bits .entry))) (heldKind (now (bits .entry)) (numberAt 2 (now (file .entry)) (at + 2)))) (wiresBy 4 count (now (file .entry)) (at + 2))) ⌝ }
 {
     if all_fit(file, at, 4, count, i, bits, true) {
         all_alike(file, at + 2, 4, count, i, bits)
@@ -199,16 +209,16 @@ fn guard_wires(
     file: &[u8],
     at: usize,
     count: u8,
-    i: usize,
+    i: WireId,
     bits: &[bool; records::MOST_WIRES],
 ) -> bool
     requires { ⌜
         (length (now file) ≤ mostFileBytes)
         × (at + 2 * count + tableBytes (versionIn (now file)) ≤ length (now file))
         × (count ≤ mostGuardWires (versionIn (now file)))
-        × (i ≤ mostWires)
+        × (i .0 ≤ mostWires)
         ⌝ }
-    ensures { λ r. ⌜ r ≡ (every (fits i (heldKind (now (bits .entry))) (kindBy true)) (wiresBy 2 count (now (file .entry)) at)
+    ensures { λ r. ⌜ r ≡ (every (fits (i .0) (heldKind (now (bits .entry))) (kindBy true)) (wiresBy 2 count (now (file .entry)) at)
         && ltb (numberAt (tableBytes (versionIn (now (file .entry)))) (now (file .entry)) (at + 2 * count)) (2 ^ 2 ^ count)) ⌝ }
 {
     let d = words::wide8(count);
@@ -223,18 +233,19 @@ fn guard_wires(
 fn record_stands(
     file: &[u8],
     at: usize,
-    i: usize,
+    i: WireId,
     v: usize,
     bits: &[bool; records::MOST_WIRES],
 ) -> bool
-    requires { ⌜ (length (now file) ≤ mostFileBytes) × WholeAt (now file) at × (i ≤ mostWires) ⌝ }
-    ensures { λ r. ⌜ r ≡ stands v (heldKind (now (bits .entry))) i (recordAt (now (file .entry)) at) ⌝ }
+    requires { ⌜ (length (now file) ≤ mostFileBytes) × WholeAt (now file) at × (i .0 ≤ mostWires) ⌝ }
+    ensures { λ r. ⌜ r ≡ stands v (heldKind (now (bits .entry))) (i .0) (recordAt (now (file .entry)) at) ⌝ }
 {
     let code = file[at];
+    let n = words::wide16(i.0);
     if code < 2 {
-        return i < v && words::wide8(file[at + 1]) == i;
+        return n < v && words::wide8(file[at + 1]) == n;
     }
-    if i < v {
+    if n < v {
         return false;
     }
     match code {
@@ -261,7 +272,7 @@ fn records_stand(
     let mut at = records::FIRST_RECORD;
     let mut i: usize = 0;
     while i < count {
-        if !record_stands(file, at, i, v, bits) {
+        if !record_stands(file, at, WireId(i as u16), v, bits) {
             return 0;
         }
         let bit = parts::record_is_bit(file, at, bits);
@@ -272,7 +283,7 @@ fn records_stand(
     at
 }
 
-// The output of variable x, which stands at a place: no wire, or a wire of its kind.
+// The output of variable x, which stands at a place: no wire, or a wire of its kind, which is that of its input, wire x.
 fn output_stands(
     file: &[u8],
     at: usize,
@@ -287,7 +298,12 @@ fn output_stands(
     if w.0 == records::NO_WIRE {
         return true;
     }
-    wire_fits(file, at, count, bits, bits[x])
+    let want = parts::is_bit(bits, WireId(x as u16));
+    if words::wide16(w.0) < count {
+        of_kind(bits, w, want)
+    } else {
+        false
+    }
 }
 
 // The outputs of the variables, which stand from `at` on.

@@ -15,25 +15,26 @@ read16-requires c κs = row-passed _ (sym (c .before .circuit-row .ensures) ∙ 
 returns-2 : tie.Need-returns-2
 returns-2 c =
     part-past _ _ (sym (c .before .before .before .before .circuit-row .ensures) ∙ c .before .before .before .if1 .left)
-    (omega (arith, c .if2 .taken, c .before .wide16 .ensures .0, c .before .before .read16 .ensures))
+    (omega (arith, c .if2 .taken, c .before .before .read16 .ensures))
 
 record-place-requires : tie.Need-record-place-requires
 record-place-requires c κs =
-    (sym (c .before .before .before .before .circuit-row .ensures) ∙ c .before .before .before .if1 .left, omega (arith, c .if2 .left, c .before .wide16 .ensures .0, c .before .before .read16 .ensures))
+    (sym (c .before .before .before .before .circuit-row .ensures) ∙ c .before .before .before .if1 .left, omega (arith, c .if2 .left, c .before .before .read16 .ensures))
 
 record-size-requires : tie.Need-record-size-requires
 record-size-requires c κs =
     rw (c .record-place .ensures)
-    (row-passed _ (sym (c .before .before .before .before .before .circuit-row .ensures) ∙ c .before .before .before .before .if1 .left) .layout .whole (c .before .before .before .before .before .before .before .args .wire)
-    (omega (arith, c .before .if2 .left, c .before .before .wide16 .ensures .0, c .before .before .before .read16 .ensures)))
+    (row-passed _ (sym (c .before .before .before .before .before .circuit-row .ensures) ∙ c .before .before .before .before .if1 .left) .layout .whole
+    (c .before .before .before .before .before .before .before .args .wire .0)
+    (omega (arith, c .before .if2 .left, c .before .before .before .read16 .ensures)))
 
 returns-3 : tie.Need-returns-3
 returns-3 c =
     part-shown _ _ (sym (c .before .before .before .before .before .before .circuit-row .ensures) ∙ c .before .before .before .before .before .if1 .left)
-    (omega (arith, c .before .before .if2 .left, c .before .before .before .wide16 .ensures .0, c .before .before .before .before .read16 .ensures)) _ _
+    (omega (arith, c .before .before .if2 .left, c .before .before .before .before .read16 .ensures)) _ _
     (c .before .record-place .ensures) (c .record-size .ensures)
 
 pub part-of-spec : {M : Type 1} → statement M
 part-of-spec =
     tie.close
-    (tie.spec (λ c κs. search needs) returns read16-requires (λ c κs. search needs) returns-2 record-place-requires record-size-requires returns-3)
+    (tie.spec (λ c κs. search needs) returns read16-requires returns-2 record-place-requires record-size-requires returns-3)

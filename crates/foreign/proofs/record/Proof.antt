@@ -13,13 +13,13 @@ add-end c =
     let d = c .before .before .before in
     let p = c .before .part-of in
     let h : p .result .start + p .result .length ≤ length (now (d .args .file)) =
-    omega (arith, part-inside (now (d .args .file)) (d .args .wire), p .ensures .0, p .ensures .1 .0) in
+    omega (arith, part-inside (now (d .args .file)) (d .args .wire .0), p .ensures .0, p .ensures .1 .0) in
     search needs
 
 part-result-end : tie.Need-part-result-end
 part-result-end c =
     let d = c .before .before .before in
-    omega (arith, part-inside (now (d .args .file)) (d .args .wire), c .before .part-of .ensures .0, c .before .part-of .ensures .1 .0)
+    omega (arith, part-inside (now (d .args .file)) (d .args .wire .0), c .before .part-of .ensures .0, c .before .part-of .ensures .1 .0)
 
 returns : tie.Need-returns
 returns c =

@@ -10,4 +10,4 @@ returns-2 : tie.Need-returns-2
 returns-2 c = lowered-no _ _ _ (c .if1 .left)
 
 pub hold-spec : {M : Type 1} → statement M
-hold-spec = tie.close (tie.spec (λ c. search needs) (λ c. search needs) (λ c. search needs) returns returns-2)
+hold-spec = tie.close (tie.spec (λ c. search needs) (λ c. search needs) (λ c. search needs) (λ c. search needs) returns returns-2)

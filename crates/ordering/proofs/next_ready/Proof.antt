@@ -29,12 +29,12 @@ waits-holds : tie.Need-waits-holds Inv-waits μ-waits Inv-search μ-search
 waits-holds c = testing-start _ _ _ _ _ _ _ _ (c .before .before .before .before .before .search .inv) (c .before .before .before .before .if1 .left) (sym (c .before .before .before .has .ensures) ∙ c .before .before .if2 .taken) (c .wide8 .ensures .0)
 
 highest-requires : tie.Need-highest-requires Inv-waits μ-waits Inv-search μ-search
-highest-requires c κs = c .before .if4 .taken
+highest-requires c κs = c .if4 .taken
 
 hold-requires : tie.Need-hold-requires Inv-waits μ-waits Inv-search μ-search
 hold-requires c κs =
     let i = c .before .before .before .before .before .before .waits .inv in
-    (omega (arith, c .before .before .before .before .before .if3 .left, c .highest .ensures .0), (omega (arith, i .inside, i .search .room), i .search .holding .size))
+    (omega (arith, c .before .before .before .before .before .if3 .left, c .before .highest .ensures .0), (omega (arith, i .inside, i .search .room), i .search .holding .size))
 
 cast-seen : tie.Need-cast-seen Inv-waits μ-waits Inv-search μ-search
 cast-seen c = record { fits = omega (arith, c .before .before .before .before .before .before .if3 .left) }
@@ -48,7 +48,7 @@ waits-again c = testing-next _ _ _ _ _ _ _ _ (c .before .before .before .before 
 search-again : tie.Need-search-again Inv-waits μ-waits Inv-search μ-search
 search-again c =
     ⊎-elim
-    (λ w. searching-held _ _ _ _ _ _ _ _ _ _ _ (w .3 .inv) (w .4 .left) (w .7 .taken) (w .9 .ensures) (w .11 ∙ w .10 .ensures) (w .12))
+    (λ w. searching-held _ _ _ _ _ _ _ _ _ _ _ (w .3 .inv) (w .4 .left) (w .7 .taken) (w .8 .ensures) (w .11 ∙ w .10 .ensures) (w .12))
     (λ w. searching-past _ _ _ _ _ _ _ _ _ (c .before .before .before .search .inv) (c .before .before .if1 .left) (sym (c .before .has .ensures) ∙ w .0 .left) (w .1) (w .2))
     (c .if2 .came)
 
@@ -82,6 +82,7 @@ next-ready-spec =
     (λ c. search needs)
     (λ c. search needs)
     highest-requires
+    (λ c. search needs)
     (λ c. search needs)
     (λ c. search needs)
     hold-requires

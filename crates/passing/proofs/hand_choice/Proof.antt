@@ -19,19 +19,10 @@ returns c =
     let x = d .args in
     let p = c .before .before .before .before .before .before .part .ensures in
     let t = c .before .before .before .before .before .before .before .rank-of .ensures in
-    choice-sets (getD (x .ranks .now) (x .x) 0 - 1) (x .x) (x .y) (x .z) (setOf (x .s)) _ _ (setsIn (x .sets .now)) _ _ _ (c .before .before .before .before .add .ensures)
+    choice-sets (getD (x .ranks .now) (x .c .0) 0 - 1) (x .c .0) (x .a .0) (x .b .0) (setOf (x .s)) _ _ (setsIn (x .sets .now)) _ _ _ (c .before .before .before .before .add .ensures)
     (p .0 ∙ ap (λ (k : ℕ). given mostSettings k (setOf (x .s))) t) (c .before .before .add2 .ensures) (p .1 ∙ ap (λ (k : ℕ). without mostSettings k (setOf (x .s))) t) (c .add3 .ensures)
 
 pub hand-choice-spec : {M : Type 1} → statement M
 hand-choice-spec =
     tie.close
-    (tie.spec
-    (λ c. search needs)
-    (λ c. search needs)
-    (λ c. search needs)
-    (λ c κs. search needs)
-    part-requires
-    (λ c κs. search needs)
-    (λ c κs. search needs)
-    (λ c κs. search needs)
-    returns)
+    (tie.spec (λ c κs. search needs) part-requires (λ c κs. search needs) (λ c κs. search needs) (λ c κs. search needs) returns)

@@ -29,4 +29,4 @@ returns c = walking-end _ _ _ _ _ _ (c .before .loop .inv) (c .loop-test .left)
 pub pass-spec : {M : Type 1} → statement M
 pass-spec =
     tie.close
-    (tie.spec Inv-loop μ-loop loop-holds (λ c. search needs) hand-requires (λ c. search needs) loop-again returns)
+    (tie.spec Inv-loop μ-loop (λ c. search needs) loop-holds (λ c. search needs) hand-requires (λ c. search needs) loop-again returns)

@@ -8,7 +8,7 @@ use Rattle.wiring.proofs.all_fit.Statement.{statement}
 use Rattle.wiring.proofs.all_fit.Tie as tie
 
 abbrev Inv-loop : tie.InvT-loop
-Inv-loop file at step count i bits want here₀ left₀ here left = AmidWires file (fits i (heldKind bits) (kindBy want)) step at count here left
+Inv-loop file at step count i bits want here₀ left₀ here left = AmidWires file (fits (i .0) (heldKind bits) (kindBy want)) step at count here left
 
 abbrev μ-loop : tie.MeasureT-loop
 μ-loop file at step count i bits want here₀ left₀ here left = left

@@ -15,6 +15,9 @@ abbrev μ-loop : tie.MeasureT-loop
 loop-holds : tie.Need-loop-holds Inv-loop μ-loop
 loop-holds c = let p = c .before .pre in records-start _ _ _ _ (p .0 .0) (p .0 .1) (p .2) (p .3)
 
+cast-i : tie.Need-cast-t9 Inv-loop μ-loop
+cast-i c = record { fits = omega (arith, record-below _ _ _ _ _ _ (c .before .loop .inv) (c .loop-test .taken)) }
+
 record-stands-requires : tie.Need-record-stands-requires Inv-loop μ-loop
 record-stands-requires c κs =
     (c .before .before .loop .inv .head .short, record-whole _ _ _ _ _ _ (c .before .before .loop .inv) (c .before .loop-test .taken), omega (arith, record-below _ _ _ _ _ _ (c .before .before .loop .inv) (c .before .loop-test .taken)))
@@ -52,6 +55,7 @@ records-stand-spec =
     Inv-loop
     μ-loop
     loop-holds
+    cast-i
     record-stands-requires
     returns
     record-is-bit-requires
