@@ -1,4 +1,4 @@
-// Reads a conformance stream on standard input and prints one line a case (shared/CONFORMANCE.md).
+// Reads a conformance stream on standard input and prints one line a case (docs/CONFORMANCE.md).
 // Operations 01 to 09; any other ends the stream with `refused`.
 use answers::Answer;
 use gates::GateId;
