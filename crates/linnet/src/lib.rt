@@ -51,6 +51,7 @@ pub extern "C" fn linnet_show_plain(rule: &[u8]) -> Shown
     ensures answer { λ r. ⌜ r .answer ≡ ruleAnswer (now (rule .entry)) ⌝ }
     ensures rows { λ r. ⌜ r .rows ≡ builtQuads (now (rule .entry)) ⌝ }
     ensures needs { λ r. ⌜ setsIn (r .needs) ≡ builtNeeds (now (rule .entry)) ⌝ }
+    ensures table { λ r. ⌜ RuleAnswered (now (rule .entry)) (r .answer) ⌝ }
     ensures once { λ _. ⌜ OneArray (builtNeeds (now (rule .entry))) ⌝ }
 {
     let mut shown = Shown {

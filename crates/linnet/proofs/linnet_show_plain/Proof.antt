@@ -3,6 +3,7 @@ use borrow.Author.Needs.{needs}
 use Rattle.settings.specs.HeldLaws.{sets-clear}
 use Rattle.gates.specs.Limits.{mostGates}
 use Rattle.demands.specs.C17.{one-array}
+use Rattle.demands.specs.PromiseLaws.{rule-told}
 use Rattle.linnet.proofs.linnet_show_plain.Statement.{statement}
 use Rattle.linnet.proofs.linnet_show_plain.Tie as tie
 
@@ -10,7 +11,7 @@ build-requires : tie.Need-build-requires
 build-requires c κs = (refl, (sets-clear mostGates, (refl, refl)))
 
 returns : tie.Need-returns
-returns c = (search needs, (search needs, (search needs, one-array _)))
+returns c = (search needs, (search needs, (search needs, (rule-told _ _ (search needs), one-array _))))
 
 pub linnet-show-plain-spec : {M : Type 1} → statement M
 linnet-show-plain-spec = tie.close (tie.spec (λ c κs. search needs) build-requires returns)
