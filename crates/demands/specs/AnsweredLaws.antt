@@ -60,16 +60,18 @@ byte-row s number place r = go (same? number 1) (same? number 4)
     go (inr n) (inl e) = rw (e, r .ended e) pastEnd
     go (inr n) (inr m) = let lo : 2 ≤ number = omega (arith, r .least) in onByte lo (r .most) m (r .inside n m)
 
-rule-bytes : (s : List ℕ) → IsRead (readRule s) ⊎ ((number : ℕ) × (place : ℕ) × ByteRow (length s) number place × (ruleAnswer s ≡ refusal number place))
+rule-bytes : (s : List ℕ)
+    → IsRead (readRule s) ⊎ ((number : ℕ) × (place : ℕ) × (readRule s ≡ refused number place) × ByteRow (length s) number place × (ruleAnswer s ≡ refusal number place))
 rule-bytes s = go (readRule s) refl (bytes.rule-rows s)
   where
     go : (m : Parsed Block) → readRule s ≡ m → bytes.ByteRows s m
-        → IsRead (readRule s) ⊎ ((number : ℕ) × (place : ℕ) × ByteRow (length s) number place × (ruleAnswer s ≡ refusal number place))
+        → IsRead (readRule s) ⊎ ((number : ℕ) × (place : ℕ) × (readRule s ≡ refused number place) × ByteRow (length s) number place × (ruleAnswer s ≡ refusal number place))
     go (parsed b n) e r = inl (read-is (readRule s) e)
     go (refused number place) e r =
         inr (
           number,
           place,
+          e,
           byte-row s number place r,
           sym (answer-refused s (refusal number place) (ap (λ (m : Parsed Block). answerOf (stepOf m)) (sym e)) (λ z. omega (arith, r .least))),
         )

@@ -39,7 +39,7 @@ use Rattle.demands.specs.FusedRunLaws as runs
 use Rattle.demands.specs.ForeignLaws as foreign
 
 -- Demand 1. "Whatever arrives as rule, plan or inputs: the tool ends; it takes it, or refuses with the number and place of document 01's table": row by row, a number is answered exactly
--- when the facts of the rows before it hold and its own fails. Rule, 1 to 11:
+-- when the facts of the rows before it hold and its own fails. Rule, 10 and 11 so, after the one of 1 to 9 that reading byte by byte gives, at its place:
 pub rule-answered : (s : List ℕ) → RuleAnswered s (ruleAnswer s)
 rule-answered = answers.rule-answered
 

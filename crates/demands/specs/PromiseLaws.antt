@@ -13,7 +13,7 @@ use Rattle.fused.specs.Answers.{fusedAnswer, writeAnswer, writtenOver}
 use Rattle.running.specs.FusedRun.{fusedResults}
 use Rattle.foreign.specs.Foreign.{circuitAnswer, circuitRunAnswer, circuitRunResults}
 use Rattle.demands.specs.Table.{AnsweredBy, AnsweredAfter, RuleAnswered, planRows, runRows, bufferRows, circuitRows, fileRunRows}
-use Rattle.demands.specs.Promises.{RunWritten, AcceptedExactly, FileReadsEarlier, FileGives, FusedAsDirect, OwnAsDirect}
+use Rattle.demands.specs.Promises.{RunWritten, FileWritten, AcceptedExactly, FileReadsEarlier, FileGives, FusedAsDirect, OwnAsDirect}
 use Rattle.demands.specs.FusedRunLaws.{written-answer, file-written}
 use Rattle.demands.specs.Demands as demands
 use Rattle.demands.specs.Sentences as sentences
@@ -73,3 +73,7 @@ fused-done s p inputs d a new e r bytes words = rw (e, r) (demands.same-run s p 
 pub file-done : (f inputs d : List ℕ) (a : Answer) (new : List ℕ) → a ≡ circuitRunAnswer f inputs (length d) → new ≡ circuitRunResults f inputs d
     → Words inputs → OwnAsDirect f inputs d a new
 file-done f inputs d a new e r words = rw (e, r) (circuits.own-run f inputs words d)
+
+pub file-left : (f inputs d : List ℕ) (a : Answer) (new : List ℕ) → a ≡ circuitRunAnswer f inputs (length d) → new ≡ circuitRunResults f inputs d
+    → a .number ≡ 0 → FileWritten f inputs d new
+file-left f inputs d a new e r z = subst⁻¹ (FileWritten f inputs d) r (sentences.circuit-run-written f inputs d (ap (λ (b : Answer). b .number) (sym e) ∙ z))

@@ -67,7 +67,7 @@ rule-before-inputs s h inputs = direct.rule-answer (ruleAnswer s) s inputs h
 pub rule-before-fused : (s p : List ℕ) → (ruleAnswer s .number ≡ 0 → ⊥) → (inputs : List ℕ) (room : ℕ) → runAnswer (fusedAnswer s p) s inputs room ≡ ruleAnswer s
 rule-before-fused = laws.rule-before-running
 
--- and a refused plan's is that of writing and of a run of the fused circuit (`same-run`, Demands: its `refused`).
+-- and a refused plan's is that of writing and of a run of the fused circuit (`fused-run-answered`, Demands: its `stands`).
 pub plan-before-buffer : (s p : List ℕ) (room : ℕ) → (planAnswer s p .number ≡ 0 → ⊥) → writeAnswer s p room ≡ planAnswer s p
 plan-before-buffer = answers.write-refused
 

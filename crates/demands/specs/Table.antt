@@ -7,7 +7,7 @@ use mathlib.Core.Logic.{_⊎_, _↔_}
 use lib.ListN.{length, getD, take}
 use Rattle.words.specs.Lists.{_∈_}
 use Rattle.answers.specs.Answers.{refusal}
-use Rattle.answers.specs.Parsing.{IsRead}
+use Rattle.answers.specs.Parsing.{refused, IsRead}
 use Rattle.answers.specs.declared.Answer.{Answer}
 use Rattle.codes.specs.Codes.{costly}
 use Rattle.codes.specs.declared.Kind.{Kind}
@@ -76,9 +76,9 @@ ruleRows s =
     ∷ row 11 (length (conditions (gatesOf s)) ≤ mostConditions)
     ∷ []
 
--- what reading a rule answers: one of 1 to 9, or, where it is read byte by byte, by these two
+-- what reading a rule answers: the one of 1 to 9 that reading byte by byte gives, or, where it is read so, by these two
 pub record RuleAnswered (s : List ℕ) (a : Answer) : Type 0 where
-  pub bytes : IsRead (readRule s) ⊎ ((number : ℕ) × (place : ℕ) × ByteRow (length s) number place × (a ≡ refusal number place))
+  pub bytes : IsRead (readRule s) ⊎ ((number : ℕ) × (place : ℕ) × (readRule s ≡ refused number place) × ByteRow (length s) number place × (a ≡ refusal number place))
   pub whole : IsRead (readRule s) → AnsweredBy (ruleRows s) (length s) a
 
 -- every member of the group is a costly operation

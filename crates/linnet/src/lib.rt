@@ -15,7 +15,7 @@ ghost use Rattle.running.specs.FusedRun.{fusedResults};
 ghost use Rattle.direct.specs.Direct.{runAnswer, runResults};
 ghost use Rattle.foreign.specs.Foreign.{circuitAnswer, partStart, partLength, recordPart, circuitRunAnswer, circuitRunResults};
 ghost use Rattle.demands.specs.Table.{AnsweredBy, AnsweredAfter, RuleAnswered, planRows, runRows, bufferRows, circuitRows, fileRunRows};
-ghost use Rattle.demands.specs.Promises.{RunWritten, AcceptedExactly, FileReadsEarlier, FileGives, FusedAsDirect, OwnAsDirect, OneArray};
+ghost use Rattle.demands.specs.Promises.{RunWritten, FileWritten, AcceptedExactly, FileReadsEarlier, FileGives, FusedAsDirect, OwnAsDirect, OneArray};
 
 // Reads a rule: its refusal by rows 1 to 11, or its gates and their cost.
 #[no_mangle]
@@ -145,6 +145,7 @@ pub extern "C" fn linnet_run_circuit(file: &[u8], inputs: &[u32], results: &mut 
     ensures answer { λ r. ⌜ r ≡ circuitRunAnswer (now (file .entry)) (now (inputs .entry)) (length (now (results .entry))) ⌝ }
     ensures results { λ _. ⌜ now (results .exit) ≡ circuitRunResults (now (file .entry)) (now (inputs .entry)) (now (results .entry)) ⌝ }
     ensures table { λ r. ⌜ AnsweredAfter (circuitAnswer (now (file .entry))) (fileRunRows (now (file .entry)) (now (inputs .entry)) (length (now (results .entry)))) r ⌝ }
+    ensures written { λ r. ⌜ (r .number ≡ 0 → FileWritten (now (file .entry)) (now (inputs .entry)) (now (results .entry)) (now (results .exit))) ⌝ }
     ensures own { λ r. ⌜ OwnAsDirect (now (file .entry)) (now (inputs .entry)) (now (results .entry)) r (now (results .exit)) ⌝ }
 {
     foreign::run(file, inputs, results)

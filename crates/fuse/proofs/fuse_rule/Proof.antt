@@ -22,7 +22,8 @@ returns c =
     let g = wrote .ok in
     let short = length-lineOf (wrote .result) (omega (arith, g), (omega (arith, g), tt))
     (omega (arith, g), (omega (arith, g), (omega (arith, g), (omega (arith, g), tt)))) in
-    let whole = put-fits (lineOf (wrote .result)) (now (a .line)) (omega (arith, short, c .before .before .before .before .before .before .before .before .before .before .before .before .before .pre)) in (
+    let room = c .before .before .before .before .before .before .before .before .before .before .before .before .before .pre in
+    let whole = put-fits (lineOf (wrote .result)) (now (a .line)) (omega (arith, short, room)) in (
       ap (λ (x : Answer). eqb (x .number) 0) answer,
       (
         ap (λ (x : Answer). x .bytes) answer,

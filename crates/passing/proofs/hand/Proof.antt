@@ -23,7 +23,8 @@ hand-to-requires c κs =
 cast-y : tie.Need-cast-t27-2
 cast-y c =
     let d = c .before .before .before .before .before .before .before .before .before .before .before .before in
-    record { fits = omega (arith, two-inside _ _ _ _ (d .pre .0) (d .pre .1) (c .before .before .before .before .before .before .before .before .before .if1 .left) (c .before .before .before .if2 .taken) .1) }
+    let two = two-inside _ _ _ _ (d .pre .0) (d .pre .1) (c .before .before .before .before .before .before .before .before .before .if1 .left) (c .before .before .before .if2 .taken) in
+    record { fits = omega (arith, two .1) }
 
 hand-to-requires-2 : tie.Need-hand-to-requires-2
 hand-to-requires-2 c κs =
