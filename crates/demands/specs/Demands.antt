@@ -30,8 +30,10 @@ use Rattle.records.specs.WireKinds.{wireKind}
 use Rattle.records.specs.FileFigures.{fileVariables, fileRecords}
 use Rattle.fused.specs.FusedCircuit.{fusedFile}
 use Rattle.fused.specs.Answers.{fusedAnswer, writeAnswer, writtenOver}
+use Rattle.fused.specs.AnswerLaws as writes
 use Rattle.fused.specs.FusedFigures as figures
 use Rattle.running.specs.FusedRun.{fusedResults}
+use Rattle.running.specs.ResultLaws as fused-runs
 use Rattle.foreign.specs.Foreign.{circuitAnswer, circuitRunAnswer, circuitRunResults}
 use Rattle.foreign.specs.RunLaws as files-run
 use Rattle.demands.specs.Table.{AnsweredBy, ByteRow, ruleRows, planRows, inputRows, bufferRows, circuitRows}
@@ -97,11 +99,11 @@ pub run-untouched : (s inputs results : List ℕ) → (runAnswer (ruleAnswer s) 
 run-untouched s = direct.refused-results (ruleAnswer s) s
 
 pub write-untouched : (s p buffer : List ℕ) → (writeAnswer s p (length buffer) .number ≡ 0 → ⊥) → writtenOver s p buffer ≡ buffer
-write-untouched = answers.write-untouched
+write-untouched = writes.write-untouched
 
 pub fused-run-untouched : (s p inputs results : List ℕ) → (runAnswer (fusedAnswer s p) s inputs (length results) .number ≡ 0 → ⊥)
     → fusedResults s p inputs results ≡ results
-fused-run-untouched = answers.fused-untouched
+fused-run-untouched = fused-runs.fused-untouched
 
 pub circuit-run-untouched : (f inputs results : List ℕ) → (circuitRunAnswer f inputs (length results) .number ≡ 0 → ⊥) → circuitRunResults f inputs results ≡ results
 circuit-run-untouched = files-run.refused-results
