@@ -73,6 +73,11 @@ module _ {A : Type 0} where
   read-past (parsed a k) {n} h = let e : k ≡ n = cc in (a, ap (parsed a) e)
   read-past (refused k p) h = let z : _≡_ {A = ℕ} 0 1 = cc in absurd (omega arith)
 
+  -- a step that is a refusal: so is what was read
+  pub read-refused : (m : Parsed A) {k p : ℕ} → Refused k p ≡ stepOf m → m ≡ refused k p
+  read-refused (parsed a n) h = let z : _≡_ {A = ℕ} 0 1 = cc in absurd (omega arith)
+  read-refused (refused k p) h = cc
+
   pub not-refused : (m : Parsed A) {k p : ℕ} → IsRead m → Refused k p ≡ stepOf m → ⊥
   not-refused (parsed a n) h e = let z : _≡_ {A = ℕ} 0 1 = cc in omega arith
   not-refused (refused k p) h e = h

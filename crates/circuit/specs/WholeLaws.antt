@@ -46,6 +46,16 @@ module _ (gates conds : ℕ) (C : Gates) (size : ℕ) where
       (λ u. let z : 11 ≡ 0 = rw (t, u) at h in absurd (omega arith)))
       (λ t. let z : 10 ≡ 0 = rw t at h in absurd (omega arith))
 
+  -- nor is any of the rows that come before them its number
+  pub whole-other : (number : ℕ) → 1 ≤ number → number ≤ 9 → wholeWithin gates conds C size .number ≡ number → ⊥
+  unfolding wholeWithin
+  whole-other number lo hi h =
+      split (leb (length C) gates)
+      (λ t. split (leb (length (conditions C)) conds)
+      (λ u. let z : 0 ≡ number = rw (t, u) at h in omega (arith, z))
+      (λ u. let z : 11 ≡ number = rw (t, u) at h in omega (arith, z)))
+      (λ t. let z : 10 ≡ number = rw t at h in omega (arith, z))
+
 -- what the rows byte by byte leave
 bytes-refused : (m : Parsed Block) (whole : Answer) → (answerOf (stepOf m) .number ≡ 0 → ⊥) → answerOf (stepOf m) ≡ afterBytes (stepOf m) whole
 bytes-refused (parsed b n) whole h = absurd (h refl)
@@ -71,6 +81,20 @@ module _ (s : List ℕ) (a : Answer) (e : a ≡ answerOf (stepOf (readRule s))) 
 
   pub answer-read : a .number ≡ 0 → IsRead (readRule s)
   answer-read h = bytes-read s (readRule s) (rule-rows s) (ap (λ (b : Answer). b .number) (sym e) ∙ h)
+
+-- so what reading refuses is answered so,
+pub answer-bytes : (s : List ℕ) {number place : ℕ} → readRule s ≡ refused number place → ruleAnswer s ≡ refusal number place
+unfolding ruleAnswer
+answer-bytes s e = rw e
+
+-- and an answer 1 to 9 is what reading refuses
+pub answer-from : (s : List ℕ) (number place : ℕ) → 1 ≤ number → number ≤ 9 → ruleAnswer s ≡ refusal number place → readRule s ≡ refused number place
+unfolding ruleAnswer
+answer-from s number place lo hi = go (readRule s)
+  where
+    go : (m : Parsed Block) → afterBytes (stepOf m) (wholeWithin mostGates mostConditions (gatesOf s) (length s)) ≡ refusal number place → m ≡ refused number place
+    go (parsed b n) e = absurd (whole-other mostGates mostConditions (gatesOf s) (length s) number lo hi (ap (λ (a : Answer). a .number) e))
+    go (refused k p) e = let x : k ≡ number = ap (λ (a : Answer). a .number) e in let y : p ≡ place = ap (λ (a : Answer). a .place) e in rw (x, y)
 
 -- what reading a rule answers, row by row: a refusal byte by byte, 10 or 11 at the file's length, or number 0 at place 0
 abbrev pub RuleCases : List ℕ → Answer → Type 0
@@ -100,8 +124,7 @@ answer-whole s h = bytes-whole (readRule s) _ h
 
 -- a rule over its limit of bytes is refused for that
 pub rule-over : (s : List ℕ) → mostBytes < length s → ruleAnswer s ≡ refusal 1 0
-unfolding ruleAnswer
-rule-over s h = rw (rule-large s h)
+rule-over s h = answer-bytes s (rule-large s h)
 
 -- "A rule is accepted when reading it returns number 0": then it was read, and is within both limits
 pub record Accepted (s : List ℕ) : Type 0 where

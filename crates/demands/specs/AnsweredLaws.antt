@@ -1,5 +1,5 @@
--- Laws of answers: each operation answers by the rows of the table; and a refusal leaves a lent buffer as it was. Assumes nothing.
-use Prim.Native.Nat.{ℕ, _≤_, _<_}
+-- Laws of answers: each operation answers by the rows of the table. Assumes nothing.
+use Prim.Native.Nat.{ℕ, _≤_}
 use native.Mathlib.Omega.{arith}
 use mathlib.Core.Path.{_≡_, refl, sym, ap, subst, _∙_}
 use mathlib.Core.Bool.{true, true≢false, _&&_}
@@ -7,12 +7,12 @@ use mathlib.Core.List.{List}
 use mathlib.Core.Logic.{_⊎_, inl, inr, _↔_}
 use lib.Dec.{eqb, leb}
 use lib.ListN.{length, take}
-use borrow.Author.Tests.{ne-eqb, eqb-true, eqb-false, eq-eqb, leb-true, leb-false, le-leb}
+use borrow.Author.Tests.{eqb-true, eqb-false, eq-eqb, leb-true, leb-false, le-leb}
 use Rattle.words.specs.Lists.{every}
 use Rattle.words.specs.MemberLaws.{every-right, same-right}
 use Rattle.words.specs.TestLaws.{split, same?, both, and}
-use Rattle.answers.specs.Answers.{refusal, answerOf}
-use Rattle.answers.specs.Parsing.{Parsed, parsed, refused, stepOf, IsRead}
+use Rattle.answers.specs.Answers.{refusal}
+use Rattle.answers.specs.Parsing.{Parsed, parsed, refused, IsRead}
 use Rattle.answers.specs.ParsingLaws.{is-read, read-is}
 use Rattle.answers.specs.declared.Answer.{Answer}
 use Rattle.reading.specs.Header.{variables, kindAt}
@@ -30,24 +30,21 @@ use Rattle.needed.specs.Needed.{wantedOf}
 use Rattle.needed.specs.Pass.{rulePreconditions}
 use Rattle.needed.specs.RulePreconditions.{rule-earlier, wanted-inside, rule-exclude}
 use Rattle.circuit.specs.Whole.{ruleAnswer}
-use Rattle.circuit.specs.WholeLaws.{Accepted, accepted, answer-refused, answer-whole, whole-gates, whole-conditions, whole-success}
-use Rattle.direct.specs.Inputs.{inputRow}
+use Rattle.circuit.specs.WholeLaws.{accepted, answer-bytes, answer-whole, whole-gates, whole-conditions, whole-success}
 use Rattle.direct.specs.InputLaws.{row-is}
 use Rattle.direct.specs.Direct.{runAnswer}
 use Rattle.direct.specs.DirectLaws.{rule-answer, inputs-answer, run-answer, run-number}
-use Rattle.plan.specs.PlanFile.{leastBytes, mostBytes, mark, gatesCounted, groupsCounted, groupsIn, EachGroup, Rising, Apart}
+use Rattle.plan.specs.PlanFile.{leastBytes, mostBytes, mark, groupsCounted, groupsIn}
 use Rattle.plan.specs.Groups.{groupOf}
 use Rattle.plan.specs.Rows.{isCostly, rows, planRow, planAnswer}
-use Rattle.plan.specs.Accepted.{Exist}
 use Rattle.plan.specs.GroupLaws.{groupOf-named}
 use Rattle.plan.specs.WaitLaws.{placed-right}
 use Rattle.plan.specs.RowLaws.{each-right, ends-right, joins-right, apart-right}
 use Rattle.plan.specs.MemberLaws.{costly-gate, costly-right, parted-right}
 use Rattle.plan.specs.AcceptedLaws.{rising-exist, order-right, row-first, answer-rule, answer-row, answer-accepted, answer-number}
 use Rattle.fused.specs.FusedCircuit.{fusedFile}
-use Rattle.fused.specs.Answers.{fusedAnswer, writeAnswer, writtenOver}
+use Rattle.fused.specs.Answers.{fusedAnswer, writeAnswer}
 use Rattle.fused.specs.AnswerLaws.{fused-refused, fused-taken, write-refused, write-short, write-taken}
-use Rattle.running.specs.FusedRun.{fusedResults}
 use Rattle.demands.specs.Table.{AnsweredBy, AnsweredAfter, ByteRow, bySize, onByte, pastEnd, RuleAnswered, ruleRows, AllCostly, planRows, inputRows, runRows, bufferRows}
 use Rattle.demands.specs.TableLaws.{Outcome, taken-by, refused-by, answered-by, Tells, none, _then_, tests-tell}
 
@@ -73,7 +70,7 @@ rule-bytes s = go (readRule s) refl (bytes.rule-rows s)
           place,
           e,
           byte-row s number place r,
-          sym (answer-refused s (refusal number place) (ap (λ (m : Parsed Block). answerOf (stepOf m)) (sym e)) (λ z. omega (arith, r .least))),
+          answer-bytes s e,
         )
 
 -- rows 10 and 11, of a rule that is read byte by byte
@@ -198,12 +195,3 @@ write-rows s p room h =
 
 pub write-answered : (s p : List ℕ) (room : ℕ) → AnsweredAfter (planAnswer s p) (bufferRows s p room) (writeAnswer s p room)
 write-answered s p room = record { stands = write-refused s p room; decided = write-rows s p room }
-
--- a refusal writes to no buffer
-pub write-untouched : (s p buffer : List ℕ) → (writeAnswer s p (length buffer) .number ≡ 0 → ⊥) → writtenOver s p buffer ≡ buffer
-unfolding writtenOver
-write-untouched s p buffer h = rw (ne-eqb _ _ h)
-
-pub fused-untouched : (s p inputs results : List ℕ) → (runAnswer (fusedAnswer s p) s inputs (length results) .number ≡ 0 → ⊥) → fusedResults s p inputs results ≡ results
-unfolding fusedResults
-fused-untouched s p inputs results h = rw (ne-eqb _ _ h)

@@ -11,6 +11,7 @@ use Rattle.words.specs.Lists.{_∈_}
 use Rattle.words.specs.Numbers.{Bytes}
 use Rattle.answers.specs.Answers.{refusal}
 use Rattle.reading.specs.Header.{mark, variables, kindAt, workingAt}
+use Rattle.reading.specs.HeaderLaws as kinds
 use Rattle.reading.specs.Tree.{Block}
 use Rattle.reading.specs.Format.{ruleBytes, WellFormed}
 use Rattle.reading.specs.OnlyWorking.{OnlyWorking, MoreWorking}
@@ -30,7 +31,7 @@ use Rattle.fused.specs.FusedCircuit.{fusedFile}
 use Rattle.fused.specs.FusedFigures as figures
 use Rattle.foreign.specs.Foreign.{circuitAnswer}
 use Rattle.demands.specs.WorkingLaws as working
-use Rattle.demands.specs.KindLaws as kinds
+use Rattle.demands.specs.ReadingLaws as rules
 
 -- "From now on kind 02 is a working word and 03 a working bit": what the kind byte of variable x says, 02 and 03 as here, 00 and 01 as before.
 pub working-word : (s : List ℕ) (x : ℕ) → getD s (6 + x) 0 ≡ 0x02 → (kindAt s x ≡ kind.Word) × (workingAt s x ≡ true)
@@ -87,7 +88,7 @@ result-written = written.writes-result
 -- and those before it are at most 03, exactly when that byte is above 03;
 pub kind-refused : (s : List ℕ) → 6 ≤ length s → length s ≤ 4096 → take 5 s ≡ mark → 1 ≤ variables s → variables s ≤ 32
     → (x : ℕ) → x < variables s → 6 + x < length s → ((y : ℕ) → y < x → getD s (6 + y) 0 ≤ 0x03) → (ruleAnswer s ≡ refusal 3 (6 + x)) ↔ (0x03 < getD s (6 + x) 0)
-kind-refused = kinds.kind-refused
+kind-refused = rules.kind-refused
 
 -- "and the circuit reader admits FF FF as an output": any output of any file that is read may be made FF FF; running it then writes 0 there, and else what it wrote.
 pub no-wire-read : (ver : Version) (v : ℕ) (R : List Record) (outputs : List ℕ) → circuits.WellFormed ver v R outputs → (x : ℕ)

@@ -22,6 +22,8 @@ use Rattle.reading.specs.Tree.{Block}
 use Rattle.reading.specs.Blocks.{readStatement}
 use Rattle.reading.specs.Rule.{readRule}
 use Rattle.reading.specs.Format.{headerBytes, WellFormed, nesting}
+use Rattle.reading.specs.NestedIfs.{Leads}
+use Rattle.reading.specs.NestedIfLaws as ifs
 use Rattle.gates.specs.Gates.{Gates, Earlier, conditions}
 use Rattle.gates.specs.PlainCircuit.{gatesOf}
 use Rattle.needed.specs.Needed.{Needed, wantedOf}
@@ -45,9 +47,7 @@ use Rattle.foreign.specs.Foreign.{circuitAnswer}
 use Rattle.demands.specs.Promises.{OneArray}
 use Rattle.demands.specs.EightLaws as laws
 use Rattle.demands.specs.VersionLaws as versions
-use Rattle.demands.specs.NestedIfs.{Leads}
-use Rattle.demands.specs.NestedIfLaws as nested
-use Rattle.demands.specs.NinthIfLaws as ninth
+use Rattle.demands.specs.ReadingLaws as rules
 
 -- "Conditions go to 8 .. 11 .. the ninth condition": a rule that is read and has no gate too many is taken exactly when it has
 -- at most eight conditions, and is 11 at its length else;
@@ -63,19 +63,19 @@ eight-nested kinds b w = w .nests
 
 -- and an if where as many are around it as may be is 8 at its code. (A rule's block is read with eight to go, and each if takes one.)
 pub ninth-if : (s : List ℕ) (at : ℕ) → getD s at 0 ≡ 0x03 → Refused 8 at ≡ stepOf (readStatement s 0 at)
-ninth-if = laws.too-deep
+ninth-if = ifs.too-deep
 
 -- So of a whole rule: where its bytes, after a right header, lead into eight ifs, one within another, and go on with 03, it is 8 at that byte, whatever follows.
 pub ninth-nested : (kinds pre rest : List ℕ) → 1 ≤ length kinds → length kinds ≤ 32 → ((x : ℕ) → x < length kinds → getD kinds x 0 ≤ 0x03) → Leads kinds 8 pre
     → length (headerBytes kinds ++ (pre ++ (0x03 ∷ rest))) ≤ 4096
     → ruleAnswer (headerBytes kinds ++ (pre ++ (0x03 ∷ rest))) ≡ refusal 8 (length (headerBytes kinds ++ pre))
-ninth-nested = nested.ninth-nested
+ninth-nested = rules.ninth-nested
 
 -- And no other if is 8: where 8 lies on a 03, the bytes before it lead into eight ifs.
 pub ninth-only : (s : List ℕ) → Bytes s → (place : ℕ) → ruleAnswer s ≡ refusal 8 place → getD s place 0 ≡ 0x03
     → (kinds : List ℕ) × (pre : List ℕ) × (rest : List ℕ) × Leads kinds 8 pre
     × (s ≡ headerBytes kinds ++ (pre ++ (0x03 ∷ rest))) × (place ≡ length (headerBytes kinds ++ pre))
-ninth-only = ninth.ninth-only
+ninth-only = rules.ninth-only
 
 -- "so a precondition is a set of 256 settings. .. Facts about sets of settings are to be shown for any number of conditions and used at six and eight": for any number n, of
 -- gates that have no more conditions, setting j is in a gate's precondition exactly when the gate is needed under it,

@@ -27,8 +27,10 @@ use Rattle.plan.specs.SameGroups.{Joined}
 use Rattle.plan.specs.AcceptedLaws as laws
 use Rattle.fused.specs.FusedCircuit.{fusedFile}
 use Rattle.fused.specs.Answers.{fusedAnswer, writeAnswer, writtenOver}
+use Rattle.fused.specs.AnswerLaws as writes
 use Rattle.fused.specs.FusedFigures as figures
 use Rattle.running.specs.FusedRun.{fusedResults}
+use Rattle.running.specs.ResultLaws as fused-runs
 use Rattle.foreign.specs.Foreign.{circuitAnswer, circuitRunAnswer, circuitRunResults}
 use Rattle.foreign.specs.RunLaws as files-run
 use Rattle.demands.specs.Table.{AnsweredBy, AnsweredAfter, RuleAnswered, planRows, runRows, bufferRows, circuitRows, fileRunRows}
@@ -86,11 +88,11 @@ pub run-untouched : (s inputs results : List ℕ) → (runAnswer (ruleAnswer s) 
 run-untouched s = direct.refused-results (ruleAnswer s) s
 
 pub write-untouched : (s p buffer : List ℕ) → (writeAnswer s p (length buffer) .number ≡ 0 → ⊥) → writtenOver s p buffer ≡ buffer
-write-untouched = answers.write-untouched
+write-untouched = writes.write-untouched
 
 pub fused-run-untouched : (s p inputs results : List ℕ) → (runAnswer (fusedAnswer s p) s inputs (length results) .number ≡ 0 → ⊥)
     → fusedResults s p inputs results ≡ results
-fused-run-untouched = answers.fused-untouched
+fused-run-untouched = fused-runs.fused-untouched
 
 pub circuit-run-untouched : (f inputs results : List ℕ) → (circuitRunAnswer f inputs (length results) .number ≡ 0 → ⊥) → circuitRunResults f inputs results ≡ results
 circuit-run-untouched = files-run.refused-results

@@ -1,19 +1,18 @@
 -- Laws for document 02, C-17: the limits on conditions and nesting, sets of settings at six and at eight conditions. Assumes nothing.
 use Prim.Native.Nat.{ℕ, _+_, _-_, _%_, _^_, _≤_, _<_}
 use native.Mathlib.Omega.{arith}
-use mathlib.Core.Path.{_≡_, refl, sym, ap, _∙_}
+use mathlib.Core.Path.{_≡_, sym, ap, _∙_}
 use mathlib.Core.Bool.{true}
-use mathlib.Core.List.{List, [], _∷_, map}
+use mathlib.Core.List.{List, map}
 use mathlib.Core.Logic.{_↔_}
-use lib.ListN.{length, take, getD, length-map}
+use lib.ListN.{length, getD, length-map}
 use lib.Pow.{pow-mono, pow-pos, mod-mod-pow}
 use native.Mathlib.Nat.{lt-of-lt-of-le, mod-lt}
 use Rattle.words.specs.TestLaws.{same-test}
 use Rattle.words.specs.Lists.{_∈_}
 use Rattle.answers.specs.Answers.{refusal}
-use Rattle.answers.specs.Parsing.{stepOf, IsRead}
+use Rattle.answers.specs.Parsing.{IsRead}
 use Rattle.answers.specs.ParsingLaws.{is-read}
-use Rattle.answers.specs.declared.Step.the-variants.{Refused}
 use Rattle.bitsets.specs.BitLaws.{same-bits}
 use Rattle.settings.specs.Settings.{settingOf, numberOf, preRestsOn, preRests}
 use Rattle.settings.specs.Sets.{has, excludes, rests}
@@ -27,9 +26,6 @@ use Rattle.settings.specs.PlaceLaws.{holds-repeats}
 use Rattle.gates.specs.Limits.{mostGates, mostConditions}
 use Rattle.gates.specs.Gates.{Gates, Earlier, conditions}
 use Rattle.gates.specs.PlainCircuit.{gatesOf}
-use Rattle.codes.specs.Codes.{codeOf}
-use Rattle.reading.specs.Blocks.{readStatement}
-use Rattle.reading.specs.BlockLaws.{branch-deep}
 use Rattle.reading.specs.Rule.{readRule}
 use Rattle.needed.specs.Needed.{Needed, wantedOf}
 use Rattle.needed.specs.Pass.{needed, preconditionOf, rulePreconditions}
@@ -37,7 +33,6 @@ use Rattle.needed.specs.RulePreconditions.{rule-precondition}
 use Rattle.needed.specs.PreconditionLaws.{precondition-holds, exclude-right}
 use Rattle.circuit.specs.Whole.{ruleAnswer}
 use Rattle.circuit.specs.WholeLaws.{whole-conditions, whole-success, answer-whole, accepted}
-use Rattle.records.specs.Records.{bit, guard}
 use Rattle.fused.specs.FitLaws.{table-below}
 
 -- a rule that is read and has no gate too many is taken exactly when it has no condition too many; else it is 11 at its length
@@ -103,8 +98,3 @@ same-excludes C wanted earlier inside n m few fewer g h =
     let a = exclude-right C wanted earlier inside n few g h in
     let b = exclude-right C wanted earlier inside m fewer g h in
     same-test _ _ (λ t. b .1 (a .0 t)) (λ t. a .1 (b .0 t))
-
--- an if where none may nest any more is 8 at its code
-pub too-deep : (s : List ℕ) (at : ℕ) → getD s at 0 ≡ 0x03 → Refused 8 at ≡ stepOf (readStatement s 0 at)
-unfolding codeOf
-too-deep s at e = branch-deep s 0 at (codeOf 0x03) (ap codeOf (sym e)) refl refl

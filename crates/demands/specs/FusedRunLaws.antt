@@ -1,14 +1,13 @@
 -- Laws of a fused run beside a direct run of the same rule and inputs, and of a written file. Assumes nothing.
 use Prim.Native.Nat.{ℕ}
 use native.Mathlib.Omega.{arith}
-use mathlib.Core.Path.{_≡_, refl, sym, ap, subst, _∙_}
+use mathlib.Core.Path.{_≡_, sym, ap, subst, _∙_}
 use mathlib.Core.List.{List, map}
 use lib.Dec.{eqb, leb}
 use lib.ListN.{length, take, drop}
-use lib.Seq.{take-at, drop-at}
-use borrow.Author.Tests.{eq-eqb, eqb-true, eqb-false, leb-true, leb-false}
+use borrow.Author.Tests.{eqb-true, eqb-false, leb-true, leb-false}
 use Rattle.words.specs.TestLaws.{split}
-use Rattle.words.specs.Buffers.{over}
+use Rattle.words.specs.BufferLaws.{take-over, drop-over}
 use Rattle.words.specs.Numbers.{Bytes, Words}
 use Rattle.answers.specs.ParsingLaws.{is-read}
 use Rattle.answers.specs.Parsing.{IsRead}
@@ -33,11 +32,11 @@ use Rattle.records.specs.FileFigures.{fileRecords}
 use Rattle.fused.specs.FitPlan.{fused-found}
 use Rattle.fused.specs.FusedFigures.{reads-earlier, output-earlier}
 use Rattle.fused.specs.Answers.{fusedAnswer, writeAnswer, writtenOver}
-use Rattle.fused.specs.AnswerLaws.{fused-refused, fused-taken, fused-plan, answer-bytes, write-refused, write-short, write-taken}
+use Rattle.fused.specs.AnswerLaws.{fused-refused, fused-taken, fused-plan, answer-bytes, write-refused, write-short, write-taken, write-over}
 use Rattle.running.specs.FusedRun.{fusedResults}
-use Rattle.running.specs.ResultLaws.{fused-results}
+use Rattle.running.specs.ResultLaws.{fused-untouched, fused-results}
 use Rattle.demands.specs.Promises.{FusedAsDirect}
-use Rattle.demands.specs.AnsweredLaws.{plan-number, fused-untouched}
+use Rattle.demands.specs.AnsweredLaws.{plan-number}
 
 -- the plain circuit beside the direct run
 pub plain-figures : (s inputs : List ℕ) → IsRead (readRule s) → length inputs ≡ variables s → map (figureAt inputs (gatesOf s)) (outputsOf s) ≡ runRule s inputs
@@ -131,9 +130,8 @@ module _ (s p : List ℕ) where
   pub file-written : (buffer : List ℕ) → writeAnswer s p (length buffer) .number ≡ 0
       → (take (writeAnswer s p (length buffer) .bytes) (writtenOver s p buffer) ≡ fusedFile s p)
       × (drop (writeAnswer s p (length buffer) .bytes) (writtenOver s p buffer) ≡ drop (length (fusedFile s p)) buffer)
-  unfolding writtenOver over
   file-written buffer h =
       let (taken, e) = written-answer (length buffer) h in
       let bytes : writeAnswer s p (length buffer) .bytes ≡ length (fusedFile s p) = ap (λ (c : Answer). c .bytes) e ∙ answer-bytes s p taken in
-      rw (eq-eqb _ _ h, bytes)
-      (take-at (fusedFile s p) _ (length (fusedFile s p)) refl, drop-at (fusedFile s p) _ (length (fusedFile s p)) refl)
+      rw (write-over s p buffer h, bytes)
+      (take-over (fusedFile s p) buffer, drop-over (fusedFile s p) buffer)

@@ -9,14 +9,9 @@ pub mod SentenceLaws
 pub mod OrderLaws
 pub mod ForeignLaws
 pub mod WorkingLaws
-pub mod HeaderLaws
-pub mod RefusalLaws
-pub mod KindLaws
+pub mod ReadingLaws
 pub mod BatchLaws
 pub mod EightLaws
-pub mod NestedIfs
-pub mod NestedIfLaws
-pub mod NinthIfLaws
 pub mod GuardTables
 pub mod GuardTableLaws
 pub mod VersionLaws

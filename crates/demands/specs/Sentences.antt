@@ -9,7 +9,9 @@ use Rattle.circuit.specs.Whole.{ruleAnswer}
 use Rattle.direct.specs.Direct.{runAnswer, runResults}
 use Rattle.direct.specs.DirectLaws as direct
 use Rattle.gates.specs.PlainCircuit.{gateCount}
-use Rattle.plan.specs.PlanFile.{Rising}
+use Rattle.plan.specs.PlanFile.{groupsIn, Rising}
+use Rattle.plan.specs.Groups.{groupOf}
+use Rattle.plan.specs.ListedLaws as listed
 use Rattle.plan.specs.Rows.{planAnswer}
 use Rattle.plan.specs.AcceptedLaws as plans
 use Rattle.records.specs.Records.{recordIn}
@@ -31,7 +33,7 @@ use Rattle.demands.specs.GuardTableLaws as guards
 -- conditions, in that order, the bits of j, else 0, table bits above the first 2^d zero": of an accepted plan, where gate m is joined and its group has a pick (C-18: else it has no
 -- guards), its members rise, and the first of its records, from wire n on, are their guards, each as that sentence has it; the picks and the operation follow (`group-records`, C18).
 pub members-rise : (s p : List ℕ) (m : ℕ) → Rising (joinedWith s p m)
-members-rise = guards.members-rise
+members-rise s p m = listed.members-rise (gateCount s) (groupOf (groupsIn p)) (groupOf (groupsIn p) m)
 
 pub guard-records : (s p : List ℕ) → planAnswer s p .number ≡ 0 → (m : ℕ) → m < gateCount s → 2 ≤ length (joinedWith s p m) → 0 < picksWith s p m
     → (n : ℕ) × (wireOf s p m ≡ n + length (joinedWith s p m) + picksWith s p m)

@@ -1,30 +1,27 @@
 -- Laws of the result places after a run that is answered with 0: directly, of the fused circuit, of a circuit file. Assumes nothing.
 use Prim.Native.Nat.{ℕ, _≤_, _<_}
-use mathlib.Core.Path.{_≡_, sym, ap, subst⁻¹, _∙_}
+use mathlib.Core.Path.{_≡_, sym, ap, subst, subst⁻¹, _∙_}
 use mathlib.Core.List.{List}
 use lib.Dec.{eqb}
-use lib.ListN.{length, getD, take, drop, length-map, List·getD-append}
-use lib.Seq.{take-at, drop-at}
+use lib.ListN.{length, take, drop}
 use borrow.Author.Tests.{eqb-true, eqb-false}
-use Rattle.words.specs.Lists.{upto}
-use Rattle.words.specs.ListLaws.{length-from}
 use Rattle.words.specs.TestLaws.{split}
 use Rattle.words.specs.Buffers.{over}
-use Rattle.words.specs.BufferLaws.{length-over}
+use Rattle.words.specs.BufferLaws.{length-over, take-over, drop-over, over-at}
 use Rattle.words.specs.Numbers.{Bytes, Words}
 use Rattle.codes.specs.InputLaws as any
 use Rattle.answers.specs.declared.Answer.{Answer}
 use Rattle.reading.specs.Header.{variables}
 use Rattle.gates.specs.Running.{runWrites}
-use Rattle.gates.specs.WrittenLaws.{writes-result, writes-working}
+use Rattle.gates.specs.WrittenLaws.{writes-count, writes-result, writes-working}
 use Rattle.circuit.specs.Whole.{ruleAnswer}
 use Rattle.direct.specs.Direct.{runAnswer, runResults}
 use Rattle.direct.specs.InputLaws.{inputs-room}
 use Rattle.direct.specs.DirectLaws.{answered-rule, answered-inputs, answered-results}
 use Rattle.plan.specs.Rows.{planAnswer}
 use Rattle.records.specs.WireKinds.{wireKind}
-use Rattle.records.specs.FileFigures.{fileVariables, fileRecords, fileFigures, fileOutputs}
-use Rattle.records.specs.FilePartLaws.{wires-length}
+use Rattle.records.specs.FileFigures.{fileVariables, fileRecords, fileFigures}
+use Rattle.records.specs.FilePartLaws.{figures-count}
 use Rattle.fused.specs.Answers.{fusedAnswer}
 use Rattle.fused.specs.AnswerLaws.{fused-plan}
 use Rattle.running.specs.FusedRun.{fusedResults}
@@ -35,33 +32,23 @@ use Rattle.demands.specs.Promises.{RunWritten, FileWritten}
 
 -- a buffer with as many numbers written at its start as it has places for
 module _ (bs d : List ℕ) (v : ℕ) (count : length bs ≡ v) (room : v ≤ length d) where
-  over-at : (x : ℕ) → x < v → getD (over bs d) x 0 ≡ getD bs x 0
-  unfolding over
-  over-at x l = List·getD-append bs (drop (length bs) d) 0 x (rw count l)
-
   over-taken : take v (over bs d) ≡ bs
-  unfolding over
-  over-taken = take-at bs _ v count
+  over-taken = subst (λ (n : ℕ). take n (over bs d) ≡ bs) count (take-over bs d)
 
   over-kept : drop v (over bs d) ≡ drop v d
-  unfolding over
-  over-kept = drop-at bs _ v count ∙ ap (λ (n : ℕ). drop n d) count
+  over-kept = subst (λ (n : ℕ). drop n (over bs d) ≡ drop n d) count (drop-over bs d)
 
   over-places : length (over bs d) ≡ length d
   over-places = length-over bs d (rw count room)
 
 -- a direct run
-writes-count : (s inputs : List ℕ) → length (runWrites s inputs) ≡ variables s
-unfolding runWrites
-writes-count s inputs = length-map (upto (variables s)) _ ∙ length-from 0 (variables s)
-
 pub run-written : (s inputs results : List ℕ) → runAnswer (ruleAnswer s) s inputs (length results) .number ≡ 0
     → RunWritten s inputs results (runResults (ruleAnswer s) s inputs results)
 run-written s inputs results h =
     subst⁻¹ (RunWritten s inputs results) (answered-results (ruleAnswer s) s inputs results h)
     (record {
-      figures = λ x l f. over-at (runWrites s inputs) results (variables s) n room x l ∙ writes-result s inputs x l f;
-      working = λ x l t. over-at (runWrites s inputs) results (variables s) n room x l ∙ writes-working s inputs x l t;
+      figures = λ x l f. over-at (runWrites s inputs) results x (rw n l) ∙ writes-result s inputs x l f;
+      working = λ x l t. over-at (runWrites s inputs) results x (rw n l) ∙ writes-working s inputs x l t;
       kept = over-kept (runWrites s inputs) results (variables s) n room;
       places = over-places (runWrites s inputs) results (variables s) n room;
     })
@@ -83,10 +70,6 @@ fused-written s p inputs results bytes words h =
     taken = fused-plan s p (answered-rule (fusedAnswer s p) s inputs (length results) h)
 
 -- a run of a circuit file
-figures-count : (f inputs : List ℕ) → length (fileFigures f inputs) ≡ fileVariables f
-unfolding fileFigures fileOutputs
-figures-count f inputs = length-map (fileOutputs f) _ ∙ wires-length (fileVariables f) f _
-
 pub file-written : (f inputs results : List ℕ) → circuitRunAnswer f inputs (length results) .number ≡ 0
     → FileWritten f inputs results (circuitRunResults f inputs results)
 file-written f inputs results h =

@@ -6,9 +6,9 @@ use mathlib.Core.List.{List, [], _∷_, _++_}
 use native.Mathlib.Nat.{zero-add}
 use native.Mathlib.Numerals.{add-one}
 use native.Mathlib.Omega.{arith}
-use lib.ListN.{length, set, length-set, List·getD-append}
+use lib.ListN.{length, set, length-set}
 use Rattle.words.specs.Buffers.{over}
-use Rattle.words.specs.BufferLaws.{over-nil, over-snoc}
+use Rattle.words.specs.BufferLaws.{over-nil, over-snoc, over-at}
 use Rattle.words.specs.Runs.{run}
 use Rattle.words.specs.RunLaws.{run-length, run-append}
 use Rattle.records.specs.Records.{Record, recordIn, recordFigure}
@@ -44,8 +44,7 @@ figures-more f inputs i =
 
 -- what lies at the start of an array is read from it
 pub held-over : (a d : List ℕ) (w : ℕ) → w < length a → held (over a d) w ≡ held a w
-unfolding over
-held-over a d w h = List·getD-append a _ 0 w h
+held-over a d w h = over-at a d w h
 
 pub amid-start : (f inputs before : List ℕ) (bits : List Bool) → Passed f → length inputs ≡ fileVariables f → length before ≡ mostWires → length bits ≡ mostWires
     → AmidRecords f inputs before before bits 8 0

@@ -7,6 +7,7 @@ use lib.Dec.{eqb}
 use lib.ListN.{length}
 use borrow.Author.Tests.{eq-eqb, ne-eqb, eqb-true, eqb-false, le-leb, lt-leb}
 use Rattle.words.specs.TestLaws.{split}
+use Rattle.words.specs.Buffers.{over}
 use Rattle.answers.specs.Answers.{refusal}
 use Rattle.answers.specs.declared.Answer.{Answer}
 use Rattle.gates.specs.CostLaws.{costs-most}
@@ -15,7 +16,7 @@ use Rattle.circuit.specs.WholeLaws.{accepted}
 use Rattle.plan.specs.Rows.{planAnswer}
 use Rattle.plan.specs.AcceptedLaws.{plan-accepted}
 use Rattle.fused.specs.FusedCircuit.{fusedFile}
-use Rattle.fused.specs.Answers.{fusedCounts, fusedAnswer, writeAnswer}
+use Rattle.fused.specs.Answers.{fusedCounts, fusedAnswer, writeAnswer, writtenOver}
 use Rattle.fused.specs.SizeBounds.{bytes-bound, plan-most}
 use Rattle.records.specs.Limits.{mostFileBytes}
 
@@ -62,6 +63,16 @@ module _ (s p : List ℕ) where
     pub write-taken : planAnswer s p .number ≡ 0 → length (fusedFile s p) ≤ room → writeAnswer s p room ≡ fusedAnswer s p
     unfolding writeAnswer fusedAnswer
     write-taken h l = rw (eq-eqb _ _ h, le-leb _ _ l)
+
+  -- the buffer after writing: the file over its start, or a refusal writes to none
+  module _ (buffer : List ℕ) where
+    pub write-over : writeAnswer s p (length buffer) .number ≡ 0 → writtenOver s p buffer ≡ over (fusedFile s p) buffer
+    unfolding writtenOver
+    write-over h = rw (eq-eqb _ _ h)
+
+    pub write-untouched : (writeAnswer s p (length buffer) .number ≡ 0 → ⊥) → writtenOver s p buffer ≡ buffer
+    unfolding writtenOver
+    write-untouched h = rw (ne-eqb _ _ h)
 
   -- 16,384 bytes always suffice
   pub room-enough : writeAnswer s p mostFileBytes ≡ fusedAnswer s p

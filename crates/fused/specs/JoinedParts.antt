@@ -6,11 +6,11 @@ use mathlib.Core.Bool.{true, false}
 use mathlib.Core.List.{List, [], _∷_, _++_, map}
 use mathlib.Core.Logic.{_⊎_, inl, inr}
 use native.Mathlib.Omega.{arith}
-use lib.ListN.{length, getD, length-append, length-map}
+use lib.ListN.{length, getD, length-append, length-map, List·getD-append}
 use Rattle.words.specs.Lists.{_∈_}
 use Rattle.words.specs.TestLaws.{split}
 use Rattle.codes.specs.declared.Operation.{Operation}
-use Rattle.records.specs.Records.{Record, operation, pick}
+use Rattle.records.specs.Records.{Record, word, operation, pick, recordIn}
 use Rattle.records.specs.RecordLaws.{Along, along-append, along-left, along-right}
 use Rattle.fused.specs.Emission.{pairs, oneWire, picked, guarded, argumentWires, joined}
 use Rattle.fused.specs.PlaceLaws.{one-wire-in}
@@ -23,6 +23,10 @@ pickOf n values = pick (pairs n values)
 pub guards-kept : (F : ℕ → List ℕ) (guards : List Record) (ks : List ℕ) (i : ℕ) → i ∈ ks → oneWire (F i) ≡ false → guarded (picked (map F ks)) guards ≡ guards
 guards-kept F guards (k ∷ ks) i (inl e) h = rw (ap (λ (j : ℕ). oneWire (F j)) (sym e) ∙ h)
 guards-kept F guards (k ∷ ks) i (inr m) h = split (oneWire (F k)) (λ t. rw t (guards-kept F guards ks i m h)) (λ f. rw f)
+
+all-kept : (picks : List (List ℕ)) (guards : List Record) → 0 < length picks → guarded picks guards ≡ guards
+all-kept [] guards h = absurd (omega arith)
+all-kept (values ∷ picks) guards h = refl
 
 -- as many arguments as places
 pub arguments-count : (places : List (List ℕ)) (at : ℕ) → length (argumentWires at places) ≡ length places
@@ -91,6 +95,12 @@ pub joined-count : (n : ℕ) (op : Operation) (guards : List Record) (places : L
 unfolding joined
 joined-count n op guards places =
     rw (length-append (guarded (picked places) guards) _, length-append (map (pickOf n) (picked places)) _, length-map (picked places) (pickOf n)) (omega arith)
+
+-- where it has a pick, its guards stand before all else
+pub guards-first : (n : ℕ) (op : Operation) (guards : List Record) (places : List (List ℕ)) → 0 < length (picked places) → (i : ℕ) → i < length guards
+    → recordIn (joined n op guards places) i ≡ recordIn guards i
+unfolding joined
+guards-first n op guards places some i l = rw (all-kept (picked places) guards some) (List·getD-append guards _ (word 0) i l)
 
 -- what holds of a joined group's guards, of its picks and of its operation holds along the group
 pub joined-along : (P : ℕ → Record → Type 0) (n : ℕ) (op : Operation) (guards : List Record) (F : ℕ → List ℕ) (ks : List ℕ) → Along P n guards

@@ -28,7 +28,7 @@ use Rattle.plan.specs.PlanFile.{groupsIn}
 use Rattle.plan.specs.Groups.{groupOf, members}
 use Rattle.plan.specs.Order.{order}
 use Rattle.plan.specs.Rows.{planAnswer}
-use Rattle.plan.specs.SameLaws.{row-same}
+use Rattle.plan.specs.SameLaws.{answer-same}
 use Rattle.fused.specs.Emission.{alone, emit}
 use Rattle.fused.specs.FusedCircuit.{Written, written, fused, recordsOf, outputWire, outputWires, costAfter, fusedFile}
 use Rattle.fused.specs.Answers.{fusedCounts, writeAnswer, writtenOver}
@@ -85,8 +85,7 @@ module _ (s t : List ℕ) (o : OnlyOrder s t) where
         (subst (λ (C : Gates). length (conditions C) ≤ mostConditions) same-gates (w .conds)))
 
     pub same-plan : (p : List ℕ) → planAnswer s p ≡ planAnswer t p
-    unfolding planAnswer
-    same-plan p = rw (same-rule, row-same s t p same-gates same-sets)
+    same-plan p = answer-same s t p same-rule same-gates same-sets
 
     same-fused : (p : List ℕ) → fused s p ≡ fused t p
     unfolding fused

@@ -1,12 +1,14 @@
--- Laws of conditions: the list holds exactly the gates that stand first in a choice gate.
+-- Laws of conditions: the list holds exactly the gates that stand first in a choice gate, rising.
 use Prim.Native.Nat.{ℕ, zero, suc, _+_, _≤_, _<_}
 use mathlib.Core.Path.{_≡_, refl}
-use mathlib.Core.List.{[], _∷_}
+use mathlib.Core.Bool.{Bool}
+use mathlib.Core.List.{List, [], _∷_}
 use mathlib.Core.Logic.{inl, inr}
 use native.Mathlib.Omega.{arith}
-use lib.ListN.{length}
-use Rattle.words.specs.Lists.{_∈_, elem, upto}
-use Rattle.words.specs.MemberLaws.{elem→∈, ∈→elem, keep-in, keep-from, from-in, from-below}
+use lib.ListN.{length, getD}
+use Rattle.words.specs.Lists.{_∈_, elem, keep, from, upto}
+use Rattle.words.specs.MemberLaws.{elem→∈, ∈→elem, keep-in, keep-from, from-in, from-below, getD-in}
+use Rattle.words.specs.TestLaws.{split}
 use Rattle.gates.specs.Gates.{Gate, start, word, bit, operation, choice, Gates, gateAt, Earlier, Condition, heads, conditions}
 
 heads-tail : (k : Gate) (C : Gates) (c : ℕ) → c ∈ heads C → c ∈ heads (k ∷ C)
@@ -53,3 +55,23 @@ condition-below C c m =
 pub condition-from : (C : Gates) (c : ℕ) → c ∈ conditions C → Condition C c
 unfolding conditions
 condition-from C c m = heads-from C c (elem→∈ c (heads C) (keep-from (λ d. elem d (heads C)) (upto (length C)) c m .1))
+
+-- they rise
+abbrev Rises : List ℕ → Type 0
+Rises l = (t u : ℕ) → t < u → u < length l → getD l t 0 < getD l u 0
+
+one-more : (i : ℕ) (l : List ℕ) → ((k : ℕ) → k ∈ l → i < k) → Rises l → Rises (i ∷ l)
+one-more i l low h t zero a b = absurd (omega arith)
+one-more i l low h zero (suc u) a b = low (getD l u 0) (getD-in l u (omega arith))
+one-more i l low h (suc t) (suc u) a b = h t u (omega arith) (omega arith)
+
+keep-rises : (p : ℕ → Bool) (i n : ℕ) → Rises (keep p (from i n))
+keep-rises p i zero = λ t u a b. absurd (omega arith)
+keep-rises p i (suc n) =
+    split (p i)
+    (λ e. rw e (one-more i (keep p (from (suc i) n)) (λ k m. let b = from-below (suc i) n k (keep-from p (from (suc i) n) k m .0) in omega (arith, b .0)) (keep-rises p (suc i) n)))
+    (λ e. rw e (keep-rises p (suc i) n))
+
+pub conditions-rise : (C : Gates) (t u : ℕ) → t < u → u < length (conditions C) → getD (conditions C) t 0 < getD (conditions C) u 0
+unfolding conditions
+conditions-rise C = keep-rises (λ c. elem c (heads C)) 0 (length C)

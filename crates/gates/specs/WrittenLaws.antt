@@ -4,9 +4,9 @@ use native.Mathlib.Omega.{arith}
 use mathlib.Core.Path.{_≡_, _∙_}
 use mathlib.Core.Bool.{true, false}
 use mathlib.Core.List.{List, map}
-use lib.ListN.{getD}
+use lib.ListN.{length, getD, length-map}
 use Rattle.words.specs.Lists.{upto}
-use Rattle.words.specs.ListLaws.{map-same, getD-upto}
+use Rattle.words.specs.ListLaws.{map-same, getD-upto, length-from}
 use Rattle.words.specs.MemberLaws.{from-below}
 use Rattle.reading.specs.Header.{variables, workingAt}
 use Rattle.gates.specs.Running.{runRule, writtenFor, runWrites}
@@ -21,6 +21,11 @@ module _ (s inputs : List ℕ) (x : ℕ) (l : x < variables s) where
 
   pub writes-working : workingAt s x ≡ true → getD (runWrites s inputs) x 0 ≡ 0
   writes-working t = written-at ∙ rw t
+
+-- a figure for each variable
+pub writes-count : (s inputs : List ℕ) → length (runWrites s inputs) ≡ variables s
+unfolding runWrites
+writes-count s inputs = length-map (upto (variables s)) _ ∙ length-from 0 (variables s)
 
 -- a list with what the run writes for each variable is what it writes
 pub writes-map : (s inputs : List ℕ) (f : ℕ → ℕ) → ((x : ℕ) → x < variables s → f x ≡ writtenFor s x (getD (runRule s inputs) x 0)) → map f (upto (variables s)) ≡ runWrites s inputs

@@ -5,9 +5,8 @@ use mathlib.Core.List.{List, [], _∷_}
 use mathlib.Core.Logic.{_⊎_, inl, inr}
 use Prim.Native.Nat.{ℕ, zero, suc, _≤_, _<_}
 use native.Mathlib.Omega.{arith}
-use lib.Dec.{eqb}
-use lib.ListN.{length}
-use Rattle.words.specs.Lists.{_∈_, elem, keep, from}
+use lib.ListN.{length, getD}
+use Rattle.words.specs.Lists.{_∈_, elem, keep, from, upto}
 use Rattle.words.specs.MemberLaws.{elem→∈, ∈→elem, keep-from, from-below}
 use Rattle.words.specs.TestLaws.{split}
 use Rattle.plan.specs.PlanFile.{Plan, EachGroup, Above, Rising, Listed, Apart}
@@ -44,13 +43,26 @@ rising-same (a ∷ l) (b ∷ m) (u, r) (v, t) f g = cc (e, rising-same l m r t (
     back x h (inr k) = k
 
 -- what is kept of rising numbers rises
-keep-rising : (p : ℕ → Bool) (i n : ℕ) → Rising (keep p (from i n))
-keep-rising p i zero = tt
-keep-rising p i (suc n) =
-    let rest = keep p (from (suc i) n) in
-    split (p i)
-    (λ t. rw t (above-all i rest (λ k m. omega (arith, from-below (suc i) n k (keep-from p (from (suc i) n) k m .0))), keep-rising p (suc i) n))
-    (λ t. rw t (keep-rising p (suc i) n))
+pub rising-keep : (p : ℕ → Bool) (l : List ℕ) → Rising l → Rising (keep p l)
+rising-keep p [] h = tt
+rising-keep p (m ∷ l) h =
+    split (p m)
+    (λ t. rw t (above-all m (keep p l) (λ k i. rising-first m l (h .0) (h .1) k (keep-from p l k i .0)), rising-keep p l (h .1)))
+    (λ t. rw t (rising-keep p l (h .1)))
+
+rising-from : (i n : ℕ) → Rising (from i n)
+rising-from i zero = tt
+rising-from i (suc n) = (above-all i (from (suc i) n) (λ k m. let b = from-below (suc i) n k m in omega (arith, b .0)), rising-from (suc i) n)
+
+-- and so do the members of a group
+pub members-rise : (n : ℕ) (group : ℕ → ℕ) (p : ℕ) → Rising (members n group p)
+members-rise n group p = rising-keep _ (upto n) (rising-from 0 n)
+
+-- numbers that rise place by place
+pub rising-places : (l : List ℕ) → ((t u : ℕ) → t < u → u < length l → getD l t 0 < getD l u 0) → Rising l
+rising-places [] h = tt
+rising-places (m ∷ []) h = (tt, tt)
+rising-places (m ∷ k ∷ l) h = (h 0 1 (omega arith) (omega arith), rising-places (k ∷ l) (λ t u i j. h (suc t) (suc u) (omega arith) (omega arith)))
 
 -- the group G stands in the plan
 abbrev pub StandsIn : Plan → List ℕ → Type 0
@@ -120,14 +132,14 @@ module _ (n : ℕ) (Gs : Plan) (two : EachGroup (λ G. 2 ≤ length G) Gs) (risi
   -- the members of a listed group, named by its smallest, are those listed
   pub members-listed : EachGroup (Exist n) Gs → (G : List ℕ) → StandsIn Gs G → members n (groupOf Gs) (smallest G) ≡ G
   members-listed exist G s =
-      rising-same (members n (groupOf Gs) (smallest G)) G (keep-rising (λ g. eqb (groupOf Gs g) (smallest G)) 0 n) (stands-each Rising Gs G s rising)
+      rising-same (members n (groupOf Gs) (smallest G)) G (members-rise n (groupOf Gs) (smallest G)) (stands-each Rising Gs G s rising)
       (λ a m. name-back Gs G a two once s (of-member n (groupOf Gs) a (smallest G) m .1))
       (λ a m. member-of n (groupOf Gs) a (smallest G) (stands-each (Exist n) Gs G s exist a m) (name-to Gs G a once s m))
 
   -- a gate that no group lists is its group's only member
   pub members-alone : (g : ℕ) → g < n → (Listed Gs g → ⊥) → members n (groupOf Gs) g ≡ g ∷ []
   members-alone g l u =
-      rising-same (members n (groupOf Gs) g) (g ∷ []) (keep-rising (λ a. eqb (groupOf Gs a) g) 0 n) (tt, tt)
+      rising-same (members n (groupOf Gs) g) (g ∷ []) (members-rise n (groupOf Gs) g) (tt, tt)
       (λ a m. inl (only a (of-member n (groupOf Gs) a g m .1) (listed? Gs a)))
       (λ a m. alone a m)
     where

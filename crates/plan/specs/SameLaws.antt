@@ -16,11 +16,12 @@ use Rattle.gates.specs.Gates.{Gates, gateAt, arguments, Earlier, conditions}
 use Rattle.gates.specs.Limits.{mostConditions}
 use Rattle.gates.specs.PlainCircuit.{gatesOf}
 use Rattle.needed.specs.Pass.{rulePreconditions}
+use Rattle.circuit.specs.Whole.{ruleAnswer}
 use Rattle.plan.specs.PlanFile.{Plan, groupsIn}
 use Rattle.plan.specs.Groups.{groups, members, restsOf, readsOf, waitsFor}
 use Rattle.plan.specs.GroupLaws.{of-member}
 use Rattle.plan.specs.Order.{allIn, firstReady, schedule, order}
-use Rattle.plan.specs.Rows.{everyGroup, parted, layoutRows, joinRows, orderRows, firstFailing, placed, planRow}
+use Rattle.plan.specs.Rows.{everyGroup, parted, layoutRows, joinRows, orderRows, firstFailing, placed, planRow, planAnswer}
 use Rattle.plan.specs.ReadsLaws.{reads-inside}
 
 -- The order over the same waits.
@@ -120,3 +121,8 @@ joins-same C s t p h = rw (each-same (parted s) (parted t) (parted-same s t h) (
 pub row-same : (s t p : List ℕ) → gatesOf s ≡ gatesOf t → rulePreconditions s ≡ rulePreconditions t → planRow s p ≡ planRow t p
 unfolding planRow
 row-same s t p g e = ap₂ (λ (C : Gates) (S : List ℕ). firstFailing (layoutRows (length C) p ++ (joinRows C S p ++ orderRows C S p))) g e
+
+-- and so does what the check answers, beside the rule's own answer
+pub answer-same : (s t p : List ℕ) → ruleAnswer s ≡ ruleAnswer t → gatesOf s ≡ gatesOf t → rulePreconditions s ≡ rulePreconditions t → planAnswer s p ≡ planAnswer t p
+unfolding planAnswer
+answer-same s t p r g e = rw (r, row-same s t p g e)

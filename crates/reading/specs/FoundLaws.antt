@@ -21,7 +21,7 @@ use Rattle.reading.specs.Limits.{deepest}
 use Rattle.reading.specs.Header.{variables, kindAt}
 use Rattle.reading.specs.Tree.{Expr, Statement, skip, branch, Block, end, then}
 use Rattle.reading.specs.Expressions.{readExpr}
-use Rattle.reading.specs.Blocks.{readAssign, branchWith, statementForm, statementWith, closedOr, blockWith, blockFuel, readBlock}
+use Rattle.reading.specs.Blocks.{readAssign, branchWith, statementForm, statementWith, closedOr, blockWith, blockFuel, readBlock, readStatement}
 use Rattle.reading.specs.Kinds.{Typed, WordsFit, EachExprIn, EachExpr}
 use Rattle.reading.specs.Format.{exprBytes, statementBytes, blockBytes, depth, nestingIn, nesting}
 use Rattle.reading.specs.FoundExprLaws.{ExprFound, expr-found}
@@ -44,7 +44,7 @@ pub record BlockFound (s : List ℕ) (nest at : ℕ) (b : Block) (n : ℕ) : Typ
   pub bytes : Bytes s → drop at s ≡ blockBytes b ++ drop n s
 
 module _ (s : List ℕ) where
-  good : (k : Kind) (at : ℕ) (e : Expr) (n : ℕ) → ExprFound s k deepest at e n → Good s e k
+  pub good : (k : Kind) (at : ℕ) (e : Expr) (n : ℕ) → ExprFound s k deepest at e n → Good s e k
   good k at e n r = record { typed = r .typed; words = r .words; shallow = r .shallow }
 
   -- a reader of blocks finds them so
@@ -126,3 +126,8 @@ module _ (s : List ℕ) where
   pub block-found : FindsBlock (readBlock s)
   unfolding readBlock
   block-found = fuel-found (suc (length s))
+
+  -- and a statement
+  pub statement-found : (nest at : ℕ) → at < length s → Finds (StatementFound s nest at) (readStatement s nest at)
+  unfolding readStatement statementWith
+  statement-found nest at inside = of-statement (readBlock s) block-found nest at inside (codeOf (getD s at 0) .form) (code-opens (getD s at 0))

@@ -18,10 +18,11 @@ use Rattle.reading.specs.Tree.{Expr, Block}
 use Rattle.reading.specs.Blocks.{readBlock}
 use Rattle.reading.specs.Rule.{nothingAfter, readRule}
 use Rattle.reading.specs.Kinds.{Typed, WordsFit, EachExpr, TypedBlock, WordsBlock}
-use Rattle.reading.specs.Format.{blockBytes, ruleBytes, kindBytes, kindIn, Shallow, WellFormed}
+use Rattle.reading.specs.Format.{blockBytes, headerBytes, ruleBytes, kindBytes, kindIn, Shallow, WellFormed}
 use Rattle.reading.specs.EachLaws.{each-same, typed-same}
 use Rattle.reading.specs.FoundLaws.{Good, BlockFound, block-found}
 use Rattle.reading.specs.FirstStatement.{RuleRead, rule-read}
+use Rattle.reading.specs.RuleLaws.{Headed}
 
 -- a rule ends where its block does
 block-ends : (s : List ℕ) (m : Parsed Block) → Finds (λ b n. length s ≤ n) (m >>= nothingAfter s)
@@ -35,6 +36,26 @@ header-ends s (refused k p) = none
 rule-ends : (s : List ℕ) → Finds (λ b n. length s ≤ n) (readRule s)
 unfolding readRule
 rule-ends s = finds-unless (leb leastBytes (length s)) 1 0 _ (λ l. finds-unless (leb (length s) mostBytes) 1 0 _ (λ h. header-ends s (readHeader s)))
+
+-- a header that was read: its kind bytes, and the file is it and what stands after it
+module _ (s : List ℕ) {body : ℕ} (h : Headed s body) where
+  pub kinds-count : length (kindBytes s) ≡ variables s
+  kinds-count = length-take-le (variables s) (drop 6 s) (rw length-drop (omega (arith, h .kinds)))
+
+  pub header-bytes : s ≡ headerBytes (kindBytes s) ++ drop (6 + variables s) s
+  header-bytes =
+      h .marked
+      ∙ ap (λ (l : List ℕ). mark ++ l)
+      (drop-one s 5 (variables s) (omega (arith, h .kinds)) refl
+      ∙ ap (λ (l : List ℕ). variables s ∷ l)
+      (sym (take-append-drop (variables s) (drop 6 s)) ∙ ap (λ (l : List ℕ). kindBytes s ++ l) (drop-drop (variables s) 6 s))
+      ∙ ap (λ (v : ℕ). v ∷ (kindBytes s ++ drop (6 + variables s) s)) (sym kinds-count))
+
+kind-byte : (s : List ℕ) (x : ℕ) → x < variables s → getD (kindBytes s) x 0 ≡ getD s (6 + x) 0
+kind-byte s x l = getD-take (variables s) (drop 6 s) x 0 l ∙ getD-drop 6 s x 0
+
+pub kinds-same : (s : List ℕ) (x : ℕ) → x < variables s → kindAt s x ≡ kindIn (kindBytes s) x
+kinds-same s x l = ap kindOf (sym (kind-byte s x l))
 
 module _ (s : List ℕ) (b : Block) (n : ℕ) (h : readRule s ≡ parsed b n) where
   abbrev whole : RuleRead s
@@ -51,49 +72,30 @@ module _ (s : List ℕ) (b : Block) (n : ℕ) (h : readRule s ≡ parsed b n) wh
   pub read-words : Bytes s → WordsBlock (variables s) (kindAt s) b
   read-words bytes = each-same (variables s) (kindAt s) (kindAt s) (λ x l. refl) (Good s) WordsFit (λ e k g. g .words bytes) b (body .each)
 
-  -- its kind bytes
-  count : length (kindBytes s) ≡ variables s
-  count = length-take-le (variables s) (drop 6 s) (rw length-drop (omega (arith, whole .header .kinds)))
-
-  kind-byte : (x : ℕ) → x < variables s → getD (kindBytes s) x 0 ≡ getD s (6 + x) 0
-  kind-byte x l = getD-take (variables s) (drop 6 s) x 0 l ∙ getD-drop 6 s x 0
-
-  same-kinds : (x : ℕ) → x < variables s → kindAt s x ≡ kindIn (kindBytes s) x
-  same-kinds x l = ap kindOf (sym (kind-byte x l))
-
   -- a fact of every expression, by those kind bytes
   by-kinds : (P : Expr → Kind → Type 0) → ((e : Expr) (k : Kind) → Good s e k → P e k) → EachExpr (length (kindBytes s)) (kindIn (kindBytes s)) P b
   by-kinds P to =
-      subst⁻¹ (λ (v : ℕ). EachExpr v (kindIn (kindBytes s)) P b) count
-      (each-same (variables s) (kindAt s) (kindIn (kindBytes s)) same-kinds (Good s) P to b (body .each))
+      subst⁻¹ (λ (v : ℕ). EachExpr v (kindIn (kindBytes s)) P b) (kinds-count s (whole .header))
+      (each-same (variables s) (kindAt s) (kindIn (kindBytes s)) (kinds-same s) (Good s) P to b (body .each))
 
   typed-by : (e : Expr) (k : Kind) → Good s e k → Typed (length (kindBytes s)) (kindIn (kindBytes s)) e k
   typed-by e k g =
-      subst⁻¹ (λ (v : ℕ). Typed v (kindIn (kindBytes s)) e k) count (typed-same (variables s) (kindAt s) (kindIn (kindBytes s)) same-kinds e k (g .typed))
+      subst⁻¹ (λ (v : ℕ). Typed v (kindIn (kindBytes s)) e k) (kinds-count s (whole .header)) (typed-same (variables s) (kindAt s) (kindIn (kindBytes s)) (kinds-same s) e k (g .typed))
 
   module _ (bytes : Bytes s) where
-    -- after the mark and V
-    kinds-and-block : drop 6 s ≡ kindBytes s ++ blockBytes b
-    kinds-and-block =
-        sym (take-append-drop (variables s) (drop 6 s))
-        ∙ ap (λ (l : List ℕ). kindBytes s ++ l)
-        (drop-drop (variables s) 6 s ∙ body .bytes bytes
-        ∙ ap (λ (l : List ℕ). blockBytes b ++ l) (drop-of-length-le s (finds-read (readRule s) (rule-ends s) h)) ∙ append-nil (blockBytes b))
-
     -- the file is that rule's bytes
     pub read-bytes : s ≡ ruleBytes (kindBytes s) b
     read-bytes =
-        whole .header .marked
-        ∙ ap (λ (l : List ℕ). mark ++ l)
-        (drop-one s 5 (variables s) (omega (arith, whole .header .kinds)) refl ∙ ap (λ (l : List ℕ). variables s ∷ l) kinds-and-block
-        ∙ ap (λ (v : ℕ). v ∷ (kindBytes s ++ blockBytes b)) (sym count))
+        header-bytes s (whole .header)
+        ∙ ap (λ (l : List ℕ). headerBytes (kindBytes s) ++ l)
+        (body .bytes bytes ∙ ap (λ (l : List ℕ). blockBytes b ++ l) (drop-of-length-le s (finds-read (readRule s) (rule-ends s) h)) ∙ append-nil (blockBytes b))
 
     pub read-well : WellFormed (kindBytes s) b
     read-well =
         record {
-          some = omega (arith, count, whole .header .some);
-          few = omega (arith, count, whole .header .few);
-          known = λ x l. let i : x < variables s = omega (arith, count) in rw (kind-byte x i) (whole .header .known x i);
+          some = omega (arith, kinds-count s (whole .header), whole .header .some);
+          few = omega (arith, kinds-count s (whole .header), whole .header .few);
+          known = λ x l. let i : x < variables s = omega (arith, kinds-count s (whole .header)) in rw (kind-byte s x i) (whole .header .known x i);
           typed = by-kinds (Typed (length (kindBytes s)) (kindIn (kindBytes s))) typed-by;
           words = by-kinds WordsFit (λ e k g. g .words bytes);
           shallow = by-kinds Shallow (λ e k g. g .shallow);

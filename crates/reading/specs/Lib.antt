@@ -28,5 +28,10 @@ pub mod WorkingLaws
 pub mod StandingLaws
 pub mod OrderLaws
 pub mod OrderBytes
+pub mod RefusalLaws
 pub mod RowLaws
+pub mod KindLaws
+pub mod NestedIfs
+pub mod NestedIfLaws
+pub mod NinthIfLaws
 pub mod Examples

@@ -13,7 +13,7 @@ use Rattle.codes.specs.declared.Kind.the-variants as kind
 use Rattle.codes.specs.declared.Operation.{Operation}
 use Rattle.codes.specs.declared.Form.{Form}
 use Rattle.codes.specs.declared.Form.the-variants.{End, Assign, Skip, Branch, Variable, Word, Bit, Apply, Unknown}
-use Rattle.answers.specs.Parsing.{Parsed, parsed, refused, stepOf, unless, _>>=_, readMark}
+use Rattle.answers.specs.Parsing.{Parsed, refused, stepOf, unless, readMark}
 use Rattle.answers.specs.ParsingLaws.{mark-past}
 use Rattle.reading.specs.Limits.{leastBytes, mostBytes, mostVariables, lastKind, deepest, nested}
 use Rattle.reading.specs.Header.{mark, variables, kindAt, readCount, readKinds, readHeader}
@@ -21,6 +21,7 @@ use Rattle.reading.specs.Tree.{Expr, Block}
 use Rattle.reading.specs.Expressions.{readVariable, readWord, readBit, secondWith, operationWith, exprForm, exprWith, readExpr}
 use Rattle.reading.specs.Blocks.{readAssign, branchWith, statementForm, statementWith, closedOr, blockWith, blockFuel, readBlock}
 use Rattle.reading.specs.Rule.{readRule}
+use Rattle.reading.specs.RefusalLaws.{Refuses, test, after}
 
 -- a refusal byte by byte: 1 lies at 0, 4 at the file's length, every other on a byte of the file
 pub record ByteRow (s : List ℕ) (number place : ℕ) : Type 0 where
@@ -33,8 +34,7 @@ pub record ByteRow (s : List ℕ) (number place : ℕ) : Type 0 where
 -- any list of bytes, and what is read of it
 module _ (s : List ℕ) where
   abbrev pub ByteRows : {A : Type 0} → Parsed A → Type 0
-  ByteRows (parsed a n) = Unit {0}
-  ByteRows (refused number place) = ByteRow s number place
+  ByteRows m = Refuses (ByteRow s) m
 
   -- the three sorts of rows
   by-size : ByteRow s 1 0
@@ -49,21 +49,13 @@ module _ (s : List ℕ) where
       let lo : 2 ≤ k = leb-true 2 k (h .0) in
       record { least = omega arith; most = leb-true k 9 (h .1); sized = λ e. absurd (omega arith); ended = λ e. absurd (n e); inside = λ _ _. i }
 
-  test : {A : Type 0} (t : Bool) (k p : ℕ) (m : Parsed A) → (t ≡ false → ByteRow s k p) → (t ≡ true → ByteRows m) → ByteRows (unless t k p m)
-  test true k p m r h = h refl
-  test false k p m r h = r refl
-
-  after : {A B : Type 0} (m : Parsed A) (f : A → ℕ → Parsed B) → ByteRows m → ((a : A) (n : ℕ) → m ≡ parsed a n → ByteRows (f a n)) → ByteRows (m >>= f)
-  after (parsed a n) f h g = g a n refl
-  after (refused k p) f h g = h
-
   -- 4 where a byte is wanted past the end; else what follows may go by that byte
   wanted : {A : Type 0} (at : ℕ) (m : Parsed A) → (at < length s → ByteRows m) → ByteRows (unless (ltb at (length s)) 4 (length s) m)
-  wanted at m h = test (ltb at (length s)) 4 (length s) m (λ e. at-end) (λ e. h (ltb-true at (length s) e))
+  wanted at m h = test (ByteRow s) (ltb at (length s)) 4 (length s) m (λ e. at-end) (λ e. h (ltb-true at (length s) e))
 
   -- a test whose row lies on a byte of the file
   tested : {A : Type 0} (t : Bool) (k p : ℕ) (m : Parsed A) → (leb 2 k && leb k 9) ≡ true → (k ≡ 4 → ⊥) → p < length s → ByteRows m → ByteRows (unless t k p m)
-  tested t k p m r n i h = test t k p m (λ e. on-byte k p r n i) (λ e. h)
+  tested t k p m r n i h = test (ByteRow s) t k p m (λ e. on-byte k p r n i) (λ e. h)
 
   -- expressions, their code at `at`
   variable-rows : (want : Kind) (deep at : ℕ) → at < length s → ByteRows (readVariable s want deep at)
@@ -78,7 +70,7 @@ module _ (s : List ℕ) where
   unfolding readWord
   word-rows want deep at i =
       tested (sameKind kind.Word want) 7 at _ refl (λ e. omega arith) i
-      (tested (ltb 0 deep) 8 at _ refl (λ e. omega arith) i (test (leb 5 (length s - at)) 4 (length s) _ (λ e. at-end) (λ e. tt)))
+      (tested (ltb 0 deep) 8 at _ refl (λ e. omega arith) i (test (ByteRow s) (leb 5 (length s - at)) 4 (length s) _ (λ e. at-end) (λ e. tt)))
 
   bit-rows : (want : Kind) (deep at : ℕ) → at < length s → ByteRows (readBit s want deep at)
   unfolding readBit
@@ -91,15 +83,15 @@ module _ (s : List ℕ) where
   module _ (argument : Kind → ℕ → Parsed Expr) (deep : ℕ) (rows : 0 < deep → (k : Kind) (a : ℕ) → ByteRows (argument k a)) where
     second-rows : 0 < deep → (t : Bool) (op : Operation) (x : Expr) (n : ℕ) → ByteRows (secondWith t argument op x n)
     second-rows l true op x n = tt
-    second-rows l false op x n = after (argument (entryOf op .takes) n) _ (rows l (entryOf op .takes) n) (λ y m e. tt)
+    second-rows l false op x n = after (ByteRow s) (argument (entryOf op .takes) n) _ (rows l (entryOf op .takes) n) (λ y m e. tt)
 
     operation-rows : (op : Operation) (want : Kind) (at : ℕ) → at < length s → ByteRows (operationWith argument op want deep at)
     unfolding operationWith
     operation-rows op want at i =
         tested (sameKind (entryOf op .gives) want) 7 at _ refl (λ e. omega arith) i
-        (test (ltb 0 deep) 8 at _ (λ e. on-byte 8 at refl (λ z. omega arith) i)
+        (test (ByteRow s) (ltb 0 deep) 8 at _ (λ e. on-byte 8 at refl (λ z. omega arith) i)
         (λ e. let l : 0 < deep = ltb-true 0 deep e in
-        after (argument (entryOf op .takes) (at + 1)) _ (rows l (entryOf op .takes) (at + 1)) (λ x n q. second-rows l (eqb (entryOf op .arity) 1) op x n)))
+        after (ByteRow s) (argument (entryOf op .takes) (at + 1)) _ (rows l (entryOf op .takes) (at + 1)) (λ x n q. second-rows l (eqb (entryOf op .arity) 1) op x n)))
 
     form-rows : (f : Form) (want : Kind) (at : ℕ) → at < length s → ByteRows (exprForm f s argument want deep at)
     form-rows End want at i = on-byte 5 at refl (λ e. omega arith) i
@@ -127,15 +119,15 @@ module _ (s : List ℕ) where
   assign-rows at =
       wanted (at + 1) _
       (λ j. tested (ltb (getD s (at + 1) 0) (variables s)) 6 (at + 1) _ refl (λ e. omega arith) j
-      (after (readExpr deepest s (kindAt s (getD s (at + 1) 0)) (at + 2)) _ (expr-rows deepest (kindAt s (getD s (at + 1) 0)) (at + 2)) (λ e n q. tt)))
+      (after (ByteRow s) (readExpr deepest s (kindAt s (getD s (at + 1) 0)) (at + 2)) _ (expr-rows deepest (kindAt s (getD s (at + 1) 0)) (at + 2)) (λ e n q. tt)))
 
   module _ (block : ℕ → ℕ → Parsed Block) (rows : (k a : ℕ) → ByteRows (block k a)) where
     branch-rows : (nest at : ℕ) → at < length s → ByteRows (branchWith block s nest at)
     unfolding branchWith
     branch-rows nest at i =
         tested (ltb 0 nest) 8 at _ refl (λ e. omega arith) i
-        (after (readExpr deepest s kind.Bit (at + 1)) _ (expr-rows deepest kind.Bit (at + 1))
-        (λ c n p. after (block (nest - 1) n) _ (rows (nest - 1) n) (λ x m q. after (block (nest - 1) m) _ (rows (nest - 1) m) (λ y l r. tt))))
+        (after (ByteRow s) (readExpr deepest s kind.Bit (at + 1)) _ (expr-rows deepest kind.Bit (at + 1))
+        (λ c n p. after (ByteRow s) (block (nest - 1) n) _ (rows (nest - 1) n) (λ x m q. after (ByteRow s) (block (nest - 1) m) _ (rows (nest - 1) m) (λ y l r. tt))))
 
     statement-rows : (f : Form) (nest at : ℕ) → at < length s → ByteRows (statementForm f block s nest at)
     statement-rows End nest at i = on-byte 5 at refl (λ e. omega arith) i
@@ -152,8 +144,8 @@ module _ (s : List ℕ) where
     unfolding statementWith
     closed-rows true nest at i = tt
     closed-rows false nest at i =
-        after (statementForm (codeOf (getD s at 0) .form) block s nest at) _ (statement-rows (codeOf (getD s at 0) .form) nest at i)
-        (λ x n p. after (block nest n) _ (rows nest n) (λ b m q. tt))
+        after (ByteRow s) (statementForm (codeOf (getD s at 0) .form) block s nest at) _ (statement-rows (codeOf (getD s at 0) .form) nest at i)
+        (λ x n p. after (ByteRow s) (block nest n) _ (rows nest n) (λ b m q. tt))
 
     block-rows : (nest at : ℕ) → ByteRows (blockWith block s nest at)
     unfolding blockWith
@@ -183,15 +175,15 @@ module _ (s : List ℕ) where
   header-rows : leastBytes ≤ length s → ByteRows (readHeader s)
   unfolding readHeader
   header-rows six =
-      after (readMark 2 mark s 0) _ (mark-rows mark 0 (omega arith))
+      after (ByteRow s) (readMark 2 mark s 0) _ (mark-rows mark 0 (omega arith))
       (λ u at e. let five : at ≡ 5 = mark-past 2 mark s 0 (sym (ap stepOf e)) in
-      after (readCount s at) _ (count-rows at (omega arith)) (λ v k q. kinds-rows v k))
+      after (ByteRow s) (readCount s at) _ (count-rows at (omega arith)) (λ v k q. kinds-rows v k))
 
   pub rule-rows : ByteRows (readRule s)
   unfolding readRule readBlock
   rule-rows =
-      test (leb leastBytes (length s)) 1 0 _ (λ e. by-size)
-      (λ six. test (leb (length s) mostBytes) 1 0 _ (λ e. by-size)
-      (λ e. after (readHeader s) _ (header-rows (leb-true leastBytes (length s) six))
-      (λ u at p. after (blockFuel (suc (length s)) s nested at) _ (fuel-rows (suc (length s)) nested at)
-      (λ b n q. test (leb (length s) n) 9 n _ (λ f. on-byte 9 n refl (λ z. omega arith) (leb-false (length s) n f)) (λ f. tt)))))
+      test (ByteRow s) (leb leastBytes (length s)) 1 0 _ (λ e. by-size)
+      (λ six. test (ByteRow s) (leb (length s) mostBytes) 1 0 _ (λ e. by-size)
+      (λ e. after (ByteRow s) (readHeader s) _ (header-rows (leb-true leastBytes (length s) six))
+      (λ u at p. after (ByteRow s) (blockFuel (suc (length s)) s nested at) _ (fuel-rows (suc (length s)) nested at)
+      (λ b n q. test (ByteRow s) (leb (length s) n) 9 n _ (λ f. on-byte 9 n refl (λ z. omega arith) (leb-false (length s) n f)) (λ f. tt)))))

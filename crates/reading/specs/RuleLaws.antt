@@ -3,10 +3,11 @@ use Prim.Native.Nat.{ℕ, zero, suc, _+_, _-_, _<_, _≤_}
 use native.Mathlib.Nat.{add-zero}
 use native.Mathlib.Omega.{arith}
 use native.Mathlib.Numerals.{sub-one}
-use mathlib.Core.Path.{_≡_, refl}
+use mathlib.Core.Path.{_≡_, refl, sym, ap, _∙_}
 use mathlib.Core.List.{List, _++_}
-use lib.ListN.{length, getD, drop}
+use lib.ListN.{length, getD, take, drop}
 use lib.Dec.{ltb, leb}
+use lib.Seq.{getD-take}
 use borrow.Author.Tests.{le-ltb, lt-ltb, le-leb, lt-leb, ltb-true, leb-true}
 use Rattle.answers.specs.Parsing.{Parsed, parsed, refused, stepOf, _>>=_, readMark}
 use Rattle.answers.specs.ParsingLaws.{past-then, refused-then, read-past, mark-past, Finds, found, finds-read, finds-map, finds-unless, finds-then, mark-found}
@@ -38,6 +39,16 @@ module _ (s : List ℕ) (at : ℕ) where
   unfolding readKinds
   kinds-more zero z h k = absurd (omega arith)
   kinds-more (suc n) z h k = rw (lt-ltb _ _ h, le-leb _ _ k, sub-one (suc n))
+
+-- kind bytes that stand there and are in range are passed over
+pub kinds-passed : (x n : ℕ) (s : List ℕ) (at : ℕ) → x ≤ n → at + x ≤ length s → ((y : ℕ) → y < x → getD s (at + y) 0 ≤ lastKind)
+    → readKinds n s at ≡ readKinds (n - x) s (at + x)
+kinds-passed zero n s at few inside known = let a : n - 0 ≡ n = omega arith in let b : at + 0 ≡ at = omega arith in rw (a, b)
+kinds-passed (suc x) n s at few inside known =
+    let a : n - x - 1 ≡ n - suc x = omega arith in
+    let b : at + x + 1 ≡ at + suc x = omega arith in
+    kinds-passed x n s at (omega arith) (omega arith) (λ y l. known y (omega arith))
+    ∙ rw (a, b) at (kinds-more s (at + x) (n - x) (omega arith) (omega arith) (known x (omega arith)))
 
 -- kind bytes that were read lie in the file, and each is a kind's
 pub record KindsFound (n : ℕ) (s : List ℕ) (at next : ℕ) : Type 0 where
@@ -86,6 +97,29 @@ module _ (s : List ℕ) where
     pub header-kinds : (variables s ≡ 0 → ⊥) → variables s ≤ mostVariables → {r : Step} → r ≡ stepOf (readKinds (variables s) s 6) → r ≡ stepOf (readHeader s)
     unfolding afterMark readCount
     header-kinds z h q = header-open (rw (lt-ltb 0 (variables s) (omega arith), le-leb _ _ h) q)
+
+-- a file with its mark and version and V in range
+module _ (s : List ℕ) (marked : take 5 s ≡ mark) (some : 1 ≤ variables s) (few : variables s ≤ mostVariables) where
+  byte-is : (i : ℕ) → i < 5 → getD s i 0 ≡ getD mark i 0
+  byte-is i l = sym (getD-take 5 s i 0 l) ∙ ap (λ (m : List ℕ). getD m i 0) marked
+
+  pub header-is : readHeader s ≡ readKinds (variables s) s 6
+  unfolding readHeader readMark readCount
+  header-is =
+      rw (
+        byte-is 0 (omega arith),
+        byte-is 1 (omega arith),
+        byte-is 2 (omega arith),
+        byte-is 3 (omega arith),
+        byte-is 4 (omega arith),
+        lt-ltb 0 (variables s) (omega arith),
+        le-leb _ _ few,
+      )
+
+  -- past all its kind bytes
+  pub header-right : HasKinds s → ((x : ℕ) → x < variables s → getD s (6 + x) 0 ≤ lastKind) → readHeader s ≡ parsed tt (6 + variables s)
+  header-right has known =
+      header-is ∙ kinds-passed (variables s) (variables s) s 6 (omega arith) has known ∙ kinds-none (variables s - variables s) s (6 + variables s) (omega arith)
 
 -- a header that was read: the mark stands there, V is in range, and a kind byte for every variable stands before the block
 pub record Headed (s : List ℕ) (body : ℕ) : Type 0 where

@@ -15,7 +15,7 @@ use Rattle.reading.specs.OnlyWorking.{OnlyWorking}
 
 -- whether variable x works is said by its kind byte
 pub rule-working : (kinds : List ℕ) (b : Block) (x : ℕ) → x < length kinds → workingAt (ruleBytes kinds b) x ≡ workingOf (getD kinds x 0)
-rule-working kinds b x l = ap workingOf (kind-byte kinds b x l)
+rule-working kinds b x l = ap workingOf (kind-byte kinds (blockBytes b) x l)
 
 module _ (kinds other : List ℕ) (o : OnlyWorking kinds other) (b : Block) where
   each : (P Q : Expr → Kind → Type 0) → ((e : Expr) (k : Kind) → P e k → Q e k) → EachExpr (length kinds) (kindIn kinds) P b → EachExpr (length other) (kindIn other) Q b

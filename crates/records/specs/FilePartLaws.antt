@@ -5,7 +5,7 @@ use mathlib.Core.List.{List, [], _∷_, _++_, map}
 use mathlib.Core.Bool.{cond}
 use native.Mathlib.Omega.{arith}
 use lib.Dec.{eqb}
-use lib.ListN.{length, getD}
+use lib.ListN.{length, getD, length-map}
 use Rattle.words.specs.Lists.{_∈_}
 use Rattle.words.specs.MemberLaws.{getD-in}
 use Rattle.words.specs.Numbers.{numberAt}
@@ -73,6 +73,11 @@ outputs-of f = refl
 pub figures-at : (f inputs : List ℕ) → fileFigures f inputs ≡ map (outputFigure inputs (fileRecords f)) (fileOutputs f)
 unfolding fileFigures
 figures-at f inputs = refl
+
+-- a figure for each variable
+pub figures-count : (f inputs : List ℕ) → length (fileFigures f inputs) ≡ fileVariables f
+unfolding fileFigures fileOutputs
+figures-count f inputs = length-map (fileOutputs f) _ ∙ wires-length (fileVariables f) f _
 
 pub figures-of : (f inputs : List ℕ)
     → fileFigures f inputs

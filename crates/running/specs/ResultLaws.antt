@@ -5,12 +5,11 @@ use mathlib.Core.List.{List}
 use native.Mathlib.Omega.{arith}
 use lib.Dec.{eqb}
 use lib.ListN.{length}
-use borrow.Author.Tests.{eqb-true, eqb-false}
+use borrow.Author.Tests.{ne-eqb, eqb-true, eqb-false}
 use Rattle.codes.specs.Inputs.{FiguresFit}
 use Rattle.words.specs.Buffers.{over}
 use Rattle.words.specs.TestLaws.{split}
 use Rattle.words.specs.Numbers.{Bytes, Words}
-use Rattle.answers.specs.declared.Answer.{Answer}
 use Rattle.reading.specs.Header.{variables, kindAt}
 use Rattle.plan.specs.Rows.{planAnswer}
 use Rattle.fused.specs.Answers.{fusedAnswer}
@@ -32,6 +31,11 @@ module _ (s p inputs : List ℕ) (room : ℕ) (h : runAnswer (fusedAnswer s p) s
   taken-kinds : Words inputs → FiguresFit (variables s) (kindAt s) inputs
   taken-kinds words = inputs-fit s inputs room (answered-inputs (fusedAnswer s p) s inputs room h) (λ x l. words x (omega (arith, l, taken-inputs)))
 
+-- a refused run writes to no result place
+pub fused-untouched : (s p inputs results : List ℕ) → (runAnswer (fusedAnswer s p) s inputs (length results) .number ≡ 0 → ⊥) → fusedResults s p inputs results ≡ results
+unfolding fusedResults
+fused-untouched s p inputs results h = rw (ne-eqb _ _ h)
+
 -- the results of a fused run, on inputs that are words, are those of a direct run that is answered so
 pub fused-results : (s p : List ℕ) → Bytes s → (inputs : List ℕ) → Words inputs → (results : List ℕ)
     → fusedResults s p inputs results ≡ runResults (fusedAnswer s p) s inputs results
@@ -43,4 +47,4 @@ fused-results s p bytes inputs words results =
     let n = length results in
     let e = file-run s p bytes (taken-plan s p inputs n zero) inputs (taken-kinds s p inputs n zero words) (taken-inputs s p inputs n zero) in
     rw t (ap (λ (f : List ℕ). over f results) e ∙ sym (answered-results (fusedAnswer s p) s inputs results zero)))
-    (λ t. rw t (sym (refused-results (fusedAnswer s p) s inputs results (eqb-false _ _ t))))
+    (λ t. let n = eqb-false _ _ t in fused-untouched s p inputs results n ∙ sym (refused-results (fusedAnswer s p) s inputs results n))

@@ -5,8 +5,8 @@ use Prim.Native.Nat.{ℕ, zero, suc, _+_, _-_, _≤_, _<_}
 use native.Mathlib.Nat.{zero-add}
 use native.Mathlib.Numerals.{add-one}
 use native.Mathlib.Omega.{arith}
-use lib.ListN.{length, take, drop, getD, set, replicate, length-append, length-take, length-drop, length-replicate}
-use lib.Seq.{sets, sets-eq, take-suc, length-take-le, set-at, take-at, drop-at, drop-drop, take-append-seam, drop-cons, take-length, drop-length, take-all}
+use lib.ListN.{length, take, drop, getD, set, replicate, length-append, length-take, length-drop, length-replicate, List·getD-append}
+use lib.Seq.{sets, sets-eq, take-suc, length-take-le, set-at, take-at, drop-at, drop-drop, take-append-seam, drop-append-seam, drop-cons, take-length, drop-length, take-all}
 use borrow.Rule.Slice.PartMut.{putMid}
 use Rattle.words.specs.Buffers.{over, padded}
 use Rattle.words.specs.ListLaws.{getD-zeros}
@@ -25,6 +25,14 @@ length-over a d h = simp (length-append, length-drop) (omega arith)
 pub take-over : (a d : List ℕ) → take (length a) (over a d) ≡ a
 unfolding over
 take-over a d = take-append-seam a (drop (length a) d)
+
+pub drop-over : (a d : List ℕ) → drop (length a) (over a d) ≡ drop (length a) d
+unfolding over
+drop-over a d = drop-append-seam a (drop (length a) d)
+
+pub over-at : (a d : List ℕ) (i : ℕ) → i < length a → getD (over a d) i 0 ≡ getD a i 0
+unfolding over
+over-at a d i h = List·getD-append a (drop (length a) d) 0 i h
 
 -- a run of stores from the start
 pub sets-over : (vs d : List ℕ) → length vs ≤ length d → sets d 0 vs ≡ over vs d

@@ -1,7 +1,7 @@
--- Laws for document 02, C-13: what each kind byte says, and that 3 is the answer at a kind byte exactly when it is above 03. Assumes nothing.
+-- Laws for document 02, C-13: a rule is refused with 3 at a kind byte exactly when that byte is above 03. Assumes nothing.
 use Prim.Native.Nat.{ℕ, zero, suc, _+_, _-_, _≤_, _<_}
 use native.Mathlib.Omega.{arith}
-use mathlib.Core.Path.{_≡_, refl, sym, ap, subst, _∙_}
+use mathlib.Core.Path.{_≡_, refl, subst, _∙_}
 use mathlib.Core.Bool.{Bool, true, false}
 use mathlib.Core.List.{List}
 use mathlib.Core.Logic.{_↔_}
@@ -14,36 +14,15 @@ use Rattle.codes.specs.declared.Kind.{Kind}
 use Rattle.codes.specs.declared.Kind.the-variants as kind
 use Rattle.codes.specs.declared.Form.{Form}
 use Rattle.codes.specs.declared.Form.the-variants.{End, Assign, Skip, Branch, Variable, Word, Bit, Apply, Unknown}
-use Rattle.answers.specs.Answers.{refusal}
-use Rattle.answers.specs.Parsing.{Parsed, refused, stepOf, unless}
+use Rattle.answers.specs.Parsing.{Parsed, refused, unless}
 use Rattle.reading.specs.Limits.{mostVariables, lastKind, deepest, nested}
-use Rattle.reading.specs.Header.{mark, kindOf, workingOf, variables, kindAt, workingAt, readKinds}
+use Rattle.reading.specs.Header.{mark, variables, kindAt, readKinds}
 use Rattle.reading.specs.Tree.{Block}
 use Rattle.reading.specs.Expressions.{readExpr}
 use Rattle.reading.specs.Blocks.{readAssign, branchWith, statementForm, statementWith, closedOr, blockWith, blockFuel, readBlock}
 use Rattle.reading.specs.Rule.{readRule}
-use Rattle.reading.specs.RuleLaws.{kinds-wrong, rule-is}
-use Rattle.circuit.specs.Whole.{ruleAnswer}
-use Rattle.demands.specs.HeaderLaws.{answer-bytes, answer-refused, kinds-passed, header-is}
-use Rattle.demands.specs.RefusalLaws.{Refuses, test, after, refuses-too, InExpr, expr-row}
-
--- what a kind byte says
-module _ (s : List ℕ) (x : ℕ) where
-  pub word-said : getD s (6 + x) 0 ≡ 0x00 → (kindAt s x ≡ kind.Word) × (workingAt s x ≡ false)
-  unfolding kindOf workingOf
-  word-said e = rw e (refl, refl)
-
-  pub bit-said : getD s (6 + x) 0 ≡ 0x01 → (kindAt s x ≡ kind.Bit) × (workingAt s x ≡ false)
-  unfolding kindOf workingOf
-  bit-said e = rw e (refl, refl)
-
-  pub working-word-said : getD s (6 + x) 0 ≡ 0x02 → (kindAt s x ≡ kind.Word) × (workingAt s x ≡ true)
-  unfolding kindOf workingOf
-  working-word-said e = rw e (refl, refl)
-
-  pub working-bit-said : getD s (6 + x) 0 ≡ 0x03 → (kindAt s x ≡ kind.Bit) × (workingAt s x ≡ true)
-  unfolding kindOf workingOf
-  working-bit-said e = rw e (refl, refl)
+use Rattle.reading.specs.RuleLaws.{kinds-wrong, kinds-passed, header-is, rule-is}
+use Rattle.reading.specs.RefusalLaws.{Refuses, test, after, refuses-too, InExpr, expr-row}
 
 -- no block is refused with a number below 4
 abbrev Late : ℕ → ℕ → Type 0
@@ -131,11 +110,8 @@ module _ (s : List ℕ) (lo : 6 ≤ length s) (hi : length s ≤ 4096) (marked :
         (λ u at p. after (Elsewhere (6 + x)) (readBlock s nested at) _ (refuses-too Late (Elsewhere (6 + x)) (λ k p l e q. omega arith) (readBlock s nested at) (block-late s nested at))
         (λ b n q. test (Elsewhere (6 + x)) (leb (length s) n) 9 n _ (λ f e q. omega arith) (λ t. tt))))
 
-    kind-taken : getD s (6 + x) 0 ≤ lastKind → ruleAnswer s ≡ refusal 3 (6 + x) → ⊥
-    kind-taken h e = subst (Refuses (Elsewhere (6 + x))) (answer-refused s 3 (6 + x) (omega arith) (omega arith) e) (kind-right h) refl refl
-
-    pub kind-refused : (ruleAnswer s ≡ refusal 3 (6 + x)) ↔ (lastKind < getD s (6 + x) 0)
+    pub kind-refused : (readRule s ≡ refused 3 (6 + x)) ↔ (lastKind < getD s (6 + x) 0)
     kind-refused = (
-      λ e. split (leb (getD s (6 + x) 0) lastKind) (λ t. absurd (kind-taken (leb-true _ _ t) e)) (λ t. leb-false _ _ t),
-      λ h. answer-bytes s (ap stepOf (sym (kind-wrong h))),
+      λ e. split (leb (getD s (6 + x) 0) lastKind) (λ t. absurd (subst (Refuses (Elsewhere (6 + x))) e (kind-right (leb-true _ _ t)) refl refl)) (λ t. leb-false _ _ t),
+      kind-wrong,
     )

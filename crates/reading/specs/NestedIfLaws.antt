@@ -2,31 +2,29 @@
 use Prim.Native.Nat.{ℕ, suc, _+_, _-_, _≤_, _<_}
 use native.Mathlib.Omega.{arith}
 use mathlib.Core.Path.{_≡_, refl, sym, ap, _∙_}
-use mathlib.Core.List.{List, [], _∷_, _++_, append-assoc}
-use lib.ListN.{length, getD, drop, length-append, List·getD-append}
-use lib.Seq.{drop-append-seam, getD-append-add}
+use mathlib.Core.List.{List, _∷_, _++_, append-assoc}
+use lib.ListN.{length, getD, drop, length-append}
 use Rattle.codes.specs.Codes.{codeOf}
 use Rattle.codes.specs.declared.Kind.{Kind}
 use Rattle.codes.specs.declared.Kind.the-variants as kind
-use Rattle.answers.specs.Answers.{refusal}
-use Rattle.answers.specs.Parsing.{stepOf}
+use Rattle.answers.specs.Parsing.{refused, stepOf}
+use Rattle.answers.specs.ParsingLaws.{read-refused}
 use Rattle.answers.specs.declared.Step.the-variants.{Past, Refused}
 use Rattle.reading.specs.Limits.{mostBytes, mostVariables, lastKind, deepest, nested}
-use Rattle.reading.specs.Header.{kindOf, mark, variables, kindAt, readHeader}
+use Rattle.reading.specs.Header.{variables, kindAt}
 use Rattle.reading.specs.Tree.{Expr, Statement, assign, skip, branch, Block, end, then}
 use Rattle.reading.specs.Kinds.{Typed, WordsFit, EachExpr}
 use Rattle.reading.specs.Expressions.{readExpr}
 use Rattle.reading.specs.Blocks.{readBlock, readStatement}
-use Rattle.reading.specs.BlockLaws.{branch-first, branch-second, block-refused, block-more}
+use Rattle.reading.specs.BlockLaws.{branch-deep, branch-first, branch-second, block-refused, block-more}
 use Rattle.reading.specs.Format.{exprBytes, statementBytes, blockBytes, headerBytes, kindIn, Shallow}
 use Rattle.reading.specs.EachLaws.{each-same, typed-same}
 use Rattle.reading.specs.BackExprLaws.{byte-at, bytes-after, expr-back}
 use Rattle.reading.specs.BackLaws.{statement-back, block-back}
+use Rattle.reading.specs.Rule.{readRule}
 use Rattle.reading.specs.RuleLaws.{rule-block}
-use Rattle.circuit.specs.Whole.{ruleAnswer}
-use Rattle.demands.specs.HeaderLaws.{answer-bytes, header-past}
-use Rattle.demands.specs.EightLaws.{too-deep}
-use Rattle.demands.specs.NestedIfs.{WellExpr, WellStatement, WellBlock, Leads, outset, past, intoFirst, intoSecond}
+use Rattle.reading.specs.BackRuleLaws.{same-kinds, size-is, body-at, header-back}
+use Rattle.reading.specs.NestedIfs.{WellExpr, WellStatement, WellBlock, Leads, outset, past, intoFirst, intoSecond}
 
 -- a file that has these kind bytes
 module _ (s kinds : List ℕ) (v : variables s ≡ length kinds) (same : (x : ℕ) → x < length kinds → kindIn kinds x ≡ kindAt s x) where
@@ -121,20 +119,19 @@ module _ (s kinds : List ℕ) (v : variables s ≡ length kinds) (same : (x : �
       leads-out at k p L (0x03 ∷ (exprBytes c ++ (blockBytes b ++ rest))) h′ (suc nest) (omega (arith, e))
       (in-second nest here c w (blockBytes b ++ rest) there k p (first + length (blockBytes b)) (well-block first rest b (suc n) nest x e block) (rw far at q))
 
+-- an if where none may nest any more is 8 at its code
+pub too-deep : (s : List ℕ) (at : ℕ) → getD s at 0 ≡ 0x03 → Refused 8 at ≡ stepOf (readStatement s 0 at)
+unfolding codeOf
+too-deep s at e = branch-deep s 0 at (codeOf 0x03) (ap codeOf (sym e)) refl refl
+
 -- a rule whose bytes lead into eight ifs, and then an if
 module _ (kinds pre rest : List ℕ) (some : 1 ≤ length kinds) (few : length kinds ≤ mostVariables) (known : (x : ℕ) → x < length kinds → getD kinds x 0 ≤ lastKind)
     (leads : Leads kinds nested pre) where
+  abbrev after : List ℕ
+  after = pre ++ (0x03 ∷ rest)
+
   abbrev s : List ℕ
-  s = headerBytes kinds ++ (pre ++ (0x03 ∷ rest))
-
-  many : length s ≡ 6 + length kinds + length (pre ++ (0x03 ∷ rest))
-  many = omega (arith, length-append kinds (pre ++ (0x03 ∷ rest)))
-
-  kind-byte : (x : ℕ) → x < length kinds → getD s (6 + x) 0 ≡ getD kinds x 0
-  kind-byte x l = getD-append-add (mark ++ (length kinds ∷ [])) (kinds ++ (pre ++ (0x03 ∷ rest))) x 0 ∙ List·getD-append kinds (pre ++ (0x03 ∷ rest)) 0 x l
-
-  body : drop (6 + length kinds) s ≡ pre ++ (0x03 ∷ rest)
-  body = let q : 6 + length kinds ≡ length (headerBytes kinds) = omega arith in rw q (drop-append-seam (headerBytes kinds) (pre ++ (0x03 ∷ rest)))
+  s = headerBytes kinds ++ after
 
   abbrev there : ℕ
   there = 6 + length kinds + length pre
@@ -142,16 +139,13 @@ module _ (kinds pre rest : List ℕ) (some : 1 ≤ length kinds) (few : length k
   -- the if there is one too deep
   deep : Refused 8 there ≡ stepOf (readBlock s 0 there)
   deep =
-      let b = byte-at s there 0x03 rest (bytes-after s (6 + length kinds) pre (0x03 ∷ rest) body) in
+      let b = byte-at s there 0x03 rest (bytes-after s (6 + length kinds) pre (0x03 ∷ rest) (body-at kinds after)) in
       block-refused s 0 there (b .inside) (λ z. omega (arith, b .byte, z)) (too-deep s there (b .byte))
 
   refused-there : Refused 8 there ≡ stepOf (readBlock s nested (6 + length kinds))
-  refused-there = leads-out s kinds refl (λ x l. ap kindOf (sym (kind-byte x l))) (6 + length kinds) 8 there leads (0x03 ∷ rest) body 0 refl deep
+  refused-there = leads-out s kinds refl (same-kinds kinds after) (6 + length kinds) 8 there leads (0x03 ∷ rest) (body-at kinds after) 0 refl deep
 
-  header : Past (6 + length kinds) ≡ stepOf (readHeader s)
-  header = sym (ap stepOf (header-past s refl some few (omega (arith, many)) (λ x l. rw (kind-byte x l) (known x l))))
-
-  pub ninth-nested : length s ≤ mostBytes → ruleAnswer s ≡ refusal 8 (length (headerBytes kinds ++ pre))
+  pub ninth-nested : length s ≤ mostBytes → readRule s ≡ refused 8 (length (headerBytes kinds ++ pre))
   ninth-nested size =
-      answer-bytes s (rule-block s (omega (arith, many)) size header refused-there)
-      ∙ ap (refusal 8) (let e = length-append kinds pre in omega (arith, e))
+      read-refused (readRule s) (rule-block s (omega (arith, size-is kinds after)) size (sym (ap stepOf (header-back kinds after some few known))) refused-there)
+      ∙ ap (refused 8) (let e = length-append kinds pre in omega (arith, e))

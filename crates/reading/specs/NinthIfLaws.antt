@@ -5,90 +5,37 @@ use mathlib.Core.Path.{_≡_, refl, sym, ap, subst, subst⁻¹, _∙_}
 use mathlib.Core.Bool.{Bool, true, false}
 use mathlib.Core.List.{List, [], _∷_, _++_, append-assoc}
 use mathlib.Core.Logic.{_⊎_, inl, inr}
-use lib.ListN.{length, getD, drop, length-append, length-drop, take-append-drop, List·getD-eq-default}
-use lib.Seq.{length-take-le, getD-take, getD-drop, drop-drop}
+use lib.ListN.{length, getD, drop, length-append, length-drop, List·getD-eq-default}
 use lib.Dec.{ltb, leb, eqb}
 use borrow.Author.Tests.{ltb-true, ltb-false, leb-true}
 use Rattle.words.specs.Numbers.{Bytes}
-use Rattle.words.specs.ListLaws.{drop-one, drop-two, inside-list}
+use Rattle.words.specs.ListLaws.{drop-one, inside-list}
 use Rattle.codes.specs.Codes.{codeOf}
 use Rattle.codes.specs.CodeLaws.{Opens, code-opens}
 use Rattle.codes.specs.declared.Kind.{Kind}
 use Rattle.codes.specs.declared.Kind.the-variants as kind
 use Rattle.codes.specs.declared.Form.{Form}
 use Rattle.codes.specs.declared.Form.the-variants as form
-use Rattle.answers.specs.Answers.{refusal}
-use Rattle.answers.specs.Parsing.{parsed, stepOf, readMark}
-use Rattle.answers.specs.ParsingLaws.{Finds, found, none, finds-unless, finds-then, finds-read, forward-read}
+use Rattle.answers.specs.Parsing.{parsed, refused, stepOf, readMark}
+use Rattle.answers.specs.ParsingLaws.{finds-read, forward-read}
 use Rattle.reading.specs.Limits.{leastBytes, mostBytes, mostVariables, lastKind, deepest, nested}
-use Rattle.reading.specs.Header.{mark, kindOf, variables, kindAt, readCount, readKinds, readHeader}
-use Rattle.reading.specs.Tree.{Expr, Statement, skip, Block, end, then}
+use Rattle.reading.specs.Header.{mark, variables, kindAt, readCount, readKinds, readHeader}
+use Rattle.reading.specs.Tree.{Expr, Statement, Block, end, then}
 use Rattle.reading.specs.Kinds.{EachExpr}
 use Rattle.reading.specs.Expressions.{readExpr}
 use Rattle.reading.specs.ExpressionLaws.{expr-forward}
 use Rattle.reading.specs.Blocks.{readAssign, branchWith, statementForm, statementWith, closedOr, blockWith, readBlock, readStatement}
 use Rattle.reading.specs.BlockLaws.{block-short}
 use Rattle.reading.specs.FuelLaws.{block-is, block-forward, statement-forward}
-use Rattle.reading.specs.Format.{exprBytes, statementBytes, blockBytes, headerBytes, kindBytes, kindIn, nestingIn}
+use Rattle.reading.specs.Format.{exprBytes, statementBytes, blockBytes, headerBytes, kindBytes, kindIn}
 use Rattle.reading.specs.EachLaws.{each-same, typed-same}
 use Rattle.reading.specs.FoundExprLaws.{ExprFound, expr-found}
-use Rattle.reading.specs.FoundLaws.{Good, StatementFound, BlockFound, block-found}
+use Rattle.reading.specs.FoundLaws.{Good, StatementFound, BlockFound, good, block-found, statement-found}
+use Rattle.reading.specs.FoundRuleLaws.{kinds-count, kinds-same, header-bytes}
 use Rattle.reading.specs.Rule.{readRule}
 use Rattle.reading.specs.RuleLaws.{Headed, header-past}
-use Rattle.circuit.specs.Whole.{ruleAnswer}
-use Rattle.demands.specs.HeaderLaws.{answer-refused}
-use Rattle.demands.specs.RefusalLaws.{Refuses, test, after, refuses-too, InExpr, expr-row}
-use Rattle.demands.specs.NestedIfs.{WellExpr, Leads, outset, past, intoFirst, intoSecond}
-
-good : (s : List ℕ) (k : Kind) (from : ℕ) (e : Expr) (n : ℕ) → ExprFound s k deepest from e n → Good s e k
-good s k from e n r = record { typed = r .typed; words = r .words; shallow = r .shallow }
-
--- a statement that was read, as `block-found` has it of a block
-module _ (s : List ℕ) (nest at : ℕ) (inside : at < length s) where
-  assign-found : getD s at 0 ≡ 0x01 → Finds (StatementFound s nest at) (readAssign s at)
-  unfolding readAssign nestingIn statementBytes
-  assign-found c =
-      finds-unless (ltb (at + 1) (length s)) 4 (length s) _
-      (λ i. finds-unless (ltb (getD s (at + 1) 0) (variables s)) 6 (at + 1) _
-      (λ x. finds-then (readExpr deepest s (kindAt s (getD s (at + 1) 0)) (at + 2)) _ (expr-found s deepest (kindAt s (getD s (at + 1) 0)) (at + 2))
-      (λ e n r. found (record {
-        each = (ltb-true _ _ x, good s (kindAt s (getD s (at + 1) 0)) (at + 2) e n r);
-        nests = omega arith;
-        bytes = λ b. drop-two s at 0x01 (ltb-true _ _ i) c ∙ ap (λ (l : List ℕ). 0x01 ∷ (getD s (at + 1) 0 ∷ l)) (r .bytes b);
-      }))))
-
-  branch-found : getD s at 0 ≡ 0x03 → Finds (StatementFound s nest at) (branchWith (readBlock s) s nest at)
-  unfolding branchWith nestingIn statementBytes
-  branch-found c =
-      finds-unless (ltb 0 nest) 8 at _
-      (λ z. finds-then (readExpr deepest s kind.Bit (at + 1)) _ (expr-found s deepest kind.Bit (at + 1))
-      (λ e n r. finds-then (readBlock s (nest - 1) n) _ (block-found s (nest - 1) n)
-      (λ x m p. finds-then (readBlock s (nest - 1) m) _ (block-found s (nest - 1) m)
-      (λ y l q. found (record {
-        each = (good s kind.Bit (at + 1) e n r, p .each, q .each);
-        nests = let w : 0 < nest = ltb-true _ _ z in omega (arith, p .nests, q .nests);
-        bytes = λ b.
-            drop-one s at 0x03 inside c ∙ ap (λ (u : List ℕ). 0x03 ∷ u) (r .bytes b
-            ∙ ap (λ (u : List ℕ). exprBytes e ++ u)
-            (p .bytes b ∙ ap (λ (u : List ℕ). blockBytes x ++ u) (q .bytes b) ∙ sym (append-assoc (blockBytes x) (blockBytes y) (drop l s)))
-            ∙ sym (append-assoc (exprBytes e) (blockBytes x ++ blockBytes y) (drop l s)));
-      })))))
-
-  form-found : (f : Form) → Opens (getD s at 0) f → Finds (StatementFound s nest at) (statementForm f (readBlock s) s nest at)
-  unfolding nestingIn statementBytes
-  form-found form.End c = none
-  form-found form.Assign c = assign-found c
-  form-found form.Skip c = found {a = skip} (record { each = tt; nests = omega arith; bytes = λ b. drop-one s at 0x02 inside c })
-  form-found form.Branch c = branch-found c
-  form-found form.Variable c = none
-  form-found form.Word c = none
-  form-found form.Bit c = none
-  form-found (form.Apply op) c = none
-  form-found form.Unknown c = none
-
-  pub statement-found : Finds (StatementFound s nest at) (readStatement s nest at)
-  unfolding readStatement statementWith
-  statement-found = form-found (codeOf (getD s at 0) .form) (code-opens (getD s at 0))
+use Rattle.reading.specs.RefusalLaws.{Refuses, test, after, refuses-too, InExpr, expr-row}
+use Rattle.reading.specs.NestedIfs.{WellExpr, Leads, outset, past, intoFirst, intoSecond}
 
 -- a file of bytes that has these kind bytes
 module _ (s kinds : List ℕ) (bytes : Bytes s) (v : length kinds ≡ variables s) (same : (x : ℕ) → x < variables s → kindAt s x ≡ kindIn kinds x) where
@@ -271,14 +218,8 @@ module _ (s : List ℕ) (bytes : Bytes s) where
       go (inl l) = l
       go (inr l) = absurd (let z = List·getD-eq-default s 0 {n = p} l in omega (arith, b, z))
 
-  module _ (h : Headed s (6 + variables s)) where
-    count : length (kindBytes s) ≡ variables s
-    count = length-take-le (variables s) (drop 6 s) (rw length-drop (omega (arith, h .kinds)))
-
-    same : (x : ℕ) → x < variables s → kindAt s x ≡ kindIn (kindBytes s) x
-    same x l = ap kindOf (sym (getD-take (variables s) (drop 6 s) x 0 l ∙ getD-drop 6 s x 0))
-
-    ninth-there : (p : ℕ) → getD s p 0 ≡ 0x03 → NinthAt s (kindBytes s) bytes count same (6 + variables s) p → Ninth p
+  module _ {at : ℕ} (h : Headed s at) where
+    ninth-there : (p : ℕ) → getD s p 0 ≡ 0x03 → NinthAt s (kindBytes s) bytes (kinds-count s h) (kinds-same s) (6 + variables s) p → Ninth p
     ninth-there p b (pre, leads, there) = (kindBytes s, pre, drop (p + 1) s, leads, whole, place)
       where
         i : p < length s
@@ -286,20 +227,20 @@ module _ (s : List ℕ) (bytes : Bytes s) where
 
         whole : s ≡ headerBytes (kindBytes s) ++ (pre ++ (0x03 ∷ drop (p + 1) s))
         whole =
-            h .marked
-            ∙ ap (λ (l : List ℕ). mark ++ l)
-            (drop-one s 5 (variables s) (omega (arith, h .kinds)) refl
-            ∙ ap (λ (l : List ℕ). variables s ∷ l)
-            (sym (take-append-drop (variables s) (drop 6 s))
-            ∙ ap (λ (l : List ℕ). kindBytes s ++ l) (drop-drop (variables s) 6 s ∙ there ∙ ap (λ (l : List ℕ). pre ++ l) (drop-one s p 0x03 i b)))
-            ∙ ap (λ (v : ℕ). v ∷ (kindBytes s ++ (pre ++ (0x03 ∷ drop (p + 1) s)))) (sym count))
+            header-bytes s h ∙ ap (λ (l : List ℕ). headerBytes (kindBytes s) ++ l) (there ∙ ap (λ (l : List ℕ). pre ++ l) (drop-one s p 0x03 i b))
 
         place : p ≡ length (headerBytes (kindBytes s) ++ pre)
         place =
             let e : length s - (6 + variables s) ≡ length pre + (length s - p) = sym (length-drop (6 + variables s) s) ∙ ap length there ∙ length-append pre (drop p s)
             ∙ ap (λ (n : ℕ). length pre + n) (length-drop p s) in
             let f = length-append (kindBytes s) pre in
-            omega (arith, e, f, count, i, h .kinds)
+            omega (arith, e, f, kinds-count s h, i, h .kinds)
+
+    by-header : Refuses Q (readBlock s nested at)
+    by-header =
+        subst⁻¹ (λ (a : ℕ). Refuses Q (readBlock s nested a)) (h .after)
+        (refuses-too (OnNinth s (kindBytes s) bytes (kinds-count s h) (kinds-same s) (6 + variables s)) Q (λ k p o e b. ninth-there p b (o e b)) (readBlock s nested (6 + variables s))
+        (body-on s (kindBytes s) bytes (kinds-count s h) (kinds-same s) (6 + variables s)))
 
   rule-on : Refuses Q (readRule s)
   unfolding readRule
@@ -307,17 +248,10 @@ module _ (s : List ℕ) (bytes : Bytes s) where
       test Q (leb leastBytes (length s)) 1 0 _ (λ z e b. absurd (omega (arith, e)))
       (λ six. test Q (leb (length s) mostBytes) 1 0 _ (λ z e b. absurd (omega (arith, e)))
       (λ z. after Q (readHeader s) _ (refuses-too NotEight Q (λ k p n e b. absurd (n e)) (readHeader s) (header-not s))
-      (λ u at e. after Q (readBlock s nested at) _ (by-header at (header-past s (leb-true _ _ six) (sym (ap stepOf e))))
+      (λ u at e. after Q (readBlock s nested at) _ (by-header (header-past s (leb-true _ _ six) (sym (ap stepOf e))))
       (λ b n q. test Q (leb (length s) n) 9 n _ (λ z e b. absurd (omega (arith, e))) (λ z. tt)))))
-    where
-      by-header : (at : ℕ) → Headed s at → Refuses Q (readBlock s nested at)
-      by-header at g =
-          let h : Headed s (6 + variables s) = record { marked = g .marked; some = g .some; few = g .few; kinds = g .kinds; known = g .known; after = refl } in
-          subst⁻¹ (λ (a : ℕ). Refuses Q (readBlock s nested a)) (g .after)
-          (refuses-too (OnNinth s (kindBytes s) bytes (count h) (same h) (6 + variables s)) Q (λ k p o e b. ninth-there h p b (o e b)) (readBlock s nested (6 + variables s))
-          (body-on s (kindBytes s) bytes (count h) (same h) (6 + variables s)))
 
-  pub ninth-only : (place : ℕ) → ruleAnswer s ≡ refusal 8 place → getD s place 0 ≡ 0x03
+  pub ninth-only : (place : ℕ) → readRule s ≡ refused 8 place → getD s place 0 ≡ 0x03
       → (kinds : List ℕ) × (pre : List ℕ) × (rest : List ℕ) × Leads kinds nested pre
       × (s ≡ headerBytes kinds ++ (pre ++ (0x03 ∷ rest))) × (place ≡ length (headerBytes kinds ++ pre))
-  ninth-only place e b = subst (Refuses Q) (answer-refused s 8 place (omega arith) (omega arith) e) rule-on refl b
+  ninth-only place e b = subst (Refuses Q) e rule-on refl b
