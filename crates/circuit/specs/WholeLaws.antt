@@ -3,7 +3,6 @@ use Prim.Native.Nat.{ℕ, _<_, _≤_}
 use native.Mathlib.Omega.{arith}
 use mathlib.Core.Path.{_≡_, refl, sym, ap, _∙_}
 use mathlib.Core.List.{List}
-use mathlib.Core.Logic.{_⊎_, inl, inr}
 use lib.ListN.{length}
 use lib.Dec.{leb}
 use borrow.Author.Tests.{le-leb, lt-leb, leb-true}
@@ -15,7 +14,7 @@ use Rattle.reading.specs.Limits.{mostBytes}
 use Rattle.reading.specs.Tree.{Block}
 use Rattle.reading.specs.Rule.{readRule}
 use Rattle.reading.specs.RuleLaws.{rule-large}
-use Rattle.reading.specs.RowLaws.{ByteRow, ByteRows, rule-rows}
+use Rattle.reading.specs.RowLaws.{ByteRows, rule-rows}
 use Rattle.gates.specs.Limits.{mostGates, mostConditions}
 use Rattle.gates.specs.Gates.{Gates, costs, conditions}
 use Rattle.gates.specs.PlainCircuit.{gatesOf}
@@ -95,27 +94,6 @@ answer-from s number place lo hi = go (readRule s)
     go : (m : Parsed Block) → afterBytes (stepOf m) (wholeWithin mostGates mostConditions (gatesOf s) (length s)) ≡ refusal number place → m ≡ refused number place
     go (parsed b n) e = absurd (whole-other mostGates mostConditions (gatesOf s) (length s) number lo hi (ap (λ (a : Answer). a .number) e))
     go (refused k p) e = let x : k ≡ number = ap (λ (a : Answer). a .number) e in let y : p ≡ place = ap (λ (a : Answer). a .place) e in rw (x, y)
-
--- what reading a rule answers, row by row: a refusal byte by byte, 10 or 11 at the file's length, or number 0 at place 0
-abbrev pub RuleCases : List ℕ → Answer → Type 0
-RuleCases s a =
-    ((number : ℕ) × (place : ℕ) × ByteRow s number place × (a ≡ refusal number place))
-    ⊎ ((a ≡ refusal 10 (length s)) ⊎ ((a ≡ refusal 11 (length s)) ⊎ ((a .number ≡ 0) × (a .place ≡ 0))))
-
-whole-cases : (s : List ℕ) (C : Gates) → RuleCases s (wholeWithin mostGates mostConditions C (length s))
-unfolding wholeWithin
-whole-cases s C =
-    split (leb (length C) mostGates)
-    (λ t. split (leb (length (conditions C)) mostConditions) (λ u. rw (t, u) (inr (inr (inr (refl, refl))))) (λ u. rw (t, u) (inr (inr (inl refl)))))
-    (λ t. rw t (inr (inl refl)))
-
-pub rule-cases : (s : List ℕ) → RuleCases s (ruleAnswer s)
-unfolding ruleAnswer
-rule-cases s = go (readRule s) (rule-rows s)
-  where
-    go : (m : Parsed Block) → ByteRows s m → RuleCases s (afterBytes (stepOf m) (wholeWithin mostGates mostConditions (gatesOf s) (length s)))
-    go (parsed b n) r = whole-cases s (gatesOf s)
-    go (refused number place) r = inl (number, place, r, refl)
 
 -- a rule that was read is answered by what it is, read whole
 pub answer-whole : (s : List ℕ) → IsRead (readRule s) → ruleAnswer s ≡ wholeWithin mostGates mostConditions (gatesOf s) (length s)

@@ -5,7 +5,7 @@ use native.Mathlib.Omega.{arith}
 use mathlib.Core.Path.{_≡_, refl, sym, ap}
 use mathlib.Core.List.{List, [], _∷_}
 use mathlib.Core.Bool.{Bool, true, false, _&&_, _||_, false≢true, cond}
-use mathlib.Core.Logic.{_⊎_, inl, inr, _↔_}
+use mathlib.Core.Logic.{inl, inr, _↔_}
 use lib.ListN.{length, getD}
 use lib.Dec.{eqb, ltb, leb}
 use borrow.Author.Tests.{eq-eqb, ne-eqb, le-ltb, lt-ltb, le-leb, lt-leb, eqb-true, leb-true, ltb-false}
@@ -102,7 +102,7 @@ fits-kind : (k : Kind) (n : ℕ) → n < 4294967296 → (ltb 1 n && sameKind k k
 fits-kind kind.Word n w h = w
 fits-kind kind.Bit n w h = split (ltb 1 n) (λ t. let z : true ≡ false = rw t at h in absurd (false≢true (sym z))) (λ t. ltb-false 1 n t)
 
--- the row by its three tests: it is none, and then they are so, or 40 to 42
+-- the row by its three tests: where it is none, they are so
 abbrev row : Bool → Bool → Bool → ℕ
 row a b c = cond a (cond b 41 (cond c 0 42)) 40
 
@@ -112,17 +112,7 @@ rows true false true h = (refl, refl, refl)
 rows true false false h = absurd (omega arith)
 rows false b c h = absurd (omega arith)
 
-row-range : (a b c : Bool) → (row a b c ≡ 0) ⊎ ((40 ≤ row a b c) × (row a b c ≤ 42))
-row-range true true c = inr (omega arith, omega arith)
-row-range true false true = inl refl
-row-range true false false = inr (omega arith, omega arith)
-row-range false b c = inr (omega arith, omega arith)
-
 module _ (v : ℕ) (kinds : ℕ → Kind) (inputs : List ℕ) (room : ℕ) where
-  pub inputs-range : (inputsRow v kinds inputs room ≡ 0) ⊎ ((40 ≤ inputsRow v kinds inputs room) × (inputsRow v kinds inputs room ≤ 42))
-  unfolding inputsRow
-  inputs-range = row-range (eqb (length inputs) v) (someAbove kinds inputs (upto v)) (leb v room)
-
   module _ (h : inputsRow v kinds inputs room ≡ 0) where
     no-row : (eqb (length inputs) v ≡ true) × (someAbove kinds inputs (upto v) ≡ false) × (leb v room ≡ true)
     unfolding inputsRow

@@ -20,7 +20,7 @@ use Rattle.gates.specs.Limits.{mostConditions}
 use Rattle.gates.specs.Gates.{conditions}
 use Rattle.gates.specs.PlainCircuit.{gatesOf, gateCount}
 use Rattle.needed.specs.Needed.{Needed, wantedOf}
-use Rattle.needed.specs.Pass.{rulePreconditions, preconditionOf}
+use Rattle.needed.specs.Pass.{rulePreconditions}
 use Rattle.needed.specs.PreconditionLaws.{precondition-below}
 use Rattle.needed.specs.RulePreconditions.{rule-earlier, wanted-inside, rule-precondition}
 use Rattle.circuit.specs.Whole.{ruleAnswer}
@@ -28,8 +28,8 @@ use Rattle.circuit.specs.WholeLaws.{accepted}
 use Rattle.plan.specs.PlanFile.{Plan, groupsIn}
 use Rattle.plan.specs.Groups.{groupOf, Waits, Chain}
 use Rattle.plan.specs.SameGroups.{Joined}
-use Rattle.plan.specs.Rows.{everyGroup, parted, placed, Row, layoutRows, joinRows, orderRows, rows, planRow, planAnswer}
-use Rattle.plan.specs.FailingLaws.{Hold, fails-at, hold-both}
+use Rattle.plan.specs.Rows.{everyGroup, parted, placed, Row, layoutRows, joinRows, orderRows, planRow, planAnswer}
+use Rattle.plan.specs.FailingLaws.{fails-at, hold-both}
 use Rattle.plan.specs.GroupLaws.{groupOf-named}
 use Rattle.plan.specs.WaitLaws.{circle-found}
 use Rattle.plan.specs.AcceptedLaws.{layout-right, row-first, answer-number}

@@ -23,7 +23,7 @@ use Rattle.circuit.specs.Whole.{ruleAnswer}
 use Rattle.circuit.specs.WholeLaws.{accepted}
 use Rattle.direct.specs.Inputs.{inputRow}
 use Rattle.direct.specs.Direct.{runAnswer, runResults}
-use Rattle.direct.specs.DirectLaws.{rule-answer, inputs-answer, run-answer, answered-rule, answered-inputs, answered-results, refused-results}
+use Rattle.direct.specs.DirectLaws.{inputs-answer, run-answer, answered-rule, answered-inputs, answered-results, refused-results}
 use Rattle.plan.specs.Rows.{planAnswer}
 use Rattle.plan.specs.AcceptedLaws.{plan-accepted}
 use Rattle.fused.specs.FusedCircuit.{fusedFile}
@@ -32,7 +32,7 @@ use Rattle.records.specs.FileFigures.{fileRecords}
 use Rattle.fused.specs.FitPlan.{fused-found}
 use Rattle.fused.specs.FusedFigures.{reads-earlier, output-earlier}
 use Rattle.fused.specs.Answers.{fusedAnswer, writeAnswer, writtenOver}
-use Rattle.fused.specs.AnswerLaws.{fused-refused, fused-taken, fused-plan, answer-bytes, write-refused, write-short, write-taken, write-over}
+use Rattle.fused.specs.AnswerLaws.{fused-taken, fused-plan, answer-bytes, write-refused, write-short, write-taken, write-over}
 use Rattle.running.specs.FusedRun.{fusedResults}
 use Rattle.running.specs.ResultLaws.{fused-untouched, fused-results}
 use Rattle.demands.specs.Promises.{FusedAsDirect}

@@ -8,13 +8,12 @@ use mathlib.Core.Logic.{_↔_, ⊎-elim}
 use lib.ListN.{length, take}
 use lib.Pow.{pow-mono}
 use native.Mathlib.Nat.{lt-of-lt-of-le}
-use Rattle.words.specs.TestLaws.{split}
 use Rattle.words.specs.Lists.{_∈_}
 use Rattle.words.specs.Numbers.{Bytes}
 use Rattle.words.specs.NumberLaws.{bits-bytes}
 use Rattle.answers.specs.Answers.{refusal}
 use Rattle.records.specs.Limits.{mostFileBytes}
-use Rattle.records.specs.Versions.{Version, one, two, mostGuardWires}
+use Rattle.records.specs.Versions.{one, two, mostGuardWires}
 use Rattle.records.specs.Records.{Record, input, word, bit, operation, choice, pick, guard, recordIn}
 use Rattle.records.specs.CircuitFile.{mark, fileBytes}
 use Rattle.records.specs.FileFigures.{recordAt, versionIn, wireCount, fileRecords, fileFigures}

@@ -3,6 +3,5 @@ pub mod Direct
 pub mod ResultLaws
 pub mod WritingLaws
 pub mod InputLaws
-pub mod RangeLaws
 pub mod DirectLaws
 pub mod Examples

@@ -4,7 +4,7 @@ use Prim.Native.Nat.{ℕ, _≤_}
 use mathlib.Core.Path.{_≡_, refl, subst, subst⁻¹}
 use mathlib.Core.List.{List}
 use mathlib.Core.Bool.{Bool, true, false, cond}
-use mathlib.Core.Logic.{_⊎_, inl, inr, _↔_}
+use mathlib.Core.Logic.{_↔_}
 use native.Mathlib.Omega.{arith}
 use lib.ListN.{length}
 use Rattle.words.specs.Numbers.{Bytes}
@@ -33,17 +33,6 @@ rows true true true h = (refl, refl, refl)
 rows true true false h = absurd (omega arith)
 rows true false c h = absurd (omega arith)
 rows false b c h = absurd (omega arith)
-
--- which numbers there are
-range : (a b c : Bool) → (_≡_ {A = ℕ} (cond a (cond b (cond c 0 62) 61) 60) 0) ⊎ ((60 ≤ cond a (cond b (cond c 0 62) 61) 60) × (cond a (cond b (cond c 0 62) 61) 60 ≤ 62))
-range true true true = inl refl
-range true true false = inr (omega arith, omega arith)
-range true false c = inr (omega arith, omega arith)
-range false b c = inr (omega arith, omega arith)
-
-pub row-range : (f : List ℕ) → (circuitRow f ≡ 0) ⊎ ((60 ≤ circuitRow f) × (circuitRow f ≤ 62))
-unfolding circuitRow
-row-range f = range (headed f) (laid f) (standing f)
 
 pub row-passed : (f : List ℕ) → circuitRow f ≡ 0 → Passed f
 unfolding circuitRow

@@ -6,7 +6,7 @@ use mathlib.Core.Bool.{Bool, true, false, not, _&&_}
 use native.Mathlib.Nat.{mul-suc}
 use native.Mathlib.Omega.{arith}
 use lib.Dec.{ltb}
-use lib.ListN.{length, getD}
+use lib.ListN.{length}
 use borrow.Author.Tests.{eq-eqb, ne-eqb, lt-ltb, le-ltb}
 use Rattle.words.specs.Lists.{every}
 use Rattle.words.specs.Numbers.{numberAt}
@@ -15,7 +15,7 @@ use Rattle.codes.specs.declared.Kind.{Kind}
 use Rattle.codes.specs.declared.Kind.the-variants as kind
 use Rattle.records.specs.CircuitFile.{noWire}
 use Rattle.records.specs.CircuitRows.{outputStands}
-use Rattle.parts.specs.HeldKinds.{kindBy, heldKind}
+use Rattle.parts.specs.HeldKinds.{kindBy}
 use Rattle.wiring.specs.Wires.{fits, wiresBy}
 
 -- a kind, wanted as a bit and as a word; b: whether it is a bit
