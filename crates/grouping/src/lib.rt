@@ -223,14 +223,14 @@ fn join_groups(plan: &[u8], count: usize, group: &mut [u16; 256], places: &mut [
     ensures places { λ r. ⌜ (r ≡ true → now (places .exit) ≡ placeTable count (now (plan .entry))) ⌝ }
 {
     number_gates(count, group);
-    let mut left = groups_counted(plan);
+    let mut unjoined = groups_counted(plan);
     let mut at = LEAST_BYTES;
-    while 0 < left {
+    while 0 < unjoined {
         if !join_members(plan, at, count, group, places) {
             return false;
         }
         at = after(plan, at);
-        left = left - 1;
+        unjoined = unjoined - 1;
     }
     true
 }
