@@ -4,15 +4,15 @@ use Prim.Native.Nat.{ℕ}
 use mathlib.Core.List.{List}
 use lib.ListN.{length}
 use lib.Dec.{leb}
-use Rattle.answers.specs.Answers.{success, refusal}
-use Rattle.answers.specs.Parsing.{stepOf}
-use Rattle.answers.specs.declared.Answer.{Answer}
-use Rattle.answers.specs.declared.Step.{Step}
-use Rattle.answers.specs.declared.Step.the-variants.{Past, Refused}
-use Rattle.reading.specs.Rule.{readRule}
-use Rattle.gates.specs.Limits.{mostGates, mostConditions}
-use Rattle.gates.specs.Gates.{Gates, costs, conditions}
-use Rattle.gates.specs.PlainCircuit.{gatesOf}
+use Rattle.base.specs.Answers.{success, refusal}
+use Rattle.base.specs.Parsing.{stepOf}
+use Rattle.base.specs.declared.Answer.{Answer}
+use Rattle.base.specs.declared.Step.{Step}
+use Rattle.base.specs.declared.Step.the-variants.{Past, Refused}
+use Rattle.rule.specs.Rule.{readRule}
+use Rattle.circuit.specs.Limits.{mostGates, mostConditions}
+use Rattle.circuit.specs.Gates.{Gates, costs, conditions}
+use Rattle.circuit.specs.PlainCircuit.{gatesOf}
 
 -- 10: over so many gates; 11: over so many conditions; both lie at the file's length. Success counts gates and cost before
 unfoldable pub wholeWithin : ℕ → ℕ → Gates → ℕ → Answer

@@ -6,18 +6,18 @@ use mathlib.Core.List.{List}
 use lib.ListN.{length}
 use lib.Dec.{leb}
 use borrow.Author.Tests.{le-leb, lt-leb, leb-true}
-use Rattle.words.specs.TestLaws.{split}
-use Rattle.answers.specs.Answers.{success, refusal, answerOf}
-use Rattle.answers.specs.Parsing.{Parsed, parsed, refused, stepOf, IsRead}
-use Rattle.answers.specs.declared.Answer.{Answer}
-use Rattle.reading.specs.Limits.{mostBytes}
-use Rattle.reading.specs.Tree.{Block}
-use Rattle.reading.specs.Rule.{readRule}
-use Rattle.reading.specs.RuleLaws.{rule-large}
-use Rattle.reading.specs.RowLaws.{ByteRows, rule-rows}
-use Rattle.gates.specs.Limits.{mostGates, mostConditions}
-use Rattle.gates.specs.Gates.{Gates, costs, conditions}
-use Rattle.gates.specs.PlainCircuit.{gatesOf}
+use Rattle.base.specs.TestLaws.{split}
+use Rattle.base.specs.Answers.{success, refusal, answerOf}
+use Rattle.base.specs.Parsing.{Parsed, parsed, refused, stepOf, IsRead}
+use Rattle.base.specs.declared.Answer.{Answer}
+use Rattle.rule.specs.Limits.{mostBytes}
+use Rattle.rule.specs.Tree.{Block}
+use Rattle.rule.specs.Rule.{readRule}
+use Rattle.rule.specs.RuleLaws.{rule-large}
+use Rattle.rule.specs.RowLaws.{ByteRows, rule-rows}
+use Rattle.circuit.specs.Limits.{mostGates, mostConditions}
+use Rattle.circuit.specs.Gates.{Gates, costs, conditions}
+use Rattle.circuit.specs.PlainCircuit.{gatesOf}
 use Rattle.circuit.specs.Whole.{wholeWithin, afterBytes, ruleAnswer}
 
 -- rows 10 and 11, and success

@@ -1,12 +1,12 @@
 // Reads a conformance stream on standard input and prints one line a case (docs/CONFORMANCE.md).
 // Operations 01 to 09; any other ends the stream with `refused`.
-use answers::Answer;
-use gates::GateId;
-use gates::MOST_CONDITIONS;
+use base::Answer;
+use circuit::GateId;
+use circuit::MOST_CONDITIONS;
 use libc::STDIN_FILENO;
 use libc::STDOUT_FILENO;
-use needed::NEED_WORDS;
-use records::WireId;
+use circuit::NEED_WORDS;
+use file::WireId;
 ghost use Prim.Native.Nat.{_*_, _≤_, _<_};
 ghost use lib.ListN.{length};
 
@@ -56,7 +56,7 @@ fn read_field(buf: &mut [u8]) -> usize {
     if !fill(&mut size) {
         return 65536;
     }
-    let n = words::read16(&size, 0) as usize;
+    let n = base_words::read16(&size, 0) as usize;
     if buf.len() < n {
         return 65536;
     }
@@ -70,7 +70,7 @@ fn read_field(buf: &mut [u8]) -> usize {
 fn word_at(bytes: &[u8; 1020], i: usize) -> u32
     requires { ⌜ i < 255 ⌝ }
 {
-    words::read32(bytes, 4 * i)
+    base_words::read32(bytes, 4 * i)
 }
 
 fn take_words(bytes: &[u8; 1020], inputs: &mut [u32]) {
@@ -144,7 +144,7 @@ fn print_hex(n: u64, width: usize)
 fn print_set(needs: &[u64; NEED_WORDS], g: GateId)
     requires { ⌜ g .0 < 256 ⌝ }
 {
-    let s = settings::load(needs, words::wide16(g.0));
+    let s = base_settings::load(needs, base_words::wide16(g.0));
     print_hex(s.w3, 16);
     print_hex(s.w2, 16);
     print_hex(s.w1, 16);
@@ -155,7 +155,7 @@ fn print_set(needs: &[u64; NEED_WORDS], g: GateId)
 fn print_gate(quads: &[u32; 1024], needs: &[u64; NEED_WORDS], g: GateId)
     requires { ⌜ g .0 < 256 ⌝ }
 {
-    let i = words::wide16(g.0);
+    let i = base_words::wide16(g.0);
     print(b" ");
     print_hex(wide(quads[4 * i]), 2);
     print(b".");
@@ -180,13 +180,13 @@ fn print_gates(quads: &[u32; 1024], needs: &[u64; NEED_WORDS], count: usize) {
 }
 
 fn direct_line(rule: &[u8], inputs: &[u32], results: &mut [u32]) {
-    let a = direct::run(rule, inputs, results);
+    let a = run_direct::run(rule, inputs, results);
     print_answer(a);
     print_words(results);
 }
 
 fn fused_line(rule: &[u8], plan: &[u8], inputs: &[u32], results: &mut [u32]) {
-    let a = running::run(rule, plan, inputs, results);
+    let a = run_fused::run(rule, plan, inputs, results);
     print_answer(a);
     print_words(results);
 }
@@ -246,7 +246,7 @@ fn print_written(out: &[u8], n: usize) {
 }
 
 fn write_line(rule: &[u8], plan: &[u8], out: &mut [u8]) {
-    let a = writing::write(rule, plan, out);
+    let a = fused_write::write(rule, plan, out);
     print_answer(a);
     print(b" | ");
     let n = a.bytes;
@@ -259,21 +259,21 @@ fn circuit_line(rule: &[u8]) {
     let mut needs = [0u64; NEED_WORDS];
     let mut outputs = [0u16; 32];
     let mut conditions = [0u16; MOST_CONDITIONS];
-    let a = circuit::build(rule, &mut quads, &mut needs, &mut outputs, &mut conditions);
+    let a = circuit_build::build(rule, &mut quads, &mut needs, &mut outputs, &mut conditions);
     print_answer(a);
     print_gates(&quads, &needs, a.gates);
 }
 
 // One record of a circuit file, or `-` for none.
 fn record_line(file: &[u8], wire: WireId) {
-    print_answer(foreign::read(file));
+    print_answer(file_reader::read(file));
     print(b" | ");
-    let part = foreign::record(file, wire);
+    let part = file_reader::record(file, wire);
     print_written(part, part.len());
 }
 
 fn file_line(file: &[u8], inputs: &[u32], results: &mut [u32]) {
-    let a = foreign::run(file, inputs, results);
+    let a = file_reader::run(file, inputs, results);
     print_answer(a);
     print_words(results);
 }
@@ -283,12 +283,12 @@ fn work(operation: u8, number: u16, room: usize, rule: &[u8], plan: &[u8], input
     requires { ⌜ room ≤ 65535 ⌝ }
 {
     match operation {
-        1 => print_answer(circuit::read_rule(rule)),
+        1 => print_answer(circuit_build::read_rule(rule)),
         2 => {
             let mut results = [UNTOUCHED; 65535];
             direct_line(rule, inputs, &mut results[0..room]);
         }
-        3 => print_answer(checking::check_plan(rule, plan)),
+        3 => print_answer(plan_check::check_plan(rule, plan)),
         4 => {
             let mut out = [CLEAN; 65535];
             write_line(rule, plan, &mut out[0..room]);
@@ -298,7 +298,7 @@ fn work(operation: u8, number: u16, room: usize, rule: &[u8], plan: &[u8], input
             fused_line(rule, plan, inputs, &mut results[0..room]);
         }
         6 => circuit_line(rule),
-        7 => print_answer(foreign::read(rule)),
+        7 => print_answer(file_reader::read(rule)),
         8 => record_line(rule, WireId(number)),
         9 => {
             let mut results = [UNTOUCHED; 65535];
@@ -331,8 +331,8 @@ fn fields(head: [u8; 6]) -> bool {
     }
     work(
         head[0],
-        words::read16(&head, 2),
-        words::read16(&head, 4) as usize,
+        base_words::read16(&head, 2),
+        base_words::read16(&head, 4) as usize,
         &first[0..n],
         &second[0..m],
         &inputs[0..k],

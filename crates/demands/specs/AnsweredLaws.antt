@@ -8,32 +8,32 @@ use mathlib.Core.Logic.{_⊎_, inl, inr, _↔_}
 use lib.Dec.{eqb, leb}
 use lib.ListN.{length, take}
 use borrow.Author.Tests.{eqb-true, eqb-false, eq-eqb, leb-true, leb-false, le-leb}
-use Rattle.words.specs.Lists.{every}
-use Rattle.words.specs.MemberLaws.{every-right, same-right}
-use Rattle.words.specs.TestLaws.{split, same?, both, and}
-use Rattle.answers.specs.Answers.{refusal}
-use Rattle.answers.specs.Parsing.{Parsed, parsed, refused, IsRead}
-use Rattle.answers.specs.ParsingLaws.{is-read, read-is}
-use Rattle.answers.specs.declared.Answer.{Answer}
-use Rattle.reading.specs.Header.{variables, kindAt}
-use Rattle.reading.specs.Tree.{Block}
-use Rattle.reading.specs.Rule.{readRule}
-use Rattle.reading.specs.RowLaws as bytes
-use Rattle.codes.specs.declared.Kind.{Kind}
-use Rattle.codes.specs.Inputs.{someAbove, inputsRow}
-use Rattle.codes.specs.InputLaws.{above-right, row-count, row-bit, row-room, row-none}
-use Rattle.words.specs.Lists.{upto}
-use Rattle.gates.specs.Limits.{mostGates, mostConditions}
-use Rattle.gates.specs.Gates.{Gates, gateAt, conditions}
-use Rattle.gates.specs.PlainCircuit.{gatesOf, gateCount}
-use Rattle.needed.specs.Needed.{wantedOf}
-use Rattle.needed.specs.Pass.{rulePreconditions}
-use Rattle.needed.specs.RulePreconditions.{rule-earlier, wanted-inside, rule-exclude}
+use Rattle.base.specs.Lists.{every}
+use Rattle.base.specs.MemberLaws.{every-right, same-right}
+use Rattle.base.specs.TestLaws.{split, same?, both, and}
+use Rattle.base.specs.Answers.{refusal}
+use Rattle.base.specs.Parsing.{Parsed, parsed, refused, IsRead}
+use Rattle.base.specs.ParsingLaws.{is-read, read-is}
+use Rattle.base.specs.declared.Answer.{Answer}
+use Rattle.rule.specs.Header.{variables, kindAt}
+use Rattle.rule.specs.Tree.{Block}
+use Rattle.rule.specs.Rule.{readRule}
+use Rattle.rule.specs.RowLaws as bytes
+use Rattle.base.specs.declared.Kind.{Kind}
+use Rattle.base.specs.Inputs.{someAbove, inputsRow}
+use Rattle.base.specs.InputLaws.{above-right, row-count, row-bit, row-room, row-none}
+use Rattle.base.specs.Lists.{upto}
+use Rattle.circuit.specs.Limits.{mostGates, mostConditions}
+use Rattle.circuit.specs.Gates.{Gates, gateAt, conditions}
+use Rattle.circuit.specs.PlainCircuit.{gatesOf, gateCount}
+use Rattle.circuit_needed.specs.Needed.{wantedOf}
+use Rattle.circuit_needed.specs.Pass.{rulePreconditions}
+use Rattle.circuit_needed.specs.RulePreconditions.{rule-earlier, wanted-inside, rule-exclude}
 use Rattle.circuit.specs.Whole.{ruleAnswer}
 use Rattle.circuit.specs.WholeLaws.{accepted, answer-bytes, answer-whole, whole-gates, whole-conditions, whole-success}
-use Rattle.direct.specs.InputLaws.{row-is}
-use Rattle.direct.specs.Direct.{runAnswer}
-use Rattle.direct.specs.DirectLaws.{rule-answer, inputs-answer, run-answer, run-number}
+use Rattle.run.specs.InputLaws.{row-is}
+use Rattle.run.specs.Direct.{runAnswer}
+use Rattle.run.specs.DirectLaws.{rule-answer, inputs-answer, run-answer, run-number}
 use Rattle.plan.specs.PlanFile.{leastBytes, mostBytes, mark, groupsCounted, groupsIn}
 use Rattle.plan.specs.Groups.{groupOf}
 use Rattle.plan.specs.Rows.{isCostly, rows, planRow, planAnswer}

@@ -3,14 +3,14 @@ use Prim.Native.Nat.{_<_}
 use native.Mathlib.Omega.{arith}
 use mathlib.Core.Path.{_≡_, sym, ap, _∙_}
 use lib.ListN.{length}
-use Rattle.answers.specs.Answers.{refusal}
-use Rattle.answers.specs.declared.Answer.{Answer}
+use Rattle.base.specs.Answers.{refusal}
+use Rattle.base.specs.declared.Answer.{Answer}
 use Rattle.circuit.specs.Whole.{ruleAnswer}
 use Rattle.circuit.specs.WholeLaws as rules
 use Rattle.plan.specs.Rows.{planAnswer}
 use Rattle.plan.specs.AcceptedLaws as plans
 use Rattle.fused.specs.AnswerLaws.{fused-refused}
-use Rattle.batch.specs.Packed.{Entry, answerTo}
+use Rattle.report.specs.Packed.{Entry, answerTo}
 
 -- the check's refusal is the entry's
 refused-is : (e : Entry) (a : Answer) → planAnswer (e .rule) (e .plan) ≡ a → (a .number ≡ 0 → ⊥) → answerTo e ≡ a

@@ -4,23 +4,23 @@ use mathlib.Core.Path.{_≡_}
 use mathlib.Core.List.{List, []}
 use mathlib.Core.Logic.{_↔_}
 use lib.ListN.{length}
-use Rattle.codes.specs.Inputs.{FiguresFit}
-use Rattle.words.specs.Lists.{_∈_}
-use Rattle.words.specs.Numbers.{Bytes, Words}
-use Rattle.codes.specs.Codes.{Fits}
-use Rattle.answers.specs.Answers.{success}
-use Rattle.reading.specs.Header.{variables, kindAt}
+use Rattle.base.specs.Inputs.{FiguresFit}
+use Rattle.base.specs.Lists.{_∈_}
+use Rattle.base.specs.Numbers.{Bytes, Words}
+use Rattle.base.specs.Codes.{Fits}
+use Rattle.base.specs.Answers.{success}
+use Rattle.rule.specs.Header.{variables, kindAt}
 use Rattle.plan.specs.Rows.{planAnswer}
-use Rattle.records.specs.Versions.{Version, writtenVersion}
-use Rattle.records.specs.Records.{Pair, Record, pick, guard, recordIn, ReadsEarlier, pickFigure, guardFigure}
-use Rattle.records.specs.WireKinds.{valuesOf, wireKind}
-use Rattle.records.specs.WireFigures.{pickSum, wireFigure}
-use Rattle.records.specs.CircuitFile.{recordBytes, fileBytes}
-use Rattle.records.specs.FileFigures.{wireCount, fileRecords}
-use Rattle.records.specs.WellFormed as circuits
+use Rattle.file.specs.Versions.{Version, writtenVersion}
+use Rattle.file.specs.Records.{Pair, Record, pick, guard, recordIn, ReadsEarlier, pickFigure, guardFigure}
+use Rattle.file.specs.WireKinds.{valuesOf, wireKind}
+use Rattle.file.specs.WireFigures.{pickSum, wireFigure}
+use Rattle.file.specs.CircuitFile.{recordBytes, fileBytes}
+use Rattle.file.specs.FileFigures.{wireCount, fileRecords}
+use Rattle.file.specs.WellFormed as circuits
 use Rattle.fused.specs.FusedCircuit.{recordsOf, fusedFile}
 use Rattle.fused.specs.PickSums as picks
-use Rattle.foreign.specs.Foreign.{circuitAnswer, recordPart, circuitRunAnswer, circuitRunResults}
+use Rattle.file.specs.Answers.{circuitAnswer, recordPart, circuitRunAnswer, circuitRunResults}
 use Rattle.demands.specs.Promises.{OwnAsDirect}
 use Rattle.demands.specs.ForeignLaws as foreign
 

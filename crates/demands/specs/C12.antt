@@ -3,18 +3,18 @@ use Prim.Native.Nat.{ℕ, _≤_}
 use mathlib.Core.Path.{_≡_}
 use mathlib.Core.Bool.{true}
 use mathlib.Core.List.{List, [], _∷_, _++_}
-use Rattle.words.specs.Lists.{elem}
-use Rattle.codes.specs.Codes.{byteOf, commutes}
-use Rattle.codes.specs.declared.Operation.{Operation}
-use Rattle.answers.specs.Parsing.{IsRead}
-use Rattle.reading.specs.Tree.{variable, two, Block}
-use Rattle.reading.specs.Rule.{readRule}
-use Rattle.reading.specs.Format.{headerBytes, WellFormed}
-use Rattle.reading.specs.OnlyOrder.{OnlyOrder}
-use Rattle.reading.specs.Standing.{InBlock}
-use Rattle.reading.specs.OrderBytes as bytes
-use Rattle.gates.specs.Gates.{operation, gateAt}
-use Rattle.gates.specs.PlainCircuit.{gatesOf}
+use Rattle.base.specs.Lists.{elem}
+use Rattle.base.specs.Codes.{byteOf, commutes}
+use Rattle.base.specs.declared.Operation.{Operation}
+use Rattle.base.specs.Parsing.{IsRead}
+use Rattle.rule.specs.Tree.{variable, two, Block}
+use Rattle.rule.specs.Rule.{readRule}
+use Rattle.rule.specs.Format.{headerBytes, WellFormed}
+use Rattle.rule.specs.OnlyOrder.{OnlyOrder}
+use Rattle.rule.specs.Standing.{InBlock}
+use Rattle.rule.specs.OrderBytes as bytes
+use Rattle.circuit.specs.Gates.{operation, gateAt}
+use Rattle.circuit.specs.PlainCircuit.{gatesOf}
 use Rattle.circuit.specs.Whole.{ruleAnswer}
 use Rattle.plan.specs.Rows.{planAnswer}
 use Rattle.fused.specs.FusedCircuit.{fusedFile}

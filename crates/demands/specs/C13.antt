@@ -5,31 +5,31 @@ use mathlib.Core.Bool.{true, false}
 use mathlib.Core.List.{List}
 use mathlib.Core.Logic.{_↔_}
 use lib.ListN.{length, getD, set, take}
-use Rattle.codes.specs.Inputs.{FiguresFit}
-use Rattle.codes.specs.declared.Kind.the-variants as kind
-use Rattle.words.specs.Lists.{_∈_}
-use Rattle.words.specs.Numbers.{Bytes}
-use Rattle.answers.specs.Answers.{refusal}
-use Rattle.reading.specs.Header.{mark, variables, kindAt, workingAt}
-use Rattle.reading.specs.HeaderLaws as kinds
-use Rattle.reading.specs.Tree.{Block}
-use Rattle.reading.specs.Format.{ruleBytes, WellFormed}
-use Rattle.reading.specs.OnlyWorking.{OnlyWorking, MoreWorking}
-use Rattle.gates.specs.Running.{runRule, runWrites}
-use Rattle.gates.specs.WrittenLaws as written
-use Rattle.gates.specs.PlainCircuit.{gatesOf, outputsOf}
-use Rattle.settings.specs.Settings.{Setting}
-use Rattle.needed.specs.Needed.{Needed, wantedOf}
+use Rattle.base.specs.Inputs.{FiguresFit}
+use Rattle.base.specs.declared.Kind.the-variants as kind
+use Rattle.base.specs.Lists.{_∈_}
+use Rattle.base.specs.Numbers.{Bytes}
+use Rattle.base.specs.Answers.{refusal}
+use Rattle.rule.specs.Header.{mark, variables, kindAt, workingAt}
+use Rattle.rule.specs.HeaderLaws as kinds
+use Rattle.rule.specs.Tree.{Block}
+use Rattle.rule.specs.Format.{ruleBytes, WellFormed}
+use Rattle.rule.specs.OnlyWorking.{OnlyWorking, MoreWorking}
+use Rattle.circuit.specs.Running.{runRule, runWrites}
+use Rattle.circuit.specs.WrittenLaws as written
+use Rattle.circuit.specs.PlainCircuit.{gatesOf, outputsOf}
+use Rattle.base.specs.Settings.{Setting}
+use Rattle.circuit_needed.specs.Needed.{Needed, wantedOf}
 use Rattle.circuit.specs.Whole.{ruleAnswer}
 use Rattle.plan.specs.Rows.{planAnswer}
-use Rattle.records.specs.Versions.{Version}
-use Rattle.records.specs.Records.{Record}
-use Rattle.records.specs.CircuitFile.{fileBytes, noWire}
-use Rattle.records.specs.FileFigures.{wireCount, fileOutputs, fileFigures}
-use Rattle.records.specs.WellFormed as circuits
+use Rattle.file.specs.Versions.{Version}
+use Rattle.file.specs.Records.{Record}
+use Rattle.file.specs.CircuitFile.{fileBytes, noWire}
+use Rattle.file.specs.FileFigures.{wireCount, fileOutputs, fileFigures}
+use Rattle.file.specs.WellFormed as circuits
 use Rattle.fused.specs.FusedCircuit.{fusedFile}
 use Rattle.fused.specs.FusedFigures as figures
-use Rattle.foreign.specs.Foreign.{circuitAnswer}
+use Rattle.file.specs.Answers.{circuitAnswer}
 use Rattle.demands.specs.WorkingLaws as working
 use Rattle.demands.specs.ReadingLaws as rules
 

@@ -3,11 +3,11 @@ use Prim.Native.Nat.{ℕ, suc, _≤_}
 use mathlib.Core.Path.{_≡_}
 use mathlib.Core.List.{List}
 use lib.ListN.{getD}
-use Rattle.answers.specs.Parsing.{IsRead}
-use Rattle.reading.specs.Rule.{readRule}
-use Rattle.needed.specs.Pass.{rulePreconditions}
-use Rattle.needed.specs.Reaching.{RuleReaching}
-use Rattle.needed.specs.RulePreconditions as preconditions
+use Rattle.base.specs.Parsing.{IsRead}
+use Rattle.rule.specs.Rule.{readRule}
+use Rattle.circuit_needed.specs.Pass.{rulePreconditions}
+use Rattle.circuit_needed.specs.Reaching.{RuleReaching}
+use Rattle.circuit_needed.specs.RulePreconditions as preconditions
 
 -- "A single backward pass over one list of sets that is changed in place": the list when the pass reaches gate k - 1 is M (`RuleReaching s k M`),
 -- and the pass ends with the preconditions.

@@ -4,8 +4,8 @@ use mathlib.Core.Path.{_≡_}
 use mathlib.Core.List.{List, [], _∷_, map}
 use mathlib.Core.Logic.{_↔_}
 use lib.ListN.{drop}
-use Rattle.words.specs.Numbers.{Bytes}
-use Rattle.gates.specs.PlainCircuit.{gateCount}
+use Rattle.base.specs.Numbers.{Bytes}
+use Rattle.circuit.specs.PlainCircuit.{gateCount}
 use Rattle.circuit.specs.Whole.{ruleAnswer}
 use Rattle.plan.specs.PlanFile.{groupsIn, EachGroup, Apart}
 use Rattle.plan.specs.Rows.{Row, rows, firstFailing, planAnswer}

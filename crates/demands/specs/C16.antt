@@ -5,22 +5,22 @@ use mathlib.Core.Path.{_≡_, sym, ap, _∙_}
 use mathlib.Core.List.{List, _∷_, _++_, map, flatten}
 use mathlib.Core.Logic.{_⊎_}
 use lib.ListN.{length, take}
-use Rattle.words.specs.Numbers.{Bytes}
-use Rattle.answers.specs.Answers.{refusal}
+use Rattle.base.specs.Numbers.{Bytes}
+use Rattle.base.specs.Answers.{refusal}
 use Rattle.circuit.specs.Whole.{ruleAnswer}
 use Rattle.fused.specs.Answers.{writeAnswer}
 use Rattle.fused.specs.AnswerLaws as answers
-use Rattle.lines.specs.Line.{decimal, spaced, lineOf}
-use Rattle.lines.specs.Total.{spacedLess}
-use Rattle.lines.specs.TotalLaws as totals
-use Rattle.batch.specs.declared.Progress.the-variants.{Stopped}
-use Rattle.batch.specs.Batch.{reportOf}
-use Rattle.batch.specs.Packed.{Entry, Fits, AllFit, entryBytes, batchOf, answerTo, linesOf, accepts, among, costOf, totalIn, NoEntry, Found, printedFor}
-use Rattle.batch.specs.Steps.{mostLine, feedAll, start, fed}
-use Rattle.batch.specs.FoundLaws as found
-use Rattle.batch.specs.FeedLaws as feeding
-use Rattle.batch.specs.HeldLaws as held
-use Rattle.batch.specs.BoundLaws as bounds
+use Rattle.report.specs.Line.{decimal, spaced, lineOf}
+use Rattle.report.specs.Total.{spacedLess}
+use Rattle.report.specs.TotalLaws as totals
+use Rattle.report.specs.declared.Progress.the-variants.{Stopped}
+use Rattle.report.specs.Batch.{reportOf}
+use Rattle.report.specs.Packed.{Entry, Fits, AllFit, entryBytes, batchOf, answerTo, linesOf, accepts, among, costOf, totalIn, NoEntry, Found, printedFor}
+use Rattle.report.specs.Steps.{mostLine, feedAll, start, fed}
+use Rattle.report.specs.FoundLaws as found
+use Rattle.report.specs.FeedLaws as feeding
+use Rattle.report.specs.HeldLaws as held
+use Rattle.report.specs.BoundLaws as bounds
 use Rattle.demands.specs.BatchLaws as limits
 
 -- "A batch .. is 42 41 54 ("BAT"), 00 01, a two-byte count, and for each entry a two-byte length with its rule and a two-byte length with its plan. A second program ..
@@ -47,7 +47,7 @@ sort-report = found.found-report
 pub cut-entry : (e : Entry) → Fits e → (k : ℕ) → k < length (entryBytes e) → NoEntry (take k (entryBytes e))
 cut-entry = found.cut-entry
 
--- "document 01's line for each entry": the one that the first program prints, which writes the circuit to a buffer of 16,384 bytes. ("writes no circuit": `writing::count`
+-- "document 01's line for each entry": the one that the first program prints, which writes the circuit to a buffer of 16,384 bytes. ("writes no circuit": `fused_write::count`
 -- is lent no buffer.)
 pub entry-line : (e : Entry) → lineOf (answerTo e) ≡ lineOf (writeAnswer (e .rule) (e .plan) 16384)
 entry-line e = ap lineOf (sym (answers.room-enough (e .rule) (e .plan)))

@@ -6,44 +6,44 @@ use mathlib.Core.Bool.{true}
 use mathlib.Core.List.{List, _∷_, _++_, map}
 use mathlib.Core.Logic.{_↔_}
 use lib.ListN.{length, take, getD}
-use Rattle.words.specs.Lists.{_∈_}
-use Rattle.words.specs.Numbers.{bytesOf, numberAt, Bytes}
-use Rattle.bitsets.specs.Bits.{bit}
-use Rattle.bitsets.specs.ByteLaws as tables
-use Rattle.answers.specs.Answers.{refusal}
-use Rattle.answers.specs.Parsing.{stepOf, IsRead}
-use Rattle.answers.specs.declared.Step.the-variants.{Refused}
-use Rattle.settings.specs.Settings.{settingOf, numberOf}
-use Rattle.settings.specs.Sets.{has, excludes, rests}
-use Rattle.settings.specs.Guards.{table}
-use Rattle.settings.specs.GuardLaws as guards
-use Rattle.settings.specs.HeldLaws as held
-use Rattle.reading.specs.Tree.{Block}
-use Rattle.reading.specs.Blocks.{readStatement}
-use Rattle.reading.specs.Rule.{readRule}
-use Rattle.reading.specs.Format.{headerBytes, WellFormed, nesting}
-use Rattle.reading.specs.NestedIfs.{Leads}
-use Rattle.reading.specs.NestedIfLaws as ifs
-use Rattle.gates.specs.Gates.{Gates, Earlier, conditions}
-use Rattle.gates.specs.PlainCircuit.{gatesOf}
-use Rattle.needed.specs.Needed.{Needed, wantedOf}
-use Rattle.needed.specs.Pass.{preconditionOf, rulePreconditions}
-use Rattle.needed.specs.PreconditionLaws as preconditions
+use Rattle.base.specs.Lists.{_∈_}
+use Rattle.base.specs.Numbers.{bytesOf, numberAt, Bytes}
+use Rattle.base.specs.Bits.{bit}
+use Rattle.base.specs.BitByteLaws as tables
+use Rattle.base.specs.Answers.{refusal}
+use Rattle.base.specs.Parsing.{stepOf, IsRead}
+use Rattle.base.specs.declared.Step.the-variants.{Refused}
+use Rattle.base.specs.Settings.{settingOf, numberOf}
+use Rattle.base.specs.Sets.{has, excludes, rests}
+use Rattle.base.specs.Guards.{table}
+use Rattle.base.specs.GuardLaws as guards
+use Rattle.base.specs.SetsHeldLaws as held
+use Rattle.rule.specs.Tree.{Block}
+use Rattle.rule.specs.Blocks.{readStatement}
+use Rattle.rule.specs.Rule.{readRule}
+use Rattle.rule.specs.Format.{headerBytes, WellFormed, nesting}
+use Rattle.rule.specs.NestedIfs.{Leads}
+use Rattle.rule.specs.NestedIfLaws as ifs
+use Rattle.circuit.specs.Gates.{Gates, Earlier, conditions}
+use Rattle.circuit.specs.PlainCircuit.{gatesOf}
+use Rattle.circuit_needed.specs.Needed.{Needed, wantedOf}
+use Rattle.circuit_needed.specs.Pass.{preconditionOf, rulePreconditions}
+use Rattle.circuit_needed.specs.PreconditionLaws as preconditions
 use Rattle.circuit.specs.Whole.{ruleAnswer}
 use Rattle.plan.specs.Rows.{planAnswer}
-use Rattle.records.specs.Versions.{one, two, mostGuardWires, tableBytes}
-use Rattle.records.specs.Records.{Record, guard, recordIn}
-use Rattle.records.specs.CircuitFile.{mark, wiresBytes, recordBytes, fileBytes}
-use Rattle.records.specs.FileFigures.{recordAt, versionIn, wireCount, fileRecords, fileFigures}
-use Rattle.records.specs.LaidOut.{recordPlace}
-use Rattle.records.specs.CircuitRows.{headed}
-use Rattle.records.specs.WellFormed as circuits
+use Rattle.file.specs.Versions.{one, two, mostGuardWires, tableBytes}
+use Rattle.file.specs.Records.{Record, guard, recordIn}
+use Rattle.file.specs.CircuitFile.{mark, wiresBytes, recordBytes, fileBytes}
+use Rattle.file.specs.FileFigures.{recordAt, versionIn, wireCount, fileRecords, fileFigures}
+use Rattle.file.specs.LaidOut.{recordPlace}
+use Rattle.file.specs.CircuitRows.{headed}
+use Rattle.file.specs.WellFormed as circuits
 use Rattle.fused.specs.FusedCircuit.{recordsOf, fusedFile}
 use Rattle.fused.specs.SizeLimits.{mostBytesOfTwo}
 use Rattle.fused.specs.SizeBounds as sizes
 use Rattle.fused.specs.Answers.{fusedAnswer, writeAnswer}
 use Rattle.fused.specs.AnswerLaws as answers
-use Rattle.foreign.specs.Foreign.{circuitAnswer}
+use Rattle.file.specs.Answers.{circuitAnswer}
 use Rattle.demands.specs.Promises.{OneArray}
 use Rattle.demands.specs.EightLaws as laws
 use Rattle.demands.specs.VersionLaws as versions

@@ -5,22 +5,22 @@ use mathlib.Core.Bool.{true, false}
 use mathlib.Core.List.{List, [], _∷_, _++_, map}
 use mathlib.Core.Logic.{_↔_}
 use lib.ListN.{length, getD}
-use Rattle.words.specs.Lists.{_∈_}
-use Rattle.words.specs.Numbers.{Bytes}
-use Rattle.codes.specs.Codes.{entryOf}
-use Rattle.codes.specs.Inputs.{FiguresFit}
-use Rattle.codes.specs.Results.{isOne, resultOn}
-use Rattle.codes.specs.declared.Operation.{Operation}
-use Rattle.records.specs.Versions.{writtenVersion}
-use Rattle.records.specs.Records.{Pair, Record, operation, pick, guard, recordIn, recordsCost}
-use Rattle.records.specs.CircuitFile.{recordsBytes}
-use Rattle.records.specs.WireKinds.{guardsOf, valuesOf}
-use Rattle.records.specs.WireFigures.{wireFigure}
-use Rattle.reading.specs.Header.{variables, kindAt}
-use Rattle.gates.specs.Gates.{gateAt, arguments, figureAt}
-use Rattle.gates.specs.PlainCircuit.{gatesOf, gateCount}
-use Rattle.needed.specs.Needed.{Needed, wantedOf}
-use Rattle.needed.specs.Pass.{rulePreconditions}
+use Rattle.base.specs.Lists.{_∈_}
+use Rattle.base.specs.Numbers.{Bytes}
+use Rattle.base.specs.Codes.{entryOf}
+use Rattle.base.specs.Inputs.{FiguresFit}
+use Rattle.base.specs.Results.{isOne, resultOn}
+use Rattle.base.specs.declared.Operation.{Operation}
+use Rattle.file.specs.Versions.{writtenVersion}
+use Rattle.file.specs.Records.{Pair, Record, operation, pick, guard, recordIn, recordsCost}
+use Rattle.file.specs.CircuitFile.{recordsBytes}
+use Rattle.file.specs.WireKinds.{guardsOf, valuesOf}
+use Rattle.file.specs.WireFigures.{wireFigure}
+use Rattle.rule.specs.Header.{variables, kindAt}
+use Rattle.circuit.specs.Gates.{gateAt, arguments, figureAt}
+use Rattle.circuit.specs.PlainCircuit.{gatesOf, gateCount}
+use Rattle.circuit_needed.specs.Needed.{Needed, wantedOf}
+use Rattle.circuit_needed.specs.Pass.{rulePreconditions}
 use Rattle.plan.specs.PlanFile.{groupsIn}
 use Rattle.plan.specs.Groups.{groupOf, restsOf}
 use Rattle.plan.specs.Rows.{planAnswer}

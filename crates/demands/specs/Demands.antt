@@ -5,21 +5,21 @@ use mathlib.Core.Path.{_≡_}
 use mathlib.Core.List.{List, map}
 use mathlib.Core.Logic.{_↔_}
 use lib.ListN.{length, take, drop}
-use Rattle.words.specs.Numbers.{Bytes, Words}
-use Rattle.answers.specs.Parsing.{parsed, IsRead}
-use Rattle.reading.specs.Header.{variables}
-use Rattle.reading.specs.Tree.{Block}
-use Rattle.reading.specs.Rule.{readRule}
-use Rattle.reading.specs.Format.{ruleBytes, WellFormed}
-use Rattle.reading.specs.RuleFormat as format
-use Rattle.gates.specs.Running.{runRule}
-use Rattle.gates.specs.Gates.{figureAt}
-use Rattle.gates.specs.PlainCircuit.{gatesOf, outputsOf}
-use Rattle.settings.specs.Settings.{Setting}
-use Rattle.needed.specs.Needed.{Needed, wantedOf}
+use Rattle.base.specs.Numbers.{Bytes, Words}
+use Rattle.base.specs.Parsing.{parsed, IsRead}
+use Rattle.rule.specs.Header.{variables}
+use Rattle.rule.specs.Tree.{Block}
+use Rattle.rule.specs.Rule.{readRule}
+use Rattle.rule.specs.Format.{ruleBytes, WellFormed}
+use Rattle.rule.specs.RuleFormat as format
+use Rattle.circuit.specs.Running.{runRule}
+use Rattle.circuit.specs.Gates.{figureAt}
+use Rattle.circuit.specs.PlainCircuit.{gatesOf, outputsOf}
+use Rattle.base.specs.Settings.{Setting}
+use Rattle.circuit_needed.specs.Needed.{Needed, wantedOf}
 use Rattle.circuit.specs.Whole.{ruleAnswer}
-use Rattle.direct.specs.Direct.{runAnswer, runResults}
-use Rattle.direct.specs.DirectLaws as direct
+use Rattle.run.specs.Direct.{runAnswer, runResults}
+use Rattle.run.specs.DirectLaws as direct
 use Rattle.plan.specs.Rows.{planAnswer}
 use Rattle.plan.specs.PlanFile.{groupsIn}
 use Rattle.plan.specs.Groups.{groupOf, Waits, Chain}
@@ -29,10 +29,10 @@ use Rattle.fused.specs.FusedCircuit.{fusedFile}
 use Rattle.fused.specs.Answers.{fusedAnswer, writeAnswer, writtenOver}
 use Rattle.fused.specs.AnswerLaws as writes
 use Rattle.fused.specs.FusedFigures as figures
-use Rattle.running.specs.FusedRun.{fusedResults}
-use Rattle.running.specs.ResultLaws as fused-runs
-use Rattle.foreign.specs.Foreign.{circuitAnswer, circuitRunAnswer, circuitRunResults}
-use Rattle.foreign.specs.RunLaws as files-run
+use Rattle.run.specs.FusedRun.{fusedResults}
+use Rattle.run.specs.ResultLaws as fused-runs
+use Rattle.file.specs.Answers.{circuitAnswer, circuitRunAnswer, circuitRunResults}
+use Rattle.file.specs.RunLaws as files-run
 use Rattle.demands.specs.Table.{AnsweredBy, AnsweredAfter, RuleAnswered, planRows, runRows, bufferRows, circuitRows, fileRunRows}
 use Rattle.demands.specs.Promises.{AcceptedExactly, FileReadsEarlier, FileGives, FusedAsDirect}
 use Rattle.demands.specs.AnsweredLaws as answers

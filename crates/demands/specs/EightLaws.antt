@@ -8,29 +8,29 @@ use mathlib.Core.Logic.{_↔_}
 use lib.ListN.{length, getD, length-map}
 use lib.Pow.{pow-mono, pow-pos, mod-mod-pow}
 use native.Mathlib.Nat.{lt-of-lt-of-le, mod-lt}
-use Rattle.words.specs.TestLaws.{same-test}
-use Rattle.words.specs.Lists.{_∈_}
-use Rattle.answers.specs.Answers.{refusal}
-use Rattle.answers.specs.Parsing.{IsRead}
-use Rattle.answers.specs.ParsingLaws.{is-read}
-use Rattle.bitsets.specs.BitLaws.{same-bits}
-use Rattle.settings.specs.Settings.{settingOf, numberOf, preRestsOn, preRests}
-use Rattle.settings.specs.Sets.{has, excludes, rests}
-use Rattle.settings.specs.Guards.{table}
-use Rattle.settings.specs.Holding.{Holds}
-use Rattle.settings.specs.ListLaws.{keep-once}
-use Rattle.settings.specs.SettingLaws.{numberOf-settingOf}
-use Rattle.settings.specs.HoldLaws.{rests-places}
-use Rattle.settings.specs.GuardLaws.{guard-holds}
-use Rattle.settings.specs.PlaceLaws.{holds-repeats}
-use Rattle.gates.specs.Limits.{mostGates, mostConditions}
-use Rattle.gates.specs.Gates.{Gates, Earlier, conditions}
-use Rattle.gates.specs.PlainCircuit.{gatesOf}
-use Rattle.reading.specs.Rule.{readRule}
-use Rattle.needed.specs.Needed.{Needed, wantedOf}
-use Rattle.needed.specs.Pass.{needed, preconditionOf, rulePreconditions}
-use Rattle.needed.specs.RulePreconditions.{rule-precondition}
-use Rattle.needed.specs.PreconditionLaws.{precondition-holds, exclude-right}
+use Rattle.base.specs.TestLaws.{same-test}
+use Rattle.base.specs.Lists.{_∈_}
+use Rattle.base.specs.Answers.{refusal}
+use Rattle.base.specs.Parsing.{IsRead}
+use Rattle.base.specs.ParsingLaws.{is-read}
+use Rattle.base.specs.BitLaws.{same-bits}
+use Rattle.base.specs.Settings.{settingOf, numberOf, preRestsOn, preRests}
+use Rattle.base.specs.Sets.{has, excludes, rests}
+use Rattle.base.specs.Guards.{table}
+use Rattle.base.specs.Holding.{Holds}
+use Rattle.base.specs.SettingListLaws.{keep-once}
+use Rattle.base.specs.SettingLaws.{numberOf-settingOf}
+use Rattle.base.specs.HoldLaws.{rests-places}
+use Rattle.base.specs.GuardLaws.{guard-holds}
+use Rattle.base.specs.PlaceLaws.{holds-repeats}
+use Rattle.circuit.specs.Limits.{mostGates, mostConditions}
+use Rattle.circuit.specs.Gates.{Gates, Earlier, conditions}
+use Rattle.circuit.specs.PlainCircuit.{gatesOf}
+use Rattle.rule.specs.Rule.{readRule}
+use Rattle.circuit_needed.specs.Needed.{Needed, wantedOf}
+use Rattle.circuit_needed.specs.Pass.{needed, preconditionOf, rulePreconditions}
+use Rattle.circuit_needed.specs.RulePreconditions.{rule-precondition}
+use Rattle.circuit_needed.specs.PreconditionLaws.{precondition-holds, exclude-right}
 use Rattle.circuit.specs.Whole.{ruleAnswer}
 use Rattle.circuit.specs.WholeLaws.{whole-conditions, whole-success, answer-whole, accepted}
 use Rattle.fused.specs.FitLaws.{table-below}

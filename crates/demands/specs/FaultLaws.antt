@@ -9,20 +9,20 @@ use lib.Bits.{bitAnd, and-le-l}
 use lib.Dec.{eqb}
 use lib.ListN.{getD, take}
 use borrow.Author.Tests.{eqb-false}
-use Rattle.words.specs.Lists.{_∈_, every}
-use Rattle.words.specs.TestLaws.{split, both}
-use Rattle.bitsets.specs.BitLaws.{some-bit, bit-and}
-use Rattle.settings.specs.Settings.{Setting, settingOf}
-use Rattle.settings.specs.Sets.{has, excludes}
-use Rattle.answers.specs.ParsingLaws.{is-read}
-use Rattle.reading.specs.Rule.{readRule}
-use Rattle.gates.specs.Limits.{mostConditions}
-use Rattle.gates.specs.Gates.{conditions}
-use Rattle.gates.specs.PlainCircuit.{gatesOf, gateCount}
-use Rattle.needed.specs.Needed.{Needed, wantedOf}
-use Rattle.needed.specs.Pass.{rulePreconditions}
-use Rattle.needed.specs.PreconditionLaws.{precondition-below}
-use Rattle.needed.specs.RulePreconditions.{rule-earlier, wanted-inside, rule-precondition}
+use Rattle.base.specs.Lists.{_∈_, every}
+use Rattle.base.specs.TestLaws.{split, both}
+use Rattle.base.specs.BitLaws.{some-bit, bit-and}
+use Rattle.base.specs.Settings.{Setting, settingOf}
+use Rattle.base.specs.Sets.{has, excludes}
+use Rattle.base.specs.ParsingLaws.{is-read}
+use Rattle.rule.specs.Rule.{readRule}
+use Rattle.circuit.specs.Limits.{mostConditions}
+use Rattle.circuit.specs.Gates.{conditions}
+use Rattle.circuit.specs.PlainCircuit.{gatesOf, gateCount}
+use Rattle.circuit_needed.specs.Needed.{Needed, wantedOf}
+use Rattle.circuit_needed.specs.Pass.{rulePreconditions}
+use Rattle.circuit_needed.specs.PreconditionLaws.{precondition-below}
+use Rattle.circuit_needed.specs.RulePreconditions.{rule-earlier, wanted-inside, rule-precondition}
 use Rattle.circuit.specs.Whole.{ruleAnswer}
 use Rattle.circuit.specs.WholeLaws.{accepted}
 use Rattle.plan.specs.PlanFile.{Plan, groupsIn}

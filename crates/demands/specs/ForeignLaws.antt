@@ -8,42 +8,42 @@ use mathlib.Core.Logic.{_↔_}
 use lib.Dec.{eqb, ltb}
 use lib.ListN.{length, take}
 use borrow.Author.Tests.{eqb-true, eqb-false, ltb-true, ltb-false}
-use Rattle.words.specs.Buffers.{over}
-use Rattle.words.specs.Numbers.{Bytes, Words}
-use Rattle.words.specs.TestLaws.{split}
-use Rattle.answers.specs.Answers.{success, refusal}
-use Rattle.answers.specs.declared.Answer.{Answer}
-use Rattle.codes.specs.InputLaws.{row-same}
-use Rattle.reading.specs.Header.{variables, kindAt}
+use Rattle.base.specs.Buffers.{over}
+use Rattle.base.specs.Numbers.{Bytes, Words}
+use Rattle.base.specs.TestLaws.{split}
+use Rattle.base.specs.Answers.{success, refusal}
+use Rattle.base.specs.declared.Answer.{Answer}
+use Rattle.base.specs.InputLaws.{row-same}
+use Rattle.rule.specs.Header.{variables, kindAt}
 use Rattle.circuit.specs.Whole.{ruleAnswer}
 use Rattle.circuit.specs.WholeLaws.{accepted}
-use Rattle.direct.specs.Inputs.{inputRow}
-use Rattle.direct.specs.InputLaws.{row-is, inputs-count, inputs-fit}
-use Rattle.direct.specs.Direct.{runAnswer, runResults}
-use Rattle.direct.specs.DirectLaws as direct
+use Rattle.run.specs.Inputs.{inputRow}
+use Rattle.run.specs.InputLaws.{row-is, inputs-count, inputs-fit}
+use Rattle.run.specs.Direct.{runAnswer, runResults}
+use Rattle.run.specs.DirectLaws as direct
 use Rattle.plan.specs.Rows.{planAnswer}
 use Rattle.plan.specs.AcceptedLaws.{plan-accepted}
-use Rattle.records.specs.Versions.{Version, writtenVersion}
-use Rattle.records.specs.Records.{Record, recordIn, ReadsEarlier}
-use Rattle.records.specs.WireKinds.{wireKind}
-use Rattle.records.specs.CircuitFile.{recordBytes, fileBytes}
-use Rattle.records.specs.FileFigures.{sizeAt, fileVariables, wireCount, fileRecords}
-use Rattle.records.specs.LaidOut.{recordPlace}
-use Rattle.records.specs.FileLaws.{count-found, file-part}
-use Rattle.records.specs.CircuitRows.{headed, laid, standing, circuitRow}
-use Rattle.records.specs.RowLaws.{mark-either, headed-right, laid-right}
-use Rattle.records.specs.StandingLaws.{standing-right}
-use Rattle.records.specs.FormatLaws.{row-60, row-61, row-62, passed-row}
-use Rattle.records.specs.WellFormed.{WellFormed}
-use Rattle.records.specs.FormatLaws as format
+use Rattle.file.specs.Versions.{Version, writtenVersion}
+use Rattle.file.specs.Records.{Record, recordIn, ReadsEarlier}
+use Rattle.file.specs.WireKinds.{wireKind}
+use Rattle.file.specs.CircuitFile.{recordBytes, fileBytes}
+use Rattle.file.specs.FileFigures.{sizeAt, fileVariables, wireCount, fileRecords}
+use Rattle.file.specs.LaidOut.{recordPlace}
+use Rattle.file.specs.FileLaws.{count-found, file-part}
+use Rattle.file.specs.CircuitRows.{headed, laid, standing, circuitRow}
+use Rattle.file.specs.RowLaws.{mark-either, headed-right, laid-right}
+use Rattle.file.specs.StandingLaws.{standing-right}
+use Rattle.file.specs.FormatLaws.{row-60, row-61, row-62, passed-row}
+use Rattle.file.specs.WellFormed.{WellFormed}
+use Rattle.file.specs.FormatLaws as format
 use Rattle.fused.specs.FusedCircuit.{recordsOf, outputWires, fusedFile}
 use Rattle.fused.specs.FitPlan.{fused-found}
 use Rattle.fused.specs.FusedFigures.{reads-earlier, output-earlier, file-run}
 use Rattle.fused.specs.WellFormedLaws.{input-kind, fused-well-formed, fused-row, fused-is}
-use Rattle.foreign.specs.Foreign.{circuitAnswer, recordPart, circuitRunAnswer, circuitRunResults}
-use Rattle.foreign.specs.RefusalLaws.{fileInputsRow}
-use Rattle.foreign.specs.RunLaws.{file-answer, inputs-answer, run-answer, run-number, run-results, refused-results}
-use Rattle.foreign.specs.ReadLaws.{refused-answer, taken-answer, answer-number, part-refused, part-past, part-shown}
+use Rattle.file.specs.Answers.{circuitAnswer, recordPart, circuitRunAnswer, circuitRunResults}
+use Rattle.file.specs.RefusalLaws.{fileInputsRow}
+use Rattle.file.specs.RunLaws.{file-answer, inputs-answer, run-answer, run-number, run-results, refused-results}
+use Rattle.file.specs.ReadLaws.{refused-answer, taken-answer, answer-number, part-refused, part-past, part-shown}
 use Rattle.demands.specs.Table.{AnsweredBy, AnsweredAfter, FailsAt, numberOf, Headed, circuitRows, fileRunRows}
 use Rattle.demands.specs.TableLaws.{taken-by, refused-by}
 use Rattle.demands.specs.AnsweredLaws.{inputs-rows}

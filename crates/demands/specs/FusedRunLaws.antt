@@ -6,35 +6,35 @@ use mathlib.Core.List.{List, map}
 use lib.Dec.{eqb, leb}
 use lib.ListN.{length, take, drop}
 use borrow.Author.Tests.{eqb-true, eqb-false, leb-true, leb-false}
-use Rattle.words.specs.TestLaws.{split}
-use Rattle.words.specs.BufferLaws.{take-over, drop-over}
-use Rattle.words.specs.Numbers.{Bytes, Words}
-use Rattle.answers.specs.ParsingLaws.{is-read}
-use Rattle.answers.specs.Parsing.{IsRead}
-use Rattle.answers.specs.declared.Answer.{Answer}
-use Rattle.reading.specs.Header.{variables}
-use Rattle.reading.specs.Rule.{readRule}
-use Rattle.gates.specs.Running.{runRule}
-use Rattle.gates.specs.Gates.{figureAt}
-use Rattle.gates.specs.PlainCircuit.{gatesOf, outputsOf}
-use Rattle.gates.specs.OutputLaws.{output-figures}
-use Rattle.gates.specs.StartLaws.{read-run}
+use Rattle.base.specs.TestLaws.{split}
+use Rattle.base.specs.BufferLaws.{take-over, drop-over}
+use Rattle.base.specs.Numbers.{Bytes, Words}
+use Rattle.base.specs.ParsingLaws.{is-read}
+use Rattle.base.specs.Parsing.{IsRead}
+use Rattle.base.specs.declared.Answer.{Answer}
+use Rattle.rule.specs.Header.{variables}
+use Rattle.rule.specs.Rule.{readRule}
+use Rattle.circuit.specs.Running.{runRule}
+use Rattle.circuit.specs.Gates.{figureAt}
+use Rattle.circuit.specs.PlainCircuit.{gatesOf, outputsOf}
+use Rattle.circuit.specs.OutputLaws.{output-figures}
+use Rattle.circuit.specs.StartLaws.{read-run}
 use Rattle.circuit.specs.Whole.{ruleAnswer}
 use Rattle.circuit.specs.WholeLaws.{accepted}
-use Rattle.direct.specs.Inputs.{inputRow}
-use Rattle.direct.specs.Direct.{runAnswer, runResults}
-use Rattle.direct.specs.DirectLaws.{inputs-answer, run-answer, answered-rule, answered-inputs, answered-results, refused-results}
+use Rattle.run.specs.Inputs.{inputRow}
+use Rattle.run.specs.Direct.{runAnswer, runResults}
+use Rattle.run.specs.DirectLaws.{inputs-answer, run-answer, answered-rule, answered-inputs, answered-results, refused-results}
 use Rattle.plan.specs.Rows.{planAnswer}
 use Rattle.plan.specs.AcceptedLaws.{plan-accepted}
 use Rattle.fused.specs.FusedCircuit.{fusedFile}
-use Rattle.records.specs.Records.{ReadsEarlier}
-use Rattle.records.specs.FileFigures.{fileRecords}
+use Rattle.file.specs.Records.{ReadsEarlier}
+use Rattle.file.specs.FileFigures.{fileRecords}
 use Rattle.fused.specs.FitPlan.{fused-found}
 use Rattle.fused.specs.FusedFigures.{reads-earlier, output-earlier}
 use Rattle.fused.specs.Answers.{fusedAnswer, writeAnswer, writtenOver}
 use Rattle.fused.specs.AnswerLaws.{fused-taken, fused-plan, answer-bytes, write-refused, write-short, write-taken, write-over}
-use Rattle.running.specs.FusedRun.{fusedResults}
-use Rattle.running.specs.ResultLaws.{fused-untouched, fused-results}
+use Rattle.run.specs.FusedRun.{fusedResults}
+use Rattle.run.specs.ResultLaws.{fused-untouched, fused-results}
 use Rattle.demands.specs.Promises.{FusedAsDirect}
 use Rattle.demands.specs.AnsweredLaws.{plan-number}
 

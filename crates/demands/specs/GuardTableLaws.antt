@@ -5,25 +5,25 @@ use mathlib.Core.Path.{_≡_, refl, sym, ap, subst⁻¹, _∙_}
 use mathlib.Core.List.{List, [], _∷_, _++_, map}
 use lib.ListN.{length, getD, length-map, List·getD-append}
 use lib.Seq.{getD-append-add}
-use Rattle.words.specs.Lists.{_∈_}
-use Rattle.bitsets.specs.BitLaws.{same-bits}
-use Rattle.settings.specs.Settings.{Setting, Once, settingOf, numberOf}
-use Rattle.settings.specs.Sets.{has}
-use Rattle.settings.specs.Guards.{table}
-use Rattle.settings.specs.SettingLaws.{settingOf-at, numberOf-below, bit-numberOf}
-use Rattle.settings.specs.GuardLaws.{table-above, guard-holds}
-use Rattle.answers.specs.ParsingLaws.{is-read}
-use Rattle.records.specs.Records.{Record, word, recordIn}
-use Rattle.reading.specs.Rule.{readRule}
-use Rattle.gates.specs.Limits.{mostConditions}
-use Rattle.gates.specs.Gates.{Earlier, gateAt, conditions}
-use Rattle.gates.specs.ConditionLaws.{conditions-rise}
-use Rattle.gates.specs.PlainCircuit.{gatesOf, gateCount}
-use Rattle.needed.specs.Needed.{wantedOf}
-use Rattle.needed.specs.Pass.{needed, rulePreconditions}
-use Rattle.needed.specs.PassLaws.{needed-sound, needed-complete}
-use Rattle.needed.specs.PreconditionLaws.{precondition-holds}
-use Rattle.needed.specs.RulePreconditions.{rule-earlier, wanted-inside}
+use Rattle.base.specs.Lists.{_∈_}
+use Rattle.base.specs.BitLaws.{same-bits}
+use Rattle.base.specs.Settings.{Setting, Once, settingOf, numberOf}
+use Rattle.base.specs.Sets.{has}
+use Rattle.base.specs.Guards.{table}
+use Rattle.base.specs.SettingLaws.{settingOf-at, numberOf-below, bit-numberOf}
+use Rattle.base.specs.GuardLaws.{table-above, guard-holds}
+use Rattle.base.specs.ParsingLaws.{is-read}
+use Rattle.file.specs.Records.{Record, word, recordIn}
+use Rattle.rule.specs.Rule.{readRule}
+use Rattle.circuit.specs.Limits.{mostConditions}
+use Rattle.circuit.specs.Gates.{Earlier, gateAt, conditions}
+use Rattle.circuit.specs.ConditionLaws.{conditions-rise}
+use Rattle.circuit.specs.PlainCircuit.{gatesOf, gateCount}
+use Rattle.circuit_needed.specs.Needed.{wantedOf}
+use Rattle.circuit_needed.specs.Pass.{needed, rulePreconditions}
+use Rattle.circuit_needed.specs.PassLaws.{needed-sound, needed-complete}
+use Rattle.circuit_needed.specs.PreconditionLaws.{precondition-holds}
+use Rattle.circuit_needed.specs.RulePreconditions.{rule-earlier, wanted-inside}
 use Rattle.circuit.specs.WholeLaws.{accepted}
 use Rattle.plan.specs.PlanFile.{Rising}
 use Rattle.plan.specs.Groups.{restsOf}

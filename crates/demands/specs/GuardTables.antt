@@ -6,14 +6,14 @@ use mathlib.Core.Bool.{true, false}
 use mathlib.Core.List.{List, map}
 use mathlib.Core.Logic.{_↔_}
 use lib.ListN.{length, getD}
-use Rattle.words.specs.Lists.{_∈_}
-use Rattle.bitsets.specs.Bits.{bit}
-use Rattle.settings.specs.Settings.{Setting}
-use Rattle.gates.specs.PlainCircuit.{gatesOf}
-use Rattle.needed.specs.Needed.{Needed, wantedOf}
+use Rattle.base.specs.Lists.{_∈_}
+use Rattle.base.specs.Bits.{bit}
+use Rattle.base.specs.Settings.{Setting}
+use Rattle.circuit.specs.PlainCircuit.{gatesOf}
+use Rattle.circuit_needed.specs.Needed.{Needed, wantedOf}
 use Rattle.plan.specs.PlanFile.{Rising}
 use Rattle.plan.specs.Groups.{RestsOn}
-use Rattle.records.specs.Records.{Record, guard}
+use Rattle.file.specs.Records.{Record, guard}
 use Rattle.fused.specs.FusedCircuit.{wireOf}
 
 -- the setting σ gives these conditions, in that order, the bits of j

@@ -3,16 +3,16 @@ use Prim.Native.Nat.{ℕ, _≤_}
 use mathlib.Core.Path.{_≡_, refl}
 use mathlib.Core.Bool.{true}
 use mathlib.Core.List.{List, [], _∷_}
-use Rattle.words.specs.Lists.{elem}
-use Rattle.codes.specs.Codes.{byteOf, commutes}
-use Rattle.codes.specs.declared.Operation.{Operation}
-use Rattle.codes.specs.declared.Operation.the-variants.{Sum, Difference, Product, LessThan, Equal, And, Or, Not}
-use Rattle.answers.specs.Parsing.{IsRead}
-use Rattle.answers.specs.ParsingLaws.{is-read}
-use Rattle.reading.specs.Rule.{readRule}
-use Rattle.gates.specs.Gates.{operation, gateAt}
-use Rattle.gates.specs.PlainCircuit.{gatesOf}
-use Rattle.gates.specs.LowerLaws.{rule-lower}
+use Rattle.base.specs.Lists.{elem}
+use Rattle.base.specs.Codes.{byteOf, commutes}
+use Rattle.base.specs.declared.Operation.{Operation}
+use Rattle.base.specs.declared.Operation.the-variants.{Sum, Difference, Product, LessThan, Equal, And, Or, Not}
+use Rattle.base.specs.Parsing.{IsRead}
+use Rattle.base.specs.ParsingLaws.{is-read}
+use Rattle.rule.specs.Rule.{readRule}
+use Rattle.circuit.specs.Gates.{operation, gateAt}
+use Rattle.circuit.specs.PlainCircuit.{gatesOf}
+use Rattle.circuit.specs.LowerLaws.{rule-lower}
 
 pub commuting : (op : Operation) → commutes op ≡ elem (byteOf op) (0x20 ∷ 0x22 ∷ 0x24 ∷ 0x25 ∷ 0x26 ∷ [])
 commuting Sum = refl

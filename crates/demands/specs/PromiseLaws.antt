@@ -3,15 +3,15 @@ use Prim.Native.Nat.{ℕ}
 use mathlib.Core.Path.{_≡_, sym, ap, subst, subst⁻¹, _∙_}
 use mathlib.Core.List.{List}
 use lib.ListN.{length, take}
-use Rattle.words.specs.Numbers.{Bytes, Words}
-use Rattle.answers.specs.declared.Answer.{Answer}
+use Rattle.base.specs.Numbers.{Bytes, Words}
+use Rattle.base.specs.declared.Answer.{Answer}
 use Rattle.circuit.specs.Whole.{ruleAnswer}
-use Rattle.direct.specs.Direct.{runAnswer, runResults}
+use Rattle.run.specs.Direct.{runAnswer, runResults}
 use Rattle.plan.specs.Rows.{planAnswer}
 use Rattle.fused.specs.FusedCircuit.{fusedFile}
 use Rattle.fused.specs.Answers.{fusedAnswer, writeAnswer, writtenOver}
-use Rattle.running.specs.FusedRun.{fusedResults}
-use Rattle.foreign.specs.Foreign.{circuitAnswer, circuitRunAnswer, circuitRunResults}
+use Rattle.run.specs.FusedRun.{fusedResults}
+use Rattle.file.specs.Answers.{circuitAnswer, circuitRunAnswer, circuitRunResults}
 use Rattle.demands.specs.Table.{AnsweredBy, AnsweredAfter, RuleAnswered, planRows, runRows, bufferRows, circuitRows, fileRunRows}
 use Rattle.demands.specs.Promises.{RunWritten, FileWritten, AcceptedExactly, FileReadsEarlier, FileGives, FusedAsDirect, OwnAsDirect}
 use Rattle.demands.specs.FusedRunLaws.{written-answer, file-written}

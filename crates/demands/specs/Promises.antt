@@ -6,20 +6,20 @@ use mathlib.Core.Bool.{true, false}
 use mathlib.Core.List.{List}
 use mathlib.Core.Logic.{_↔_}
 use lib.ListN.{length, getD, take, drop}
-use Rattle.words.specs.Numbers.{Bytes}
-use Rattle.answers.specs.Answers.{success}
-use Rattle.answers.specs.declared.Answer.{Answer}
-use Rattle.codes.specs.Inputs.{FiguresFit}
-use Rattle.bitsets.specs.Words.{Fit}
-use Rattle.settings.specs.Held.{setsIn}
-use Rattle.reading.specs.Header.{variables, kindAt, workingAt}
-use Rattle.gates.specs.Running.{runRule}
+use Rattle.base.specs.Numbers.{Bytes}
+use Rattle.base.specs.Answers.{success}
+use Rattle.base.specs.declared.Answer.{Answer}
+use Rattle.base.specs.Inputs.{FiguresFit}
+use Rattle.base.specs.BitWords.{Fit}
+use Rattle.base.specs.SetsHeld.{setsIn}
+use Rattle.rule.specs.Header.{variables, kindAt, workingAt}
+use Rattle.circuit.specs.Running.{runRule}
 use Rattle.circuit.specs.Whole.{ruleAnswer}
-use Rattle.direct.specs.Direct.{runAnswer, runResults}
+use Rattle.run.specs.Direct.{runAnswer, runResults}
 use Rattle.plan.specs.Rows.{planAnswer}
 use Rattle.plan.specs.Accepted.{Acceptable}
-use Rattle.records.specs.Records.{ReadsEarlier}
-use Rattle.records.specs.FileFigures.{fileVariables, fileRecords, fileFigures}
+use Rattle.file.specs.Records.{ReadsEarlier}
+use Rattle.file.specs.FileFigures.{fileVariables, fileRecords, fileFigures}
 use Rattle.fused.specs.FusedCircuit.{recordsOf, fusedFile}
 use Rattle.fused.specs.Answers.{writeAnswer}
 

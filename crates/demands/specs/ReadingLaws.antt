@@ -5,15 +5,15 @@ use mathlib.Core.Path.{_≡_}
 use mathlib.Core.List.{List, _∷_, _++_}
 use mathlib.Core.Logic.{_↔_}
 use lib.ListN.{length, getD, take}
-use Rattle.words.specs.Numbers.{Bytes}
-use Rattle.answers.specs.Answers.{refusal}
-use Rattle.reading.specs.Limits.{mostBytes, mostVariables, lastKind, nested}
-use Rattle.reading.specs.Header.{mark, variables}
-use Rattle.reading.specs.Format.{headerBytes}
-use Rattle.reading.specs.KindLaws as kinds
-use Rattle.reading.specs.NestedIfs.{Leads}
-use Rattle.reading.specs.NestedIfLaws as nested-ifs
-use Rattle.reading.specs.NinthIfLaws as ninth
+use Rattle.base.specs.Numbers.{Bytes}
+use Rattle.base.specs.Answers.{refusal}
+use Rattle.rule.specs.Limits.{mostBytes, mostVariables, lastKind, nested}
+use Rattle.rule.specs.Header.{mark, variables}
+use Rattle.rule.specs.Format.{headerBytes}
+use Rattle.rule.specs.KindLaws as kinds
+use Rattle.rule.specs.NestedIfs.{Leads}
+use Rattle.rule.specs.NestedIfLaws as nested-ifs
+use Rattle.rule.specs.NinthIfLaws as ninth
 use Rattle.circuit.specs.Whole.{ruleAnswer}
 use Rattle.circuit.specs.WholeLaws.{answer-bytes, answer-from}
 

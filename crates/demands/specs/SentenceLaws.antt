@@ -5,15 +5,15 @@ use mathlib.Core.Path.{_≡_, sym, ap, subst⁻¹, _∙_}
 use mathlib.Core.List.{List}
 use lib.Dec.{eqb}
 use borrow.Author.Tests.{eqb-true, eqb-false}
-use Rattle.words.specs.Numbers.{Bytes}
-use Rattle.words.specs.TestLaws.{split}
-use Rattle.answers.specs.declared.Answer.{Answer}
+use Rattle.base.specs.Numbers.{Bytes}
+use Rattle.base.specs.TestLaws.{split}
+use Rattle.base.specs.declared.Answer.{Answer}
 use Rattle.circuit.specs.Whole.{ruleAnswer}
-use Rattle.direct.specs.Direct.{runAnswer}
+use Rattle.run.specs.Direct.{runAnswer}
 use Rattle.plan.specs.Rows.{planAnswer}
 use Rattle.plan.specs.AcceptedLaws.{answer-rule}
-use Rattle.records.specs.Limits.{mostFileBytes, mostWires}
-use Rattle.records.specs.FileFigures.{wireCount}
+use Rattle.file.specs.Limits.{mostFileBytes, mostWires}
+use Rattle.file.specs.FileFigures.{wireCount}
 use Rattle.fused.specs.FusedCircuit.{fusedFile}
 use Rattle.fused.specs.SizeBounds.{wires-bound, bytes-bound}
 use Rattle.fused.specs.FitPlan.{fused-found}

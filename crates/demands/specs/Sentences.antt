@@ -3,26 +3,26 @@ use Prim.Native.Nat.{ℕ, _+_, _≤_, _<_}
 use mathlib.Core.Path.{_≡_}
 use mathlib.Core.List.{List}
 use lib.ListN.{length, getD}
-use Rattle.words.specs.Numbers.{Bytes, Words}
-use Rattle.settings.specs.Settings.{settingOf}
+use Rattle.base.specs.Numbers.{Bytes, Words}
+use Rattle.base.specs.Settings.{settingOf}
 use Rattle.circuit.specs.Whole.{ruleAnswer}
-use Rattle.direct.specs.Direct.{runAnswer, runResults}
-use Rattle.direct.specs.DirectLaws as direct
-use Rattle.gates.specs.PlainCircuit.{gateCount}
+use Rattle.run.specs.Direct.{runAnswer, runResults}
+use Rattle.run.specs.DirectLaws as direct
+use Rattle.circuit.specs.PlainCircuit.{gateCount}
 use Rattle.plan.specs.PlanFile.{groupsIn, Rising}
 use Rattle.plan.specs.Groups.{groupOf}
 use Rattle.plan.specs.ListedLaws as listed
 use Rattle.plan.specs.Rows.{planAnswer}
 use Rattle.plan.specs.AcceptedLaws as plans
-use Rattle.records.specs.Records.{recordIn}
-use Rattle.records.specs.FileFigures.{wireCount}
+use Rattle.file.specs.Records.{recordIn}
+use Rattle.file.specs.FileFigures.{wireCount}
 use Rattle.fused.specs.FusedCircuit.{recordsOf, wireOf, fusedFile}
 use Rattle.fused.specs.JoinedGates.{joinedWith, picksWith}
 use Rattle.fused.specs.SizeBounds as sizes
 use Rattle.fused.specs.Answers.{fusedAnswer, writeAnswer}
 use Rattle.fused.specs.AnswerLaws as answers
-use Rattle.running.specs.FusedRun.{fusedResults}
-use Rattle.foreign.specs.Foreign.{circuitRunAnswer, circuitRunResults}
+use Rattle.run.specs.FusedRun.{fusedResults}
+use Rattle.file.specs.Answers.{circuitRunAnswer, circuitRunResults}
 use Rattle.demands.specs.Promises.{RunWritten, FileWritten}
 use Rattle.demands.specs.WrittenRunLaws as written
 use Rattle.demands.specs.SentenceLaws as laws

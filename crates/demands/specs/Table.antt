@@ -5,31 +5,31 @@ use mathlib.Core.Bool.{true}
 use mathlib.Core.List.{List, [], _∷_}
 use mathlib.Core.Logic.{_⊎_, _↔_}
 use lib.ListN.{length, getD, take}
-use Rattle.words.specs.Lists.{_∈_}
-use Rattle.answers.specs.Answers.{refusal}
-use Rattle.answers.specs.Parsing.{refused, IsRead}
-use Rattle.answers.specs.declared.Answer.{Answer}
-use Rattle.codes.specs.Codes.{costly}
-use Rattle.codes.specs.declared.Kind.{Kind}
-use Rattle.codes.specs.declared.Kind.the-variants as kind
-use Rattle.codes.specs.declared.Operation.{Operation}
-use Rattle.reading.specs.Header.{variables, kindAt}
-use Rattle.reading.specs.Rule.{readRule}
-use Rattle.gates.specs.Limits.{mostGates, mostConditions}
-use Rattle.gates.specs.Gates.{Gates, gateAt, operation, conditions}
-use Rattle.gates.specs.PlainCircuit.{gatesOf, gateCount}
-use Rattle.needed.specs.Needed.{wantedOf}
+use Rattle.base.specs.Lists.{_∈_}
+use Rattle.base.specs.Answers.{refusal}
+use Rattle.base.specs.Parsing.{refused, IsRead}
+use Rattle.base.specs.declared.Answer.{Answer}
+use Rattle.base.specs.Codes.{costly}
+use Rattle.base.specs.declared.Kind.{Kind}
+use Rattle.base.specs.declared.Kind.the-variants as kind
+use Rattle.base.specs.declared.Operation.{Operation}
+use Rattle.rule.specs.Header.{variables, kindAt}
+use Rattle.rule.specs.Rule.{readRule}
+use Rattle.circuit.specs.Limits.{mostGates, mostConditions}
+use Rattle.circuit.specs.Gates.{Gates, gateAt, operation, conditions}
+use Rattle.circuit.specs.PlainCircuit.{gatesOf, gateCount}
+use Rattle.circuit_needed.specs.Needed.{wantedOf}
 use Rattle.plan.specs.PlanFile as plan
 use Rattle.plan.specs.PlanFile.{gatesCounted, groupsCounted, groupsIn, EachGroup, Rising, Apart, Ends}
 use Rattle.plan.specs.Groups.{groupOf}
 use Rattle.plan.specs.Accepted.{Exist, GroupsRise, OneCostly, NoTwoNeeded, NoCircle}
-use Rattle.records.specs.Versions.{one, two}
-use Rattle.records.specs.Limits.{mostFileBytes, mostFileVariables, mostWires}
-use Rattle.records.specs.CircuitFile.{mark}
-use Rattle.records.specs.FileFigures.{firstRecord, fileVariables, wireCount, fileRecords, fileOutputs}
-use Rattle.records.specs.LaidOut.{LaidOut}
-use Rattle.records.specs.WireKinds.{wireKind}
-use Rattle.records.specs.WellFormed.{Standing}
+use Rattle.file.specs.Versions.{one, two}
+use Rattle.file.specs.Limits.{mostFileBytes, mostFileVariables, mostWires}
+use Rattle.file.specs.CircuitFile.{mark}
+use Rattle.file.specs.FileFigures.{firstRecord, fileVariables, wireCount, fileRecords, fileOutputs}
+use Rattle.file.specs.LaidOut.{LaidOut}
+use Rattle.file.specs.WireKinds.{wireKind}
+use Rattle.file.specs.WellFormed.{Standing}
 use Rattle.fused.specs.FusedCircuit.{fusedFile}
 
 pub data TableRow : Type 1 where

@@ -8,11 +8,11 @@ use mathlib.Core.Logic.{_⊎_, inl, inr, _↔_}
 use lib.Dec.{eqb, ltb}
 use lib.ListN.{length, getD, drop}
 use borrow.Author.Tests.{eqb-false, ltb-true, not-true}
-use Rattle.words.specs.Lists.{_∈_, every}
-use Rattle.words.specs.MemberLaws.{every-right}
-use Rattle.words.specs.TestLaws.{split, both}
-use Rattle.answers.specs.Answers.{refusal}
-use Rattle.answers.specs.declared.Answer.{Answer}
+use Rattle.base.specs.Lists.{_∈_, every}
+use Rattle.base.specs.MemberLaws.{every-right}
+use Rattle.base.specs.TestLaws.{split, both}
+use Rattle.base.specs.Answers.{refusal}
+use Rattle.base.specs.declared.Answer.{Answer}
 use Rattle.plan.specs.Rows.{Row, firstFailing}
 use Rattle.demands.specs.Table.{TableRow, row, Hold, FailsAt, numberOf, AnsweredBy}
 

@@ -8,28 +8,28 @@ use mathlib.Core.Logic.{_↔_, ⊎-elim}
 use lib.ListN.{length, take}
 use lib.Pow.{pow-mono}
 use native.Mathlib.Nat.{lt-of-lt-of-le}
-use Rattle.words.specs.Lists.{_∈_}
-use Rattle.words.specs.Numbers.{Bytes}
-use Rattle.words.specs.NumberLaws.{bits-bytes}
-use Rattle.answers.specs.Answers.{refusal}
-use Rattle.records.specs.Limits.{mostFileBytes}
-use Rattle.records.specs.Versions.{one, two, mostGuardWires}
-use Rattle.records.specs.Records.{Record, input, word, bit, operation, choice, pick, guard, recordIn}
-use Rattle.records.specs.CircuitFile.{mark, fileBytes}
-use Rattle.records.specs.FileFigures.{recordAt, versionIn, wireCount, fileRecords, fileFigures}
-use Rattle.records.specs.FileLaws.{file-figures}
-use Rattle.records.specs.LaidOut.{Bounded, recordPlace, LaidOut}
-use Rattle.records.specs.FitRecords.{ReadsBack, AllReadBack}
-use Rattle.records.specs.CircuitRows.{headed}
-use Rattle.records.specs.WellFormed.{WellFormed}
-use Rattle.records.specs.FormatLaws.{row-passed}
-use Rattle.records.specs.InverseLaws.{laid-bounded}
+use Rattle.base.specs.Lists.{_∈_}
+use Rattle.base.specs.Numbers.{Bytes}
+use Rattle.base.specs.NumberLaws.{bits-bytes}
+use Rattle.base.specs.Answers.{refusal}
+use Rattle.file.specs.Limits.{mostFileBytes}
+use Rattle.file.specs.Versions.{one, two, mostGuardWires}
+use Rattle.file.specs.Records.{Record, input, word, bit, operation, choice, pick, guard, recordIn}
+use Rattle.file.specs.CircuitFile.{mark, fileBytes}
+use Rattle.file.specs.FileFigures.{recordAt, versionIn, wireCount, fileRecords, fileFigures}
+use Rattle.file.specs.FileLaws.{file-figures}
+use Rattle.file.specs.LaidOut.{Bounded, recordPlace, LaidOut}
+use Rattle.file.specs.FitRecords.{ReadsBack, AllReadBack}
+use Rattle.file.specs.CircuitRows.{headed}
+use Rattle.file.specs.WellFormed.{WellFormed}
+use Rattle.file.specs.FormatLaws.{row-passed}
+use Rattle.file.specs.InverseLaws.{laid-bounded}
 use Rattle.plan.specs.Rows.{planAnswer}
 use Rattle.fused.specs.FusedCircuit.{recordsOf, fusedFile}
 use Rattle.fused.specs.BoundLaws.{fused-bounded}
 use Rattle.fused.specs.WellFormedLaws.{fused-is}
-use Rattle.foreign.specs.Foreign.{circuitAnswer}
-use Rattle.foreign.specs.ReadLaws.{answer-number}
+use Rattle.file.specs.Answers.{circuitAnswer}
+use Rattle.file.specs.ReadLaws.{answer-number}
 use Rattle.demands.specs.Table.{circuitRows}
 use Rattle.demands.specs.TableLaws.{refuses-with}
 use Rattle.demands.specs.ForeignLaws.{table-headed, circuit-answered}

@@ -6,37 +6,37 @@ use mathlib.Core.Bool.{true, false, true≢false}
 use mathlib.Core.List.{List}
 use mathlib.Core.Logic.{_↔_}
 use lib.ListN.{length, getD, set}
-use Rattle.words.specs.Lists.{_∈_}
-use Rattle.words.specs.Numbers.{Bytes}
-use Rattle.words.specs.TestLaws.{split}
-use Rattle.settings.specs.Settings.{Setting}
-use Rattle.answers.specs.Parsing.{IsRead}
-use Rattle.answers.specs.declared.Answer.{Answer}
-use Rattle.reading.specs.Header.{variables, workingOf, workingAt}
-use Rattle.reading.specs.Tree.{Block}
-use Rattle.reading.specs.Format.{ruleBytes}
-use Rattle.reading.specs.Format as rules
-use Rattle.reading.specs.RuleFormat.{rule-back}
-use Rattle.reading.specs.OnlyWorking.{OnlyWorking}
-use Rattle.reading.specs.WorkingLaws.{rule-working, same-size, well-working}
-use Rattle.gates.specs.Limits.{mostGates, mostConditions}
-use Rattle.gates.specs.PlainCircuit.{Making, plainOf, plainCircuit, gatesOf, outputsOf}
-use Rattle.gates.specs.StartLaws.{read-plain}
-use Rattle.needed.specs.Needed.{Needed, wantedOf}
-use Rattle.needed.specs.NeededLaws.{none-needed, more-wanted}
-use Rattle.needed.specs.WantedLaws.{result-wanted, wanted-result, all-working}
+use Rattle.base.specs.Lists.{_∈_}
+use Rattle.base.specs.Numbers.{Bytes}
+use Rattle.base.specs.TestLaws.{split}
+use Rattle.base.specs.Settings.{Setting}
+use Rattle.base.specs.Parsing.{IsRead}
+use Rattle.base.specs.declared.Answer.{Answer}
+use Rattle.rule.specs.Header.{variables, workingOf, workingAt}
+use Rattle.rule.specs.Tree.{Block}
+use Rattle.rule.specs.Format.{ruleBytes}
+use Rattle.rule.specs.Format as rules
+use Rattle.rule.specs.RuleFormat.{rule-back}
+use Rattle.rule.specs.OnlyWorking.{OnlyWorking}
+use Rattle.rule.specs.WorkingLaws.{rule-working, same-size, well-working}
+use Rattle.circuit.specs.Limits.{mostGates, mostConditions}
+use Rattle.circuit.specs.PlainCircuit.{Making, plainOf, plainCircuit, gatesOf, outputsOf}
+use Rattle.circuit.specs.StartLaws.{read-plain}
+use Rattle.circuit_needed.specs.Needed.{Needed, wantedOf}
+use Rattle.circuit_needed.specs.NeededLaws.{none-needed, more-wanted}
+use Rattle.circuit_needed.specs.WantedLaws.{result-wanted, wanted-result, all-working}
 use Rattle.circuit.specs.Whole.{wholeWithin, ruleAnswer}
 use Rattle.circuit.specs.WholeLaws.{answer-whole}
 use Rattle.plan.specs.Rows.{planAnswer}
-use Rattle.records.specs.Versions.{Version}
-use Rattle.records.specs.Records.{Record}
-use Rattle.records.specs.CircuitFile.{fileBytes, noWire}
-use Rattle.records.specs.FileFigures.{wireCount, fileOutputs, fileFigures}
-use Rattle.records.specs.WellFormed as circuits
-use Rattle.records.specs.FormatLaws.{well-row}
-use Rattle.records.specs.NoWireLaws.{well-less, figures-less}
-use Rattle.foreign.specs.Foreign.{circuitAnswer}
-use Rattle.foreign.specs.ReadLaws.{answer-number}
+use Rattle.file.specs.Versions.{Version}
+use Rattle.file.specs.Records.{Record}
+use Rattle.file.specs.CircuitFile.{fileBytes, noWire}
+use Rattle.file.specs.FileFigures.{wireCount, fileOutputs, fileFigures}
+use Rattle.file.specs.WellFormed as circuits
+use Rattle.file.specs.FormatLaws.{well-row}
+use Rattle.file.specs.NoWireLaws.{well-less, figures-less}
+use Rattle.file.specs.Answers.{circuitAnswer}
+use Rattle.file.specs.ReadLaws.{answer-number}
 use Rattle.fused.specs.FusedCircuit.{outputWire, fusedFile}
 use Rattle.fused.specs.OutputLaws as own
 use Rattle.fused.specs.FitPlan.{fused-found}

@@ -5,28 +5,28 @@ use mathlib.Core.List.{List}
 use lib.Dec.{eqb}
 use lib.ListN.{length, take, drop}
 use borrow.Author.Tests.{eqb-true, eqb-false}
-use Rattle.words.specs.TestLaws.{split}
-use Rattle.words.specs.Buffers.{over}
-use Rattle.words.specs.BufferLaws.{length-over, take-over, drop-over, over-at}
-use Rattle.words.specs.Numbers.{Bytes, Words}
-use Rattle.codes.specs.InputLaws as any
-use Rattle.answers.specs.declared.Answer.{Answer}
-use Rattle.reading.specs.Header.{variables}
-use Rattle.gates.specs.Running.{runWrites}
-use Rattle.gates.specs.WrittenLaws.{writes-count, writes-result, writes-working}
+use Rattle.base.specs.TestLaws.{split}
+use Rattle.base.specs.Buffers.{over}
+use Rattle.base.specs.BufferLaws.{length-over, take-over, drop-over, over-at}
+use Rattle.base.specs.Numbers.{Bytes, Words}
+use Rattle.base.specs.InputLaws as any
+use Rattle.base.specs.declared.Answer.{Answer}
+use Rattle.rule.specs.Header.{variables}
+use Rattle.circuit.specs.Running.{runWrites}
+use Rattle.circuit.specs.WrittenLaws.{writes-count, writes-result, writes-working}
 use Rattle.circuit.specs.Whole.{ruleAnswer}
-use Rattle.direct.specs.Direct.{runAnswer, runResults}
-use Rattle.direct.specs.InputLaws.{inputs-room}
-use Rattle.direct.specs.DirectLaws.{answered-rule, answered-inputs, answered-results}
+use Rattle.run.specs.Direct.{runAnswer, runResults}
+use Rattle.run.specs.InputLaws.{inputs-room}
+use Rattle.run.specs.DirectLaws.{answered-rule, answered-inputs, answered-results}
 use Rattle.plan.specs.Rows.{planAnswer}
-use Rattle.records.specs.WireKinds.{wireKind}
-use Rattle.records.specs.FileFigures.{fileVariables, fileRecords, fileFigures}
-use Rattle.records.specs.FilePartLaws.{figures-count}
+use Rattle.file.specs.WireKinds.{wireKind}
+use Rattle.file.specs.FileFigures.{fileVariables, fileRecords, fileFigures}
+use Rattle.file.specs.FilePartLaws.{figures-count}
 use Rattle.fused.specs.Answers.{fusedAnswer}
 use Rattle.fused.specs.AnswerLaws.{fused-plan}
-use Rattle.running.specs.FusedRun.{fusedResults}
-use Rattle.foreign.specs.Foreign.{circuitAnswer, circuitRunAnswer, circuitRunResults}
-use Rattle.foreign.specs.RunLaws as files-run
+use Rattle.run.specs.FusedRun.{fusedResults}
+use Rattle.file.specs.Answers.{circuitAnswer, circuitRunAnswer, circuitRunResults}
+use Rattle.file.specs.RunLaws as files-run
 use Rattle.demands.specs.FusedRunLaws.{same-number, same-results}
 use Rattle.demands.specs.Promises.{RunWritten, FileWritten}
 

@@ -4,37 +4,37 @@ use mathlib.Core.Path.{_≡_, refl, sym, ap, _∙_}
 use mathlib.Core.List.{List, [], _∷_, map}
 use native.Mathlib.Omega.{arith}
 use lib.ListN.{getD, set}
-use Rattle.words.specs.Numbers.{number, bytesOf}
-use Rattle.bitsets.specs.Bits.{collect}
-use Rattle.settings.specs.Sets.{restsOn, rests}
-use Rattle.settings.specs.Numbers.{numbers}
-use Rattle.settings.specs.Guards.{spread, tableOver, table}
-use Rattle.codes.specs.Codes.{operationOf, codeOf}
-use Rattle.codes.specs.declared.Operation.the-variants.{Sum}
-use Rattle.answers.specs.Answers.{success}
-use Rattle.answers.specs.Parsing.{readMark}
-use Rattle.reading.specs.Header.{kindOf, workingOf, readCount, readKinds, readHeader}
-use Rattle.reading.specs.Expressions.{readVariable, readWord, readBit, operationWith, exprWith, readExpr}
-use Rattle.reading.specs.Blocks.{readAssign, branchWith, statementWith, blockWith, blockFuel, readBlock}
-use Rattle.reading.specs.Rule.{readRule}
-use Rattle.reading.specs.Examples.{r1}
-use Rattle.reading.specs.OnlyOrder.{OnlyOrder, same, turned, assign, branch, end, then}
-use Rattle.gates.specs.Gates.{gateAt, conditions, costs}
-use Rattle.gates.specs.Gates as gate
-use Rattle.gates.specs.PlainCircuit.{applyGate, makeExpr, assignsIn, assigns, choices, makeStatement, makeBlock, plainCircuit, gatesOf}
-use Rattle.needed.specs.Pass.{preconditions, preconditionSets}
+use Rattle.base.specs.Numbers.{number, bytesOf}
+use Rattle.base.specs.Bits.{collect}
+use Rattle.base.specs.Sets.{restsOn, rests}
+use Rattle.base.specs.SettingNumbers.{numbers}
+use Rattle.base.specs.Guards.{spread, tableOver, table}
+use Rattle.base.specs.Codes.{operationOf, codeOf}
+use Rattle.base.specs.declared.Operation.the-variants.{Sum}
+use Rattle.base.specs.Answers.{success}
+use Rattle.base.specs.Parsing.{readMark}
+use Rattle.rule.specs.Header.{kindOf, workingOf, readCount, readKinds, readHeader}
+use Rattle.rule.specs.Expressions.{readVariable, readWord, readBit, operationWith, exprWith, readExpr}
+use Rattle.rule.specs.Blocks.{readAssign, branchWith, statementWith, blockWith, blockFuel, readBlock}
+use Rattle.rule.specs.Rule.{readRule}
+use Rattle.rule.specs.Examples.{r1}
+use Rattle.rule.specs.OnlyOrder.{OnlyOrder, same, turned, assign, branch, end, then}
+use Rattle.circuit.specs.Gates.{gateAt, conditions, costs}
+use Rattle.circuit.specs.Gates as gate
+use Rattle.circuit.specs.PlainCircuit.{applyGate, makeExpr, assignsIn, assigns, choices, makeStatement, makeBlock, plainCircuit, gatesOf}
+use Rattle.circuit_needed.specs.Pass.{preconditions, preconditionSets}
 use Rattle.circuit.specs.Whole.{wholeWithin, ruleAnswer}
 use Rattle.plan.specs.PlanFile.{groupsIn}
 use Rattle.plan.specs.Groups.{groups, restsOf, waitsFor}
 use Rattle.plan.specs.Order.{order}
 use Rattle.plan.specs.Rows.{planRow, planAnswer}
 use Rattle.plan.specs.Examples.{p1}
-use Rattle.records.specs.Records.{recordsCost}
-use Rattle.records.specs.Records as records
+use Rattle.file.specs.Records.{recordsCost}
+use Rattle.file.specs.Records as records
 use Rattle.fused.specs.Emission.{oneWire, joined}
 use Rattle.fused.specs.FusedCircuit.{written, fused, recordsOf, fusedFile}
 use Rattle.fused.specs.Answers.{fusedCounts, writeAnswer}
-use Rattle.records.specs.Examples.{file3}
+use Rattle.file.specs.Examples.{file3}
 use Rattle.fused.specs.Examples.{example-3}
 use Rattle.fused.specs.OnlyOrderLaws.{same-file}
 

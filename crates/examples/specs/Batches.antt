@@ -3,35 +3,35 @@ use Prim.Native.Nat.{ℕ}
 use mathlib.Core.Path.{_≡_, refl}
 use mathlib.Core.List.{List, [], _∷_, _++_, map, flatMap}
 use lib.ListN.{take}
-use Rattle.words.specs.Numbers.{number, bytesOf}
-use Rattle.bitsets.specs.Bits.{collect}
-use Rattle.settings.specs.Sets.{restsOn, rests}
-use Rattle.settings.specs.Numbers.{numbers}
-use Rattle.settings.specs.Guards.{spread, tableOver, table}
-use Rattle.codes.specs.Codes.{operationOf, codeOf}
-use Rattle.answers.specs.Parsing.{readMark}
-use Rattle.reading.specs.Header.{kindOf, workingOf, readCount, readKinds, readHeader}
-use Rattle.reading.specs.Expressions.{readVariable, readWord, readBit, operationWith, exprWith, readExpr}
-use Rattle.reading.specs.Blocks.{readAssign, branchWith, statementWith, blockWith, blockFuel, readBlock}
-use Rattle.reading.specs.Rule.{readRule}
-use Rattle.reading.specs.Examples.{r1}
-use Rattle.gates.specs.Gates.{conditions, costs}
-use Rattle.gates.specs.PlainCircuit.{applyGate, makeExpr, assignsIn, assigns, choices, makeStatement, makeBlock, plainCircuit}
-use Rattle.needed.specs.Pass.{preconditions, preconditionSets}
+use Rattle.base.specs.Numbers.{number, bytesOf}
+use Rattle.base.specs.Bits.{collect}
+use Rattle.base.specs.Sets.{restsOn, rests}
+use Rattle.base.specs.SettingNumbers.{numbers}
+use Rattle.base.specs.Guards.{spread, tableOver, table}
+use Rattle.base.specs.Codes.{operationOf, codeOf}
+use Rattle.base.specs.Parsing.{readMark}
+use Rattle.rule.specs.Header.{kindOf, workingOf, readCount, readKinds, readHeader}
+use Rattle.rule.specs.Expressions.{readVariable, readWord, readBit, operationWith, exprWith, readExpr}
+use Rattle.rule.specs.Blocks.{readAssign, branchWith, statementWith, blockWith, blockFuel, readBlock}
+use Rattle.rule.specs.Rule.{readRule}
+use Rattle.rule.specs.Examples.{r1}
+use Rattle.circuit.specs.Gates.{conditions, costs}
+use Rattle.circuit.specs.PlainCircuit.{applyGate, makeExpr, assignsIn, assigns, choices, makeStatement, makeBlock, plainCircuit}
+use Rattle.circuit_needed.specs.Pass.{preconditions, preconditionSets}
 use Rattle.circuit.specs.Whole.{wholeWithin, ruleAnswer}
 use Rattle.plan.specs.PlanFile.{groupsIn}
 use Rattle.plan.specs.Groups.{groups, restsOf, waitsFor}
 use Rattle.plan.specs.Order.{order}
 use Rattle.plan.specs.Rows.{planRow, planAnswer}
 use Rattle.plan.specs.Examples.{p1}
-use Rattle.records.specs.Records.{recordsCost}
+use Rattle.file.specs.Records.{recordsCost}
 use Rattle.fused.specs.Emission.{oneWire, joined}
 use Rattle.fused.specs.FusedCircuit.{written, fused, fusedFile}
 use Rattle.fused.specs.Answers.{fusedCounts, fusedAnswer}
-use Rattle.lines.specs.Line.{digits, decimal, spaced, line, accepted, refused, placed, lineOf}
-use Rattle.lines.specs.Total.{total, spacedLess, totalLine}
-use Rattle.batch.specs.Batch.{headed, hasPart, hasEntry, entryAnswer, plus, reportFrom, reportOf}
-use Rattle.batch.specs.Packed.{Entry, batchOf}
+use Rattle.report.specs.Line.{digits, decimal, spaced, line, accepted, refused, placed, lineOf}
+use Rattle.report.specs.Total.{total, spacedLess, totalLine}
+use Rattle.report.specs.Batch.{headed, hasPart, hasEntry, entryAnswer, plus, reportFrom, reportOf}
+use Rattle.report.specs.Packed.{Entry, batchOf}
 
 -- "a 9-byte plan of no groups" for R1's six gates
 abbrev pub no-groups : List ℕ

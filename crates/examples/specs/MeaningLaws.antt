@@ -6,22 +6,22 @@ use mathlib.Core.Bool.{true}
 use mathlib.Core.Logic.{_↔_}
 use lib.ListN.{length, getD, drop}
 use lib.Seq.{drop-length}
-use Rattle.words.specs.Lists.{_∈_, elem}
-use Rattle.words.specs.MemberLaws.{elem→∈}
-use Rattle.words.specs.Buffers.{over}
-use Rattle.settings.specs.Settings.{settingOf}
-use Rattle.settings.specs.Sets.{has}
-use Rattle.answers.specs.Answers.{refusal}
-use Rattle.answers.specs.Parsing.{parsed}
-use Rattle.answers.specs.ParsingLaws.{is-read}
-use Rattle.reading.specs.Tree.{Block}
-use Rattle.reading.specs.Rule.{readRule}
-use Rattle.gates.specs.Gates.{Earlier, conditions}
-use Rattle.gates.specs.Limits.{mostConditions}
-use Rattle.gates.specs.PlainCircuit.{gatesOf}
-use Rattle.needed.specs.Needed.{Needed, wantedOf}
-use Rattle.needed.specs.Pass.{rulePreconditions}
-use Rattle.needed.specs.RulePreconditions.{rule-earlier, wanted-inside, rule-precondition, rule-exclude}
+use Rattle.base.specs.Lists.{_∈_, elem}
+use Rattle.base.specs.MemberLaws.{elem→∈}
+use Rattle.base.specs.Buffers.{over}
+use Rattle.base.specs.Settings.{settingOf}
+use Rattle.base.specs.Sets.{has}
+use Rattle.base.specs.Answers.{refusal}
+use Rattle.base.specs.Parsing.{parsed}
+use Rattle.base.specs.ParsingLaws.{is-read}
+use Rattle.rule.specs.Tree.{Block}
+use Rattle.rule.specs.Rule.{readRule}
+use Rattle.circuit.specs.Gates.{Earlier, conditions}
+use Rattle.circuit.specs.Limits.{mostConditions}
+use Rattle.circuit.specs.PlainCircuit.{gatesOf}
+use Rattle.circuit_needed.specs.Needed.{Needed, wantedOf}
+use Rattle.circuit_needed.specs.Pass.{rulePreconditions}
+use Rattle.circuit_needed.specs.RulePreconditions.{rule-earlier, wanted-inside, rule-precondition, rule-exclude}
 use Rattle.circuit.specs.Whole.{ruleAnswer}
 use Rattle.circuit.specs.WholeLaws.{accepted}
 use Rattle.plan.specs.Groups.{RestsOn, restsOf, Waits, waitsFor}

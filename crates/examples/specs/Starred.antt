@@ -5,25 +5,25 @@ use mathlib.Core.List.{List, [], _∷_, _++_, map}
 use mathlib.Core.Bool.{true}
 use mathlib.Core.Logic.{_↔_}
 use lib.ListN.{length, take, set, getD}
-use Rattle.words.specs.Numbers.{sumOf, differenceOf, productOf}
-use Rattle.words.specs.Lists.{upto, flat}
-use Rattle.settings.specs.Settings.{Setting, settingOf}
-use Rattle.settings.specs.Sets.{has}
-use Rattle.codes.specs.declared.Kind.the-variants.{Word, Bit}
-use Rattle.codes.specs.declared.Operation.the-variants.{Sum, Difference, Product, LessThan}
-use Rattle.answers.specs.Answers.{success, refusal}
-use Rattle.answers.specs.Parsing.{parsed}
-use Rattle.reading.specs.Header.{variables, kindAt}
-use Rattle.reading.specs.Tree.{variable, word, two, assign, branch, end, then}
-use Rattle.reading.specs.Rule.{readRule}
-use Rattle.reading.specs.Examples.{r1}
-use Rattle.gates.specs.Running.{figureOf, runRule}
-use Rattle.gates.specs.Gates.{operation, choice, gateAt, arguments, conditions}
-use Rattle.gates.specs.Limits.{mostConditions}
-use Rattle.gates.specs.PlainCircuit.{gatesOf, gateCount}
-use Rattle.gates.specs.Examples.{r2, r7, r8}
-use Rattle.needed.specs.Needed.{wantedOf, Needed}
-use Rattle.needed.specs.Pass.{rulePreconditions}
+use Rattle.base.specs.Numbers.{sumOf, differenceOf, productOf}
+use Rattle.base.specs.Lists.{upto, flat}
+use Rattle.base.specs.Settings.{Setting, settingOf}
+use Rattle.base.specs.Sets.{has}
+use Rattle.base.specs.declared.Kind.the-variants.{Word, Bit}
+use Rattle.base.specs.declared.Operation.the-variants.{Sum, Difference, Product, LessThan}
+use Rattle.base.specs.Answers.{success, refusal}
+use Rattle.base.specs.Parsing.{parsed}
+use Rattle.rule.specs.Header.{variables, kindAt}
+use Rattle.rule.specs.Tree.{variable, word, two, assign, branch, end, then}
+use Rattle.rule.specs.Rule.{readRule}
+use Rattle.rule.specs.Examples.{r1}
+use Rattle.circuit.specs.Running.{figureOf, runRule}
+use Rattle.circuit.specs.Gates.{operation, choice, gateAt, arguments, conditions}
+use Rattle.circuit.specs.Limits.{mostConditions}
+use Rattle.circuit.specs.PlainCircuit.{gatesOf, gateCount}
+use Rattle.circuit.specs.Examples.{r2, r7, r8}
+use Rattle.circuit_needed.specs.Needed.{wantedOf, Needed}
+use Rattle.circuit_needed.specs.Pass.{rulePreconditions}
 use Rattle.circuit.specs.Whole.{ruleAnswer}
 use Rattle.plan.specs.PlanFile.{groupsIn}
 use Rattle.plan.specs.Layout.{planBytes}
@@ -32,8 +32,8 @@ use Rattle.plan.specs.Rows.{planAnswer}
 use Rattle.plan.specs.Examples.{p1}
 use Rattle.fused.specs.FusedCircuit.{fusedFile}
 use Rattle.fused.specs.Answers.{writeAnswer, writtenOver}
-use Rattle.records.specs.Examples.{file3}
-use Rattle.direct.specs.Direct.{runAnswer, runResults}
+use Rattle.file.specs.Examples.{file3}
+use Rattle.run.specs.Direct.{runAnswer, runResults}
 
 -- the precondition of gate g of the rule s, held as 256 bits: bit j is 1 exactly when setting j needs the gate
 abbrev pub Precondition : List ℕ → ℕ → ℕ → Type 0

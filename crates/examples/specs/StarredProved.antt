@@ -1,35 +1,35 @@
 -- The starred examples of document 01, proved from the definitions, as a single list. Assumes nothing.
 use mathlib.Core.Path.{refl, ap}
-use Rattle.words.specs.Numbers.{number, bytesOf}
-use Rattle.words.specs.Buffers.{over}
-use Rattle.bitsets.specs.Bits.{collect}
-use Rattle.settings.specs.Sets.{restsOn, rests}
-use Rattle.settings.specs.Numbers.{numbers}
-use Rattle.codes.specs.Codes.{operationOf, codeOf}
-use Rattle.codes.specs.Results.{resultOf}
-use Rattle.codes.specs.Inputs.{someAbove, inputsRow}
-use Rattle.answers.specs.declared.Answer.{Answer}
-use Rattle.answers.specs.Parsing.{readMark}
-use Rattle.reading.specs.Header.{kindOf, workingOf, readCount, readKinds, readHeader}
-use Rattle.reading.specs.Expressions.{readVariable, readWord, readBit, operationWith, exprWith, readExpr}
-use Rattle.reading.specs.Blocks.{readAssign, branchWith, statementWith, blockWith, blockFuel, readBlock}
-use Rattle.reading.specs.Rule.{readRule}
-use Rattle.reading.specs.Examples.{r1}
-use Rattle.gates.specs.Running.{figureOf, runStatement, runBlock, runRule, runWrites}
-use Rattle.gates.specs.Gates.{costs, conditions}
-use Rattle.gates.specs.PlainCircuit.{applyGate, makeExpr, assignsIn, assigns, choices, makeStatement, makeBlock, plainCircuit}
-use Rattle.gates.specs.Examples.{r2, r7, example-2}
-use Rattle.needed.specs.Pass.{preconditions, preconditionSets}
+use Rattle.base.specs.Numbers.{number, bytesOf}
+use Rattle.base.specs.Buffers.{over}
+use Rattle.base.specs.Bits.{collect}
+use Rattle.base.specs.Sets.{restsOn, rests}
+use Rattle.base.specs.SettingNumbers.{numbers}
+use Rattle.base.specs.Codes.{operationOf, codeOf}
+use Rattle.base.specs.Results.{resultOf}
+use Rattle.base.specs.Inputs.{someAbove, inputsRow}
+use Rattle.base.specs.declared.Answer.{Answer}
+use Rattle.base.specs.Parsing.{readMark}
+use Rattle.rule.specs.Header.{kindOf, workingOf, readCount, readKinds, readHeader}
+use Rattle.rule.specs.Expressions.{readVariable, readWord, readBit, operationWith, exprWith, readExpr}
+use Rattle.rule.specs.Blocks.{readAssign, branchWith, statementWith, blockWith, blockFuel, readBlock}
+use Rattle.rule.specs.Rule.{readRule}
+use Rattle.rule.specs.Examples.{r1}
+use Rattle.circuit.specs.Running.{figureOf, runStatement, runBlock, runRule, runWrites}
+use Rattle.circuit.specs.Gates.{costs, conditions}
+use Rattle.circuit.specs.PlainCircuit.{applyGate, makeExpr, assignsIn, assigns, choices, makeStatement, makeBlock, plainCircuit}
+use Rattle.circuit.specs.Examples.{r2, r7, example-2}
+use Rattle.circuit_needed.specs.Pass.{preconditions, preconditionSets}
 use Rattle.circuit.specs.Whole.{wholeWithin, ruleAnswer}
 use Rattle.plan.specs.PlanFile.{groupsIn}
 use Rattle.plan.specs.Groups.{groups, restsOf, waitsFor}
 use Rattle.plan.specs.Order.{order}
 use Rattle.plan.specs.Rows.{planRow, planAnswer}
 use Rattle.plan.specs.Examples.{p1, example-5}
-use Rattle.records.specs.Examples.{file3}
+use Rattle.file.specs.Examples.{file3}
 use Rattle.fused.specs.Examples.{example-3, example-3-answer, example-3-short}
-use Rattle.direct.specs.Inputs.{inputRow}
-use Rattle.direct.specs.Direct.{runAnswer, runResults}
+use Rattle.run.specs.Inputs.{inputRow}
+use Rattle.run.specs.Direct.{runAnswer, runResults}
 use Rattle.examples.specs.Starred.{Starred, bothGroup}
 use Rattle.examples.specs.MeaningLaws.{precondition, unneeded, rests-on, waits-for, written-whole, written-short}
 

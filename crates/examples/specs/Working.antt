@@ -4,37 +4,37 @@ use mathlib.Core.Path.{_≡_, refl}
 use mathlib.Core.List.{List, [], _∷_, map}
 use mathlib.Core.Bool.{true, false}
 use lib.ListN.{getD}
-use Rattle.words.specs.Numbers.{number, bytesOf}
-use Rattle.words.specs.Buffers.{over}
-use Rattle.bitsets.specs.Bits.{collect}
-use Rattle.settings.specs.Sets.{restsOn, rests}
-use Rattle.settings.specs.Numbers.{numbers}
-use Rattle.settings.specs.Guards.{spread, tableOver, table}
-use Rattle.codes.specs.Codes.{operationOf, codeOf}
-use Rattle.codes.specs.declared.Kind.the-variants.{Word, Bit}
-use Rattle.codes.specs.Results.{resultOf}
-use Rattle.codes.specs.Inputs.{someAbove, inputsRow}
-use Rattle.answers.specs.Answers.{success, refusal}
-use Rattle.answers.specs.Parsing.{readMark}
-use Rattle.reading.specs.Header.{kindOf, workingOf, readCount, readKinds, readHeader}
-use Rattle.reading.specs.Expressions.{readVariable, readWord, readBit, operationWith, exprWith, readExpr}
-use Rattle.reading.specs.Blocks.{readAssign, branchWith, statementWith, blockWith, blockFuel, readBlock}
-use Rattle.reading.specs.Rule.{readRule}
-use Rattle.gates.specs.Running.{figureOf, runStatement, runBlock, runRule, runWrites}
-use Rattle.gates.specs.Gates.{conditions, costs}
-use Rattle.gates.specs.PlainCircuit.{applyGate, makeExpr, assignsIn, assigns, choices, makeStatement, makeBlock, plainCircuit}
-use Rattle.needed.specs.Pass.{preconditions, preconditionSets, rulePreconditions}
+use Rattle.base.specs.Numbers.{number, bytesOf}
+use Rattle.base.specs.Buffers.{over}
+use Rattle.base.specs.Bits.{collect}
+use Rattle.base.specs.Sets.{restsOn, rests}
+use Rattle.base.specs.SettingNumbers.{numbers}
+use Rattle.base.specs.Guards.{spread, tableOver, table}
+use Rattle.base.specs.Codes.{operationOf, codeOf}
+use Rattle.base.specs.declared.Kind.the-variants.{Word, Bit}
+use Rattle.base.specs.Results.{resultOf}
+use Rattle.base.specs.Inputs.{someAbove, inputsRow}
+use Rattle.base.specs.Answers.{success, refusal}
+use Rattle.base.specs.Parsing.{readMark}
+use Rattle.rule.specs.Header.{kindOf, workingOf, readCount, readKinds, readHeader}
+use Rattle.rule.specs.Expressions.{readVariable, readWord, readBit, operationWith, exprWith, readExpr}
+use Rattle.rule.specs.Blocks.{readAssign, branchWith, statementWith, blockWith, blockFuel, readBlock}
+use Rattle.rule.specs.Rule.{readRule}
+use Rattle.circuit.specs.Running.{figureOf, runStatement, runBlock, runRule, runWrites}
+use Rattle.circuit.specs.Gates.{conditions, costs}
+use Rattle.circuit.specs.PlainCircuit.{applyGate, makeExpr, assignsIn, assigns, choices, makeStatement, makeBlock, plainCircuit}
+use Rattle.circuit_needed.specs.Pass.{preconditions, preconditionSets, rulePreconditions}
 use Rattle.circuit.specs.Whole.{wholeWithin, ruleAnswer}
 use Rattle.plan.specs.PlanFile.{groupsIn}
 use Rattle.plan.specs.Groups.{groups, restsOf, waitsFor}
 use Rattle.plan.specs.Order.{order}
 use Rattle.plan.specs.Rows.{planRow, planAnswer}
-use Rattle.records.specs.Records.{recordsCost}
+use Rattle.file.specs.Records.{recordsCost}
 use Rattle.fused.specs.Emission.{oneWire, joined}
 use Rattle.fused.specs.FusedCircuit.{written, fused, fusedFile}
 use Rattle.fused.specs.Answers.{fusedCounts, writeAnswer}
-use Rattle.direct.specs.Inputs.{inputRow}
-use Rattle.direct.specs.Direct.{runAnswer, runResults}
+use Rattle.run.specs.Inputs.{inputRow}
+use Rattle.run.specs.Direct.{runAnswer, runResults}
 
 -- what the four kind bytes say: 00 word, 01 bit, 02 working word, 03 working bit
 pub kinds-are : (map kindOf (0x00 ∷ 0x01 ∷ 0x02 ∷ 0x03 ∷ []) ≡ Word ∷ Bit ∷ Word ∷ Bit ∷ [])

@@ -6,9 +6,9 @@ use mathlib.Core.List.{List}
 use lib.Dec.{eqb, leb}
 use lib.ListN.{length}
 use borrow.Author.Tests.{eqb-true, eqb-false, leb-true, leb-false}
-use Rattle.words.specs.TestLaws.{split}
-use Rattle.answers.specs.Answers.{refusal}
-use Rattle.answers.specs.declared.Answer.{Answer}
+use Rattle.base.specs.TestLaws.{split}
+use Rattle.base.specs.Answers.{refusal}
+use Rattle.base.specs.declared.Answer.{Answer}
 use Rattle.plan.specs.Rows.{planAnswer}
 use Rattle.fused.specs.FusedCircuit.{fusedFile}
 use Rattle.fused.specs.Answers.{writeAnswer}

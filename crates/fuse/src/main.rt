@@ -6,9 +6,9 @@ ghost use Prim.Native.Nat.{_≤_};
 ghost use lib.Dec.{eqb};
 ghost use lib.ListN.{length};
 ghost use Rattle.io.specs.Counts.{Counts};
-ghost use Rattle.words.specs.Buffers.{over};
+ghost use Rattle.base.specs.Buffers.{over};
 ghost use Rattle.fused.specs.Answers.{writeAnswer, writtenOver};
-ghost use Rattle.lines.specs.Line.{lineOf};
+ghost use Rattle.report.specs.Line.{lineOf};
 
 // Nothing is left to read: a read answers 0, neither a byte nor a failure.
 fn at_end(fd: i32) -> bool {
@@ -84,8 +84,8 @@ fn fuse_rule(rule: &[u8], plan: &[u8], file: &mut [u8], line: &mut [u8]) -> Fuse
     ensures printed { λ _. ⌜ now (line .exit) ≡ over (lineOf (writeAnswer (now (rule .entry)) (now (plan .entry)) (length (now (file .entry))))) (now (line .entry)) ⌝ }
     ensures within { λ r. ⌜ (r .accepted ≡ true → r .bytes ≤ length (now (file .exit))) × (r .line ≤ length (now (line .exit))) ⌝ }
 {
-    let answer = writing::write(rule, plan, file);
-    let n = lines::write_line(answer, line);
+    let answer = fused_write::write(rule, plan, file);
+    let n = report_lines::write_line(answer, line);
     Fused {
         accepted: answer.number == 0,
         bytes: answer.bytes,
@@ -99,7 +99,7 @@ fn main() {
     let mut rule = [0u8; 4097];
     let mut plan = [0u8; 1025];
     let mut file = [0u8; 16384];
-    let mut line = [0u8; lines::LONGEST];
+    let mut line = [0u8; report_lines::LONGEST];
     let r = read_file(b"rule.rul", &mut rule);
     let p = read_file(b"rule.pln", &mut plan);
     let fused = fuse_rule(&rule[..r], &plan[..p], &mut file, &mut line);

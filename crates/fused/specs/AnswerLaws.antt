@@ -6,19 +6,19 @@ use mathlib.Core.List.{List}
 use lib.Dec.{eqb}
 use lib.ListN.{length}
 use borrow.Author.Tests.{eq-eqb, ne-eqb, eqb-true, eqb-false, le-leb, lt-leb}
-use Rattle.words.specs.TestLaws.{split}
-use Rattle.words.specs.Buffers.{over}
-use Rattle.answers.specs.Answers.{refusal}
-use Rattle.answers.specs.declared.Answer.{Answer}
-use Rattle.gates.specs.CostLaws.{costs-most}
-use Rattle.gates.specs.PlainCircuit.{gatesOf}
+use Rattle.base.specs.TestLaws.{split}
+use Rattle.base.specs.Buffers.{over}
+use Rattle.base.specs.Answers.{refusal}
+use Rattle.base.specs.declared.Answer.{Answer}
+use Rattle.circuit.specs.CostLaws.{costs-most}
+use Rattle.circuit.specs.PlainCircuit.{gatesOf}
 use Rattle.circuit.specs.WholeLaws.{accepted}
 use Rattle.plan.specs.Rows.{planAnswer}
 use Rattle.plan.specs.AcceptedLaws.{plan-accepted}
 use Rattle.fused.specs.FusedCircuit.{fusedFile}
 use Rattle.fused.specs.Answers.{fusedCounts, fusedAnswer, writeAnswer, writtenOver}
 use Rattle.fused.specs.SizeBounds.{bytes-bound, plan-most}
-use Rattle.records.specs.Limits.{mostFileBytes}
+use Rattle.file.specs.Limits.{mostFileBytes}
 
 module _ (s p : List ℕ) where
   -- a refused plan has the plan's answer

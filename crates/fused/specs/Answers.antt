@@ -4,10 +4,10 @@ use mathlib.Core.List.{List}
 use mathlib.Core.Bool.{cond}
 use lib.Dec.{eqb, leb}
 use lib.ListN.{length}
-use Rattle.words.specs.Buffers.{over}
-use Rattle.answers.specs.Answers.{success, refusal}
-use Rattle.answers.specs.declared.Answer.{Answer}
-use Rattle.gates.specs.PlainCircuit.{gateCount, costBefore}
+use Rattle.base.specs.Buffers.{over}
+use Rattle.base.specs.Answers.{success, refusal}
+use Rattle.base.specs.declared.Answer.{Answer}
+use Rattle.circuit.specs.PlainCircuit.{gateCount, costBefore}
 use Rattle.plan.specs.Rows.{planAnswer}
 use Rattle.fused.specs.FusedCircuit.{recordsOf, costAfter, fusedFile}
 

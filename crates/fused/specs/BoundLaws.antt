@@ -5,31 +5,31 @@ use native.Mathlib.Omega.{arith}
 use mathlib.Core.Path.{_≡_}
 use mathlib.Core.List.{List, [], _∷_, map}
 use lib.ListN.{length, length-map}
-use Rattle.words.specs.Lists.{upto}
-use Rattle.words.specs.Numbers.{Bytes}
-use Rattle.codes.specs.declared.Kind.{Kind}
-use Rattle.answers.specs.declared.Answer.{Answer}
-use Rattle.answers.specs.ParsingLaws.{is-read}
-use Rattle.reading.specs.Header.{kindAt}
-use Rattle.reading.specs.Rule.{readRule}
-use Rattle.gates.specs.Gates.{Gate, Gates, gateAt, arguments}
-use Rattle.gates.specs.Gates as gate
-use Rattle.gates.specs.PlainCircuit.{gatesOf, gateCount}
-use Rattle.gates.specs.GateKinds.{kindOfGate, GateFits}
-use Rattle.gates.specs.GateKindLaws.{plain-fits}
-use Rattle.needed.specs.Pass.{rulePreconditions}
+use Rattle.base.specs.Lists.{upto}
+use Rattle.base.specs.Numbers.{Bytes}
+use Rattle.base.specs.declared.Kind.{Kind}
+use Rattle.base.specs.declared.Answer.{Answer}
+use Rattle.base.specs.ParsingLaws.{is-read}
+use Rattle.rule.specs.Header.{kindAt}
+use Rattle.rule.specs.Rule.{readRule}
+use Rattle.circuit.specs.Gates.{Gate, Gates, gateAt, arguments}
+use Rattle.circuit.specs.Gates as gate
+use Rattle.circuit.specs.PlainCircuit.{gatesOf, gateCount}
+use Rattle.circuit.specs.GateKinds.{kindOfGate, GateFits}
+use Rattle.circuit.specs.GateKindLaws.{plain-fits}
+use Rattle.circuit_needed.specs.Pass.{rulePreconditions}
 use Rattle.circuit.specs.WholeLaws.{accepted}
 use Rattle.plan.specs.PlanFile.{groupsIn}
 use Rattle.plan.specs.Groups.{groupOf, members, restsOf}
 use Rattle.plan.specs.Order.{order}
 use Rattle.plan.specs.Rows.{planAnswer}
 use Rattle.plan.specs.AcceptedLaws.{plan-accepted}
-use Rattle.records.specs.Records.{Record, recordIn}
-use Rattle.records.specs.Versions.{writtenVersion, mostGuardWires}
-use Rattle.records.specs.LaidOut.{Bounded}
+use Rattle.file.specs.Records.{Record, recordIn}
+use Rattle.file.specs.Versions.{writtenVersion, mostGuardWires}
+use Rattle.file.specs.LaidOut.{Bounded}
 use Rattle.fused.specs.Emission.{alone, gateOperation, guardOf, valuesAt, emit}
 use Rattle.fused.specs.FusedCircuit.{groupRecords, written, fused, recordsOf}
-use Rattle.records.specs.RecordLaws.{Along, along-append, along-at, along-map}
+use Rattle.file.specs.RecordLaws.{Along, along-append, along-at, along-map}
 use Rattle.fused.specs.JoinedParts.{joined-along}
 use Rattle.fused.specs.WrittenLaws.{written-none, written-more}
 use Rattle.plan.specs.RestLaws.{rests-few}

@@ -7,15 +7,15 @@ use mathlib.Core.List.{List, [], _∷_, _++_, map}
 use mathlib.Core.Bool.{Bool, false, cond}
 use lib.Dec.{eqb}
 use lib.ListN.{length, getD}
-use Rattle.words.specs.Lists.{upto, every}
-use Rattle.settings.specs.Guards.{table}
-use Rattle.codes.specs.declared.Operation.{Operation}
-use Rattle.codes.specs.declared.Operation.the-variants as operations
-use Rattle.records.specs.Records.{Pair, Record, input, word, bit, operation, choice, pick, guard}
-use Rattle.reading.specs.Header.{kindAt}
-use Rattle.gates.specs.Gates.{Gate, Gates, gateAt, arguments}
-use Rattle.gates.specs.Gates as gate
-use Rattle.gates.specs.Limits.{mostConditions}
+use Rattle.base.specs.Lists.{upto, every}
+use Rattle.base.specs.Guards.{table}
+use Rattle.base.specs.declared.Operation.{Operation}
+use Rattle.base.specs.declared.Operation.the-variants as operations
+use Rattle.file.specs.Records.{Pair, Record, input, word, bit, operation, choice, pick, guard}
+use Rattle.rule.specs.Header.{kindAt}
+use Rattle.circuit.specs.Gates.{Gate, Gates, gateAt, arguments}
+use Rattle.circuit.specs.Gates as gate
+use Rattle.circuit.specs.Limits.{mostConditions}
 use Rattle.plan.specs.Groups.{restsOf}
 
 -- a gate alone, its arguments read from the wires of their groups; s is the rule, for the kind of a starting value

@@ -5,15 +5,15 @@ use mathlib.Core.List.{List, [], _∷_, map}
 use mathlib.Core.Logic.{inl, inr}
 use native.Mathlib.Omega.{arith}
 use lib.ListN.{length, getD, length-map}
-use Rattle.words.specs.Lists.{_∈_, upto}
-use Rattle.words.specs.MemberLaws.{from-below, map-in, getD-in}
-use Rattle.codes.specs.declared.Operation.{Operation}
-use Rattle.records.specs.Records.{Record, input, word, bit, operation, choice, pairWires, reads}
-use Rattle.codes.specs.declared.Kind.{Kind}
-use Rattle.reading.specs.Header.{kindAt}
-use Rattle.records.specs.RecordLaws.{ReadsBefore, Below, along-map}
-use Rattle.gates.specs.Gates.{Gate, Gates, gateAt, arguments}
-use Rattle.gates.specs.Gates as gate
+use Rattle.base.specs.Lists.{_∈_, upto}
+use Rattle.base.specs.MemberLaws.{from-below, map-in, getD-in}
+use Rattle.base.specs.declared.Operation.{Operation}
+use Rattle.file.specs.Records.{Record, input, word, bit, operation, choice, pairWires, reads}
+use Rattle.base.specs.declared.Kind.{Kind}
+use Rattle.rule.specs.Header.{kindAt}
+use Rattle.file.specs.RecordLaws.{ReadsBefore, Below, along-map}
+use Rattle.circuit.specs.Gates.{Gate, Gates, gateAt, arguments}
+use Rattle.circuit.specs.Gates as gate
 use Rattle.plan.specs.Groups.{restsOf}
 use Rattle.fused.specs.Emission.{alone, gateOperation, pairs, picked, joined, guardOf, valuesAt, emit}
 use Rattle.fused.specs.JoinedParts.{Argument, arguments-from, behindGuards, operationWire, joined-count, joined-along}

@@ -5,14 +5,14 @@ use mathlib.Core.List.{List, [], _∷_, map}
 use mathlib.Core.Logic.{inl, inr}
 use native.Mathlib.Omega.{arith}
 use lib.ListN.{length, getD}
-use Rattle.words.specs.Lists.{_∈_, upto}
-use Rattle.words.specs.MemberLaws.{from-below, getD-in}
-use Rattle.words.specs.ListLaws.{map-same}
-use Rattle.settings.specs.Guards.{table}
-use Rattle.records.specs.Records.{Record, guard}
-use Rattle.records.specs.Records as records
-use Rattle.gates.specs.Gates.{Gate, start, word, bit, operation, choice, Gates, gateAt, arguments}
-use Rattle.gates.specs.Limits.{mostConditions}
+use Rattle.base.specs.Lists.{_∈_, upto}
+use Rattle.base.specs.MemberLaws.{from-below, getD-in}
+use Rattle.base.specs.ListLaws.{map-same}
+use Rattle.base.specs.Guards.{table}
+use Rattle.file.specs.Records.{Record, guard}
+use Rattle.file.specs.Records as records
+use Rattle.circuit.specs.Gates.{Gate, start, word, bit, operation, choice, Gates, gateAt, arguments}
+use Rattle.circuit.specs.Limits.{mostConditions}
 use Rattle.plan.specs.Groups.{restsOf}
 use Rattle.plan.specs.SameLaws.{rests-same}
 use Rattle.fused.specs.Emission.{alone, gateOperation, joined, guardOf, valuesAt, emit}

@@ -7,21 +7,21 @@ use mathlib.Core.List.{List, [], _∷_, _++_, map, map-map}
 use mathlib.Core.Logic.{_↔_}
 use native.Mathlib.Omega.{arith}
 use lib.ListN.{length, getD, length-map}
-use Rattle.words.specs.Lists.{_∈_}
-use Rattle.words.specs.MemberLaws.{in-map, map-in, getD-in}
-use Rattle.codes.specs.Codes.{entryOf}
-use Rattle.codes.specs.Results.{resultOn}
-use Rattle.codes.specs.declared.Operation.{Operation}
-use Rattle.records.specs.Versions.{writtenVersion}
-use Rattle.records.specs.Records.{Record, operation, recordIn, recordFigure, recordsCost}
-use Rattle.records.specs.CircuitFile.{recordsBytes}
-use Rattle.records.specs.SizeLaws.{cost-none}
-use Rattle.records.specs.RecordLaws.{wires-right}
-use Rattle.records.specs.WireKinds.{wireKind}
-use Rattle.records.specs.WireFigures.{pickSum, wireFigure}
-use Rattle.gates.specs.Gates.{gateAt, arguments}
-use Rattle.gates.specs.PlainCircuit.{gatesOf, gateCount}
-use Rattle.needed.specs.Pass.{rulePreconditions}
+use Rattle.base.specs.Lists.{_∈_}
+use Rattle.base.specs.MemberLaws.{in-map, map-in, getD-in}
+use Rattle.base.specs.Codes.{entryOf}
+use Rattle.base.specs.Results.{resultOn}
+use Rattle.base.specs.declared.Operation.{Operation}
+use Rattle.file.specs.Versions.{writtenVersion}
+use Rattle.file.specs.Records.{Record, operation, recordIn, recordFigure, recordsCost}
+use Rattle.file.specs.CircuitFile.{recordsBytes}
+use Rattle.file.specs.SizeLaws.{cost-none}
+use Rattle.file.specs.RecordLaws.{wires-right}
+use Rattle.file.specs.WireKinds.{wireKind}
+use Rattle.file.specs.WireFigures.{pickSum, wireFigure}
+use Rattle.circuit.specs.Gates.{gateAt, arguments}
+use Rattle.circuit.specs.PlainCircuit.{gatesOf, gateCount}
+use Rattle.circuit_needed.specs.Pass.{rulePreconditions}
 use Rattle.plan.specs.PlanFile.{groupsIn, EachGroup}
 use Rattle.plan.specs.Groups.{groupOf, restsOf}
 use Rattle.plan.specs.GroupLaws.{member-of}

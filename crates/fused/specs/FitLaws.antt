@@ -9,23 +9,23 @@ use native.Mathlib.Omega.{arith}
 use lib.Dec.{eqb}
 use lib.Pow.{pow-mono}
 use lib.ListN.{length, getD, length-map}
-use Rattle.records.specs.Versions.{writtenVersion, mostGuardWires, tableBytes}
-use Rattle.records.specs.VersionLaws.{table-room}
-use Rattle.records.specs.FieldLaws.{FieldsFit, AllFieldsFit}
-use Rattle.words.specs.Lists.{from, upto}
-use Rattle.words.specs.ListLaws.{length-from, length-keep}
-use Rattle.settings.specs.Sets.{has, restsOn, rests}
-use Rattle.settings.specs.Guards.{spread, tableOver, table}
-use Rattle.bitsets.specs.BitLaws.{collect-below}
-use Rattle.codes.specs.Codes.{entryOf}
-use Rattle.codes.specs.declared.Kind.{Kind}
-use Rattle.codes.specs.declared.Operation.{Operation}
-use Rattle.records.specs.RecordLaws.{along-map}
-use Rattle.gates.specs.Gates.{Gate, Gates, gateAt, arguments}
-use Rattle.gates.specs.Gates as gate
-use Rattle.gates.specs.Limits.{mostConditions}
-use Rattle.gates.specs.GateKinds.{GateFits}
-use Rattle.gates.specs.EachGateLaws.{StartGate}
+use Rattle.file.specs.Versions.{writtenVersion, mostGuardWires, tableBytes}
+use Rattle.file.specs.VersionLaws.{table-room}
+use Rattle.file.specs.FieldLaws.{FieldsFit, AllFieldsFit}
+use Rattle.base.specs.Lists.{from, upto}
+use Rattle.base.specs.ListLaws.{length-from, length-keep}
+use Rattle.base.specs.Sets.{has, restsOn, rests}
+use Rattle.base.specs.Guards.{spread, tableOver, table}
+use Rattle.base.specs.BitLaws.{collect-below}
+use Rattle.base.specs.Codes.{entryOf}
+use Rattle.base.specs.declared.Kind.{Kind}
+use Rattle.base.specs.declared.Operation.{Operation}
+use Rattle.file.specs.RecordLaws.{along-map}
+use Rattle.circuit.specs.Gates.{Gate, Gates, gateAt, arguments}
+use Rattle.circuit.specs.Gates as gate
+use Rattle.circuit.specs.Limits.{mostConditions}
+use Rattle.circuit.specs.GateKinds.{GateFits}
+use Rattle.circuit.specs.EachGateLaws.{StartGate}
 use Rattle.plan.specs.Groups.{members, restsOf}
 use Rattle.plan.specs.RestLaws.{rests-few}
 use Rattle.plan.specs.Accepted.{OneCostly}

@@ -7,24 +7,24 @@ use native.Mathlib.Omega.{arith}
 use lib.Dec.{eqb, ltb}
 use borrow.Author.Tests.{eqb-true, ltb-true, ltb-false}
 use lib.ListN.{length, List·getD-eq-default}
-use Rattle.records.specs.Versions.{writtenVersion}
-use Rattle.records.specs.FieldLaws.{FieldsFit, AllFieldsFit, all-fit}
-use Rattle.words.specs.Lists.{_∈_, upto}
-use Rattle.words.specs.ListLaws.{length-from, length-keep}
-use Rattle.words.specs.TestLaws.{split}
-use Rattle.codes.specs.declared.Operation.{Operation}
-use Rattle.words.specs.Numbers.{Bytes}
-use Rattle.answers.specs.declared.Answer.{Answer}
-use Rattle.answers.specs.ParsingLaws.{is-read}
-use Rattle.reading.specs.Header.{variables, kindAt}
-use Rattle.reading.specs.Rule.{readRule}
-use Rattle.reading.specs.FirstStatement.{rule-read}
-use Rattle.gates.specs.Gates.{gateAt, start, operation}
-use Rattle.gates.specs.GateKinds.{kindOfGate}
-use Rattle.gates.specs.GateKindLaws.{plain-fits}
-use Rattle.gates.specs.PlainCircuit.{gatesOf, gateCount}
-use Rattle.gates.specs.EachGateLaws.{rule-starting, rule-start}
-use Rattle.needed.specs.Pass.{rulePreconditions}
+use Rattle.file.specs.Versions.{writtenVersion}
+use Rattle.file.specs.FieldLaws.{FieldsFit, AllFieldsFit, all-fit}
+use Rattle.base.specs.Lists.{_∈_, upto}
+use Rattle.base.specs.ListLaws.{length-from, length-keep}
+use Rattle.base.specs.TestLaws.{split}
+use Rattle.base.specs.declared.Operation.{Operation}
+use Rattle.base.specs.Numbers.{Bytes}
+use Rattle.base.specs.declared.Answer.{Answer}
+use Rattle.base.specs.ParsingLaws.{is-read}
+use Rattle.rule.specs.Header.{variables, kindAt}
+use Rattle.rule.specs.Rule.{readRule}
+use Rattle.rule.specs.FirstStatement.{rule-read}
+use Rattle.circuit.specs.Gates.{gateAt, start, operation}
+use Rattle.circuit.specs.GateKinds.{kindOfGate}
+use Rattle.circuit.specs.GateKindLaws.{plain-fits}
+use Rattle.circuit.specs.PlainCircuit.{gatesOf, gateCount}
+use Rattle.circuit.specs.EachGateLaws.{rule-starting, rule-start}
+use Rattle.circuit_needed.specs.Pass.{rulePreconditions}
 use Rattle.circuit.specs.WholeLaws.{Accepted, accepted}
 use Rattle.plan.specs.PlanFile.{groupsIn}
 use Rattle.plan.specs.Groups.{groupOf, members}
@@ -32,16 +32,16 @@ use Rattle.plan.specs.GroupLaws.{member-of}
 use Rattle.plan.specs.Rows.{planAnswer}
 use Rattle.plan.specs.AcceptedLaws.{plan-accepted}
 use Rattle.plan.specs.JoinedLaws.{members-costly}
-use Rattle.records.specs.CircuitFile.{noWire}
-use Rattle.records.specs.Records.{word, reads, recordIn, ReadsEarlier}
+use Rattle.file.specs.CircuitFile.{noWire}
+use Rattle.file.specs.Records.{word, reads, recordIn, ReadsEarlier}
 use Rattle.fused.specs.FusedCircuit.{recordsOf, outputWires, fusedFile}
 use Rattle.fused.specs.OutputLaws.{outputs-length}
-use Rattle.records.specs.FileFigures.{fileVariables, wireCount, fileRecords, fileOutputs, outputFigure, fileFigures}
-use Rattle.records.specs.FitRecords.{Wires, AllReadBack, FileFits}
+use Rattle.file.specs.FileFigures.{fileVariables, wireCount, fileRecords, fileOutputs, outputFigure, fileFigures}
+use Rattle.file.specs.FitRecords.{Wires, AllReadBack, FileFits}
 use Rattle.fused.specs.FitLaws.{members-few, emit-sized}
 use Rattle.fused.specs.SizeBounds.{wires-bound, outputs-count}
-use Rattle.records.specs.FileLaws.{file-found, file-figures}
-use Rattle.records.specs.FileBytes.{file-bytes}
+use Rattle.file.specs.FileLaws.{file-found, file-figures}
+use Rattle.file.specs.FileBytes.{file-bytes}
 use Rattle.fused.specs.BoundLaws.{fused-along}
 
 -- a starting value is no operation

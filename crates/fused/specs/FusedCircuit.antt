@@ -4,14 +4,14 @@ use mathlib.Core.List.{List, [], _∷_, _++_, map}
 use mathlib.Core.Bool.{cond}
 use lib.Dec.{eqb}
 use lib.ListN.{length, getD}
-use Rattle.words.specs.Lists.{upto}
-use Rattle.records.specs.Versions.{writtenVersion}
-use Rattle.records.specs.Records.{Record, recordsCost}
-use Rattle.records.specs.CircuitFile.{fileBytes, noWire}
-use Rattle.reading.specs.Header.{variables, workingAt}
-use Rattle.gates.specs.Gates.{Gates}
-use Rattle.gates.specs.PlainCircuit.{gatesOf, outputsOf}
-use Rattle.needed.specs.Pass.{rulePreconditions}
+use Rattle.base.specs.Lists.{upto}
+use Rattle.file.specs.Versions.{writtenVersion}
+use Rattle.file.specs.Records.{Record, recordsCost}
+use Rattle.file.specs.CircuitFile.{fileBytes, noWire}
+use Rattle.rule.specs.Header.{variables, workingAt}
+use Rattle.circuit.specs.Gates.{Gates}
+use Rattle.circuit.specs.PlainCircuit.{gatesOf, outputsOf}
+use Rattle.circuit_needed.specs.Pass.{rulePreconditions}
 use Rattle.plan.specs.PlanFile.{groupsIn}
 use Rattle.plan.specs.Groups.{groupOf, members}
 use Rattle.plan.specs.Order.{order}

@@ -9,28 +9,28 @@ use mathlib.Core.Logic.{_⊎_, inl, inr}
 use native.Mathlib.Omega.{arith}
 use lib.ListN.{length, getD}
 use borrow.Author.Tests.{ne-eqb}
-use Rattle.codes.specs.Inputs.{FiguresFit}
-use Rattle.words.specs.Lists.{_∈_, upto}
-use Rattle.words.specs.MemberLaws.{map-in, from-below}
-use Rattle.words.specs.Numbers.{Bytes}
-use Rattle.words.specs.TestLaws.{split}
-use Rattle.answers.specs.declared.Answer.{Answer}
-use Rattle.records.specs.Records.{ReadsEarlier}
-use Rattle.records.specs.WireFigures.{wireFigure}
-use Rattle.records.specs.CircuitFile.{noWire}
-use Rattle.records.specs.FileFigures.{outputFigure, fileFigures}
-use Rattle.codes.specs.Results.{isOne}
-use Rattle.reading.specs.Header.{variables, kindAt, workingAt}
-use Rattle.gates.specs.Running.{runRule, writtenFor, runWrites}
-use Rattle.gates.specs.Gates.{figureAt}
-use Rattle.gates.specs.PlainCircuit.{gatesOf, outputsOf}
-use Rattle.gates.specs.StartLaws.{read-run}
-use Rattle.gates.specs.OutputLaws.{output-figure}
-use Rattle.gates.specs.WrittenLaws.{writes-result, writes-map}
-use Rattle.needed.specs.Needed.{Needed, wantedOf, from-start}
-use Rattle.needed.specs.NeededLaws.{needed-inside}
-use Rattle.needed.specs.WantedLaws.{result-wanted}
-use Rattle.needed.specs.Pass.{rulePreconditions}
+use Rattle.base.specs.Inputs.{FiguresFit}
+use Rattle.base.specs.Lists.{_∈_, upto}
+use Rattle.base.specs.MemberLaws.{map-in, from-below}
+use Rattle.base.specs.Numbers.{Bytes}
+use Rattle.base.specs.TestLaws.{split}
+use Rattle.base.specs.declared.Answer.{Answer}
+use Rattle.file.specs.Records.{ReadsEarlier}
+use Rattle.file.specs.WireFigures.{wireFigure}
+use Rattle.file.specs.CircuitFile.{noWire}
+use Rattle.file.specs.FileFigures.{outputFigure, fileFigures}
+use Rattle.base.specs.Results.{isOne}
+use Rattle.rule.specs.Header.{variables, kindAt, workingAt}
+use Rattle.circuit.specs.Running.{runRule, writtenFor, runWrites}
+use Rattle.circuit.specs.Gates.{figureAt}
+use Rattle.circuit.specs.PlainCircuit.{gatesOf, outputsOf}
+use Rattle.circuit.specs.StartLaws.{read-run}
+use Rattle.circuit.specs.OutputLaws.{output-figure}
+use Rattle.circuit.specs.WrittenLaws.{writes-result, writes-map}
+use Rattle.circuit_needed.specs.Needed.{Needed, wantedOf, from-start}
+use Rattle.circuit_needed.specs.NeededLaws.{needed-inside}
+use Rattle.circuit_needed.specs.WantedLaws.{result-wanted}
+use Rattle.circuit_needed.specs.Pass.{rulePreconditions}
 use Rattle.plan.specs.PlanFile.{groupsIn}
 use Rattle.plan.specs.Groups.{groupOf}
 use Rattle.plan.specs.Order.{order}

@@ -5,23 +5,23 @@ use mathlib.Core.List.{List}
 use mathlib.Core.Bool.{false}
 use native.Mathlib.Omega.{arith}
 use lib.ListN.{length, getD}
-use Rattle.words.specs.Numbers.{Bytes}
-use Rattle.answers.specs.declared.Answer.{Answer}
-use Rattle.reading.specs.Header.{variables, kindAt, workingAt}
-use Rattle.gates.specs.PlainCircuit.{gatesOf, outputsOf}
-use Rattle.gates.specs.GateKinds.{kindOfGate}
-use Rattle.gates.specs.GateKindLaws.{plain-fits, output-kinds}
-use Rattle.needed.specs.Needed.{wantedOf}
-use Rattle.needed.specs.Pass.{rulePreconditions}
+use Rattle.base.specs.Numbers.{Bytes}
+use Rattle.base.specs.declared.Answer.{Answer}
+use Rattle.rule.specs.Header.{variables, kindAt, workingAt}
+use Rattle.circuit.specs.PlainCircuit.{gatesOf, outputsOf}
+use Rattle.circuit.specs.GateKinds.{kindOfGate}
+use Rattle.circuit.specs.GateKindLaws.{plain-fits, output-kinds}
+use Rattle.circuit_needed.specs.Needed.{wantedOf}
+use Rattle.circuit_needed.specs.Pass.{rulePreconditions}
 use Rattle.plan.specs.PlanFile.{groupsIn}
 use Rattle.plan.specs.Groups.{groupOf}
 use Rattle.plan.specs.Order.{order}
 use Rattle.plan.specs.Rows.{planAnswer}
 use Rattle.plan.specs.WaitLaws.{order-ordered, order-once}
-use Rattle.records.specs.Records.{recordIn}
-use Rattle.records.specs.WireKinds.{wireKind, RecordFits}
-use Rattle.records.specs.WireKindLaws.{run-kinds}
-use Rattle.records.specs.RecordLaws.{Along, along-at}
+use Rattle.file.specs.Records.{recordIn}
+use Rattle.file.specs.WireKinds.{wireKind, RecordFits}
+use Rattle.file.specs.WireKindLaws.{run-kinds}
+use Rattle.file.specs.RecordLaws.{Along, along-at}
 use Rattle.fused.specs.FusedCircuit.{fused, recordsOf, wireOf, outputWire}
 use Rattle.fused.specs.OutputLaws.{result-wire}
 use Rattle.fused.specs.KindedLaws.{FitsAt}

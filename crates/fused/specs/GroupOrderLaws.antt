@@ -4,12 +4,12 @@ use mathlib.Core.Path.{_≡_, ap, fun-ext}
 use mathlib.Core.Bool.{cond}
 use mathlib.Core.List.{List, map}
 use lib.ListN.{getD}
-use Rattle.words.specs.Lists.{upto}
-use Rattle.records.specs.Versions.{writtenVersion}
-use Rattle.records.specs.CircuitFile.{fileBytes, noWire}
-use Rattle.reading.specs.Header.{variables, workingAt}
-use Rattle.gates.specs.PlainCircuit.{gatesOf, outputsOf}
-use Rattle.needed.specs.Pass.{rulePreconditions}
+use Rattle.base.specs.Lists.{upto}
+use Rattle.file.specs.Versions.{writtenVersion}
+use Rattle.file.specs.CircuitFile.{fileBytes, noWire}
+use Rattle.rule.specs.Header.{variables, workingAt}
+use Rattle.circuit.specs.PlainCircuit.{gatesOf, outputsOf}
+use Rattle.circuit_needed.specs.Pass.{rulePreconditions}
 use Rattle.plan.specs.PlanFile.{groupsIn, Apart}
 use Rattle.plan.specs.Order.{order}
 use Rattle.plan.specs.Accepted.{LaidOut}

@@ -6,13 +6,13 @@ use mathlib.Core.List.{List, [], _∷_, _++_, append-assoc, append-nil}
 use mathlib.Core.Logic.{_↔_, _⊎_, inl, inr}
 use native.Mathlib.Omega.{arith}
 use lib.ListN.{length}
-use Rattle.words.specs.Lists.{_∈_}
-use Rattle.words.specs.TestLaws.{same?}
-use Rattle.settings.specs.Settings.{Once}
-use Rattle.records.specs.Records.{Record, recordIn}
-use Rattle.gates.specs.Gates.{Gates}
-use Rattle.gates.specs.PlainCircuit.{gatesOf}
-use Rattle.needed.specs.Pass.{rulePreconditions}
+use Rattle.base.specs.Lists.{_∈_}
+use Rattle.base.specs.TestLaws.{same?}
+use Rattle.base.specs.Settings.{Once}
+use Rattle.file.specs.Records.{Record, recordIn}
+use Rattle.circuit.specs.Gates.{Gates}
+use Rattle.circuit.specs.PlainCircuit.{gatesOf}
+use Rattle.circuit_needed.specs.Pass.{rulePreconditions}
 use Rattle.plan.specs.PlanFile.{groupsIn}
 use Rattle.plan.specs.Groups.{groupOf, groups, members, waitsFor}
 use Rattle.plan.specs.Order.{Ordered, order}

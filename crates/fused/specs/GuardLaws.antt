@@ -5,25 +5,25 @@ use mathlib.Core.Path.{_≡_, sym, ap, _∙_}
 use mathlib.Core.Bool.{Bool, cond}
 use mathlib.Core.List.{List, map}
 use lib.ListN.{length, getD}
-use Rattle.words.specs.Lists.{_∈_}
-use Rattle.words.specs.MemberLaws.{keep-in}
-use Rattle.words.specs.TestLaws.{split}
-use Rattle.bitsets.specs.Bits.{bitOf}
-use Rattle.settings.specs.Settings.{Setting, numberOf, preRestsOn}
-use Rattle.settings.specs.Sets.{has}
-use Rattle.settings.specs.Guards.{table}
-use Rattle.settings.specs.Holding.{Holds}
-use Rattle.settings.specs.SettingLaws.{numberOf-map}
-use Rattle.settings.specs.RestLaws.{pre-rests-right}
-use Rattle.settings.specs.GuardLaws.{guard-holds}
-use Rattle.codes.specs.Results.{isOne}
-use Rattle.records.specs.Records.{guardFigure}
-use Rattle.gates.specs.Gates.{Gates, Earlier, Condition, conditions}
-use Rattle.gates.specs.ConditionLaws.{condition-in}
-use Rattle.gates.specs.Limits.{mostConditions}
-use Rattle.needed.specs.Needed.{Needed}
-use Rattle.needed.specs.Pass.{needed, preconditionSets, preconditionOf}
-use Rattle.needed.specs.PreconditionLaws.{needed-agree, needed-over, precondition-holds}
+use Rattle.base.specs.Lists.{_∈_}
+use Rattle.base.specs.MemberLaws.{keep-in}
+use Rattle.base.specs.TestLaws.{split}
+use Rattle.base.specs.Bits.{bitOf}
+use Rattle.base.specs.Settings.{Setting, numberOf, preRestsOn}
+use Rattle.base.specs.Sets.{has}
+use Rattle.base.specs.Guards.{table}
+use Rattle.base.specs.Holding.{Holds}
+use Rattle.base.specs.SettingLaws.{numberOf-map}
+use Rattle.base.specs.RestLaws.{pre-rests-right}
+use Rattle.base.specs.GuardLaws.{guard-holds}
+use Rattle.base.specs.Results.{isOne}
+use Rattle.file.specs.Records.{guardFigure}
+use Rattle.circuit.specs.Gates.{Gates, Earlier, Condition, conditions}
+use Rattle.circuit.specs.ConditionLaws.{condition-in}
+use Rattle.circuit.specs.Limits.{mostConditions}
+use Rattle.circuit_needed.specs.Needed.{Needed}
+use Rattle.circuit_needed.specs.Pass.{needed, preconditionSets, preconditionOf}
+use Rattle.circuit_needed.specs.PreconditionLaws.{needed-agree, needed-over, precondition-holds}
 use Rattle.plan.specs.Groups.{restsOf}
 use Rattle.plan.specs.RestLaws.{rests-list}
 

@@ -5,16 +5,16 @@ use mathlib.Core.List.{List, [], _∷_, _++_, map, append-assoc, append-nil}
 use native.Mathlib.Nat.{zero-add}
 use native.Mathlib.Omega.{arith}
 use lib.ListN.{length}
-use Rattle.words.specs.Lists.{_∈_, upto}
-use Rattle.words.specs.MemberLaws.{from-in}
-use Rattle.codes.specs.declared.Operation.{Operation}
-use Rattle.records.specs.Records.{Pair, Record, input, word, bit, operation, choice, pick, guard, recordIn}
-use Rattle.records.specs.WireKinds.{guardsOf}
-use Rattle.records.specs.RecordLaws.{Along, along-append, along-at}
-use Rattle.gates.specs.Gates.{Gate, Gates, gateAt, arguments}
-use Rattle.gates.specs.Gates as gate
-use Rattle.gates.specs.PlainCircuit.{gatesOf}
-use Rattle.needed.specs.Pass.{rulePreconditions}
+use Rattle.base.specs.Lists.{_∈_, upto}
+use Rattle.base.specs.MemberLaws.{from-in}
+use Rattle.base.specs.declared.Operation.{Operation}
+use Rattle.file.specs.Records.{Pair, Record, input, word, bit, operation, choice, pick, guard, recordIn}
+use Rattle.file.specs.WireKinds.{guardsOf}
+use Rattle.file.specs.RecordLaws.{Along, along-append, along-at}
+use Rattle.circuit.specs.Gates.{Gate, Gates, gateAt, arguments}
+use Rattle.circuit.specs.Gates as gate
+use Rattle.circuit.specs.PlainCircuit.{gatesOf}
+use Rattle.circuit_needed.specs.Pass.{rulePreconditions}
 use Rattle.plan.specs.PlanFile.{groupsIn, EachGroup}
 use Rattle.plan.specs.Groups.{groupOf, members}
 use Rattle.plan.specs.Order.{order}

@@ -8,18 +8,18 @@ use lib.Dec.{ltb}
 use lib.ListN.{length, length-append, length-map, List·getD-append}
 use lib.Seq.{getD-append-add}
 use borrow.Author.Tests.{ltb-true, ltb-false}
-use Rattle.words.specs.Lists.{_∈_, upto}
-use Rattle.words.specs.ListLaws.{length-from, upto-more, getD-upto}
-use Rattle.words.specs.MemberLaws.{in-append}
-use Rattle.words.specs.TestLaws.{split}
-use Rattle.settings.specs.Settings.{Once}
-use Rattle.answers.specs.declared.Answer.{Answer}
-use Rattle.reading.specs.Header.{variables, kindAt}
-use Rattle.gates.specs.Gates.{Gate, Gates, gateAt, arguments}
-use Rattle.gates.specs.Gates as gate
-use Rattle.gates.specs.PlainCircuit.{gatesOf, gateCount}
-use Rattle.gates.specs.EachGateLaws.{NotStart, rule-start, rule-no-start, rule-gates-many}
-use Rattle.needed.specs.Pass.{rulePreconditions}
+use Rattle.base.specs.Lists.{_∈_, upto}
+use Rattle.base.specs.ListLaws.{length-from, upto-more, getD-upto}
+use Rattle.base.specs.MemberLaws.{in-append}
+use Rattle.base.specs.TestLaws.{split}
+use Rattle.base.specs.Settings.{Once}
+use Rattle.base.specs.declared.Answer.{Answer}
+use Rattle.rule.specs.Header.{variables, kindAt}
+use Rattle.circuit.specs.Gates.{Gate, Gates, gateAt, arguments}
+use Rattle.circuit.specs.Gates as gate
+use Rattle.circuit.specs.PlainCircuit.{gatesOf, gateCount}
+use Rattle.circuit.specs.EachGateLaws.{NotStart, rule-start, rule-no-start, rule-gates-many}
+use Rattle.circuit_needed.specs.Pass.{rulePreconditions}
 use Rattle.plan.specs.PlanFile.{groupsIn}
 use Rattle.plan.specs.Groups.{groupOf, members}
 use Rattle.plan.specs.Order.{order}
@@ -28,8 +28,8 @@ use Rattle.plan.specs.AcceptedLaws.{plan-accepted}
 use Rattle.plan.specs.GroupLaws.{of-member}
 use Rattle.plan.specs.WaitLaws.{order-once}
 use Rattle.plan.specs.FirstLaws.{down, down-in, Alone, order-first, start-alone}
-use Rattle.records.specs.Records.{Record, input, word, recordIn, NotInput}
-use Rattle.records.specs.RecordLaws.{Along, along-append, along-map, along-any}
+use Rattle.file.specs.Records.{Record, input, word, recordIn, NotInput}
+use Rattle.file.specs.RecordLaws.{Along, along-append, along-map, along-any}
 use Rattle.fused.specs.Emission.{alone, gateOperation, guardOf, valuesAt, emit}
 use Rattle.fused.specs.FusedCircuit.{groupRecords, written, fused, recordsOf}
 use Rattle.fused.specs.JoinedParts.{joined-along}

@@ -4,10 +4,10 @@ use Prim.Native.Nat.{ℕ, _+_, _-_}
 use mathlib.Core.Path.{_≡_}
 use mathlib.Core.List.{List, [], _∷_, _++_, map}
 use lib.ListN.{length, getD}
-use Rattle.records.specs.Records.{Record}
-use Rattle.gates.specs.Gates.{gateAt, arguments}
-use Rattle.gates.specs.PlainCircuit.{gatesOf, gateCount}
-use Rattle.needed.specs.Pass.{rulePreconditions}
+use Rattle.file.specs.Records.{Record}
+use Rattle.circuit.specs.Gates.{gateAt, arguments}
+use Rattle.circuit.specs.PlainCircuit.{gatesOf, gateCount}
+use Rattle.circuit_needed.specs.Pass.{rulePreconditions}
 use Rattle.plan.specs.PlanFile.{groupsIn}
 use Rattle.plan.specs.Groups.{groupOf, members}
 use Rattle.fused.specs.Emission.{gateOperation, picked, joined, guardOf, valuesAt}

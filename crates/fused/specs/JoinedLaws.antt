@@ -5,15 +5,15 @@ use mathlib.Core.Bool.{false}
 use mathlib.Core.List.{List}
 use lib.Dec.{eqb}
 use lib.ListN.{length}
-use Rattle.words.specs.Lists.{_∈_, upto}
-use Rattle.words.specs.TestLaws.{split}
-use Rattle.settings.specs.Settings.{Setting, Once}
-use Rattle.settings.specs.ListLaws.{from-once, keep-once}
-use Rattle.codes.specs.declared.Operation.{Operation}
-use Rattle.gates.specs.Gates.{Gates, gateAt, operation, arguments}
-use Rattle.needed.specs.Needed.{Needed, Exclude}
-use Rattle.needed.specs.Pass.{needed}
-use Rattle.needed.specs.PassLaws.{needed-sound}
+use Rattle.base.specs.Lists.{_∈_, upto}
+use Rattle.base.specs.TestLaws.{split}
+use Rattle.base.specs.Settings.{Setting, Once}
+use Rattle.base.specs.SettingListLaws.{from-once, keep-once}
+use Rattle.base.specs.declared.Operation.{Operation}
+use Rattle.circuit.specs.Gates.{Gates, gateAt, operation, arguments}
+use Rattle.circuit_needed.specs.Needed.{Needed, Exclude}
+use Rattle.circuit_needed.specs.Pass.{needed}
+use Rattle.circuit_needed.specs.PassLaws.{needed-sound}
 use Rattle.plan.specs.Groups.{members}
 use Rattle.fused.specs.Emission.{gateOperation}
 

@@ -7,11 +7,11 @@ use mathlib.Core.List.{List, [], _∷_, _++_, map}
 use mathlib.Core.Logic.{_⊎_, inl, inr}
 use native.Mathlib.Omega.{arith}
 use lib.ListN.{length, getD, length-append, length-map, List·getD-append}
-use Rattle.words.specs.Lists.{_∈_}
-use Rattle.words.specs.TestLaws.{split}
-use Rattle.codes.specs.declared.Operation.{Operation}
-use Rattle.records.specs.Records.{Record, word, operation, pick, recordIn}
-use Rattle.records.specs.RecordLaws.{Along, along-append, along-left, along-right}
+use Rattle.base.specs.Lists.{_∈_}
+use Rattle.base.specs.TestLaws.{split}
+use Rattle.base.specs.declared.Operation.{Operation}
+use Rattle.file.specs.Records.{Record, word, operation, pick, recordIn}
+use Rattle.file.specs.RecordLaws.{Along, along-append, along-left, along-right}
 use Rattle.fused.specs.Emission.{pairs, oneWire, picked, guarded, argumentWires, joined}
 use Rattle.fused.specs.PlaceLaws.{one-wire-in}
 

@@ -7,15 +7,15 @@ use mathlib.Core.List.{List, [], _∷_, _++_, map}
 use mathlib.Core.Logic.{inl}
 use native.Mathlib.Omega.{arith}
 use lib.ListN.{length, getD}
-use Rattle.words.specs.Lists.{_∈_, upto}
-use Rattle.codes.specs.declared.Operation.{Operation}
-use Rattle.records.specs.Records.{Record, input, word, bit, operation, choice, pick, guard, recordIn, Pair}
-use Rattle.records.specs.WireKinds.{valuesOf}
-use Rattle.records.specs.RecordLaws.{Along, along-map, along-at}
-use Rattle.gates.specs.Gates.{Gate, gateAt, arguments, Gates}
-use Rattle.gates.specs.Gates as gate
-use Rattle.gates.specs.PlainCircuit.{gatesOf, gateCount}
-use Rattle.needed.specs.Pass.{rulePreconditions}
+use Rattle.base.specs.Lists.{_∈_, upto}
+use Rattle.base.specs.declared.Operation.{Operation}
+use Rattle.file.specs.Records.{Record, input, word, bit, operation, choice, pick, guard, recordIn, Pair}
+use Rattle.file.specs.WireKinds.{valuesOf}
+use Rattle.file.specs.RecordLaws.{Along, along-map, along-at}
+use Rattle.circuit.specs.Gates.{Gate, gateAt, arguments, Gates}
+use Rattle.circuit.specs.Gates as gate
+use Rattle.circuit.specs.PlainCircuit.{gatesOf, gateCount}
+use Rattle.circuit_needed.specs.Pass.{rulePreconditions}
 use Rattle.plan.specs.PlanFile.{groupsIn}
 use Rattle.plan.specs.Groups.{groupOf, members}
 use Rattle.plan.specs.GroupLaws.{member-of}

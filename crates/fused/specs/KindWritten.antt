@@ -6,30 +6,30 @@ use mathlib.Core.Logic.{inl, inr}
 use native.Mathlib.Nat.{zero-add}
 use native.Mathlib.Omega.{arith}
 use lib.ListN.{length, getD, length-map}
-use Rattle.words.specs.Lists.{_∈_, upto}
-use Rattle.words.specs.MemberLaws.{getD-in, from-below}
-use Rattle.settings.specs.Settings.{Once}
-use Rattle.codes.specs.Codes.{entryOf}
-use Rattle.codes.specs.declared.Kind.{Kind}
-use Rattle.codes.specs.declared.Kind.the-variants as kind
-use Rattle.codes.specs.declared.Operation.{Operation}
-use Rattle.reading.specs.Header.{kindAt}
-use Rattle.gates.specs.Gates.{Gates, gateAt, arguments, Earlier, conditions}
-use Rattle.gates.specs.Gates as gate
-use Rattle.gates.specs.GateKinds.{gateKind, kindOfGate, GateFits, GatesFit}
-use Rattle.gates.specs.KindLaws as gateLaws
-use Rattle.gates.specs.Limits.{mostConditions}
-use Rattle.gates.specs.ConditionLaws.{condition-below, condition-from}
-use Rattle.needed.specs.Pass.{preconditionSets}
+use Rattle.base.specs.Lists.{_∈_, upto}
+use Rattle.base.specs.MemberLaws.{getD-in, from-below}
+use Rattle.base.specs.Settings.{Once}
+use Rattle.base.specs.Codes.{entryOf}
+use Rattle.base.specs.declared.Kind.{Kind}
+use Rattle.base.specs.declared.Kind.the-variants as kind
+use Rattle.base.specs.declared.Operation.{Operation}
+use Rattle.rule.specs.Header.{kindAt}
+use Rattle.circuit.specs.Gates.{Gates, gateAt, arguments, Earlier, conditions}
+use Rattle.circuit.specs.Gates as gate
+use Rattle.circuit.specs.GateKinds.{gateKind, kindOfGate, GateFits, GatesFit}
+use Rattle.circuit.specs.KindLaws as gateLaws
+use Rattle.circuit.specs.Limits.{mostConditions}
+use Rattle.circuit.specs.ConditionLaws.{condition-below, condition-from}
+use Rattle.circuit_needed.specs.Pass.{preconditionSets}
 use Rattle.plan.specs.Groups.{members, restsOf, waitsFor}
 use Rattle.plan.specs.Order.{Ordered}
 use Rattle.plan.specs.GroupLaws.{member-of, of-member}
 use Rattle.plan.specs.RestLaws.{rests-right}
 use Rattle.plan.specs.ReadsLaws.{waits-argument, waits-rests}
-use Rattle.records.specs.Records.{operation, pick}
-use Rattle.records.specs.WireKinds.{recordKind, AllOf, RecordFits}
-use Rattle.records.specs.WireKindLaws.{GivesKind, KindsGiven}
-use Rattle.records.specs.RecordLaws.{Along, along-append, along-left, along-right}
+use Rattle.file.specs.Records.{operation, pick}
+use Rattle.file.specs.WireKinds.{recordKind, AllOf, RecordFits}
+use Rattle.file.specs.WireKindLaws.{GivesKind, KindsGiven}
+use Rattle.file.specs.RecordLaws.{Along, along-append, along-left, along-right}
 use Rattle.fused.specs.Emission.{gateOperation, pairs, guardOf, valuesAt, emit}
 use Rattle.fused.specs.FusedCircuit.{Written, groupRecords, written}
 use Rattle.fused.specs.JoinedLaws.{Joined}

@@ -6,20 +6,20 @@ use mathlib.Core.List.{List, [], _∷_, map}
 use mathlib.Core.Logic.{inl, inr}
 use native.Mathlib.Omega.{arith}
 use lib.ListN.{length, getD, drop}
-use Rattle.words.specs.Lists.{_∈_, from}
-use Rattle.words.specs.MemberLaws.{map-in}
-use Rattle.codes.specs.Codes.{entryOf}
-use Rattle.codes.specs.declared.Kind.{Kind}
-use Rattle.codes.specs.declared.Kind.the-variants as kind
-use Rattle.codes.specs.declared.Operation.{Operation}
-use Rattle.reading.specs.Header.{kindAt}
-use Rattle.gates.specs.Gates.{Gate, arguments}
-use Rattle.gates.specs.Gates as gate
-use Rattle.gates.specs.GateKinds.{gateKind, GateFits}
-use Rattle.records.specs.Records.{Record, operation, pick}
-use Rattle.records.specs.WireKinds.{guardsOf, valuesOf, recordKind, AllOf, RecordFits}
-use Rattle.records.specs.WireKindLaws.{GivesKind, KindsGiven}
-use Rattle.records.specs.RecordLaws.{Along, along-map}
+use Rattle.base.specs.Lists.{_∈_, from}
+use Rattle.base.specs.MemberLaws.{map-in}
+use Rattle.base.specs.Codes.{entryOf}
+use Rattle.base.specs.declared.Kind.{Kind}
+use Rattle.base.specs.declared.Kind.the-variants as kind
+use Rattle.base.specs.declared.Operation.{Operation}
+use Rattle.rule.specs.Header.{kindAt}
+use Rattle.circuit.specs.Gates.{Gate, arguments}
+use Rattle.circuit.specs.Gates as gate
+use Rattle.circuit.specs.GateKinds.{gateKind, GateFits}
+use Rattle.file.specs.Records.{Record, operation, pick}
+use Rattle.file.specs.WireKinds.{guardsOf, valuesOf, recordKind, AllOf, RecordFits}
+use Rattle.file.specs.WireKindLaws.{GivesKind, KindsGiven}
+use Rattle.file.specs.RecordLaws.{Along, along-map}
 use Rattle.fused.specs.Emission.{alone, pairs, oneWire, joined}
 use Rattle.fused.specs.JoinedParts.{behindGuards, operationReads, joined-along, joined-guards, joined-picks, joined-last, arguments-hold}
 use Rattle.fused.specs.PlaceLaws.{one-wire-in}

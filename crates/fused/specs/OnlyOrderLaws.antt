@@ -5,23 +5,23 @@ use mathlib.Core.List.{List, [], _∷_, map}
 use mathlib.Core.Bool.{Bool, not, cond}
 use native.Mathlib.Omega.{arith}
 use lib.ListN.{length, getD}
-use Rattle.words.specs.Lists.{_∈_, keep, upto}
-use Rattle.words.specs.MemberLaws.{from-below}
-use Rattle.words.specs.ListLaws.{map-same, keep-same}
-use Rattle.answers.specs.Answers.{success}
-use Rattle.answers.specs.ParsingLaws.{is-read}
-use Rattle.records.specs.Records.{Record, input}
-use Rattle.records.specs.CircuitFile.{noWire}
-use Rattle.reading.specs.Header.{variables, kindAt, workingAt, resultVariables}
-use Rattle.reading.specs.Rule.{readRule}
-use Rattle.reading.specs.OnlyOrder.{OnlyOrder}
-use Rattle.gates.specs.Gates.{Gate, start, word, bit, operation, choice, Gates, gateAt, costs, conditions}
-use Rattle.gates.specs.PlainCircuit.{Making, gatesOf}
-use Rattle.gates.specs.OnlyOrderLaws.{same-variables, same-kind, same-working, second-read, same-plain}
-use Rattle.gates.specs.Limits.{mostGates, mostConditions}
-use Rattle.gates.specs.EachGateLaws.{StartGate, Starting, rule-starting}
-use Rattle.needed.specs.Needed.{wantedOf}
-use Rattle.needed.specs.Pass.{preconditionSets, rulePreconditions}
+use Rattle.base.specs.Lists.{_∈_, keep, upto}
+use Rattle.base.specs.MemberLaws.{from-below}
+use Rattle.base.specs.ListLaws.{map-same, keep-same}
+use Rattle.base.specs.Answers.{success}
+use Rattle.base.specs.ParsingLaws.{is-read}
+use Rattle.file.specs.Records.{Record, input}
+use Rattle.file.specs.CircuitFile.{noWire}
+use Rattle.rule.specs.Header.{variables, kindAt, workingAt, resultVariables}
+use Rattle.rule.specs.Rule.{readRule}
+use Rattle.rule.specs.OnlyOrder.{OnlyOrder}
+use Rattle.circuit.specs.Gates.{Gate, start, word, bit, operation, choice, Gates, gateAt, costs, conditions}
+use Rattle.circuit.specs.PlainCircuit.{Making, gatesOf}
+use Rattle.circuit.specs.OnlyOrderLaws.{same-variables, same-kind, same-working, second-read, same-plain}
+use Rattle.circuit.specs.Limits.{mostGates, mostConditions}
+use Rattle.circuit.specs.EachGateLaws.{StartGate, Starting, rule-starting}
+use Rattle.circuit_needed.specs.Needed.{wantedOf}
+use Rattle.circuit_needed.specs.Pass.{preconditionSets, rulePreconditions}
 use Rattle.circuit.specs.Whole.{ruleAnswer}
 use Rattle.circuit.specs.WholeLaws.{whole-success, answer-whole, accepted}
 use Rattle.plan.specs.PlanFile.{groupsIn}

@@ -4,11 +4,11 @@ use mathlib.Core.Path.{_≡_, _∙_}
 use mathlib.Core.List.{List}
 use mathlib.Core.Bool.{true, false}
 use lib.ListN.{length, getD, length-map}
-use Rattle.words.specs.Lists.{upto}
-use Rattle.words.specs.ListLaws.{length-from, getD-upto}
-use Rattle.records.specs.CircuitFile.{noWire}
-use Rattle.reading.specs.Header.{variables, workingAt}
-use Rattle.gates.specs.PlainCircuit.{outputsOf}
+use Rattle.base.specs.Lists.{upto}
+use Rattle.base.specs.ListLaws.{length-from, getD-upto}
+use Rattle.file.specs.CircuitFile.{noWire}
+use Rattle.rule.specs.Header.{variables, workingAt}
+use Rattle.circuit.specs.PlainCircuit.{outputsOf}
 use Rattle.fused.specs.FusedCircuit.{wireOf, outputWire, outputWires}
 
 module _ (s p : List ℕ) where

@@ -7,15 +7,15 @@ use mathlib.Core.Logic.{_⊎_, inl, inr}
 use native.Mathlib.Nat.{add-zero, zero-add}
 use native.Mathlib.Omega.{arith}
 use lib.ListN.{length, getD}
-use Rattle.words.specs.Lists.{_∈_, from, upto}
-use Rattle.words.specs.TestLaws.{same?}
-use Rattle.bitsets.specs.Bits.{bitOf}
-use Rattle.codes.specs.declared.Operation.{Operation}
-use Rattle.codes.specs.Results.{isOne, resultOn}
-use Rattle.records.specs.Records.{Record, pickFigure, recordFigure}
-use Rattle.records.specs.RecordLaws.{Along, GivesFigure, Figured}
-use Rattle.gates.specs.Gates.{Gate, figure}
-use Rattle.gates.specs.Gates as gate
+use Rattle.base.specs.Lists.{_∈_, from, upto}
+use Rattle.base.specs.TestLaws.{same?}
+use Rattle.base.specs.Bits.{bitOf}
+use Rattle.base.specs.declared.Operation.{Operation}
+use Rattle.base.specs.Results.{isOne, resultOn}
+use Rattle.file.specs.Records.{Record, pickFigure, recordFigure}
+use Rattle.file.specs.RecordLaws.{Along, GivesFigure, Figured}
+use Rattle.circuit.specs.Gates.{Gate, figure}
+use Rattle.circuit.specs.Gates as gate
 use Rattle.fused.specs.Emission.{alone, pairs, oneWire, joined}
 use Rattle.fused.specs.JoinedParts.{behindGuards, joined-picks, joined-last, arguments-hold}
 

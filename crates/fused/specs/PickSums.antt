@@ -8,23 +8,23 @@ use native.Mathlib.Nat.{zero-add}
 use lib.Dec.{ltb}
 use lib.ListN.{getD}
 use borrow.Author.Tests.{ltb-true, ltb-false}
-use Rattle.codes.specs.Inputs.{FiguresFit}
-use Rattle.words.specs.Lists.{_∈_}
-use Rattle.words.specs.TestLaws.{split}
-use Rattle.words.specs.Numbers.{Bytes}
-use Rattle.codes.specs.Codes.{Fits}
-use Rattle.codes.specs.declared.Kind.{Kind}
-use Rattle.answers.specs.declared.Answer.{Answer}
-use Rattle.reading.specs.Header.{variables, kindAt}
+use Rattle.base.specs.Inputs.{FiguresFit}
+use Rattle.base.specs.Lists.{_∈_}
+use Rattle.base.specs.TestLaws.{split}
+use Rattle.base.specs.Numbers.{Bytes}
+use Rattle.base.specs.Codes.{Fits}
+use Rattle.base.specs.declared.Kind.{Kind}
+use Rattle.base.specs.declared.Answer.{Answer}
+use Rattle.rule.specs.Header.{variables, kindAt}
 use Rattle.plan.specs.Rows.{planAnswer}
-use Rattle.records.specs.Versions.{writtenVersion}
-use Rattle.records.specs.Records.{Pair, input, pick, guard, recordIn, pickFigure, guardFigure}
-use Rattle.records.specs.WireKinds.{valuesOf, wireKind}
-use Rattle.records.specs.WireFigures.{pickSum, wireFigure}
-use Rattle.records.specs.Sums.{guardsAtOne}
-use Rattle.records.specs.RecordLaws.{GivesFigure, Figured, along-at, wires-right}
-use Rattle.records.specs.SumLaws.{pick-inside, guard-inside}
-use Rattle.records.specs.FigureKindLaws.{sum-value, wires-figured}
+use Rattle.file.specs.Versions.{writtenVersion}
+use Rattle.file.specs.Records.{Pair, input, pick, guard, recordIn, pickFigure, guardFigure}
+use Rattle.file.specs.WireKinds.{valuesOf, wireKind}
+use Rattle.file.specs.WireFigures.{pickSum, wireFigure}
+use Rattle.file.specs.Sums.{guardsAtOne}
+use Rattle.file.specs.RecordLaws.{GivesFigure, Figured, along-at, wires-right}
+use Rattle.file.specs.SumLaws.{pick-inside, guard-inside}
+use Rattle.file.specs.FigureKindLaws.{sum-value, wires-figured}
 use Rattle.fused.specs.FusedCircuit.{recordsOf}
 use Rattle.fused.specs.BoundLaws.{fused-bounded}
 use Rattle.fused.specs.FitPlan.{fused-fits}

@@ -8,9 +8,9 @@ use native.Mathlib.Omega.{arith}
 use lib.Dec.{eqb}
 use lib.ListN.{length, getD}
 use borrow.Author.Tests.{eqb-true, eq-eqb}
-use Rattle.words.specs.Lists.{_∈_}
-use Rattle.words.specs.TestLaws.{split}
-use Rattle.words.specs.MemberLaws.{every-right}
+use Rattle.base.specs.Lists.{_∈_}
+use Rattle.base.specs.TestLaws.{split}
+use Rattle.base.specs.MemberLaws.{every-right}
 use Rattle.fused.specs.Emission.{oneWire}
 
 -- the one wire is each member's

@@ -6,25 +6,25 @@ use mathlib.Core.List.{List}
 use native.Mathlib.Nat.{zero-add}
 use native.Mathlib.Omega.{arith}
 use lib.ListN.{length, getD}
-use Rattle.words.specs.Lists.{_∈_}
-use Rattle.words.specs.MemberLaws.{getD-in}
-use Rattle.codes.specs.Codes.{entryOf}
-use Rattle.codes.specs.declared.Operation.{Operation}
-use Rattle.answers.specs.Parsing.{parsed}
-use Rattle.answers.specs.ParsingLaws.{is-read}
-use Rattle.answers.specs.declared.Answer.{Answer}
-use Rattle.reading.specs.Header.{variables}
-use Rattle.reading.specs.Tree.{Block}
-use Rattle.reading.specs.Rule.{readRule}
-use Rattle.gates.specs.Gates.{Gate, operation, gateAt, arguments, Earlier, conditions}
-use Rattle.gates.specs.Limits.{mostConditions}
-use Rattle.gates.specs.PlainCircuit.{gatesOf, outputsOf, gateCount}
-use Rattle.gates.specs.StartLaws.{plain-sound}
-use Rattle.needed.specs.Held.{ShapedGate}
-use Rattle.needed.specs.Needed.{wantedOf}
-use Rattle.needed.specs.Pass.{rulePreconditions}
-use Rattle.needed.specs.RulePreconditions.{rule-earlier, wanted-inside}
-use Rattle.needed.specs.ShapedLaws.{rule-shaped}
+use Rattle.base.specs.Lists.{_∈_}
+use Rattle.base.specs.MemberLaws.{getD-in}
+use Rattle.base.specs.Codes.{entryOf}
+use Rattle.base.specs.declared.Operation.{Operation}
+use Rattle.base.specs.Parsing.{parsed}
+use Rattle.base.specs.ParsingLaws.{is-read}
+use Rattle.base.specs.declared.Answer.{Answer}
+use Rattle.rule.specs.Header.{variables}
+use Rattle.rule.specs.Tree.{Block}
+use Rattle.rule.specs.Rule.{readRule}
+use Rattle.circuit.specs.Gates.{Gate, operation, gateAt, arguments, Earlier, conditions}
+use Rattle.circuit.specs.Limits.{mostConditions}
+use Rattle.circuit.specs.PlainCircuit.{gatesOf, outputsOf, gateCount}
+use Rattle.circuit.specs.StartLaws.{plain-sound}
+use Rattle.circuit_needed.specs.Held.{ShapedGate}
+use Rattle.circuit_needed.specs.Needed.{wantedOf}
+use Rattle.circuit_needed.specs.Pass.{rulePreconditions}
+use Rattle.circuit_needed.specs.RulePreconditions.{rule-earlier, wanted-inside}
+use Rattle.circuit_needed.specs.ShapedLaws.{rule-shaped}
 use Rattle.circuit.specs.WholeLaws.{Accepted, accepted}
 use Rattle.plan.specs.PlanFile.{groupsIn}
 use Rattle.plan.specs.Groups.{Named, groupOf, groups, members}
@@ -35,13 +35,13 @@ use Rattle.plan.specs.AcceptedLaws.{plan-accepted}
 use Rattle.plan.specs.GroupLaws.{groupOf-named, group-in}
 use Rattle.plan.specs.JoinedLaws.{members-costly, members-exclude}
 use Rattle.plan.specs.WaitLaws.{order-places, order-ordered, order-from}
-use Rattle.records.specs.Records.{recordIn, ReadsEarlier}
+use Rattle.file.specs.Records.{recordIn, ReadsEarlier}
 use Rattle.fused.specs.Emission.{gateOperation}
 use Rattle.fused.specs.FusedCircuit.{fused, recordsOf, wireOf}
-use Rattle.records.specs.RecordLaws.{along-each, along-at}
+use Rattle.file.specs.RecordLaws.{along-each, along-at}
 use Rattle.fused.specs.WrittenLaws.{Level, wire-below, written-earlier}
 use Rattle.fused.specs.JoinedLaws.{Joined}
-use Rattle.records.specs.SumLaws.{GivesGuard, OneGuard}
+use Rattle.file.specs.SumLaws.{GivesGuard, OneGuard}
 use Rattle.fused.specs.SumLaws.{written-one}
 use Rattle.fused.specs.SizeEmit.{costly-two}
 

@@ -7,22 +7,22 @@ use mathlib.Core.Logic.{inl, inr}
 use native.Mathlib.Nat.{zero-add}
 use native.Mathlib.Omega.{arith}
 use lib.ListN.{length, getD}
-use Rattle.words.specs.Lists.{_∈_, upto}
-use Rattle.words.specs.MemberLaws.{getD-in, from-below, in-map}
-use Rattle.words.specs.TestLaws.{split}
-use Rattle.words.specs.ListLaws.{map-same}
-use Rattle.settings.specs.Settings.{Setting, Once}
-use Rattle.codes.specs.declared.Operation.{Operation}
-use Rattle.codes.specs.Results.{isOne, resultOn}
-use Rattle.records.specs.Records.{Record, pickFigure}
-use Rattle.records.specs.RecordLaws.{GivesFigure, Figured, along-left, along-right}
-use Rattle.gates.specs.Gates.{Gate, start, word, bit, operation, choice, Gates, gateAt, arguments, Earlier, figure, figureAt, conditions}
-use Rattle.gates.specs.FigureLaws.{figures-right}
-use Rattle.gates.specs.Limits.{mostConditions}
-use Rattle.needed.specs.Needed.{asks, Needed, asked}
-use Rattle.needed.specs.NeededLaws.{asks-arguments, needed-inside}
-use Rattle.needed.specs.Pass.{needed, preconditionSets}
-use Rattle.needed.specs.PassLaws.{needed-complete}
+use Rattle.base.specs.Lists.{_∈_, upto}
+use Rattle.base.specs.MemberLaws.{getD-in, from-below, in-map}
+use Rattle.base.specs.TestLaws.{split}
+use Rattle.base.specs.ListLaws.{map-same}
+use Rattle.base.specs.Settings.{Setting, Once}
+use Rattle.base.specs.declared.Operation.{Operation}
+use Rattle.base.specs.Results.{isOne, resultOn}
+use Rattle.file.specs.Records.{Record, pickFigure}
+use Rattle.file.specs.RecordLaws.{GivesFigure, Figured, along-left, along-right}
+use Rattle.circuit.specs.Gates.{Gate, start, word, bit, operation, choice, Gates, gateAt, arguments, Earlier, figure, figureAt, conditions}
+use Rattle.circuit.specs.FigureLaws.{figures-right}
+use Rattle.circuit.specs.Limits.{mostConditions}
+use Rattle.circuit_needed.specs.Needed.{asks, Needed, asked}
+use Rattle.circuit_needed.specs.NeededLaws.{asks-arguments, needed-inside}
+use Rattle.circuit_needed.specs.Pass.{needed, preconditionSets}
+use Rattle.circuit_needed.specs.PassLaws.{needed-complete}
 use Rattle.plan.specs.Groups.{members, waitsFor}
 use Rattle.plan.specs.Order.{Ordered}
 use Rattle.plan.specs.GroupLaws.{member-of}

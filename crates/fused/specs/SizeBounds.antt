@@ -4,25 +4,25 @@ use mathlib.Core.List.{List, [], _∷_}
 use Prim.Native.Nat.{ℕ, _+_, _*_, _≤_}
 use native.Mathlib.Omega.{arith}
 use lib.ListN.{length, length-append}
-use Rattle.words.specs.Lists.{upto}
-use Rattle.words.specs.ListLaws.{length-from}
-use Rattle.settings.specs.Settings.{Once}
-use Rattle.answers.specs.declared.Answer.{Answer}
-use Rattle.answers.specs.ParsingLaws.{is-read}
-use Rattle.records.specs.Versions.{writtenVersion}
-use Rattle.records.specs.Records.{recordsCost}
-use Rattle.records.specs.CircuitFile.{recordsBytes}
-use Rattle.records.specs.SizeLaws.{size-append, cost-none, cost-append, file-size}
-use Rattle.reading.specs.Limits.{mostVariables}
-use Rattle.reading.specs.Header.{variables}
-use Rattle.reading.specs.Rule.{readRule}
-use Rattle.reading.specs.FirstStatement.{rule-read}
-use Rattle.gates.specs.Gates.{Gates}
-use Rattle.gates.specs.PlainCircuit.{gatesOf, outputsOf}
-use Rattle.gates.specs.StartLaws.{plain-sound}
-use Rattle.needed.specs.Held.{Shaped}
-use Rattle.needed.specs.ShapedLaws.{rule-shaped}
-use Rattle.needed.specs.Pass.{rulePreconditions}
+use Rattle.base.specs.Lists.{upto}
+use Rattle.base.specs.ListLaws.{length-from}
+use Rattle.base.specs.Settings.{Once}
+use Rattle.base.specs.declared.Answer.{Answer}
+use Rattle.base.specs.ParsingLaws.{is-read}
+use Rattle.file.specs.Versions.{writtenVersion}
+use Rattle.file.specs.Records.{recordsCost}
+use Rattle.file.specs.CircuitFile.{recordsBytes}
+use Rattle.file.specs.SizeLaws.{size-append, cost-none, cost-append, file-size}
+use Rattle.rule.specs.Limits.{mostVariables}
+use Rattle.rule.specs.Header.{variables}
+use Rattle.rule.specs.Rule.{readRule}
+use Rattle.rule.specs.FirstStatement.{rule-read}
+use Rattle.circuit.specs.Gates.{Gates}
+use Rattle.circuit.specs.PlainCircuit.{gatesOf, outputsOf}
+use Rattle.circuit.specs.StartLaws.{plain-sound}
+use Rattle.circuit_needed.specs.Held.{Shaped}
+use Rattle.circuit_needed.specs.ShapedLaws.{rule-shaped}
+use Rattle.circuit_needed.specs.Pass.{rulePreconditions}
 use Rattle.circuit.specs.WholeLaws.{accepted}
 use Rattle.plan.specs.PlanFile.{groupsIn}
 use Rattle.plan.specs.Groups.{groupOf, members}
@@ -37,7 +37,7 @@ use Rattle.fused.specs.OutputLaws.{outputs-length}
 use Rattle.fused.specs.SizeLimits.{mostBytesOfTwo, mostRecordBytes, mostFusedBytes}
 use Rattle.fused.specs.SizeEmit.{emit-most}
 use Rattle.fused.specs.SizeTotal.{total, total-le}
-use Rattle.records.specs.Limits.{mostFileBytes, mostWires}
+use Rattle.file.specs.Limits.{mostFileBytes, mostWires}
 
 -- the groups written so far: five wires to two gates at most, `mostBytesOfTwo` bytes to two, 40 of cost to one
 module _ (s : List ℕ) (C : Gates) (shaped : Shaped C) (sets : List ℕ) (group : ℕ → ℕ)

@@ -7,18 +7,18 @@ use mathlib.Core.Logic.{inl}
 use Prim.Native.Nat.{ℕ, _+_, _*_, _≤_}
 use native.Mathlib.Omega.{arith}
 use lib.ListN.{length, length-map}
-use Rattle.words.specs.Lists.{upto}
-use Rattle.codes.specs.Codes.{entryOf, costly}
-use Rattle.codes.specs.declared.Operation.{Operation}
-use Rattle.codes.specs.declared.Operation.the-variants.{Sum, Difference, Product, LessThan, Equal, And, Or, Not}
-use Rattle.records.specs.Versions.{writtenVersion}
-use Rattle.records.specs.Records.{recordCost, recordsCost}
-use Rattle.records.specs.CircuitFile.{recordBytes, recordsBytes}
-use Rattle.records.specs.SizeLaws.{word-size, operation-size, choice-size, size-one, cost-none, cost-one}
-use Rattle.gates.specs.Gates.{Gate, Gates, gateAt, arguments, costOf}
-use Rattle.gates.specs.Gates as gate
-use Rattle.gates.specs.CostLaws.{cost-most}
-use Rattle.needed.specs.Held.{ShapedGate, Shaped}
+use Rattle.base.specs.Lists.{upto}
+use Rattle.base.specs.Codes.{entryOf, costly}
+use Rattle.base.specs.declared.Operation.{Operation}
+use Rattle.base.specs.declared.Operation.the-variants.{Sum, Difference, Product, LessThan, Equal, And, Or, Not}
+use Rattle.file.specs.Versions.{writtenVersion}
+use Rattle.file.specs.Records.{recordCost, recordsCost}
+use Rattle.file.specs.CircuitFile.{recordBytes, recordsBytes}
+use Rattle.file.specs.SizeLaws.{word-size, operation-size, choice-size, size-one, cost-none, cost-one}
+use Rattle.circuit.specs.Gates.{Gate, Gates, gateAt, arguments, costOf}
+use Rattle.circuit.specs.Gates as gate
+use Rattle.circuit.specs.CostLaws.{cost-most}
+use Rattle.circuit_needed.specs.Held.{ShapedGate, Shaped}
 use Rattle.plan.specs.Accepted.{OneCostly}
 use Rattle.fused.specs.Emission.{alone, gateOperation, joined, guardOf, valuesAt, emit}
 use Rattle.fused.specs.EmitLaws.{emit-two}

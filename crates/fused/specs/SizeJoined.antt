@@ -5,16 +5,16 @@ use Prim.Native.Nat.{ℕ, suc, _+_, _*_, _≤_}
 use native.Mathlib.Nat.{suc-mul, mul-le-mul-right}
 use native.Mathlib.Omega.{arith}
 use lib.ListN.{length, length-append, length-map}
-use Rattle.words.specs.Lists.{upto}
-use Rattle.words.specs.TestLaws.{split}
-use Rattle.words.specs.ListLaws.{length-from}
-use Rattle.codes.specs.Codes.{entryOf}
-use Rattle.codes.specs.declared.Operation.{Operation}
-use Rattle.records.specs.Versions.{writtenVersion, tableBytes}
-use Rattle.records.specs.Records.{Record, operation, pick, recordsCost}
-use Rattle.records.specs.CircuitFile.{recordBytes, recordsBytes}
-use Rattle.records.specs.SizeLaws.{operation-size, pick-size, guard-size, size-append, size-one, cost-none, cost-more, cost-append, cost-one, cost-ones}
-use Rattle.gates.specs.Gates.{Gates}
+use Rattle.base.specs.Lists.{upto}
+use Rattle.base.specs.TestLaws.{split}
+use Rattle.base.specs.ListLaws.{length-from}
+use Rattle.base.specs.Codes.{entryOf}
+use Rattle.base.specs.declared.Operation.{Operation}
+use Rattle.file.specs.Versions.{writtenVersion, tableBytes}
+use Rattle.file.specs.Records.{Record, operation, pick, recordsCost}
+use Rattle.file.specs.CircuitFile.{recordBytes, recordsBytes}
+use Rattle.file.specs.SizeLaws.{operation-size, pick-size, guard-size, size-append, size-one, cost-none, cost-more, cost-append, cost-one, cost-ones}
+use Rattle.circuit.specs.Gates.{Gates}
 use Rattle.plan.specs.PlanFile.{EachGroup}
 use Rattle.plan.specs.Groups.{restsOf}
 use Rattle.plan.specs.RestLaws.{rests-few}

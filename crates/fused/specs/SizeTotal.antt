@@ -7,9 +7,9 @@ use native.Mathlib.Omega.{arith}
 use lib.Dec.{eqb}
 use borrow.Author.Tests.{eqb-true, ne-eqb}
 use lib.ListN.{length}
-use Rattle.words.specs.Lists.{_∈_, keep}
-use Rattle.words.specs.TestLaws.{split}
-use Rattle.settings.specs.Settings.{Once}
+use Rattle.base.specs.Lists.{_∈_, keep}
+use Rattle.base.specs.TestLaws.{split}
+use Rattle.base.specs.Settings.{Once}
 
 module _ (group : ℕ → ℕ) where
   -- the numbers of l in the groups of done, group by group

@@ -7,20 +7,20 @@ use mathlib.Core.Logic.{inl, inr}
 use native.Mathlib.Nat.{zero-add}
 use native.Mathlib.Omega.{arith}
 use lib.ListN.{length, getD}
-use Rattle.words.specs.Lists.{_∈_, upto}
-use Rattle.words.specs.TestLaws.{split}
-use Rattle.settings.specs.Settings.{Once}
-use Rattle.codes.specs.declared.Operation.{Operation}
-use Rattle.codes.specs.Results.{isOne}
-use Rattle.records.specs.Records.{Record}
-use Rattle.records.specs.Sums.{guardsAtOne}
-use Rattle.records.specs.SumLaws.{GivesGuard, OneGuard}
-use Rattle.records.specs.RecordLaws.{Along, along-append, along-left, along-right, along-map}
-use Rattle.gates.specs.Gates.{Gate, Gates, gateAt, arguments, Earlier, conditions}
-use Rattle.gates.specs.Gates as gate
-use Rattle.gates.specs.Limits.{mostConditions}
-use Rattle.needed.specs.Pass.{needed, preconditionSets}
-use Rattle.needed.specs.PassLaws.{needed-sound}
+use Rattle.base.specs.Lists.{_∈_, upto}
+use Rattle.base.specs.TestLaws.{split}
+use Rattle.base.specs.Settings.{Once}
+use Rattle.base.specs.declared.Operation.{Operation}
+use Rattle.base.specs.Results.{isOne}
+use Rattle.file.specs.Records.{Record}
+use Rattle.file.specs.Sums.{guardsAtOne}
+use Rattle.file.specs.SumLaws.{GivesGuard, OneGuard}
+use Rattle.file.specs.RecordLaws.{Along, along-append, along-left, along-right, along-map}
+use Rattle.circuit.specs.Gates.{Gate, Gates, gateAt, arguments, Earlier, conditions}
+use Rattle.circuit.specs.Gates as gate
+use Rattle.circuit.specs.Limits.{mostConditions}
+use Rattle.circuit_needed.specs.Pass.{needed, preconditionSets}
+use Rattle.circuit_needed.specs.PassLaws.{needed-sound}
 use Rattle.plan.specs.Groups.{members}
 use Rattle.fused.specs.Emission.{alone, gateOperation, pairs, oneWire, guardOf, valuesAt, emit}
 use Rattle.fused.specs.FusedCircuit.{Written, groupRecords, written}

@@ -5,32 +5,32 @@ use mathlib.Core.List.{List, [], _∷_, map}
 use mathlib.Core.Logic.{_⊎_, inl, inr}
 use native.Mathlib.Omega.{arith}
 use lib.ListN.{length, getD, length-map}
-use Rattle.words.specs.Lists.{upto}
-use Rattle.words.specs.TestLaws.{split}
-use Rattle.words.specs.Numbers.{Bytes}
-use Rattle.settings.specs.Sets.{rests}
-use Rattle.answers.specs.declared.Answer.{Answer}
-use Rattle.reading.specs.Header.{variables, kindAt, workingAt}
-use Rattle.reading.specs.FirstStatement.{rule-read}
-use Rattle.gates.specs.Gates.{Gate, Gates, gateAt, arguments, conditions}
-use Rattle.gates.specs.Gates as gate
-use Rattle.gates.specs.Limits.{mostConditions}
-use Rattle.gates.specs.PlainCircuit.{gatesOf, gateCount}
-use Rattle.needed.specs.Pass.{rulePreconditions}
+use Rattle.base.specs.Lists.{upto}
+use Rattle.base.specs.TestLaws.{split}
+use Rattle.base.specs.Numbers.{Bytes}
+use Rattle.base.specs.Sets.{rests}
+use Rattle.base.specs.declared.Answer.{Answer}
+use Rattle.rule.specs.Header.{variables, kindAt, workingAt}
+use Rattle.rule.specs.FirstStatement.{rule-read}
+use Rattle.circuit.specs.Gates.{Gate, Gates, gateAt, arguments, conditions}
+use Rattle.circuit.specs.Gates as gate
+use Rattle.circuit.specs.Limits.{mostConditions}
+use Rattle.circuit.specs.PlainCircuit.{gatesOf, gateCount}
+use Rattle.circuit_needed.specs.Pass.{rulePreconditions}
 use Rattle.circuit.specs.WholeLaws.{accepted}
 use Rattle.plan.specs.PlanFile.{groupsIn}
 use Rattle.plan.specs.Groups.{groupOf, members, restsOf}
 use Rattle.plan.specs.Rows.{planAnswer}
 use Rattle.plan.specs.AcceptedLaws.{plan-accepted}
 use Rattle.plan.specs.RestLaws.{rests-count}
-use Rattle.records.specs.Versions.{writtenVersion}
-use Rattle.records.specs.RecordLaws.{Along, along-map, along-at}
-use Rattle.records.specs.WireKinds.{recordKind, wireKind}
-use Rattle.records.specs.WireKindLaws.{kinds-right}
-use Rattle.records.specs.CircuitFile.{fileBytes, noWire}
-use Rattle.records.specs.CircuitRows.{circuitRow}
-use Rattle.records.specs.WellFormed.{TableFits, Standing, WellFormed}
-use Rattle.records.specs.FormatLaws.{well-row}
+use Rattle.file.specs.Versions.{writtenVersion}
+use Rattle.file.specs.RecordLaws.{Along, along-map, along-at}
+use Rattle.file.specs.WireKinds.{recordKind, wireKind}
+use Rattle.file.specs.WireKindLaws.{kinds-right}
+use Rattle.file.specs.CircuitFile.{fileBytes, noWire}
+use Rattle.file.specs.CircuitRows.{circuitRow}
+use Rattle.file.specs.WellFormed.{TableFits, Standing, WellFormed}
+use Rattle.file.specs.FormatLaws.{well-row}
 use Rattle.fused.specs.Emission.{alone, gateOperation, guardOf, valuesAt, emit}
 use Rattle.fused.specs.FusedCircuit.{recordsOf, outputWire, outputWires, fusedFile}
 use Rattle.fused.specs.OutputLaws.{outputs-length, output-at, working-wire}

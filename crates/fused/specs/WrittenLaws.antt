@@ -8,13 +8,13 @@ use native.Mathlib.Nat.{zero-add}
 use native.Mathlib.Omega.{arith}
 use borrow.Author.Tests.{eq-eqb, ne-eqb}
 use lib.ListN.{length, length-append}
-use Rattle.words.specs.Lists.{_∈_}
-use Rattle.words.specs.MemberLaws.{in-append}
-use Rattle.words.specs.TestLaws.{same?}
-use Rattle.settings.specs.Settings.{Once}
-use Rattle.records.specs.Records.{ReadsEarlier}
-use Rattle.records.specs.RecordLaws.{ReadsBefore, Below, along-append, below-earlier}
-use Rattle.gates.specs.Gates.{Gates, gateAt, arguments}
+use Rattle.base.specs.Lists.{_∈_}
+use Rattle.base.specs.MemberLaws.{in-append}
+use Rattle.base.specs.TestLaws.{same?}
+use Rattle.base.specs.Settings.{Once}
+use Rattle.file.specs.Records.{ReadsEarlier}
+use Rattle.file.specs.RecordLaws.{ReadsBefore, Below, along-append, below-earlier}
+use Rattle.circuit.specs.Gates.{Gates, gateAt, arguments}
 use Rattle.plan.specs.Groups.{groups, members, waitsFor}
 use Rattle.plan.specs.Order.{Ordered}
 use Rattle.plan.specs.GroupLaws.{group-of, member-of}

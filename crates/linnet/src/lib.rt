@@ -1,19 +1,19 @@
 // The tool as C and Rust call it: each operation passed on, with the promise that it has, and with what the demands say of the very bytes and words that it is lent.
-use answers::Answer;
-use foreign::Part;
-use gates::MOST_CONDITIONS;
-use needed::NEED_WORDS;
-use records::WireId;
+use base::Answer;
+use file_reader::Part;
+use circuit::MOST_CONDITIONS;
+use circuit::NEED_WORDS;
+use file::WireId;
 ghost use mathlib.Core.Path.{_≡_};
 ghost use lib.ListN.{length, take, drop};
-ghost use Rattle.settings.specs.Held.{setsIn};
+ghost use Rattle.base.specs.SetsHeld.{setsIn};
 ghost use Rattle.circuit.specs.Whole.{ruleAnswer};
-ghost use Rattle.circuit.specs.Built.{builtQuads, builtNeeds};
+ghost use Rattle.circuit_build.specs.Built.{builtQuads, builtNeeds};
 ghost use Rattle.plan.specs.Rows.{planAnswer};
 ghost use Rattle.fused.specs.Answers.{fusedAnswer, writeAnswer, writtenOver};
-ghost use Rattle.running.specs.FusedRun.{fusedResults};
-ghost use Rattle.direct.specs.Direct.{runAnswer, runResults};
-ghost use Rattle.foreign.specs.Foreign.{circuitAnswer, partStart, partLength, recordPart, circuitRunAnswer, circuitRunResults};
+ghost use Rattle.run.specs.FusedRun.{fusedResults};
+ghost use Rattle.run.specs.Direct.{runAnswer, runResults};
+ghost use Rattle.file.specs.Answers.{circuitAnswer, partStart, partLength, recordPart, circuitRunAnswer, circuitRunResults};
 ghost use Rattle.demands.specs.Table.{AnsweredBy, AnsweredAfter, RuleAnswered, planRows, runRows, bufferRows, circuitRows, fileRunRows};
 ghost use Rattle.demands.specs.Promises.{RunWritten, FileWritten, AcceptedExactly, FileReadsEarlier, FileGives, FusedAsDirect, OwnAsDirect, OneArray};
 
@@ -23,7 +23,7 @@ pub extern "C" fn linnet_read_rule(rule: &[u8]) -> Answer
     ensures answer { λ r. ⌜ r ≡ ruleAnswer (now (rule .entry)) ⌝ }
     ensures table { λ r. ⌜ RuleAnswered (now (rule .entry)) r ⌝ }
 {
-    circuit::read_rule(rule)
+    circuit_build::read_rule(rule)
 }
 
 // A direct run of a rule on its inputs: each variable's figure at its end, 0 for a working one, in the first V results. A refusal writes nothing.
@@ -34,7 +34,7 @@ pub extern "C" fn linnet_run_rule(rule: &[u8], inputs: &[u32], results: &mut [u3
     ensures table { λ r. ⌜ AnsweredAfter (ruleAnswer (now (rule .entry))) (runRows (now (rule .entry)) (now (inputs .entry)) (length (now (results .entry)))) r ⌝ }
     ensures written { λ r. ⌜ (r .number ≡ 0 → RunWritten (now (rule .entry)) (now (inputs .entry)) (now (results .entry)) (now (results .exit))) ⌝ }
 {
-    direct::run(rule, inputs, results)
+    run_direct::run(rule, inputs, results)
 }
 
 // A plain circuit shown, laid out as C lays it out; the quads of the gates are its rows.
@@ -55,7 +55,7 @@ pub extern "C" fn linnet_show_plain(rule: &[u8]) -> Shown
     ensures once { λ _. ⌜ OneArray (builtNeeds (now (rule .entry))) ⌝ }
 {
     let mut shown = Shown {
-        answer: answers::refused(0, 0),
+        answer: base_answers::refused(0, 0),
         rows: [0u32; 1024],
         needs: [0u64; NEED_WORDS],
     };
@@ -63,7 +63,7 @@ pub extern "C" fn linnet_show_plain(rule: &[u8]) -> Shown
     let mut needs = [0u64; NEED_WORDS];
     let mut outputs = [0u16; 32];
     let mut conditions = [0u16; MOST_CONDITIONS];
-    shown.answer = circuit::build(
+    shown.answer = circuit_build::build(
         rule,
         &mut shown.rows,
         &mut needs,
@@ -81,7 +81,7 @@ pub extern "C" fn linnet_check_plan(rule: &[u8], plan: &[u8]) -> Answer
     ensures table { λ r. ⌜ AnsweredAfter (ruleAnswer (now (rule .entry))) (planRows (now (rule .entry)) (now (plan .entry))) r ⌝ }
     ensures accepted { λ r. ⌜ AcceptedExactly (now (rule .entry)) (now (plan .entry)) r ⌝ }
 {
-    checking::check_plan(rule, plan)
+    plan_check::check_plan(rule, plan)
 }
 
 // Operation 04: writes the fused circuit into the buffer.
@@ -93,7 +93,7 @@ pub extern "C" fn linnet_write_fused(rule: &[u8], plan: &[u8], out: &mut [u8]) -
     ensures earlier { λ r. ⌜ (r .number ≡ 0 → FileReadsEarlier (take (r .bytes) (now (out .exit)))) ⌝ }
     ensures figures { λ r. ⌜ (r .number ≡ 0 → FileGives (now (rule .entry)) (take (r .bytes) (now (out .exit)))) ⌝ }
 {
-    writing::write(rule, plan, out)
+    fused_write::write(rule, plan, out)
 }
 
 // Operation 05: runs the fused circuit on inputs.
@@ -110,7 +110,7 @@ pub extern "C" fn linnet_run_fused(
         (runRows (now (rule .entry)) (now (inputs .entry)) (length (now (results .entry)))) r ⌝ }
     ensures direct { λ r. ⌜ FusedAsDirect (now (rule .entry)) (now (plan .entry)) (now (inputs .entry)) (now (results .entry)) r (now (results .exit)) ⌝ }
 {
-    running::run(rule, plan, inputs, results)
+    run_fused::run(rule, plan, inputs, results)
 }
 
 // Operation 07: reads a circuit file of any house.
@@ -119,7 +119,7 @@ pub extern "C" fn linnet_read_circuit(file: &[u8]) -> Answer
     ensures answer { λ r. ⌜ r ≡ circuitAnswer (now (file .entry)) ⌝ }
     ensures table { λ r. ⌜ AnsweredBy (circuitRows (now (file .entry))) 0 r ⌝ }
 {
-    foreign::read(file)
+    file_reader::read(file)
 }
 
 // Operation 08: where a wire's record lies in the caller's file; C cannot be handed the part itself.
@@ -136,7 +136,7 @@ pub extern "C" fn linnet_record(file: &[u8], wire: usize) -> Part
             length: 0,
         };
     }
-    foreign::part_of(file, WireId(wire as u16))
+    file_reader::part_of(file, WireId(wire as u16))
 }
 
 // Operation 09: runs a circuit file on inputs.
@@ -148,5 +148,5 @@ pub extern "C" fn linnet_run_circuit(file: &[u8], inputs: &[u32], results: &mut 
     ensures written { λ r. ⌜ (r .number ≡ 0 → FileWritten (now (file .entry)) (now (inputs .entry)) (now (results .entry)) (now (results .exit))) ⌝ }
     ensures own { λ r. ⌜ OwnAsDirect (now (file .entry)) (now (inputs .entry)) (now (results .entry)) r (now (results .exit)) ⌝ }
 {
-    foreign::run(file, inputs, results)
+    file_reader::run(file, inputs, results)
 }

@@ -1,12 +1,12 @@
 // Reads a batch on standard input and prints its report: a line for each entry, then the total, or `refused 75`. Writes no circuit.
-use batch::Progress;
+use report::Progress;
 use libc::STDERR_FILENO;
 use libc::STDIN_FILENO;
 use libc::STDOUT_FILENO;
 ghost use Prim.Native.Nat.{_≤_, _<_};
 ghost use mathlib.Core.Path.{_≡_};
 ghost use lib.ListN.{length};
-ghost use Rattle.batch.specs.Bounds.{Within};
+ghost use Rattle.report.specs.Bounds.{Within};
 
 // The bytes at hand. The longest entry has 131,074, and fewer are at hand when more is read, so there is always room.
 const WINDOW: usize = 262144;
@@ -103,8 +103,8 @@ fn print(w: Watch, text: &[u8], n: usize) -> bool
 
 // The last line, once nothing more is to be read.
 fn finish(w: Watch, progress: Progress) {
-    let mut line = [0u8; lines::LONGEST_TOTAL];
-    let n = batch::finish(progress, &mut line);
+    let mut line = [0u8; report_lines::LONGEST_TOTAL];
+    let n = report_batch::finish(progress, &mut line);
     print(w, &line, n);
 }
 
@@ -129,16 +129,16 @@ fn main() {
     let mut to: usize = 0;
     let mut w = begin();
     loop {
-        let taken = batch::take_entries(progress, &window[0..to], &mut out);
+        let taken = report_batch::take_entries(progress, &window[0..to], &mut out);
         progress = taken.progress;
         let bytes = taken.bytes;
         if !print(w, &out, taken.printed) {
             return;
         }
         if bytes != 0 {
-            to = batch::drop_front(&mut window, to, bytes);
+            to = report_batch::drop_front(&mut window, to, bytes);
         } else {
-            if batch::has_stopped(progress) {
+            if report_batch::has_stopped(progress) {
                 break;
             }
             let reached = read_behind(&mut window, to);

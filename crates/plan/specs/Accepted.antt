@@ -4,12 +4,12 @@ use mathlib.Core.Path.{_≡_}
 use mathlib.Core.List.{List, map}
 use mathlib.Core.Bool.{true}
 use lib.ListN.{length, take}
-use Rattle.words.specs.Lists.{_∈_}
-use Rattle.codes.specs.Codes.{costly}
-use Rattle.codes.specs.declared.Operation.{Operation}
-use Rattle.gates.specs.Gates.{Gates, gateAt, operation}
-use Rattle.gates.specs.PlainCircuit.{gatesOf, gateCount}
-use Rattle.needed.specs.Needed.{wantedOf, Exclude}
+use Rattle.base.specs.Lists.{_∈_}
+use Rattle.base.specs.Codes.{costly}
+use Rattle.base.specs.declared.Operation.{Operation}
+use Rattle.circuit.specs.Gates.{Gates, gateAt, operation}
+use Rattle.circuit.specs.PlainCircuit.{gatesOf, gateCount}
+use Rattle.circuit_needed.specs.Needed.{wantedOf, Exclude}
 use Rattle.plan.specs.PlanFile.{mark, leastBytes, mostBytes, gatesCounted, groupsCounted, Plan, groupsIn, EachGroup, Rising, Apart, Ends}
 use Rattle.plan.specs.Groups.{smallest, groupOf, Waits, Chain}
 

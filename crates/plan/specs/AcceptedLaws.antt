@@ -8,21 +8,21 @@ use native.Mathlib.Omega.{arith}
 use lib.Dec.{eqb, leb, ltb}
 use borrow.Author.Tests.{eqb-true, eqb-false, eq-eqb, ne-eqb, leb-true, le-leb, lt-leb}
 use lib.ListN.{length, take, drop}
-use Rattle.words.specs.MemberLaws.{same-right}
-use Rattle.words.specs.Lists.{every}
-use Rattle.words.specs.TestLaws.{split, both, and}
-use Rattle.answers.specs.declared.Answer.{Answer}
-use Rattle.answers.specs.Answers.{refusal}
-use Rattle.answers.specs.Parsing.{parsed}
-use Rattle.answers.specs.ParsingLaws.{is-read}
-use Rattle.reading.specs.Tree.{Block}
-use Rattle.reading.specs.Rule.{readRule}
-use Rattle.gates.specs.Limits.{mostConditions}
-use Rattle.gates.specs.Gates.{conditions}
-use Rattle.gates.specs.PlainCircuit.{gatesOf, gateCount}
-use Rattle.needed.specs.Needed.{wantedOf}
-use Rattle.needed.specs.Pass.{rulePreconditions}
-use Rattle.needed.specs.RulePreconditions.{rule-earlier, wanted-inside, rule-exclude}
+use Rattle.base.specs.MemberLaws.{same-right}
+use Rattle.base.specs.Lists.{every}
+use Rattle.base.specs.TestLaws.{split, both, and}
+use Rattle.base.specs.declared.Answer.{Answer}
+use Rattle.base.specs.Answers.{refusal}
+use Rattle.base.specs.Parsing.{parsed}
+use Rattle.base.specs.ParsingLaws.{is-read}
+use Rattle.rule.specs.Tree.{Block}
+use Rattle.rule.specs.Rule.{readRule}
+use Rattle.circuit.specs.Limits.{mostConditions}
+use Rattle.circuit.specs.Gates.{conditions}
+use Rattle.circuit.specs.PlainCircuit.{gatesOf, gateCount}
+use Rattle.circuit_needed.specs.Needed.{wantedOf}
+use Rattle.circuit_needed.specs.Pass.{rulePreconditions}
+use Rattle.circuit_needed.specs.RulePreconditions.{rule-earlier, wanted-inside, rule-exclude}
 use Rattle.circuit.specs.Whole.{ruleAnswer}
 use Rattle.circuit.specs.WholeLaws.{accepted}
 use Rattle.plan.specs.PlanFile.{mark, leastBytes, mostBytes, groupsCounted, groupsIn, Plan, EachGroup, Rising, Apart}

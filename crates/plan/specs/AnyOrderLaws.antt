@@ -7,11 +7,11 @@ use mathlib.Core.Logic.{_⊎_, inl, inr, _↔_}
 use Prim.Native.Nat.{ℕ, _≤_, _<_}
 use native.Mathlib.Omega.{arith}
 use lib.ListN.{length, drop}
-use Rattle.words.specs.Lists.{_∈_, every}
-use Rattle.words.specs.TestLaws.{same-test}
-use Rattle.gates.specs.Gates.{gateAt}
-use Rattle.gates.specs.PlainCircuit.{gatesOf, gateCount}
-use Rattle.needed.specs.Pass.{rulePreconditions}
+use Rattle.base.specs.Lists.{_∈_, every}
+use Rattle.base.specs.TestLaws.{same-test}
+use Rattle.circuit.specs.Gates.{gateAt}
+use Rattle.circuit.specs.PlainCircuit.{gatesOf, gateCount}
+use Rattle.circuit_needed.specs.Pass.{rulePreconditions}
 use Rattle.circuit.specs.Whole.{ruleAnswer}
 use Rattle.plan.specs.PlanFile.{Plan, groupsIn, EachGroup, Rising, Listed, Apart}
 use Rattle.plan.specs.Groups.{smallest, groupOf}

@@ -5,9 +5,9 @@ use mathlib.Core.Bool.{true, false, false≢true, true≢false}
 use mathlib.Core.List.{List, [], _∷_}
 use mathlib.Core.Logic.{inl, inr}
 use Prim.Native.Nat.{ℕ}
-use Rattle.words.specs.Lists.{_∈_, elem}
-use Rattle.words.specs.MemberLaws.{elem→∈, ∈→elem}
-use Rattle.words.specs.TestLaws.{split}
+use Rattle.base.specs.Lists.{_∈_, elem}
+use Rattle.base.specs.MemberLaws.{elem→∈, ∈→elem}
+use Rattle.base.specs.TestLaws.{split}
 use Rattle.plan.specs.Order.{allIn}
 
 -- a transitive relation that leads from each member of a finite list to a member of it has a circle

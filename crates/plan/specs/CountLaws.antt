@@ -8,12 +8,12 @@ use native.Mathlib.Omega.{arith}
 use lib.Dec.{eqb}
 use lib.ListN.{length}
 use borrow.Author.Tests.{eq-eqb, eqb-true}
-use Rattle.words.specs.Lists.{_∈_, upto}
-use Rattle.words.specs.ListLaws.{length-from, length-keep}
-use Rattle.words.specs.TestLaws.{split}
-use Rattle.settings.specs.Settings.{Once}
-use Rattle.settings.specs.ListLaws.{keep-once, from-once}
-use Rattle.gates.specs.Gates.{Gates}
+use Rattle.base.specs.Lists.{_∈_, upto}
+use Rattle.base.specs.ListLaws.{length-from, length-keep}
+use Rattle.base.specs.TestLaws.{split}
+use Rattle.base.specs.Settings.{Once}
+use Rattle.base.specs.SettingListLaws.{keep-once, from-once}
+use Rattle.circuit.specs.Gates.{Gates}
 use Rattle.plan.specs.Groups.{groups}
 use Rattle.plan.specs.Order.{order}
 use Rattle.plan.specs.Rows.{placed}

@@ -3,22 +3,22 @@ use Prim.Native.Nat.{ℕ}
 use mathlib.Core.Path.{_≡_, refl}
 use mathlib.Core.List.{List, [], _∷_, _++_, map}
 use lib.ListN.{take, set}
-use Rattle.words.specs.Numbers.{number}
-use Rattle.codes.specs.Codes.{operationOf, codeOf}
-use Rattle.answers.specs.Answers.{success, refusal}
-use Rattle.answers.specs.Parsing.{readMark}
-use Rattle.reading.specs.Header.{kindOf, workingOf, readCount, readKinds, readHeader}
-use Rattle.reading.specs.Expressions.{readVariable, readWord, readBit, operationWith, exprWith, readExpr}
-use Rattle.reading.specs.Blocks.{readAssign, branchWith, statementWith, blockWith, blockFuel, readBlock}
-use Rattle.reading.specs.Rule.{readRule}
-use Rattle.reading.specs.Examples.{r1}
-use Rattle.gates.specs.Gates.{conditions, costs}
-use Rattle.gates.specs.PlainCircuit.{applyGate, makeExpr, assignsIn, assigns, choices, makeStatement, makeBlock, plainCircuit}
-use Rattle.gates.specs.Examples.{r2, r7, r8}
-use Rattle.bitsets.specs.Bits.{collect}
-use Rattle.settings.specs.Sets.{restsOn, rests}
-use Rattle.settings.specs.Numbers.{numbers}
-use Rattle.needed.specs.Pass.{preconditions, preconditionSets}
+use Rattle.base.specs.Numbers.{number}
+use Rattle.base.specs.Codes.{operationOf, codeOf}
+use Rattle.base.specs.Answers.{success, refusal}
+use Rattle.base.specs.Parsing.{readMark}
+use Rattle.rule.specs.Header.{kindOf, workingOf, readCount, readKinds, readHeader}
+use Rattle.rule.specs.Expressions.{readVariable, readWord, readBit, operationWith, exprWith, readExpr}
+use Rattle.rule.specs.Blocks.{readAssign, branchWith, statementWith, blockWith, blockFuel, readBlock}
+use Rattle.rule.specs.Rule.{readRule}
+use Rattle.rule.specs.Examples.{r1}
+use Rattle.circuit.specs.Gates.{conditions, costs}
+use Rattle.circuit.specs.PlainCircuit.{applyGate, makeExpr, assignsIn, assigns, choices, makeStatement, makeBlock, plainCircuit}
+use Rattle.circuit.specs.Examples.{r2, r7, r8}
+use Rattle.base.specs.Bits.{collect}
+use Rattle.base.specs.Sets.{restsOn, rests}
+use Rattle.base.specs.SettingNumbers.{numbers}
+use Rattle.circuit_needed.specs.Pass.{preconditions, preconditionSets}
 use Rattle.circuit.specs.Whole.{wholeWithin, ruleAnswer}
 use Rattle.plan.specs.PlanFile.{groupsIn}
 use Rattle.plan.specs.Groups.{groups, restsOf, waitsFor}

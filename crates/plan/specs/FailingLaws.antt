@@ -7,8 +7,8 @@ use Prim.Native.Nat.{ℕ}
 use native.Mathlib.Omega.{arith}
 use lib.Dec.{eqb, ltb}
 use borrow.Author.Tests.{eqb-false, ltb-true, not-true}
-use Rattle.words.specs.Lists.{every}
-use Rattle.words.specs.TestLaws.{split, both}
+use Rattle.base.specs.Lists.{every}
+use Rattle.base.specs.TestLaws.{split, both}
 use Rattle.plan.specs.Rows.{Row, firstFailing}
 
 -- the numbers of the rows of a list; every row of a list holds

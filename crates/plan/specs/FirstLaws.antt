@@ -11,13 +11,13 @@ use native.Mathlib.Omega.{arith}
 use lib.Dec.{eqb}
 use lib.ListN.{length, length-append}
 use borrow.Author.Tests.{eq-eqb}
-use Rattle.words.specs.Lists.{_∈_, elem, keep, from, upto}
-use Rattle.words.specs.ListLaws.{length-from}
-use Rattle.words.specs.MemberLaws.{elem→∈, ∈→elem}
-use Rattle.words.specs.TestLaws.{split, same?}
-use Rattle.gates.specs.Gates.{Gates, gateAt, arguments}
-use Rattle.gates.specs.Gates as gate
-use Rattle.gates.specs.PlainCircuit.{gatesOf, gateCount}
+use Rattle.base.specs.Lists.{_∈_, elem, keep, from, upto}
+use Rattle.base.specs.ListLaws.{length-from}
+use Rattle.base.specs.MemberLaws.{elem→∈, ∈→elem}
+use Rattle.base.specs.TestLaws.{split, same?}
+use Rattle.circuit.specs.Gates.{Gates, gateAt, arguments}
+use Rattle.circuit.specs.Gates as gate
+use Rattle.circuit.specs.PlainCircuit.{gatesOf, gateCount}
 use Rattle.plan.specs.PlanFile.{groupsIn}
 use Rattle.plan.specs.Groups.{groupOf, Named, groups, members, waitsFor}
 use Rattle.plan.specs.Order.{firstReady, schedule, order}

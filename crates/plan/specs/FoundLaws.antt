@@ -4,9 +4,9 @@ use mathlib.Core.List.{List, [], _∷_, _++_, append-assoc}
 use Prim.Native.Nat.{ℕ, suc, _+_, _*_, _^_, _≤_, _<_}
 use native.Mathlib.Omega.{arith}
 use lib.ListN.{length, getD, length-append}
-use Rattle.words.specs.Lists.{flat}
-use Rattle.words.specs.Numbers.{bytesOf, numberAt}
-use Rattle.words.specs.NumberLaws.{length-bytes, number-found}
+use Rattle.base.specs.Lists.{flat}
+use Rattle.base.specs.Numbers.{bytesOf, numberAt}
+use Rattle.base.specs.NumberLaws.{length-bytes, number-found}
 use Rattle.plan.specs.PlanFile.{mark, leastBytes, gatesCounted, groupsCounted, Plan, numbersAt, groupAt, after, groupsFrom, groupsIn, EachGroup, Ends}
 use Rattle.plan.specs.Layout.{Small, groupsBytes, planBytes}
 

@@ -8,9 +8,9 @@ use native.Mathlib.Omega.{arith}
 use lib.Dec.{eqb}
 use borrow.Author.Tests.{eqb-true, eq-eqb}
 use lib.ListN.{length}
-use Rattle.words.specs.Lists.{_∈_, elem, keep, upto}
-use Rattle.words.specs.MemberLaws.{elem→∈, ∈→elem, keep-in, keep-from, from-in, from-below}
-use Rattle.words.specs.TestLaws.{split}
+use Rattle.base.specs.Lists.{_∈_, elem, keep, upto}
+use Rattle.base.specs.MemberLaws.{elem→∈, ∈→elem, keep-in, keep-from, from-in, from-below}
+use Rattle.base.specs.TestLaws.{split}
 use Rattle.plan.specs.PlanFile.{Plan, EachGroup, Above, Rising, Listed, Apart}
 use Rattle.plan.specs.Groups.{smallest, groupOf, Named, groups, members}
 

@@ -6,12 +6,12 @@ use mathlib.Core.Bool.{cond}
 use mathlib.Core.Logic.{_⊎_}
 use lib.Dec.{eqb, leb}
 use lib.ListN.{length, getD}
-use Rattle.words.specs.Lists.{_∈_, elem, keep, upto, flat}
-use Rattle.settings.specs.Settings.{Setting, flip}
-use Rattle.settings.specs.Sets.{rests}
-use Rattle.gates.specs.Gates.{Gates, gateAt, arguments, conditions}
-use Rattle.gates.specs.Limits.{mostConditions}
-use Rattle.needed.specs.Needed.{Needed}
+use Rattle.base.specs.Lists.{_∈_, elem, keep, upto, flat}
+use Rattle.base.specs.Settings.{Setting, flip}
+use Rattle.base.specs.Sets.{rests}
+use Rattle.circuit.specs.Gates.{Gates, gateAt, arguments, conditions}
+use Rattle.circuit.specs.Limits.{mostConditions}
+use Rattle.circuit_needed.specs.Needed.{Needed}
 use Rattle.plan.specs.PlanFile.{Plan}
 
 -- a listed group's smallest member: its numbers rise

@@ -8,13 +8,13 @@ use Prim.Native.Nat.{ℕ, _≤_}
 use native.Mathlib.Omega.{arith}
 use lib.Dec.{eqb}
 use lib.ListN.{length}
-use Rattle.words.specs.Lists.{_∈_, elem, upto}
-use Rattle.words.specs.MemberLaws.{elem→∈, ∈→elem}
-use Rattle.words.specs.TestLaws.{split, same?}
-use Rattle.settings.specs.Settings.{Once}
-use Rattle.settings.specs.ListLaws.{from-once, keep-once}
-use Rattle.gates.specs.PlainCircuit.{gatesOf, gateCount}
-use Rattle.needed.specs.Needed.{wantedOf}
+use Rattle.base.specs.Lists.{_∈_, elem, upto}
+use Rattle.base.specs.MemberLaws.{elem→∈, ∈→elem}
+use Rattle.base.specs.TestLaws.{split, same?}
+use Rattle.base.specs.Settings.{Once}
+use Rattle.base.specs.SettingListLaws.{from-once, keep-once}
+use Rattle.circuit.specs.PlainCircuit.{gatesOf, gateCount}
+use Rattle.circuit_needed.specs.Needed.{wantedOf}
 use Rattle.plan.specs.PlanFile.{Plan, groupsIn, EachGroup, Listed, Apart}
 use Rattle.plan.specs.Groups.{smallest, groupOf, members}
 use Rattle.plan.specs.Accepted.{OneCostly, NoTwoNeeded, Acceptable}

@@ -2,8 +2,8 @@
 use Prim.Native.Nat.{ℕ, _^_, _<_}
 use mathlib.Core.List.{List, [], _∷_, _++_}
 use lib.ListN.{length}
-use Rattle.words.specs.Lists.{flat}
-use Rattle.words.specs.Numbers.{bytesOf}
+use Rattle.base.specs.Lists.{flat}
+use Rattle.base.specs.Numbers.{bytesOf}
 use Rattle.plan.specs.PlanFile.{mark, Plan}
 
 -- every gate number fits two bytes

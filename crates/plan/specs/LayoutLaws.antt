@@ -6,10 +6,10 @@ use native.Mathlib.Omega.{arith}
 use native.Mathlib.Numerals.{add-one}
 use lib.ListN.{length, take, drop, getD, take-append-drop}
 use lib.Seq.{drop-length, drop-cons}
-use Rattle.words.specs.Lists.{flat}
-use Rattle.words.specs.Numbers.{bytesOf, numberAt, Bytes}
-use Rattle.words.specs.NumberLaws.{number-back}
-use Rattle.gates.specs.PlainCircuit.{gateCount}
+use Rattle.base.specs.Lists.{flat}
+use Rattle.base.specs.Numbers.{bytesOf, numberAt, Bytes}
+use Rattle.base.specs.NumberLaws.{number-back}
+use Rattle.circuit.specs.PlainCircuit.{gateCount}
 use Rattle.plan.specs.PlanFile.{leastBytes, groupsCounted, numbersAt, groupAt, after, groupsFrom, groupsIn, Ends}
 use Rattle.plan.specs.Accepted.{LaidOut}
 use Rattle.plan.specs.Layout.{groupsBytes, planBytes}

@@ -6,9 +6,9 @@ use mathlib.Core.Logic.{_⊎_, inl, inr}
 use Prim.Native.Nat.{ℕ, zero, suc, _≤_, _<_}
 use native.Mathlib.Omega.{arith}
 use lib.ListN.{length, getD}
-use Rattle.words.specs.Lists.{_∈_, elem, keep, from, upto}
-use Rattle.words.specs.MemberLaws.{elem→∈, ∈→elem, keep-from, from-below}
-use Rattle.words.specs.TestLaws.{split}
+use Rattle.base.specs.Lists.{_∈_, elem, keep, from, upto}
+use Rattle.base.specs.MemberLaws.{elem→∈, ∈→elem, keep-from, from-below}
+use Rattle.base.specs.TestLaws.{split}
 use Rattle.plan.specs.PlanFile.{Plan, EachGroup, Above, Rising, Listed, Apart}
 use Rattle.plan.specs.Groups.{smallest, groupOf, members}
 use Rattle.plan.specs.Accepted.{Exist}

@@ -8,15 +8,15 @@ use native.Mathlib.Omega.{arith}
 use lib.Dec.{eqb}
 use borrow.Author.Tests.{eqb-true, eqb-false, eq-eqb, ne-eqb}
 use lib.ListN.{length, getD}
-use Rattle.words.specs.MemberLaws.{every-right}
-use Rattle.words.specs.Lists.{_∈_, every}
-use Rattle.words.specs.TestLaws.{split, both, and}
-use Rattle.settings.specs.Sets.{excludes}
-use Rattle.codes.specs.Codes.{costly, byteOf, operationOf}
-use Rattle.codes.specs.CodeLaws.{byte-operation}
-use Rattle.codes.specs.declared.Operation.{Operation}
-use Rattle.gates.specs.Gates.{Gate, start, word, bit, operation, choice, Gates, gateAt}
-use Rattle.needed.specs.Needed.{Exclude}
+use Rattle.base.specs.MemberLaws.{every-right}
+use Rattle.base.specs.Lists.{_∈_, every}
+use Rattle.base.specs.TestLaws.{split, both, and}
+use Rattle.base.specs.Sets.{excludes}
+use Rattle.base.specs.Codes.{costly, byteOf, operationOf}
+use Rattle.base.specs.CodeLaws.{byte-operation}
+use Rattle.base.specs.declared.Operation.{Operation}
+use Rattle.circuit.specs.Gates.{Gate, start, word, bit, operation, choice, Gates, gateAt}
+use Rattle.circuit_needed.specs.Needed.{Exclude}
 use Rattle.plan.specs.PlanFile.{Plan, EachGroup}
 use Rattle.plan.specs.Rows.{everyGroup, isCostly, operationByte, alike, parted}
 use Rattle.plan.specs.Accepted.{OneCostly, NoTwoNeeded}

@@ -6,9 +6,9 @@ use mathlib.Core.Logic.{_⊎_, inl, inr, _↔_}
 use Prim.Native.Nat.{ℕ, _≤_}
 use native.Mathlib.Omega.{arith}
 use lib.ListN.{length}
-use Rattle.words.specs.Lists.{elem}
-use Rattle.words.specs.MemberLaws.{elem→∈, ∈→elem}
-use Rattle.words.specs.TestLaws.{split, same?}
+use Rattle.base.specs.Lists.{elem}
+use Rattle.base.specs.MemberLaws.{elem→∈, ∈→elem}
+use Rattle.base.specs.TestLaws.{split, same?}
 use Rattle.plan.specs.PlanFile.{Plan, groupsIn, EachGroup, Listed, Apart}
 use Rattle.plan.specs.Groups.{groupOf, Named}
 use Rattle.plan.specs.Accepted.{LaidOut}

@@ -4,9 +4,9 @@ use mathlib.Core.Path.{_≡_, ap, _∙_}
 use mathlib.Core.List.{List}
 use native.Mathlib.Omega.{arith}
 use lib.ListN.{length, getD}
-use Rattle.words.specs.Lists.{_∈_}
-use Rattle.words.specs.MemberLaws.{getD-in}
-use Rattle.words.specs.Numbers.{numberAt}
+use Rattle.base.specs.Lists.{_∈_}
+use Rattle.base.specs.MemberLaws.{getD-in}
+use Rattle.base.specs.Numbers.{numberAt}
 use Rattle.plan.specs.PlanFile.{numbersAt, groupAt}
 use Rattle.plan.specs.LayoutLaws.{length-numbers}
 

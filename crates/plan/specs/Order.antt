@@ -4,8 +4,8 @@ use mathlib.Core.List.{List, [], _∷_}
 use mathlib.Core.Option.{Option, none, some}
 use mathlib.Core.Bool.{Bool, true, false, cond}
 use lib.ListN.{length}
-use Rattle.words.specs.Lists.{_∈_, elem}
-use Rattle.gates.specs.Gates.{Gates}
+use Rattle.base.specs.Lists.{_∈_, elem}
+use Rattle.circuit.specs.Gates.{Gates}
 use Rattle.plan.specs.Groups.{groups, waitsFor}
 
 -- every number of l stands in done

@@ -2,7 +2,7 @@
 use Prim.Native.Nat.{ℕ, zero, suc}
 use mathlib.Core.List.{List}
 use mathlib.Core.Bool.{cond}
-use Rattle.words.specs.Lists.{elem}
+use Rattle.base.specs.Lists.{elem}
 use Rattle.plan.specs.PlanFile.{leastBytes, groupsCounted, groupAt, after}
 
 -- of n groups from the place at on: the place of the first that lists the gate g, 0 when none does

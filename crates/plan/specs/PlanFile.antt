@@ -6,8 +6,8 @@ use mathlib.Core.Bool.{Bool, _&&_}
 use lib.Dec.{eqb, leb}
 use lib.ListN.{length, getD}
 use mathlib.Core.Logic.{_⊎_}
-use Rattle.words.specs.Lists.{_∈_}
-use Rattle.words.specs.Numbers.{numberAt}
+use Rattle.base.specs.Lists.{_∈_}
+use Rattle.base.specs.Numbers.{numberAt}
 
 -- "PLN" and the version
 abbrev pub mark : List ℕ

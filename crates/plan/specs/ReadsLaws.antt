@@ -8,10 +8,10 @@ use native.Mathlib.Omega.{arith}
 use lib.Dec.{eqb, leb}
 use lib.ListN.{length}
 use borrow.Author.Tests.{eq-eqb, le-leb}
-use Rattle.words.specs.Lists.{_∈_, upto, flat}
-use Rattle.words.specs.MemberLaws.{keep-in, from-in, flat-in, in-flat, map-in, in-map, append-in, in-append}
-use Rattle.words.specs.TestLaws.{split}
-use Rattle.gates.specs.Gates.{Gates, gateAt, arguments, Earlier}
+use Rattle.base.specs.Lists.{_∈_, upto, flat}
+use Rattle.base.specs.MemberLaws.{keep-in, from-in, flat-in, in-flat, map-in, in-map, append-in, in-append}
+use Rattle.base.specs.TestLaws.{split}
+use Rattle.circuit.specs.Gates.{Gates, gateAt, arguments, Earlier}
 use Rattle.plan.specs.Groups.{groups, members, restsOf, readsOf, waitsFor}
 use Rattle.plan.specs.GroupLaws.{of-member}
 use Rattle.plan.specs.RestLaws.{rests-inside}

@@ -6,24 +6,24 @@ use mathlib.Core.Logic.{_⊎_, inl, inr, _↔_}
 use Prim.Native.Nat.{ℕ, _^_, _≤_, _<_}
 use native.Mathlib.Omega.{arith}
 use lib.ListN.{length, getD, length-map, List·getD-eq-default}
-use Rattle.words.specs.Lists.{_∈_, upto}
-use Rattle.words.specs.ListLaws.{length-from, map-same, inside-list, length-keep}
-use Rattle.words.specs.MemberLaws.{keep-in, keep-from, from-below, map-in, getD-in}
-use Rattle.words.specs.TestLaws.{split, same?}
-use Rattle.bitsets.specs.Bits.{unlike}
-use Rattle.settings.specs.Settings.{Setting, settingOf, flip, moves, preRestsOn, preRests}
-use Rattle.settings.specs.Sets.{restsOn, rests}
-use Rattle.settings.specs.ListLaws.{anyBelow-some}
-use Rattle.settings.specs.SettingLaws.{put-same, put-other}
-use Rattle.settings.specs.RestLaws.{unmoved}
-use Rattle.settings.specs.HoldLaws.{rests-places}
-use Rattle.gates.specs.Gates.{Gates, Earlier, conditions}
-use Rattle.gates.specs.ConditionLaws.{condition-below}
-use Rattle.gates.specs.Limits.{mostConditions}
-use Rattle.needed.specs.Needed.{Needed}
-use Rattle.needed.specs.Pass.{needed, preconditionSets, preconditionOf}
-use Rattle.needed.specs.PassLaws.{needed-sound, needed-complete}
-use Rattle.needed.specs.PreconditionLaws.{needed-over, precondition-holds}
+use Rattle.base.specs.Lists.{_∈_, upto}
+use Rattle.base.specs.ListLaws.{length-from, map-same, inside-list, length-keep}
+use Rattle.base.specs.MemberLaws.{keep-in, keep-from, from-below, map-in, getD-in}
+use Rattle.base.specs.TestLaws.{split, same?}
+use Rattle.base.specs.Bits.{unlike}
+use Rattle.base.specs.Settings.{Setting, settingOf, flip, moves, preRestsOn, preRests}
+use Rattle.base.specs.Sets.{restsOn, rests}
+use Rattle.base.specs.SettingListLaws.{anyBelow-some}
+use Rattle.base.specs.SettingLaws.{put-same, put-other}
+use Rattle.base.specs.RestLaws.{unmoved}
+use Rattle.base.specs.HoldLaws.{rests-places}
+use Rattle.circuit.specs.Gates.{Gates, Earlier, conditions}
+use Rattle.circuit.specs.ConditionLaws.{condition-below}
+use Rattle.circuit.specs.Limits.{mostConditions}
+use Rattle.circuit_needed.specs.Needed.{Needed}
+use Rattle.circuit_needed.specs.Pass.{needed, preconditionSets, preconditionOf}
+use Rattle.circuit_needed.specs.PassLaws.{needed-sound, needed-complete}
+use Rattle.circuit_needed.specs.PreconditionLaws.{needed-over, precondition-holds}
 use Rattle.plan.specs.Groups.{RestsOn, restsOf}
 
 -- for any sets of settings

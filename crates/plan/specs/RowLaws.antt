@@ -7,9 +7,9 @@ use Prim.Native.Nat.{ℕ, zero, suc, _≤_}
 use lib.Dec.{eqb, leb, ltb}
 use borrow.Author.Tests.{eqb-true, eq-eqb, leb-true, le-leb, ltb-true, lt-ltb}
 use lib.ListN.{length}
-use Rattle.words.specs.Lists.{elem, every}
-use Rattle.words.specs.MemberLaws.{elem→∈, ∈→elem, every-right, inside-right}
-use Rattle.words.specs.TestLaws.{split, both, and}
+use Rattle.base.specs.Lists.{elem, every}
+use Rattle.base.specs.MemberLaws.{elem→∈, ∈→elem, every-right, inside-right}
+use Rattle.base.specs.TestLaws.{split, both, and}
 use Rattle.plan.specs.PlanFile.{Plan, after, EachGroup, Above, Rising, Listed, Apart, Ends, ends}
 use Rattle.plan.specs.Rows.{everyGroup, above, rises, listed, apart}
 use Rattle.plan.specs.Accepted.{Exist}

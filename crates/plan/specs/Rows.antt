@@ -4,14 +4,14 @@ use mathlib.Core.List.{List, [], _∷_, _++_, map}
 use mathlib.Core.Bool.{Bool, true, false, not, cond, _&&_}
 use lib.Dec.{eqb, leb, ltb}
 use lib.ListN.{length, getD, take}
-use Rattle.words.specs.Lists.{elem, every, same}
-use Rattle.settings.specs.Sets.{excludes}
-use Rattle.answers.specs.Answers.{refusal}
-use Rattle.answers.specs.declared.Answer.{Answer}
-use Rattle.codes.specs.Codes.{costly, byteOf}
-use Rattle.gates.specs.Gates.{Gate, start, word, bit, operation, choice, Gates, gateAt}
-use Rattle.gates.specs.PlainCircuit.{gatesOf, gateCount}
-use Rattle.needed.specs.Pass.{rulePreconditions}
+use Rattle.base.specs.Lists.{elem, every, same}
+use Rattle.base.specs.Sets.{excludes}
+use Rattle.base.specs.Answers.{refusal}
+use Rattle.base.specs.declared.Answer.{Answer}
+use Rattle.base.specs.Codes.{costly, byteOf}
+use Rattle.circuit.specs.Gates.{Gate, start, word, bit, operation, choice, Gates, gateAt}
+use Rattle.circuit.specs.PlainCircuit.{gatesOf, gateCount}
+use Rattle.circuit_needed.specs.Pass.{rulePreconditions}
 use Rattle.circuit.specs.Whole.{ruleAnswer}
 use Rattle.plan.specs.PlanFile.{mark, leastBytes, mostBytes, gatesCounted, groupsCounted, Plan, ends, groupsIn}
 use Rattle.plan.specs.Groups.{smallest, groups, groupOf}

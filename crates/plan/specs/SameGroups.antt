@@ -3,7 +3,7 @@ use Prim.Native.Nat.{ℕ}
 use mathlib.Core.Path.{_≡_}
 use mathlib.Core.List.{[], _∷_}
 use mathlib.Core.Logic.{_⊎_, _↔_}
-use Rattle.words.specs.Lists.{_∈_}
+use Rattle.base.specs.Lists.{_∈_}
 use Rattle.plan.specs.PlanFile.{Plan}
 
 -- the plan joins the gates g and h: a group of it lists both

@@ -3,9 +3,9 @@ use mathlib.Core.Path.{_≡_, refl, sym, ap, ap₂, _∙_, fun-ext}
 use mathlib.Core.List.{List, [], _∷_, map}
 use mathlib.Core.Logic.{inl, inr}
 use Prim.Native.Nat.{ℕ}
-use Rattle.words.specs.Lists.{_∈_}
-use Rattle.words.specs.Numbers.{Bytes}
-use Rattle.gates.specs.PlainCircuit.{gateCount}
+use Rattle.base.specs.Lists.{_∈_}
+use Rattle.base.specs.Numbers.{Bytes}
+use Rattle.circuit.specs.PlainCircuit.{gateCount}
 use Rattle.plan.specs.PlanFile.{Plan, groupsIn, EachGroup}
 use Rattle.plan.specs.Groups.{smallest, groupOf, members}
 use Rattle.plan.specs.Layout.{planBytes}

@@ -8,14 +8,14 @@ use mathlib.Core.Option.{Option, none, some}
 use native.Mathlib.Omega.{arith}
 use lib.Dec.{eqb, leb}
 use lib.ListN.{length, getD}
-use Rattle.words.specs.Lists.{_∈_, upto, flat, every}
-use Rattle.words.specs.ListLaws.{keep-same, map-same}
-use Rattle.words.specs.MemberLaws.{from-below, flat-in, every-same}
-use Rattle.settings.specs.Sets.{rests, excludes}
-use Rattle.gates.specs.Gates.{Gates, gateAt, arguments, Earlier, conditions}
-use Rattle.gates.specs.Limits.{mostConditions}
-use Rattle.gates.specs.PlainCircuit.{gatesOf}
-use Rattle.needed.specs.Pass.{rulePreconditions}
+use Rattle.base.specs.Lists.{_∈_, upto, flat, every}
+use Rattle.base.specs.ListLaws.{keep-same, map-same}
+use Rattle.base.specs.MemberLaws.{from-below, flat-in, every-same}
+use Rattle.base.specs.Sets.{rests, excludes}
+use Rattle.circuit.specs.Gates.{Gates, gateAt, arguments, Earlier, conditions}
+use Rattle.circuit.specs.Limits.{mostConditions}
+use Rattle.circuit.specs.PlainCircuit.{gatesOf}
+use Rattle.circuit_needed.specs.Pass.{rulePreconditions}
 use Rattle.circuit.specs.Whole.{ruleAnswer}
 use Rattle.plan.specs.PlanFile.{Plan, groupsIn}
 use Rattle.plan.specs.Groups.{groups, members, restsOf, readsOf, waitsFor}

@@ -8,13 +8,13 @@ use Prim.Native.Nat.{ℕ, _≤_, _<_}
 use lib.Dec.{leb}
 use borrow.Author.Tests.{leb-true}
 use lib.ListN.{length}
-use Rattle.words.specs.Lists.{_∈_, elem, flat}
-use Rattle.words.specs.MemberLaws.{∈→elem, flat-in, map-in, append-in}
-use Rattle.words.specs.TestLaws.{split}
-use Rattle.settings.specs.Settings.{Once}
-use Rattle.gates.specs.Gates.{Gates, gateAt, arguments, Earlier, conditions}
-use Rattle.gates.specs.Limits.{mostConditions}
-use Rattle.needed.specs.Pass.{preconditionSets}
+use Rattle.base.specs.Lists.{_∈_, elem, flat}
+use Rattle.base.specs.MemberLaws.{∈→elem, flat-in, map-in, append-in}
+use Rattle.base.specs.TestLaws.{split}
+use Rattle.base.specs.Settings.{Once}
+use Rattle.circuit.specs.Gates.{Gates, gateAt, arguments, Earlier, conditions}
+use Rattle.circuit.specs.Limits.{mostConditions}
+use Rattle.circuit_needed.specs.Pass.{preconditionSets}
 use Rattle.plan.specs.Groups.{Named, groups, members, RestsOn, Waits, Chain, one, more, restsOf, readsOf, waitsFor}
 use Rattle.plan.specs.Order.{order, Ordered}
 use Rattle.plan.specs.Rows.{placed}

@@ -1,7 +1,7 @@
 use mathlib.Core.Path.{refl}
 use borrow.Author.Needs.{needs}
-use Rattle.settings.specs.HeldLaws.{sets-clear}
-use Rattle.gates.specs.Limits.{mostGates}
+use Rattle.base.specs.SetsHeldLaws.{sets-clear}
+use Rattle.circuit.specs.Limits.{mostGates}
 use Rattle.conform.proofs.circuit_line.Statement.{statement}
 use Rattle.conform.proofs.circuit_line.Tie as tie
 

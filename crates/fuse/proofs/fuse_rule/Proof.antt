@@ -5,10 +5,10 @@ use lib.Dec.{eqb}
 use lib.ListN.{length}
 use denote.Ref.{now}
 use borrow.Author.Tests.{eqb-true}
-use Rattle.words.specs.Buffers.{over}
-use Rattle.answers.specs.declared.Answer.{Answer}
-use Rattle.lines.specs.Line.{lineOf}
-use Rattle.lines.specs.LineLaws.{length-lineOf, put-fits}
+use Rattle.base.specs.Buffers.{over}
+use Rattle.base.specs.declared.Answer.{Answer}
+use Rattle.report.specs.Line.{lineOf}
+use Rattle.report.specs.LineLaws.{length-lineOf, put-fits}
 use Rattle.fuse.proofs.Laws.{written-within}
 use Rattle.fuse.proofs.fuse_rule.Statement.{statement}
 use Rattle.fuse.proofs.fuse_rule.Tie as tie

@@ -1,5 +1,5 @@
 use borrow.Author.Needs.{needs}
-use Rattle.foreign.specs.ReadLaws.{part-wide}
+use Rattle.file.specs.ReadLaws.{part-wide}
 use Rattle.linnet.proofs.linnet_record.Statement.{statement}
 use Rattle.linnet.proofs.linnet_record.Tie as tie
 

@@ -1,7 +1,7 @@
 use mathlib.Core.Path.{refl}
 use borrow.Author.Needs.{needs}
-use Rattle.settings.specs.HeldLaws.{sets-clear}
-use Rattle.gates.specs.Limits.{mostGates}
+use Rattle.base.specs.SetsHeldLaws.{sets-clear}
+use Rattle.circuit.specs.Limits.{mostGates}
 use Rattle.demands.specs.C17.{one-array}
 use Rattle.demands.specs.PromiseLaws.{rule-told}
 use Rattle.linnet.proofs.linnet_show_plain.Statement.{statement}

@@ -1,7 +1,7 @@
 use borrow.Author.Needs.{needs}
 use native.Mathlib.Omega.{arith}
 use lib.ListN.{length}
-use Rattle.words.specs.Numbers.{Bytes}
+use Rattle.base.specs.Numbers.{Bytes}
 use Rattle.demands.specs.PromiseLaws.{write-told, written-earlier, written-gives}
 use Rattle.linnet.proofs.linnet_write_fused.Statement.{statement}
 use Rattle.linnet.proofs.linnet_write_fused.Tie as tie

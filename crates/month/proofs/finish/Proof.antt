@@ -1,8 +1,8 @@
 use borrow.Author.Needs.{needs}
 use native.Mathlib.Omega.{arith}
 use lib.ListN.{replicate}
-use Rattle.lines.specs.LineLaws.{count-fits}
-use Rattle.batch.specs.Steps.{ending}
+use Rattle.report.specs.LineLaws.{count-fits}
+use Rattle.report.specs.Steps.{ending}
 use Rattle.month.proofs.finish.Statement.{statement}
 use Rattle.month.proofs.finish.Tie as tie
 

@@ -6,8 +6,8 @@ use Prim.Native.Nat.{ℕ, _+_, _-_, _≤_}
 use native.Mathlib.Omega.{arith}
 use lib.ListN.{length, drop, length-replicate, length-drop}
 use lib.Seq.{length-take-le}
-use Rattle.batch.specs.Steps.{hasStopped}
-use Rattle.batch.specs.Bounds.{Within, mostWanted}
+use Rattle.report.specs.Steps.{hasStopped}
+use Rattle.report.specs.Bounds.{Within, mostWanted}
 use Rattle.month.proofs.main.Statement.{statement}
 use Rattle.month.proofs.main.Tie as tie
 

@@ -1,4 +1,0 @@
-pub mod Answers
-pub mod Parsing
-pub mod ParsingLaws
-pub mod MarkLaws

@@ -1,0 +1,34 @@
+-- Laws of what a run writes: 0 for a working variable, for a result variable its figure at the run's end. Assumes nothing.
+use Prim.Native.Nat.{ℕ, _<_}
+use native.Mathlib.Omega.{arith}
+use mathlib.Core.Path.{_≡_, _∙_}
+use mathlib.Core.Bool.{true, false}
+use mathlib.Core.List.{List, map}
+use lib.ListN.{length, getD, length-map}
+use Rattle.base.specs.Lists.{upto}
+use Rattle.base.specs.ListLaws.{map-same, getD-upto, length-from}
+use Rattle.base.specs.MemberLaws.{from-below}
+use Rattle.rule.specs.Header.{variables, workingAt}
+use Rattle.circuit.specs.Running.{runRule, writtenFor, runWrites}
+
+module _ (s inputs : List ℕ) (x : ℕ) (l : x < variables s) where
+  written-at : getD (runWrites s inputs) x 0 ≡ writtenFor s x (getD (runRule s inputs) x 0)
+  unfolding runWrites
+  written-at = getD-upto (λ y. writtenFor s y (getD (runRule s inputs) y 0)) 0 (variables s) x l
+
+  pub writes-result : workingAt s x ≡ false → getD (runWrites s inputs) x 0 ≡ getD (runRule s inputs) x 0
+  writes-result f = written-at ∙ rw f
+
+  pub writes-working : workingAt s x ≡ true → getD (runWrites s inputs) x 0 ≡ 0
+  writes-working t = written-at ∙ rw t
+
+-- a figure for each variable
+pub writes-count : (s inputs : List ℕ) → length (runWrites s inputs) ≡ variables s
+unfolding runWrites
+writes-count s inputs = length-map (upto (variables s)) _ ∙ length-from 0 (variables s)
+
+-- a list with what the run writes for each variable is what it writes
+pub writes-map : (s inputs : List ℕ) (f : ℕ → ℕ) → ((x : ℕ) → x < variables s → f x ≡ writtenFor s x (getD (runRule s inputs) x 0)) → map f (upto (variables s)) ≡ runWrites s inputs
+unfolding runWrites
+writes-map s inputs f h =
+    map-same f (λ x. writtenFor s x (getD (runRule s inputs) x 0)) (upto (variables s)) (λ x m. h x (let b = from-below 0 (variables s) x m .1 in omega (arith, b)))

@@ -1,0 +1,1 @@
+// Definitions and laws of needed gates (specs/): the relation, preconditions, the one backward pass; gates as they lie in quads.

@@ -1,0 +1,27 @@
+// The backward pass alone, exported so that it can be measured; nothing of the product calls it.
+use circuit::NEED_WORDS;
+ghost use mathlib.Core.Path.{_≡_};
+ghost use mathlib.Core.List.{_++_};
+ghost use Prim.Native.Nat.{_-_};
+ghost use lib.ListN.{replicate};
+ghost use Rattle.base.specs.Lists.{Inside};
+ghost use Rattle.circuit.specs.Limits.{mostGates, mostConditions};
+ghost use Rattle.circuit_needed.specs.Held.{gatesIn};
+ghost use Rattle.circuit_needed.specs.Pass.{preconditionSets};
+ghost use Rattle.circuit_needed.specs.Passing.{Passable};
+ghost use Rattle.base.specs.SetsHeld.{setsIn};
+
+// Every gate's precondition, in sets that are lent clear. Whoever calls it lends what `circuit_pass::find_needed` asks for.
+#[no_mangle]
+pub extern "C" fn linnet_pass(
+    quads: &[u32; 1024],
+    count: usize,
+    ranks: &[u16; 256],
+    wanted: &[u16],
+    sets: &mut [u64; NEED_WORDS],
+)
+    requires { ⌜ (Passable (now quads) (now ranks) count × Inside count (now wanted)) × (setsIn (now sets) ≡ replicate mostGates 0) ⌝ }
+    ensures { λ r. ⌜ setsIn (now (sets .exit)) ≡ preconditionSets mostConditions (gatesIn (now (quads .entry)) count) (now (wanted .entry)) ++ replicate (mostGates - count) 0 ⌝ }
+{
+    circuit_pass::find_needed(quads, count, ranks, wanted, sets)
+}

@@ -1,0 +1,26 @@
+// A gate as four numbers of a lent array, its quad (specs/Quads.antt of `circuit`): the gate that an argument names, and what a code means.
+use base::Code;
+use circuit::GateId;
+ghost use mathlib.Core.Path.{_≡_};
+ghost use Prim.Native.Nat.{_<_};
+ghost use lib.ListN.{getD};
+ghost use Rattle.base.specs.Codes.{codeOf};
+
+// The gate whose number stands at a place of the quads, where an argument stands; a figure is never read so.
+pub fn argument(quads: &[u32; 1024], at: usize) -> GateId
+    requires { ⌜ (at < 1024) × (getD (now quads) at 0 < 256) ⌝ }
+    ensures { λ r. ⌜ r .0 ≡ getD (now (quads .entry)) at 0 ⌝ }
+{
+    GateId(quads[at] as u16)
+}
+
+// What a code means, by the table of codes; a number that is no byte is no code, as FF is none.
+pub fn code_entry(code: u32) -> Code
+    ensures { λ r. ⌜ r ≡ codeOf code ⌝ }
+{
+    if code < 256 {
+        base_codes::code_of(code as u8)
+    } else {
+        base_codes::code_of(0xFF)
+    }
+}

@@ -1,7 +1,0 @@
-pub mod Inputs
-pub mod Direct
-pub mod ResultLaws
-pub mod WritingLaws
-pub mod InputLaws
-pub mod DirectLaws
-pub mod Examples

@@ -1,6 +1,0 @@
-pub mod Emitted
-pub mod FillLaws
-pub mod ByteLaws
-pub mod AloneLaws
-pub mod PutLaws
-pub mod HeldLaws

@@ -1,0 +1,3 @@
+pub mod TakenLaws
+pub mod DrainLaws
+pub mod FrontLaws

@@ -1,0 +1,60 @@
+use Rattle.base.specs.ParsingLaws.{none-left, some-left}
+use mathlib.Core.Path.{sym, _∙_}
+use borrow.Author.Tests.{not-true, not-false, lt-ltb, le-ltb, lt-leb, le-leb}
+use Rattle.rule.specs.Expressions.{readBit}
+use borrow.Author.Needs.{needs}
+use Rattle.rule_reader.proofs.read_bit.Statement.{statement}
+use Rattle.rule_reader.proofs.read_bit.Tie as tie
+
+returns : tie.Need-returns
+unfolding readBit
+returns c = rw (sym (c .before .same-kind .ensures) ∙ not-true _ (c .if1 .taken))
+
+returns-2 : tie.Need-returns-2
+unfolding readBit
+returns-2 c = rw (sym (c .before .before .same-kind .ensures) ∙ not-false _ (c .before .if1 .left), none-left _ (c .if2 .taken))
+
+returns-3 : tie.Need-returns-3
+unfolding readBit
+returns-3 c = rw (
+  sym (c .before .before .before .same-kind .ensures) ∙ not-false _ (c .before .before .if1 .left),
+  some-left _ (c .before .if2 .left),
+  le-ltb _ _
+      (c .if3 .taken),
+)
+
+returns-4 : tie.Need-returns-4
+unfolding readBit
+returns-4 c = rw (
+  sym (c .before .before .before .before .before .same-kind .ensures) ∙ not-false _ (c .before .before .before .before .if1 .left),
+  some-left _
+      (c .before .before .before .if2 .left),
+  lt-ltb _ _ (c .before .before .if3 .left),
+  lt-leb _ _ (c .if4 .taken),
+)
+
+returns-5 : tie.Need-returns-5
+unfolding readBit
+returns-5 c = rw (
+  sym (c .before .before .before .before .before .same-kind .ensures) ∙ not-false _ (c .before .before .before .before .if1 .left),
+  some-left _
+      (c .before .before .before .if2 .left),
+  lt-ltb _ _ (c .before .before .if3 .left),
+  le-leb _ _ (c .if4 .left),
+)
+
+pub read-bit-spec : {M : Type 1} → statement M
+read-bit-spec =
+    tie.close
+    (tie.spec
+    (λ c κs. search needs)
+    returns
+    returns-2
+    (λ c. search needs)
+    returns-3
+    (λ c. search needs)
+    (λ c. search needs)
+    (λ c. search needs)
+    returns-4
+    (λ c. search needs)
+    returns-5)

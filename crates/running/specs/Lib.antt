@@ -1,3 +1,0 @@
-pub mod FusedRun
-pub mod ResultLaws
-pub mod StepLaws
