@@ -10,7 +10,7 @@ use Rattle.base.specs.TestLaws.{split}
 use Rattle.base.specs.Answers.{success, refusal, answerOf}
 use Rattle.base.specs.Parsing.{Parsed, parsed, refused, stepOf, IsRead}
 use Rattle.base.specs.declared.Answer.{Answer}
-use Rattle.rule.specs.Limits.{mostBytes}
+use Rattle.rule.specs.Limits.{mostRuleBytes}
 use Rattle.rule.specs.Tree.{Block}
 use Rattle.rule.specs.Rule.{readRule}
 use Rattle.rule.specs.RuleLaws.{rule-large}
@@ -101,7 +101,7 @@ unfolding ruleAnswer
 answer-whole s h = bytes-whole (readRule s) _ h
 
 -- a rule over its limit of bytes is refused for that
-pub rule-over : (s : List ℕ) → mostBytes < length s → ruleAnswer s ≡ refusal 1 0
+pub rule-over : (s : List ℕ) → mostRuleBytes < length s → ruleAnswer s ≡ refusal 1 0
 rule-over s h = answer-bytes s (rule-large s h)
 
 -- "A rule is accepted when reading it returns number 0": then it was read, and is within both limits

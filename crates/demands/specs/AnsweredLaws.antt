@@ -34,7 +34,7 @@ use Rattle.circuit.specs.WholeLaws.{accepted, answer-bytes, answer-whole, whole
 use Rattle.run.specs.InputLaws.{row-is}
 use Rattle.run.specs.Direct.{runAnswer}
 use Rattle.run.specs.DirectLaws.{rule-answer, inputs-answer, run-answer, run-number}
-use Rattle.plan.specs.PlanFile.{leastBytes, mostBytes, mark, groupsCounted, groupsIn}
+use Rattle.plan.specs.PlanFile.{leastPlanBytes, mostPlanBytes, mark, groupsCounted, groupsIn}
 use Rattle.plan.specs.Groups.{groupOf}
 use Rattle.plan.specs.Rows.{isCostly, rows, planRow, planAnswer}
 use Rattle.plan.specs.GroupLaws.{groupOf-named}
@@ -112,10 +112,10 @@ module _ (s p : List ℕ) (z : ruleAnswer s .number ≡ 0) where
       let Gs = groupsIn p in
       let sets = rulePreconditions s in
       let costly = each-right _ (AllCostly C) (all-costly C) Gs in
-      sized leastBytes mostBytes (length p) then λ _.
+      sized leastPlanBytes mostPlanBytes (length p) then λ _.
       same-right (take 5 p) mark then λ _.
       (eqb-true _ _, eq-eqb _ _) then λ _.
-      ends-right (groupsCounted p) p leastBytes then λ _.
+      ends-right (groupsCounted p) p leastPlanBytes then λ _.
       each-right _ _ joins-right Gs then λ joins.
       rising-exist (gateCount s) Gs then λ (rising, _).
       apart-right Gs then λ once.

@@ -10,17 +10,17 @@ use Rattle.base.specs.declared.Operation.{Operation}
 use Rattle.circuit.specs.Gates.{Gates, gateAt, operation}
 use Rattle.circuit.specs.PlainCircuit.{gatesOf, gateCount}
 use Rattle.circuit_needed.specs.Needed.{wantedOf, Exclude}
-use Rattle.plan.specs.PlanFile.{mark, leastBytes, mostBytes, gatesCounted, groupsCounted, Plan, groupsIn, EachGroup, Rising, Apart, Ends}
+use Rattle.plan.specs.PlanFile.{mark, leastPlanBytes, mostPlanBytes, gatesCounted, groupsCounted, Plan, groupsIn, EachGroup, Rising, Apart, Ends}
 use Rattle.plan.specs.Groups.{smallest, groupOf, Waits, Chain}
 
 -- "A plan is laid out when it has 9 to 1,024 bytes, this mark and version, the plain circuit's gate count, and as many groups as it counts,
 -- ending where the file ends, each of size 2 or more with rising numbers."
 pub record LaidOut (s p : List ℕ) : Type 0 where
-  pub least : leastBytes ≤ length p
-  pub most : length p ≤ mostBytes
+  pub least : leastPlanBytes ≤ length p
+  pub most : length p ≤ mostPlanBytes
   pub marked : take 5 p ≡ mark
   pub counted : gatesCounted p ≡ gateCount s
-  pub ended : Ends (groupsCounted p) p leastBytes
+  pub ended : Ends (groupsCounted p) p leastPlanBytes
   pub joins : EachGroup (λ G. 2 ≤ length G) (groupsIn p)
   pub rising : EachGroup Rising (groupsIn p)
 

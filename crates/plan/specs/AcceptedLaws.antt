@@ -25,7 +25,7 @@ use Rattle.circuit_needed.specs.Pass.{rulePreconditions}
 use Rattle.circuit_needed.specs.RulePreconditions.{rule-earlier, wanted-inside, rule-exclude}
 use Rattle.circuit.specs.Whole.{ruleAnswer}
 use Rattle.circuit.specs.WholeLaws.{accepted}
-use Rattle.plan.specs.PlanFile.{mark, leastBytes, mostBytes, groupsCounted, groupsIn, Plan, EachGroup, Rising, Apart}
+use Rattle.plan.specs.PlanFile.{mark, leastPlanBytes, mostPlanBytes, groupsCounted, groupsIn, Plan, EachGroup, Rising, Apart}
 use Rattle.plan.specs.Groups.{smallest, groupOf}
 use Rattle.plan.specs.Rows.{everyGroup, rises, groupsRise, Row, layoutRows, joinRows, orderRows, rows, firstFailing, planRow, planAnswer}
 use Rattle.plan.specs.Accepted.{LaidOut, Exist, GroupsRise, Acceptable}
@@ -57,7 +57,7 @@ layout-right s p = (to, back)
   where
     to : Hold (layoutRows (gateCount s) p) → LaidOut s p × (EachGroup (Exist (gateCount s)) (groupsIn p) × Apart (groupsIn p))
     to (t20, (t21, (t22, (t23, (t24, (t25, (t26, _))))))) =
-        let size = both (leb leastBytes (length p)) _ t20 in
+        let size = both (leb leastPlanBytes (length p)) _ t20 in
         let shape = rising-exist (gateCount s) (groupsIn p) .0 t25 in
         let l : LaidOut s p =
         record {
@@ -65,7 +65,7 @@ layout-right s p = (to, back)
           most = leb-true _ _ (size .1);
           marked = same-right (take 5 p) mark .0 t21;
           counted = eqb-true _ _ t22;
-          ended = ends-right (groupsCounted p) p leastBytes .0 t23;
+          ended = ends-right (groupsCounted p) p leastPlanBytes .0 t23;
           joins = each-right (λ G. leb 2 (length G)) (λ G. 2 ≤ length G) joins-right (groupsIn p) .0 t24;
           rising = shape .0;
         } in
@@ -76,7 +76,7 @@ layout-right s p = (to, back)
         let t20 = and (le-leb _ _ (l .least)) (le-leb _ _ (l .most)) in
         let t21 = same-right (take 5 p) mark .1 (l .marked) in
         let t22 = eq-eqb _ _ (l .counted) in
-        let t23 = ends-right (groupsCounted p) p leastBytes .1 (l .ended) in
+        let t23 = ends-right (groupsCounted p) p leastPlanBytes .1 (l .ended) in
         let t24 = each-right (λ G. leb 2 (length G)) (λ G. 2 ≤ length G) joins-right (groupsIn p) .1 (l .joins) in
         let t25 = rising-exist (gateCount s) (groupsIn p) .1 (l .rising, exist) in
         (t20, (t21, (t22, (t23, (t24, (t25, (apart-right (groupsIn p) .1 once, tt)))))))
@@ -152,9 +152,9 @@ unfolding planAnswer
 answer-accepted s p h e = rw (eq-eqb (ruleAnswer s .number) 0 h, eq-eqb (planRow s p) 0 e)
 
 -- a plan over its limit of bytes is refused for that, with an accepted rule
-pub plan-over : (s p : List ℕ) → ruleAnswer s .number ≡ 0 → mostBytes < length p → planAnswer s p ≡ refusal 20 0
+pub plan-over : (s p : List ℕ) → ruleAnswer s .number ≡ 0 → mostPlanBytes < length p → planAnswer s p ≡ refusal 20 0
 unfolding planRow planAnswer
-plan-over s p h l = rw (eq-eqb (ruleAnswer s .number) 0 h, le-leb leastBytes (length p) (omega arith), lt-leb (length p) mostBytes l)
+plan-over s p h l = rw (eq-eqb (ruleAnswer s .number) 0 h, le-leb leastPlanBytes (length p) (omega arith), lt-leb (length p) mostPlanBytes l)
 
 -- with an accepted rule its number is the row's
 pub answer-number : (s p : List ℕ) → ruleAnswer s .number ≡ 0 → planAnswer s p .number ≡ planRow s p

@@ -7,7 +7,7 @@ use lib.ListN.{length, getD, length-append}
 use Rattle.base.specs.Lists.{flat}
 use Rattle.base.specs.Numbers.{bytesOf, numberAt}
 use Rattle.base.specs.NumberLaws.{length-bytes, number-found}
-use Rattle.plan.specs.PlanFile.{mark, leastBytes, gatesCounted, groupsCounted, Plan, numbersAt, groupAt, after, groupsFrom, groupsIn, EachGroup, Ends}
+use Rattle.plan.specs.PlanFile.{mark, leastPlanBytes, gatesCounted, groupsCounted, Plan, numbersAt, groupAt, after, groupsFrom, groupsIn, EachGroup, Ends}
 use Rattle.plan.specs.Layout.{Small, groupsBytes, planBytes}
 
 numbers-found : (G a b : List ℕ) → Small G → numbersAt (length G) (a ++ (flat (bytesOf 2) G ++ b)) (length a) ≡ G
@@ -87,20 +87,20 @@ groups-found (G ∷ Gs) a (s, u) = go (groups-found Gs (a ++ (length G ∷ flat 
 -- the plan of a gate count and groups that fit their bytes, taken apart
 pub plan-found : (n : ℕ) (Gs : Plan) → n < 256 ^ 2 → length Gs < 256 ^ 2 → EachGroup Small Gs
     → (gatesCounted (planBytes n Gs) ≡ n) × (groupsCounted (planBytes n Gs) ≡ length Gs)
-    × (groupsIn (planBytes n Gs) ≡ Gs) × Ends (groupsCounted (planBytes n Gs)) (planBytes n Gs) leastBytes
+    × (groupsIn (planBytes n Gs) ≡ Gs) × Ends (groupsCounted (planBytes n Gs)) (planBytes n Gs) leastPlanBytes
 unfolding groupsIn
 plan-found n Gs h k s = (
   number-found 2 n mark (bytesOf 2 (length Gs) ++ groupsBytes Gs) h,
   counted,
   ap₂ (λ (c at : ℕ). groupsFrom c (planBytes n Gs) at) counted (sym front) ∙ ap (λ (q : List ℕ). groupsFrom (length Gs) q (length head)) parts ∙ found .0,
-  subst⁻¹ (λ (c : ℕ). Ends c (planBytes n Gs) leastBytes) counted
+  subst⁻¹ (λ (c : ℕ). Ends c (planBytes n Gs) leastPlanBytes) counted
       (subst (λ (at : ℕ). Ends (length Gs) (planBytes n Gs) at) front (subst⁻¹ (λ (q : List ℕ). Ends (length Gs) q (length head)) parts (found .1))),
 )
   where
     head : List ℕ
     head = (mark ++ bytesOf 2 n) ++ bytesOf 2 (length Gs)
 
-    front : length head ≡ leastBytes
+    front : length head ≡ leastPlanBytes
     front =
         length-append (mark ++ bytesOf 2 n) (bytesOf 2 (length Gs))
         ∙ ap₂ (λ (x y : ℕ). x + y) (length-append mark (bytesOf 2 n) ∙ ap (λ (x : ℕ). 5 + x) (length-bytes 2 n)) (length-bytes 2 (length Gs))

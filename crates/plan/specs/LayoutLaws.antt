@@ -10,7 +10,7 @@ use Rattle.base.specs.Lists.{flat}
 use Rattle.base.specs.Numbers.{bytesOf, numberAt, Bytes}
 use Rattle.base.specs.NumberLaws.{number-back}
 use Rattle.circuit.specs.PlainCircuit.{gateCount}
-use Rattle.plan.specs.PlanFile.{leastBytes, groupsCounted, numbersAt, groupAt, after, groupsFrom, groupsIn, Ends}
+use Rattle.plan.specs.PlanFile.{leastPlanBytes, groupsCounted, numbersAt, groupAt, after, groupsFrom, groupsIn, Ends}
 use Rattle.plan.specs.Accepted.{LaidOut}
 use Rattle.plan.specs.Layout.{groupsBytes, planBytes}
 
@@ -55,5 +55,5 @@ module _ (p : List ℕ) (bytes : Bytes p) where
       (two-bytes 5 (omega (arith, l .least))
       ∙ ap₂ (λ (a b : List ℕ). a ++ b) (ap (bytesOf 2) (l .counted))
       (two-bytes 7 (omega (arith, l .least))
-      ∙ ap₂ (λ (a b : List ℕ). a ++ b) (ap (bytesOf 2) (sym (length-groups (groupsCounted p) p leastBytes)))
-      (groups-bytes (groupsCounted p) leastBytes (l .ended))))
+      ∙ ap₂ (λ (a b : List ℕ). a ++ b) (ap (bytesOf 2) (sym (length-groups (groupsCounted p) p leastPlanBytes)))
+      (groups-bytes (groupsCounted p) leastPlanBytes (l .ended))))

@@ -10,7 +10,7 @@ use Rattle.base.specs.Lists.{_∈_, elem}
 use Rattle.base.specs.MemberLaws.{elem→∈, ∈→elem}
 use Rattle.base.specs.TestLaws.{split}
 use Rattle.circuit.specs.PlainCircuit.{gateCount}
-use Rattle.plan.specs.PlanFile.{leastBytes, groupsCounted, groupAt, after, groupsFrom, groupsIn, Ends, Rising, EachGroup, Listed, Apart}
+use Rattle.plan.specs.PlanFile.{leastPlanBytes, groupsCounted, groupAt, after, groupsFrom, groupsIn, Ends, Rising, EachGroup, Listed, Apart}
 use Rattle.plan.specs.Groups.{smallest, groupOf, members}
 use Rattle.plan.specs.Accepted.{Acceptable, Exist}
 use Rattle.plan.specs.ListedLaws.{StandsIn, stands-each, name-to, members-listed, members-alone}
@@ -42,11 +42,11 @@ place-some (suc n) p at g (l, e) h =
 module _ (p : List ℕ) (g : ℕ) where
   pub unplaced : placeOf p g ≡ 0 → Listed (groupsIn p) g → ⊥
   unfolding placeOf groupsIn
-  unplaced e l = place-none (groupsCounted p) p leastBytes g (omega arith) e l
+  unplaced e l = place-none (groupsCounted p) p leastPlanBytes g (omega arith) e l
 
-  pub placed-group : Ends (groupsCounted p) p leastBytes → (placeOf p g ≡ 0 → ⊥) → FoundAt (groupsCounted p) p leastBytes g (placeOf p g)
+  pub placed-group : Ends (groupsCounted p) p leastPlanBytes → (placeOf p g ≡ 0 → ⊥) → FoundAt (groupsCounted p) p leastPlanBytes g (placeOf p g)
   unfolding placeOf
-  placed-group e h = place-some (groupsCounted p) p leastBytes g e h
+  placed-group e h = place-some (groupsCounted p) p leastPlanBytes g e h
 
 -- the members of a gate's group, of n gates
 module _ (n : ℕ) (p : List ℕ) (two : EachGroup (λ G. 2 ≤ length G) (groupsIn p)) (rising : EachGroup Rising (groupsIn p)) (once : Apart (groupsIn p)) (g : ℕ) where
@@ -55,16 +55,16 @@ module _ (n : ℕ) (p : List ℕ) (two : EachGroup (λ G. 2 ≤ length G) (group
   place-alone l e = members-alone n (groupsIn p) two rising once g l (unplaced p g e)
 
   -- those of a gate with a place stand there
-  pub place-members : EachGroup (Exist n) (groupsIn p) → Ends (groupsCounted p) p leastBytes → (placeOf p g ≡ 0 → ⊥)
+  pub place-members : EachGroup (Exist n) (groupsIn p) → Ends (groupsCounted p) p leastPlanBytes → (placeOf p g ≡ 0 → ⊥)
       → members n (groupOf (groupsIn p)) (smallest (groupAt p (placeOf p g))) ≡ groupAt p (placeOf p g)
   unfolding groupsIn
   place-members exist e h = members-listed n (groupsIn p) two rising once exist (groupAt p (placeOf p g)) (placed-group p g e h .stands)
 
-  pub place-name : Ends (groupsCounted p) p leastBytes → (placeOf p g ≡ 0 → ⊥) → groupOf (groupsIn p) g ≡ smallest (groupAt p (placeOf p g))
+  pub place-name : Ends (groupsCounted p) p leastPlanBytes → (placeOf p g ≡ 0 → ⊥) → groupOf (groupsIn p) g ≡ smallest (groupAt p (placeOf p g))
   unfolding groupsIn
   place-name e h = let r = placed-group p g e h in name-to (groupsIn p) (groupAt p (placeOf p g)) g once (r .stands) (r .lists)
 
-  pub place-two : Ends (groupsCounted p) p leastBytes → (placeOf p g ≡ 0 → ⊥) → 2 ≤ length (groupAt p (placeOf p g))
+  pub place-two : Ends (groupsCounted p) p leastPlanBytes → (placeOf p g ≡ 0 → ⊥) → 2 ≤ length (groupAt p (placeOf p g))
   unfolding groupsIn
   place-two e h = stands-each (λ G. 2 ≤ length G) (groupsIn p) (groupAt p (placeOf p g)) (placed-group p g e h .stands) two
 

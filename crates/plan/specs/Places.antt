@@ -3,7 +3,7 @@ use Prim.Native.Nat.{ℕ, zero, suc}
 use mathlib.Core.List.{List}
 use mathlib.Core.Bool.{cond}
 use Rattle.base.specs.Lists.{elem}
-use Rattle.plan.specs.PlanFile.{leastBytes, groupsCounted, groupAt, after}
+use Rattle.plan.specs.PlanFile.{leastPlanBytes, groupsCounted, groupAt, after}
 
 -- of n groups from the place at on: the place of the first that lists the gate g, 0 when none does
 abbrev pub placeFrom : ℕ → List ℕ → ℕ → ℕ → ℕ
@@ -12,4 +12,4 @@ placeFrom (suc n) p at g = cond (elem g (groupAt p at)) at (placeFrom n p (after
 
 -- the place in the plan p of the group that lists the gate g, 0 when none does; its members stand after the byte at that place
 unfoldable pub placeOf : List ℕ → ℕ → ℕ
-placeOf p g = placeFrom (groupsCounted p) p leastBytes g
+placeOf p g = placeFrom (groupsCounted p) p leastPlanBytes g

@@ -14,11 +14,11 @@ abbrev pub mark : List ℕ
 mark = 0x50 ∷ 0x4C ∷ 0x4E ∷ 0x00 ∷ 0x01 ∷ []
 
 -- a plan has 9 to 1,024 bytes
-abbrev pub leastBytes : ℕ
-leastBytes = 9
+abbrev pub leastPlanBytes : ℕ
+leastPlanBytes = 9
 
-abbrev pub mostBytes : ℕ
-mostBytes = 1024
+abbrev pub mostPlanBytes : ℕ
+mostPlanBytes = 1024
 
 -- the gate count and the group count, as the file gives them
 abbrev pub gatesCounted : List ℕ → ℕ
@@ -60,7 +60,7 @@ ends (suc n) p at = leb (after p at) (length p) && ends n p (after p at)
 
 -- the groups of a plan: as many as it counts, from byte 9 on
 unfoldable pub groupsIn : List ℕ → Plan
-groupsIn p = groupsFrom (groupsCounted p) p leastBytes
+groupsIn p = groupsFrom (groupsCounted p) p leastPlanBytes
 
 -- every group of a plan is so
 abbrev pub EachGroup : (List ℕ → Type 0) → Plan → Type 0

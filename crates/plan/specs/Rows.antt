@@ -13,7 +13,7 @@ use Rattle.circuit.specs.Gates.{Gate, start, word, bit, operation, choice, Gate
 use Rattle.circuit.specs.PlainCircuit.{gatesOf, gateCount}
 use Rattle.circuit_needed.specs.Pass.{rulePreconditions}
 use Rattle.circuit.specs.Whole.{ruleAnswer}
-use Rattle.plan.specs.PlanFile.{mark, leastBytes, mostBytes, gatesCounted, groupsCounted, Plan, ends, groupsIn}
+use Rattle.plan.specs.PlanFile.{mark, leastPlanBytes, mostPlanBytes, gatesCounted, groupsCounted, Plan, ends, groupsIn}
 use Rattle.plan.specs.Groups.{smallest, groups, groupOf}
 use Rattle.plan.specs.Order.{allIn, order}
 
@@ -80,10 +80,10 @@ pub record Row : Type 0 where
 -- the rows as they are checked: 20 to 26, of the plan p for a circuit of n gates
 abbrev pub layoutRows : ℕ → List ℕ → List Row
 layoutRows n p =
-    record { refuses = 20; holds = leb leastBytes (length p) && leb (length p) mostBytes }
+    record { refuses = 20; holds = leb leastPlanBytes (length p) && leb (length p) mostPlanBytes }
     ∷ record { refuses = 21; holds = same (take 5 p) mark }
     ∷ record { refuses = 22; holds = eqb (gatesCounted p) n }
-    ∷ record { refuses = 23; holds = ends (groupsCounted p) p leastBytes }
+    ∷ record { refuses = 23; holds = ends (groupsCounted p) p leastPlanBytes }
     ∷ record { refuses = 24; holds = everyGroup (λ G. leb 2 (length G)) (groupsIn p) }
     ∷ record { refuses = 25; holds = everyGroup (λ G. rises G && every (λ g. ltb g n) G) (groupsIn p) }
     ∷ record { refuses = 26; holds = apart (groupsIn p) }

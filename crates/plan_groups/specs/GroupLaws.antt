@@ -7,7 +7,7 @@ use native.Mathlib.Omega.{arith}
 use lib.Dec.{eqb}
 use lib.ListN.{length, getD}
 use borrow.Author.Tests.{le-leb, lt-leb}
-use Rattle.plan.specs.PlanFile.{leastBytes, mostBytes, groupsCounted, groupAt, after, groupsFrom, groupsIn, ends}
+use Rattle.plan.specs.PlanFile.{leastPlanBytes, mostPlanBytes, groupsCounted, groupAt, after, groupsFrom, groupsIn, ends}
 use Rattle.plan.specs.Rows.{everyGroup}
 use Rattle.plan.specs.LayoutLaws.{length-numbers}
 use Rattle.plan_groups.specs.Walks.{Readable, Lie, Ahead, ReadableGroup}
@@ -17,12 +17,12 @@ pred n = omega arith
 
 -- 23: what is left of the groups decides
 pub record Ending (p : List ℕ) (left at : ℕ) : Type 0 where
-  pub short : length p ≤ mostBytes
+  pub short : length p ≤ mostPlanBytes
   pub inside : at ≤ length p
-  pub same : ends (groupsCounted p) p leastBytes ≡ ends left p at
+  pub same : ends (groupsCounted p) p leastPlanBytes ≡ ends left p at
 
-pub ending-start : (p : List ℕ) (left : ℕ) → (leastBytes ≤ length p) × (length p ≤ mostBytes) → left ≡ groupsCounted p → Ending p left leastBytes
-ending-start p left h e = record { short = h .1; inside = h .0; same = ap (λ (n : ℕ). ends n p leastBytes) (sym e) }
+pub ending-start : (p : List ℕ) (left : ℕ) → (leastPlanBytes ≤ length p) × (length p ≤ mostPlanBytes) → left ≡ groupsCounted p → Ending p left leastPlanBytes
+ending-start p left h e = record { short = h .1; inside = h .0; same = ap (λ (n : ℕ). ends n p leastPlanBytes) (sym e) }
 
 ends-fail : (p : List ℕ) (left at : ℕ) → 0 < left → length p < after p at → ends left p at ≡ false
 ends-fail p zero at h l = absurd (omega arith)
@@ -32,25 +32,25 @@ ends-more : (p : List ℕ) (left at : ℕ) → 0 < left → after p at ≤ lengt
 ends-more p zero at h l = absurd (omega arith)
 ends-more p (suc n) at h l = rw (le-leb (after p at) (length p) l, pred n)
 
-pub ending-outside : (p : List ℕ) (left at : ℕ) → Ending p left at → 0 < left → length p ≤ at → false ≡ ends (groupsCounted p) p leastBytes
+pub ending-outside : (p : List ℕ) (left at : ℕ) → Ending p left at → 0 < left → length p ≤ at → false ≡ ends (groupsCounted p) p leastPlanBytes
 ending-outside p left at w h l = sym (w .same ∙ ends-fail p left at h (omega arith))
 
-pub ending-past : (p : List ℕ) (left at next : ℕ) → Ending p left at → 0 < left → next ≡ after p at → length p < next → false ≡ ends (groupsCounted p) p leastBytes
+pub ending-past : (p : List ℕ) (left at next : ℕ) → Ending p left at → 0 < left → next ≡ after p at → length p < next → false ≡ ends (groupsCounted p) p leastPlanBytes
 ending-past p left at next w h e l = sym (w .same ∙ ends-fail p left at h (omega arith))
 
 pub ending-step : (p : List ℕ) (left at next : ℕ) → Ending p left at → 0 < left → next ≡ after p at → next ≤ length p → Ending p (left - 1) next
 ending-step p left at next w h e l =
     record { short = w .short; inside = l; same = w .same ∙ ends-more p left at h (omega arith) ∙ ap (λ (x : ℕ). ends (left - 1) p x) (sym e) }
 
-pub ending-end : (p : List ℕ) (left at : ℕ) → Ending p left at → left ≤ 0 → eqb at (length p) ≡ ends (groupsCounted p) p leastBytes
+pub ending-end : (p : List ℕ) (left at : ℕ) → Ending p left at → left ≤ 0 → eqb at (length p) ≡ ends (groupsCounted p) p leastPlanBytes
 ending-end p left at w h = let e : left ≡ 0 = omega arith in sym (w .same ∙ ap (λ (n : ℕ). ends n p at) e)
 
 -- groups that lie in the file: the first of them, and those after it
-pub lie-here : (p : List ℕ) (left at : ℕ) → Lie p left at → 0 < left → (after p at ≤ length p) × (length p ≤ mostBytes)
+pub lie-here : (p : List ℕ) (left at : ℕ) → Lie p left at → 0 < left → (after p at ≤ length p) × (length p ≤ mostPlanBytes)
 lie-here p zero at w h = absurd (omega arith)
 lie-here p (suc n) at w h = (w .ended .0, w .short)
 
-pub lie-inside : (p : List ℕ) (left at : ℕ) → Lie p left at → 0 < left → (at < length p) × (length p ≤ mostBytes)
+pub lie-inside : (p : List ℕ) (left at : ℕ) → Lie p left at → 0 < left → (at < length p) × (length p ≤ mostPlanBytes)
 lie-inside p left at w h = omega (arith, lie-here p left at w h)
 
 pub lie-step : (p : List ℕ) (left at : ℕ) → Lie p left at → 0 < left → Lie p (left - 1) (after p at)
@@ -62,7 +62,7 @@ pub record TestingGroups (t : List ℕ → Bool) (p : List ℕ) (left at : ℕ) 
   pub lie : Lie p left at
   pub same : everyGroup t (groupsIn p) ≡ everyGroup t (groupsFrom left p at)
 
-pub testing-start : (t : List ℕ → Bool) (p : List ℕ) (left : ℕ) → Lie p (groupsCounted p) leastBytes → left ≡ groupsCounted p → TestingGroups t p left leastBytes
+pub testing-start : (t : List ℕ → Bool) (p : List ℕ) (left : ℕ) → Lie p (groupsCounted p) leastPlanBytes → left ≡ groupsCounted p → TestingGroups t p left leastPlanBytes
 unfolding groupsIn
 testing-start t p left w e = rw e (record { lie = w; same = refl })
 
@@ -89,10 +89,10 @@ pub testing-end : (t : List ℕ → Bool) (p : List ℕ) (left at : ℕ) → Tes
 testing-end t p left at w h = let e : left ≡ 0 = omega arith in sym (w .same ∙ ap (λ (n : ℕ). everyGroup t (groupsFrom n p at)) e)
 
 -- readable groups: all of them, the first of them, and those after it
-pub readable-lie : (n : ℕ) (p : List ℕ) → Readable n p → Lie p (groupsCounted p) leastBytes
+pub readable-lie : (n : ℕ) (p : List ℕ) → Readable n p → Lie p (groupsCounted p) leastPlanBytes
 readable-lie n p r = record { short = r .most; begun = omega arith; ended = r .ended }
 
-pub ahead-start : (n : ℕ) (p : List ℕ) (left : ℕ) → Readable n p → left ≡ groupsCounted p → Ahead n p left leastBytes
+pub ahead-start : (n : ℕ) (p : List ℕ) (left : ℕ) → Readable n p → left ≡ groupsCounted p → Ahead n p left leastPlanBytes
 unfolding groupsIn
 ahead-start n p left r e =
     rw e (record { room = r .room; lie = readable-lie n p r; joins = r .joins; rising = r .rising; exist = r .exist })

@@ -12,7 +12,7 @@ use Rattle.base.specs.Lists.{_∈_, elem, every}
 use Rattle.base.specs.MemberLaws.{elem→∈, ∈→elem, every-right}
 use Rattle.base.specs.TestLaws.{split}
 use Rattle.base.specs.ListLaws.{getD-zeros}
-use Rattle.plan.specs.PlanFile.{leastBytes, groupsCounted, groupAt, after, groupsFrom, groupsIn, Listed, Apart}
+use Rattle.plan.specs.PlanFile.{leastPlanBytes, groupsCounted, groupAt, after, groupsFrom, groupsIn, Listed, Apart}
 use Rattle.plan.specs.Groups.{smallest, groupOf}
 use Rattle.plan.specs.Rows.{apart}
 use Rattle.plan.specs.RowLaws.{apart-right}
@@ -37,7 +37,7 @@ pub record JoiningGroups (n : ℕ) (p group places : List ℕ) (left at : ℕ) :
   pub beyond : (g : ℕ) → n ≤ g → (getD group g 0 ≡ 0) × (getD places g 0 ≡ 0)
 
 pub joining-start : (n : ℕ) (p group places : List ℕ) (left : ℕ) → Readable n p → left ≡ groupsCounted p → group ≡ eachAlone n → places ≡ replicate 256 0
-    → JoiningGroups n p group places left leastBytes
+    → JoiningGroups n p group places left leastPlanBytes
 unfolding groupsIn placeOf
 joining-start n p group places left r e d j =
     rw (d, j, e) (record {

@@ -6,7 +6,7 @@ use mathlib.Core.Bool.{true, false}
 use native.Mathlib.Omega.{arith}
 use lib.ListN.{getD}
 use borrow.Author.Tests.{lt-ltb, le-ltb}
-use Rattle.plan.specs.PlanFile.{leastBytes, groupsCounted, groupAt, after, groupsFrom, groupsIn}
+use Rattle.plan.specs.PlanFile.{leastPlanBytes, groupsCounted, groupAt, after, groupsFrom, groupsIn}
 use Rattle.plan.specs.Groups.{smallest}
 use Rattle.plan.specs.Rows.{rises, groupsRise}
 use Rattle.plan_groups.specs.Walks.{Readable, Ahead}
@@ -22,21 +22,21 @@ pub record RisingGroups (n : ℕ) (p : List ℕ) (left at last : ℕ) : Type 0 w
 -- no group, and nothing to compare
 pub rising-none : (p : List ℕ) (left : ℕ) → left ≡ groupsCounted p → left ≡ 0 → true ≡ groupsRise (groupsIn p)
 unfolding groupsIn
-rising-none p left e z = ap (λ (k : ℕ). groupsRise (groupsFrom k p leastBytes)) (sym z ∙ e)
+rising-none p left e z = ap (λ (k : ℕ). groupsRise (groupsFrom k p leastPlanBytes)) (sym z ∙ e)
 
-pub rising-start : (n : ℕ) (p : List ℕ) (left g : ℕ) → Readable n p → left ≡ groupsCounted p → (left ≡ 0 → ⊥) → g ≡ getD (groupAt p leastBytes) 0 0
-    → RisingGroups n p left leastBytes g
+pub rising-start : (n : ℕ) (p : List ℕ) (left g : ℕ) → Readable n p → left ≡ groupsCounted p → (left ≡ 0 → ⊥) → g ≡ getD (groupAt p leastPlanBytes) 0 0
+    → RisingGroups n p left leastPlanBytes g
 unfolding groupsIn
 rising-start n p left g r e z q = go left e z (ahead-start n p left r e)
   where
-    go : (k : ℕ) → k ≡ groupsCounted p → (k ≡ 0 → ⊥) → Ahead n p k leastBytes → RisingGroups n p k leastBytes g
+    go : (k : ℕ) → k ≡ groupsCounted p → (k ≡ 0 → ⊥) → Ahead n p k leastPlanBytes → RisingGroups n p k leastPlanBytes g
     go zero e z w = absurd (z (omega arith))
     go (suc k) e z w =
         record {
           some = omega arith;
           ahead = w;
-          same = ap (λ (i : ℕ). groupsRise (groupsFrom i p leastBytes)) (sym e)
-              ∙ rw (pred k, first-smallest n p leastBytes g (ahead-fits n p (suc k) leastBytes w (omega arith)) q);
+          same = ap (λ (i : ℕ). groupsRise (groupsFrom i p leastPlanBytes)) (sym e)
+              ∙ rw (pred k, first-smallest n p leastPlanBytes g (ahead-fits n p (suc k) leastPlanBytes w (omega arith)) q);
         }
 
 module _ (n : ℕ) (p : List ℕ) (left at last : ℕ) (w : RisingGroups n p left at last) (h : 1 < left) (next g : ℕ) (e : next ≡ after p at) (q : g ≡ getD (groupAt p next) 0 0) where

@@ -14,7 +14,7 @@ use Rattle.base.specs.declared.Code.{Code}
 use Rattle.circuit.specs.Limits.{mostGates}
 use Rattle.circuit.specs.Gates.{Gates}
 use Rattle.circuit_needed.specs.HeldLaws.{code-above}
-use Rattle.plan.specs.PlanFile.{mark, leastBytes, mostBytes, gatesCounted, groupsCounted, Plan, groupAt, groupsIn, ends}
+use Rattle.plan.specs.PlanFile.{mark, leastPlanBytes, mostPlanBytes, gatesCounted, groupsCounted, Plan, groupAt, groupsIn, ends}
 use Rattle.plan.specs.Rows.{everyGroup, rises, apart, groupsRise, parted, Row, layoutRows, joinRows, firstFailing}
 use Rattle.plan.specs.RowLaws.{each-right, ends-right, joins-right}
 use Rattle.plan.specs.FailingLaws.{Hold, none-fails, failing-first, failing-second}
@@ -24,14 +24,14 @@ use Rattle.plan_groups.specs.Tests.{shapeTest, membersTest, joinTest, ro
 use Rattle.plan_groups.specs.Walks.{Readable, Lie}
 
 -- 20
-pub size-short : (p : List ℕ) → length p < leastBytes → false ≡ (leb leastBytes (length p) && leb (length p) mostBytes)
-size-short p h = rw (lt-leb leastBytes (length p) h)
+pub size-short : (p : List ℕ) → length p < leastPlanBytes → false ≡ (leb leastPlanBytes (length p) && leb (length p) mostPlanBytes)
+size-short p h = rw (lt-leb leastPlanBytes (length p) h)
 
-pub size-rest : (p : List ℕ) → leastBytes ≤ length p → leb (length p) mostBytes ≡ (leb leastBytes (length p) && leb (length p) mostBytes)
-size-rest p h = rw (le-leb leastBytes (length p) h)
+pub size-rest : (p : List ℕ) → leastPlanBytes ≤ length p → leb (length p) mostPlanBytes ≡ (leb leastPlanBytes (length p) && leb (length p) mostPlanBytes)
+size-rest p h = rw (le-leb leastPlanBytes (length p) h)
 
-pub size-right : (p : List ℕ) → (leb leastBytes (length p) && leb (length p) mostBytes) ≡ true → (leastBytes ≤ length p) × (length p ≤ mostBytes)
-size-right p h = let r = both (leb leastBytes (length p)) _ h in (leb-true leastBytes (length p) (r .0), leb-true (length p) mostBytes (r .1))
+pub size-right : (p : List ℕ) → (leb leastPlanBytes (length p) && leb (length p) mostPlanBytes) ≡ true → (leastPlanBytes ≤ length p) × (length p ≤ mostPlanBytes)
+size-right p h = let r = both (leb leastPlanBytes (length p)) _ h in (leb-true leastPlanBytes (length p) (r .0), leb-true (length p) mostPlanBytes (r .1))
 
 -- 24 and 25
 pub shape-size : (row n : ℕ) (p : List ℕ) (at size : ℕ) → row ≡ 24 → size ≡ getD p at 0 → leb 2 size ≡ shapeTest row n (groupAt p at)
@@ -54,13 +54,13 @@ cost-above code h = sym (ap (λ (r : Code). ltb 0 (r .cost)) (sym (code-above co
 module _ (n : ℕ) (p : List ℕ) where
   -- the rows 20 to 25, and each fact of theirs
   abbrev SizeHolds : Bool
-  SizeHolds = leb leastBytes (length p) && leb (length p) mostBytes
+  SizeHolds = leb leastPlanBytes (length p) && leb (length p) mostPlanBytes
 
   abbrev MarkHolds : Bool
   MarkHolds = same (take 5 p) mark
 
   abbrev EndHolds : Bool
-  EndHolds = ends (groupsCounted p) p leastBytes
+  EndHolds = ends (groupsCounted p) p leastPlanBytes
 
   abbrev pub shapeRows : List Row
   shapeRows = take 6 (layoutRows n p)
@@ -92,10 +92,10 @@ module _ (n : ℕ) (p : List ℕ) where
   row-none a b d e f g = rw (a, b, eq-eqb (gatesCounted p) n d, e, f, g)
 
   -- what they establish
-  pub layout-lie : SizeHolds ≡ true → EndHolds ≡ true → (leastBytes ≤ length p) × Lie p (groupsCounted p) leastBytes
+  pub layout-lie : SizeHolds ≡ true → EndHolds ≡ true → (leastPlanBytes ≤ length p) × Lie p (groupsCounted p) leastPlanBytes
   layout-lie a e =
       let s = size-right p a in
-      (s .0, record { short = s .1; begun = omega arith; ended = ends-right (groupsCounted p) p leastBytes .0 e })
+      (s .0, record { short = s .1; begun = omega arith; ended = ends-right (groupsCounted p) p leastPlanBytes .0 e })
 
   held-readable : n ≤ mostGates → Hold shapeRows → Readable n p
   held-readable h (t20, (t21, (t22, (t23, (t24, (t25, _)))))) =
@@ -105,7 +105,7 @@ module _ (n : ℕ) (p : List ℕ) where
         room = h;
         least = s .0;
         most = s .1;
-        ended = ends-right (groupsCounted p) p leastBytes .0 t23;
+        ended = ends-right (groupsCounted p) p leastPlanBytes .0 t23;
         joins = each-right (λ G. leb 2 (length G)) (λ G. 2 ≤ length G) joins-right (groupsIn p) .0 t24;
         rising = shape .0;
         exist = shape .1;

@@ -12,7 +12,7 @@ use Rattle.base.specs.Sets.{union, excludes}
 use Rattle.circuit.specs.Gates.{gateAt}
 use Rattle.circuit_needed.specs.Held.{gateIn, gatesIn}
 use Rattle.circuit_needed.specs.HeldLaws.{gates-at}
-use Rattle.plan.specs.PlanFile.{mostBytes, groupAt, after}
+use Rattle.plan.specs.PlanFile.{mostPlanBytes, groupAt, after}
 use Rattle.plan.specs.Groups.{smallest}
 use Rattle.plan.specs.Rows.{rises, parted}
 use Rattle.plan_groups.specs.Tests.{memberTest, membersTest, membersFrom, risingFrom, partedFrom}
@@ -23,11 +23,11 @@ use Rattle.plan_groups.specs.TestLaws.{rising-right, parted-is}
 
 -- 25: of n gates, the next number is at least `least`
 pub record Climbing (n : ℕ) (p : List ℕ) (at least k : ℕ) : Type 0 where
-  pub lies : (after p at ≤ length p) × (length p ≤ mostBytes)
+  pub lies : (after p at ≤ length p) × (length p ≤ mostPlanBytes)
   pub low : k ≤ getD p at 0
   pub same : (rises (groupAt p at) && every (λ g. ltb g n) (groupAt p at)) ≡ risingFrom n least (membersFrom p at k)
 
-pub climbing-start : (n : ℕ) (p : List ℕ) (at : ℕ) → (after p at ≤ length p) × (length p ≤ mostBytes) → Climbing n p at 0 0
+pub climbing-start : (n : ℕ) (p : List ℕ) (at : ℕ) → (after p at ≤ length p) × (length p ≤ mostPlanBytes) → Climbing n p at 0 0
 climbing-start n p at h = record { lies = h; low = omega arith; same = sym (rising-right n (groupAt p at)) ∙ ap (risingFrom n 0) (sym (members-all p at)) }
 
 module _ (n : ℕ) (p : List ℕ) (at least k g : ℕ) (w : Climbing n p at least k) (h : k < getD p at 0) (q : g ≡ getD (groupAt p at) k 0) where

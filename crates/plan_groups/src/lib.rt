@@ -58,7 +58,7 @@ pub fn groups_counted(plan: &[u8]) -> usize
 
 // 20: the plan's size.
 fn size_fits(plan: &[u8]) -> bool
-    ensures { λ r. ⌜ r ≡ (leb file.leastBytes (length (now (plan .entry))) && leb (length (now (plan .entry))) file.mostBytes) ⌝ }
+    ensures { λ r. ⌜ r ≡ (leb file.leastPlanBytes (length (now (plan .entry))) && leb (length (now (plan .entry))) file.mostPlanBytes) ⌝ }
 {
     if plan.len() < LEAST_BYTES {
         return false;
@@ -80,7 +80,7 @@ fn marked(plan: &[u8]) -> bool
 // 23: as many groups as the plan counts lie in the file and end where it ends.
 fn groups_end(plan: &[u8]) -> bool
     requires { ⌜ (9 ≤ length (now plan)) × (length (now plan) ≤ 1024) ⌝ }
-    ensures { λ r. ⌜ r ≡ file.ends (file.groupsCounted (now (plan .entry))) (now (plan .entry)) file.leastBytes ⌝ }
+    ensures { λ r. ⌜ r ≡ file.ends (file.groupsCounted (now (plan .entry))) (now (plan .entry)) file.leastPlanBytes ⌝ }
 {
     let mut left = groups_counted(plan);
     let mut at = LEAST_BYTES;

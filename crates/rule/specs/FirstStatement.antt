@@ -9,7 +9,7 @@ use borrow.Author.Tests.{lt-ltb, eq-eqb, ne-eqb, ltb-true, leb-true}
 use Rattle.base.specs.declared.Kind.the-variants as kind
 use Rattle.base.specs.Parsing.{Parsed, parsed, refused, stepOf, unless, _>>=_, IsRead}
 use Rattle.base.specs.ParsingLaws.{is-read, unless-read, first-read, rest-read, parts-read}
-use Rattle.rule.specs.Limits.{leastBytes, mostBytes, deepest, nested}
+use Rattle.rule.specs.Limits.{leastRuleBytes, mostRuleBytes, deepest, nested}
 use Rattle.rule.specs.Header.{variables, kindAt, readHeader}
 use Rattle.rule.specs.Tree.{Expr, Statement, assign, branch, Block, end, then}
 use Rattle.rule.specs.Expressions.{readExpr}
@@ -123,7 +123,7 @@ block-read s nest at b last e z =
 
 -- an accepted rule: its header was read, and it is the block after it
 pub record RuleRead (s : List ℕ) : Type 0 where
-  pub small : length s ≤ mostBytes
+  pub small : length s ≤ mostRuleBytes
   pub header : Headed s (6 + variables s)
   pub block : readRule s ≡ readBlock s nested (6 + variables s)
 
@@ -135,8 +135,8 @@ pub rule-read : (s : List ℕ) → IsRead (readRule s) → RuleRead s
 unfolding readRule
 rule-read s h =
     let body : Unit {0} → ℕ → Parsed Block = λ _ at. readBlock s nested at >>= nothingAfter s in
-    let a = unless-read (leb leastBytes (length s)) 1 0 (unless (leb (length s) mostBytes) 1 0 (readHeader s >>= body)) h in
-    let b = unless-read (leb (length s) mostBytes) 1 0 (readHeader s >>= body) (a .1) in
+    let a = unless-read (leb leastRuleBytes (length s)) 1 0 (unless (leb (length s) mostRuleBytes) 1 0 (readHeader s >>= body)) h in
+    let b = unless-read (leb (length s) mostRuleBytes) 1 0 (readHeader s >>= body) (a .1) in
     let k = is-read (readHeader s) (first-read (readHeader s) body (b .1)) in
     let g = header-past s (leb-true _ _ (a .0)) (sym (ap stepOf (k .2))) in
     let r : IsRead (body (k .0) (k .1)) = rest-read (readHeader s) body (k .0) (k .1) (k .2) (b .1) in

@@ -5,7 +5,7 @@ use lib.ListN.{length, getD, take, drop}
 use Rattle.base.specs.Numbers.{bytesOf}
 use Rattle.base.specs.Codes.{byteOf}
 use Rattle.base.specs.declared.Kind.{Kind}
-use Rattle.rule.specs.Limits.{mostBytes, mostVariables, lastKind, deepest, nested}
+use Rattle.rule.specs.Limits.{mostRuleBytes, mostVariables, lastKind, deepest, nested}
 use Rattle.rule.specs.Header.{kindOf, mark, variables}
 use Rattle.rule.specs.Tree.{Expr, variable, word, bit, one, two, Statement, assign, skip, branch, Block, end, then}
 use Rattle.rule.specs.Kinds.{EachExpr, TypedBlock, WordsBlock}
@@ -82,4 +82,4 @@ pub record WellFormed (kinds : List ℕ) (b : Block) : Type 0 where
   pub shallow : EachExpr (length kinds) (kindIn kinds) Shallow b
   pub nests : nesting b ≤ nested
   -- at most 4,096 bytes
-  pub size : length (ruleBytes kinds b) ≤ mostBytes
+  pub size : length (ruleBytes kinds b) ≤ mostRuleBytes

@@ -12,7 +12,7 @@ use Rattle.base.specs.ListLaws.{drop-one}
 use Rattle.base.specs.declared.Kind.{Kind}
 use Rattle.base.specs.Parsing.{Parsed, parsed, refused, _>>=_}
 use Rattle.base.specs.ParsingLaws.{Finds, found, none, finds-read, finds-unless, read-is}
-use Rattle.rule.specs.Limits.{leastBytes, mostBytes, nested}
+use Rattle.rule.specs.Limits.{leastRuleBytes, mostRuleBytes, nested}
 use Rattle.rule.specs.Header.{kindOf, mark, variables, kindAt, readHeader}
 use Rattle.rule.specs.Tree.{Expr, Block}
 use Rattle.rule.specs.Blocks.{readBlock}
@@ -35,7 +35,7 @@ header-ends s (refused k p) = none
 
 rule-ends : (s : List ℕ) → Finds (λ b n. length s ≤ n) (readRule s)
 unfolding readRule
-rule-ends s = finds-unless (leb leastBytes (length s)) 1 0 _ (λ l. finds-unless (leb (length s) mostBytes) 1 0 _ (λ h. header-ends s (readHeader s)))
+rule-ends s = finds-unless (leb leastRuleBytes (length s)) 1 0 _ (λ l. finds-unless (leb (length s) mostRuleBytes) 1 0 _ (λ h. header-ends s (readHeader s)))
 
 -- a header that was read: its kind bytes, and the file is it and what stands after it
 module _ (s : List ℕ) {body : ℕ} (h : Headed s body) where
@@ -100,5 +100,5 @@ module _ (s : List ℕ) (b : Block) (n : ℕ) (h : readRule s ≡ parsed b n) wh
           words = by-kinds WordsFit (λ e k g. g .words bytes);
           shallow = by-kinds Shallow (λ e k g. g .shallow);
           nests = body .nests;
-          size = subst (λ (l : List ℕ). length l ≤ mostBytes) read-bytes (whole .small);
+          size = subst (λ (l : List ℕ). length l ≤ mostRuleBytes) read-bytes (whole .small);
         }

@@ -2,11 +2,11 @@
 use Prim.Native.Nat.{ℕ}
 
 -- a rule has 6 to 4,096 bytes
-abbrev pub leastBytes : ℕ
-leastBytes = 6
+abbrev pub leastRuleBytes : ℕ
+leastRuleBytes = 6
 
-abbrev pub mostBytes : ℕ
-mostBytes = 4096
+abbrev pub mostRuleBytes : ℕ
+mostRuleBytes = 4096
 
 -- V is 1 to 32
 abbrev pub mostVariables : ℕ

@@ -10,7 +10,7 @@ use Rattle.base.specs.declared.Kind.the-variants as kind
 use Rattle.base.specs.Parsing.{refused, stepOf}
 use Rattle.base.specs.ParsingLaws.{read-refused}
 use Rattle.base.specs.declared.Step.the-variants.{Past, Refused}
-use Rattle.rule.specs.Limits.{mostBytes, mostVariables, lastKind, deepest, nested}
+use Rattle.rule.specs.Limits.{mostRuleBytes, mostVariables, lastKind, deepest, nested}
 use Rattle.rule.specs.Header.{variables, kindAt}
 use Rattle.rule.specs.Tree.{Expr, Statement, assign, skip, branch, Block, end, then}
 use Rattle.rule.specs.Kinds.{Typed, WordsFit, EachExpr}
@@ -145,7 +145,7 @@ module _ (kinds pre rest : List ℕ) (some : 1 ≤ length kinds) (few : length k
   refused-there : Refused 8 there ≡ stepOf (readBlock s nested (6 + length kinds))
   refused-there = leads-out s kinds refl (same-kinds kinds after) (6 + length kinds) 8 there leads (0x03 ∷ rest) (body-at kinds after) 0 refl deep
 
-  pub ninth-nested : length s ≤ mostBytes → readRule s ≡ refused 8 (length (headerBytes kinds ++ pre))
+  pub ninth-nested : length s ≤ mostRuleBytes → readRule s ≡ refused 8 (length (headerBytes kinds ++ pre))
   ninth-nested size =
       read-refused (readRule s) (rule-block s (omega (arith, size-is kinds after)) size (sym (ap stepOf (header-back kinds after some few known))) refused-there)
       ∙ ap (refused 8) (let e = length-append kinds pre in omega (arith, e))

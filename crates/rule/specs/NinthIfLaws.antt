@@ -18,7 +18,7 @@ use Rattle.base.specs.declared.Form.{Form}
 use Rattle.base.specs.declared.Form.the-variants as form
 use Rattle.base.specs.Parsing.{parsed, refused, stepOf, readMark}
 use Rattle.base.specs.ParsingLaws.{finds-read, forward-read}
-use Rattle.rule.specs.Limits.{leastBytes, mostBytes, mostVariables, lastKind, deepest, nested}
+use Rattle.rule.specs.Limits.{leastRuleBytes, mostRuleBytes, mostVariables, lastKind, deepest, nested}
 use Rattle.rule.specs.Header.{mark, variables, kindAt, readCount, readKinds, readHeader}
 use Rattle.rule.specs.Tree.{Expr, Statement, Block, end, then}
 use Rattle.rule.specs.Kinds.{EachExpr}
@@ -245,8 +245,8 @@ module _ (s : List ℕ) (bytes : Bytes s) where
   rule-on : Refuses Q (readRule s)
   unfolding readRule
   rule-on =
-      test Q (leb leastBytes (length s)) 1 0 _ (λ z e b. absurd (omega (arith, e)))
-      (λ six. test Q (leb (length s) mostBytes) 1 0 _ (λ z e b. absurd (omega (arith, e)))
+      test Q (leb leastRuleBytes (length s)) 1 0 _ (λ z e b. absurd (omega (arith, e)))
+      (λ six. test Q (leb (length s) mostRuleBytes) 1 0 _ (λ z e b. absurd (omega (arith, e)))
       (λ z. after Q (readHeader s) _ (refuses-too NotEight Q (λ k p n e b. absurd (n e)) (readHeader s) (header-not s))
       (λ u at e. after Q (readBlock s nested at) _ (by-header (header-past s (leb-true _ _ six) (sym (ap stepOf e))))
       (λ b n q. test Q (leb (length s) n) 9 n _ (λ z e b. absurd (omega (arith, e))) (λ z. tt)))))

@@ -15,7 +15,7 @@ use Rattle.base.specs.declared.Form.{Form}
 use Rattle.base.specs.declared.Form.the-variants.{End, Assign, Skip, Branch, Variable, Word, Bit, Apply, Unknown}
 use Rattle.base.specs.Parsing.{Parsed, refused, stepOf, unless, readMark}
 use Rattle.base.specs.ParsingLaws.{mark-past}
-use Rattle.rule.specs.Limits.{leastBytes, mostBytes, mostVariables, lastKind, deepest, nested}
+use Rattle.rule.specs.Limits.{leastRuleBytes, mostRuleBytes, mostVariables, lastKind, deepest, nested}
 use Rattle.rule.specs.Header.{mark, variables, kindAt, readCount, readKinds, readHeader}
 use Rattle.rule.specs.Tree.{Expr, Block}
 use Rattle.rule.specs.Expressions.{readVariable, readWord, readBit, secondWith, operationWith, exprForm, exprWith, readExpr}
@@ -172,7 +172,7 @@ module _ (s : List ℕ) where
   count-rows at i =
       tested (ltb 0 (getD s at 0)) 3 at _ refl (λ e. omega arith) i (tested (leb (getD s at 0) mostVariables) 3 at _ refl (λ e. omega arith) i tt)
 
-  header-rows : leastBytes ≤ length s → ByteRows (readHeader s)
+  header-rows : leastRuleBytes ≤ length s → ByteRows (readHeader s)
   unfolding readHeader
   header-rows six =
       after (ByteRow s) (readMark 2 mark s 0) _ (mark-rows mark 0 (omega arith))
@@ -182,8 +182,8 @@ module _ (s : List ℕ) where
   pub rule-rows : ByteRows (readRule s)
   unfolding readRule readBlock
   rule-rows =
-      test (ByteRow s) (leb leastBytes (length s)) 1 0 _ (λ e. by-size)
-      (λ six. test (ByteRow s) (leb (length s) mostBytes) 1 0 _ (λ e. by-size)
-      (λ e. after (ByteRow s) (readHeader s) _ (header-rows (leb-true leastBytes (length s) six))
+      test (ByteRow s) (leb leastRuleBytes (length s)) 1 0 _ (λ e. by-size)
+      (λ six. test (ByteRow s) (leb (length s) mostRuleBytes) 1 0 _ (λ e. by-size)
+      (λ e. after (ByteRow s) (readHeader s) _ (header-rows (leb-true leastRuleBytes (length s) six))
       (λ u at p. after (ByteRow s) (blockFuel (suc (length s)) s nested at) _ (fuel-rows (suc (length s)) nested at)
       (λ b n q. test (ByteRow s) (leb (length s) n) 9 n _ (λ f. on-byte 9 n refl (λ z. omega arith) (leb-false (length s) n f)) (λ f. tt)))))
