@@ -1,5 +1,6 @@
 pub mod Running
 pub mod Limits
+pub mod Rooms
 pub mod Gates
 pub mod PlainCircuit
 pub mod Quads

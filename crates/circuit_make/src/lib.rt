@@ -1,6 +1,8 @@
 // Makes gates into lent arrays: a gate stored, an operation's with its arguments in order, a choice for each variable that an if assigns.
 use base::Operation;
 use circuit::GateId;
+use circuit::QUAD_ROOM;
+use circuit::VARIABLE_ROOM;
 ghost use mathlib.Core.Path.{_≡_};
 ghost use mathlib.Core.List.{[], _∷_};
 ghost use Prim.Native.Nat.{_≤_, _<_};
@@ -9,16 +11,14 @@ ghost use Rattle.base.specs.Codes.{byteOf};
 ghost use Rattle.circuit.specs.Gates.{choice};
 ghost use Rattle.circuit.specs.PlainCircuit.{turned, applyGate};
 ghost use Rattle.circuit_make.specs.Holding.{Pushed, Applied, Chose, Chosen};
-
-// The gates that are stored, at most; one more says that there are more.
-pub const MOST_GATES: u16 = 256;
+ghost use Rattle.circuit.specs.Rooms.{variableRoom};
 
 // One gate more, by its four numbers; the count then.
-pub fn push(quads: &mut [u32; 1024], count: u16, code: u32, a: u32, b: u32, c: u32) -> u16
+pub fn push(quads: &mut [u32; QUAD_ROOM], count: u16, code: u32, a: u32, b: u32, c: u32) -> u16
     ensures { λ r. ⌜ Pushed (code ∷ a ∷ b ∷ c ∷ []) (now (quads .entry)) count (now (quads .exit)) r ⌝ }
 {
-    if MOST_GATES <= count {
-        return MOST_GATES + 1;
+    if circuit::MOST_GATES <= count {
+        return circuit::MOST_GATES + 1;
     }
     let i = 4 * (count as usize);
     quads[i] = code;
@@ -47,7 +47,13 @@ fn turned(op: Operation, a: GateId, b: GateId) -> bool
 }
 
 // The gate of an operation whose two arguments, as written, are the gates a and b.
-pub fn apply_gate(quads: &mut [u32; 1024], count: u16, op: Operation, a: GateId, b: GateId) -> u16
+pub fn apply_gate(
+    quads: &mut [u32; QUAD_ROOM],
+    count: u16,
+    op: Operation,
+    a: GateId,
+    b: GateId,
+) -> u16
     ensures { λ r. ⌜ Applied (applyGate op (a .0) (b .0)) (now (quads .entry)) count (now (quads .exit)) r ⌝ }
 {
     let byte = byte_of(op);
@@ -60,7 +66,7 @@ pub fn apply_gate(quads: &mut [u32; 1024], count: u16, op: Operation, a: GateId,
 
 // Is variable x in the set?
 fn among(assigned: u32, x: u8) -> bool
-    requires { ⌜ x < 32 ⌝ }
+    requires { ⌜ x < variableRoom ⌝ }
     ensures { λ r. ⌜ r ≡ has assigned x ⌝ }
 {
     (assigned >> x) % 2 == 1
@@ -72,11 +78,11 @@ fn choose(
     first: GateId,
     second: GateId,
     x: u8,
-    present: &mut [u16; 32],
-    quads: &mut [u32; 1024],
+    present: &mut [u16; VARIABLE_ROOM],
+    quads: &mut [u32; QUAD_ROOM],
     count: u16,
 ) -> u16
-    requires { ⌜ x < 32 ⌝ }
+    requires { ⌜ x < variableRoom ⌝ }
     ensures { λ r. ⌜ Chose (choice (condition .0) (first .0) (second .0)) x (now (quads .entry)) (now (present .entry)) count (now (quads .exit)) (now (present .exit)) r ⌝ }
 {
     let more = push(
@@ -95,15 +101,15 @@ fn choose(
 // For each variable of the set, in rising number, a choice gate (condition, first value, second value).
 pub fn make_choices(
     condition: GateId,
-    first: &[u16; 32],
-    second: &[u16; 32],
+    first: &[u16; VARIABLE_ROOM],
+    second: &[u16; VARIABLE_ROOM],
     assigned: u32,
     v: u8,
-    present: &mut [u16; 32],
-    quads: &mut [u32; 1024],
+    present: &mut [u16; VARIABLE_ROOM],
+    quads: &mut [u32; QUAD_ROOM],
     count: u16,
 ) -> u16
-    requires { ⌜ v ≤ 32 ⌝ }
+    requires { ⌜ v ≤ variableRoom ⌝ }
     ensures { λ r. ⌜ Chosen (condition .0) (now (first .entry)) (now (second .entry)) assigned v (now (quads .entry)) (now (present .entry)) count r (now (quads .exit)) (now (present .exit)) ⌝ }
 {
     let mut n = count;

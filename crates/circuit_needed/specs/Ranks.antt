@@ -8,6 +8,7 @@ use lib.Dec.{eqb}
 use Rattle.base.specs.Lists.{elem, keep, upto}
 use Rattle.base.specs.Bits.{bitOf}
 use Rattle.circuit.specs.Gates.{Gates, heads, conditions}
+use Rattle.circuit.specs.Rooms.{gateRoom}
 
 -- one more, but nothing stays nothing
 abbrev pub next : ℕ → ℕ
@@ -28,7 +29,7 @@ unfoldable pub markOf : Gates → ℕ → ℕ
 markOf C g = bitOf (elem g (heads C))
 
 pub record Marked (C : Gates) (ranks : List ℕ) : Type 0 where
-  pub size : length ranks ≡ 256
+  pub size : length ranks ≡ gateRoom
   pub marks : (g : ℕ) → getD ranks g 0 ≡ markOf C g
 
 -- the marked gates below n, rising

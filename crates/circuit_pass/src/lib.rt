@@ -1,8 +1,10 @@
 // Document 01, "Needed gates", over lent arrays: the one backward pass that finds every gate's precondition.
 // The lent arrays hold plain numbers; a gate's number in hand is a `GateId`, its set a `Set`.
+use base::Set;
+use circuit::GATE_ROOM;
 use circuit::GateId;
 use circuit::NEED_WORDS;
-use base::Set;
+use circuit::QUAD_ROOM;
 ghost use mathlib.Core.Path.{_≡_};
 ghost use mathlib.Core.List.{_++_};
 ghost use Prim.Native.Nat.{_-_, _<_, _≤_};
@@ -14,10 +16,11 @@ ghost use Rattle.circuit_needed.specs.Held.{gatesIn};
 ghost use Rattle.circuit_needed.specs.Pass.{preconditionSets};
 ghost use Rattle.circuit_needed.specs.Passing.{addNumber, addNumbers, handGate, passGates, handGatesFrom, Passable};
 ghost use Rattle.base.specs.SetsHeld.{setOf, setsIn};
+ghost use Rattle.circuit.specs.Rooms.{gateRoom};
 
 // The set s is put to that of gate g.
 fn add(sets: &mut [u64; NEED_WORDS], g: GateId, s: Set)
-    requires { ⌜ g .0 < 256 ⌝ }
+    requires { ⌜ g .0 < gateRoom ⌝ }
     ensures { λ r. ⌜ setsIn (now (sets .exit)) ≡ addNumber (g .0) (setOf s) (setsIn (now (sets .entry))) ⌝ }
 {
     let i = g.0 as usize;
@@ -27,7 +30,7 @@ fn add(sets: &mut [u64; NEED_WORDS], g: GateId, s: Set)
 
 // Gate g is needed under every setting, whatever its set was: that is not read.
 fn add_whole(sets: &mut [u64; NEED_WORDS], g: GateId)
-    requires { ⌜ g .0 < 256 ⌝ }
+    requires { ⌜ g .0 < gateRoom ⌝ }
     ensures { λ r. ⌜ setsIn (now (sets .exit)) ≡ addNumber (g .0) (whole mostSettings) (setsIn (now (sets .entry))) ⌝ }
 {
     let i = g.0 as usize;
@@ -37,7 +40,7 @@ fn add_whole(sets: &mut [u64; NEED_WORDS], g: GateId)
 
 // Every wanted gate is needed under every setting.
 fn want_all(wanted: &[u16], sets: &mut [u64; NEED_WORDS])
-    requires { ⌜ Inside 256 (now wanted) ⌝ }
+    requires { ⌜ Inside gateRoom (now wanted) ⌝ }
     ensures { λ r. ⌜ setsIn (now (sets .exit)) ≡ addNumbers (now (wanted .entry)) (whole mostSettings) (setsIn (now (sets .entry))) ⌝ }
 {
     let mut x: usize = 0;
@@ -50,7 +53,7 @@ fn want_all(wanted: &[u16], sets: &mut [u64; NEED_WORDS])
 
 // The set s of an operation is put to that of its argument g. Where s is the whole set no set is read for it, so no gate's turn waits for what the last one stored.
 fn hand_to(sets: &mut [u64; NEED_WORDS], g: GateId, s: Set)
-    requires { ⌜ g .0 < 256 ⌝ }
+    requires { ⌜ g .0 < gateRoom ⌝ }
     ensures { λ r. ⌜ setsIn (now (sets .exit)) ≡ addNumber (g .0) (setOf s) (setsIn (now (sets .entry))) ⌝ }
 {
     if base_settings::is_whole(s) {
@@ -61,8 +64,8 @@ fn hand_to(sets: &mut [u64; NEED_WORDS], g: GateId, s: Set)
 }
 
 // The number of the condition that gate c is.
-fn rank_of(ranks: &[u16; 256], c: GateId) -> u8
-    requires { ⌜ (c .0 < 256) × ((0 < getD (now ranks) (c .0) 0) × (getD (now ranks) (c .0) 0 ≤ mostConditions)) ⌝ }
+fn rank_of(ranks: &[u16; GATE_ROOM], c: GateId) -> u8
+    requires { ⌜ (c .0 < gateRoom) × ((0 < getD (now ranks) (c .0) 0) × (getD (now ranks) (c .0) 0 ≤ mostConditions)) ⌝ }
     ensures { λ r. ⌜ r ≡ getD (now (ranks .entry)) (c .0) 0 - 1 ⌝ }
 {
     let i = c.0 as usize;
@@ -72,13 +75,13 @@ fn rank_of(ranks: &[u16; 256], c: GateId) -> u8
 // A choice on c, whose number is t: its set goes to c, the settings that give t the bit 1 to the first value, a, the others to the second, b.
 fn hand_choice(
     sets: &mut [u64; NEED_WORDS],
-    ranks: &[u16; 256],
+    ranks: &[u16; GATE_ROOM],
     c: GateId,
     a: GateId,
     b: GateId,
     s: Set,
 )
-    requires { ⌜ ((c .0 < 256) × ((0 < getD (now ranks) (c .0) 0) × (getD (now ranks) (c .0) 0 ≤ mostConditions))) × ((a .0 < 256) × (b .0 < 256)) ⌝ }
+    requires { ⌜ ((c .0 < gateRoom) × ((0 < getD (now ranks) (c .0) 0) × (getD (now ranks) (c .0) 0 ≤ mostConditions))) × ((a .0 < gateRoom) × (b .0 < gateRoom)) ⌝ }
     ensures { λ r. ⌜ setsIn (now (sets .exit)) ≡ addNumber (b .0) (without mostSettings (getD (now (ranks .entry)) (c .0) 0 - 1) (setOf s))
         (addNumber (a .0) (given mostSettings (getD (now (ranks .entry)) (c .0) 0 - 1) (setOf s)) (addNumber (c .0) (setOf s) (setsIn (now (sets .entry))))) ⌝ }
 {
@@ -92,9 +95,9 @@ fn hand_choice(
 // Gate g hands its set on to what it asks for; its row is read once. A starting value or a constant asks for nothing, and its set is not read.
 // A number of the row is a gate's only where the code says so: not has one argument, every other operation two, a choice three.
 fn hand(
-    quads: &[u32; 1024],
+    quads: &[u32; QUAD_ROOM],
     count: usize,
-    ranks: &[u16; 256],
+    ranks: &[u16; GATE_ROOM],
     g: GateId,
     sets: &mut [u64; NEED_WORDS],
 )
@@ -129,7 +132,12 @@ fn hand(
 
 // Document 02, C-14: one backward pass over one list of sets that is changed in place. Each gate has its turn once, from the last to the first;
 // its set is final by then, so the set that it hands on is the one that it has at the end.
-fn pass(quads: &[u32; 1024], count: usize, ranks: &[u16; 256], sets: &mut [u64; NEED_WORDS])
+fn pass(
+    quads: &[u32; QUAD_ROOM],
+    count: usize,
+    ranks: &[u16; GATE_ROOM],
+    sets: &mut [u64; NEED_WORDS],
+)
     requires { ⌜ Passable (now quads) (now ranks) count ⌝ }
     ensures passed { λ r. ⌜ setsIn (now (sets .exit)) ≡ passGates (gatesIn (now (quads .entry)) count) count (setsIn (now (sets .entry))) ⌝ }
     ensures settled { λ r. ⌜ setsIn (now (sets .exit)) ≡ handGatesFrom (gatesIn (now (quads .entry)) count) (setsIn (now (sets .exit))) count (setsIn (now (sets .entry))) ⌝ }
@@ -143,13 +151,13 @@ fn pass(quads: &[u32; 1024], count: usize, ranks: &[u16; 256], sets: &mut [u64; 
 
 // Every gate's precondition, for the gates that are wanted from the start, in sets that are lent clear.
 pub fn find_needed(
-    quads: &[u32; 1024],
+    quads: &[u32; QUAD_ROOM],
     count: usize,
-    ranks: &[u16; 256],
+    ranks: &[u16; GATE_ROOM],
     wanted: &[u16],
     sets: &mut [u64; NEED_WORDS],
 )
-    requires { ⌜ (Passable (now quads) (now ranks) count × Inside count (now wanted)) × (setsIn (now sets) ≡ replicate mostGates 0) ⌝ }
+    requires { ⌜ (Passable (now quads) (now ranks) count × Inside count (now wanted)) × (setsIn (now sets) ≡ replicate gateRoom 0) ⌝ }
     ensures { λ r. ⌜ setsIn (now (sets .exit)) ≡ preconditionSets mostConditions (gatesIn (now (quads .entry)) count) (now (wanted .entry)) ++ replicate (mostGates - count) 0 ⌝ }
 {
     want_all(wanted, sets);

@@ -2,6 +2,8 @@
 use base::Form;
 use base::Kind;
 use circuit::GateId;
+use circuit::QUAD_ROOM;
+use circuit::VARIABLE_ROOM;
 ghost use mathlib.Core.Path.{_≡_};
 ghost use Prim.Native.Nat.{_+_, _^_, _<_};
 ghost use lib.ListN.{length, getD, replicate};
@@ -15,6 +17,7 @@ ghost use Rattle.circuit.specs.PlainCircuit.{assignsIn, assigns, makeStatement,
 ghost use Rattle.base.specs.Codes.{startCode};
 ghost use Rattle.circuit_make.specs.RuleMade.{RuleMade};
 ghost use Rattle.circuit_make.specs.Holding.{Held, ExprMade, Done};
+ghost use Rattle.circuit.specs.Rooms.{quadRoom, variableRoom};
 
 // What an expression was made into: the place after it, the gate that it stands for, and the gates then.
 // The count is last, in the second half of a word: a half word stored in the first is loaded with the whole word, which stalls.
@@ -43,8 +46,8 @@ fn start_code(kind: Kind) -> u32
 }
 
 // 10 variable, its code at `at`: it makes no gate and stands for its present one.
-fn make_variable(s: &[u8], at: usize, present: &[u16; 32], count: u16) -> MadeExpr
-    requires { ⌜ (at + 1 < length (now s)) × (getD (now s) (at + 1) 0 < 32) ⌝ }
+fn make_variable(s: &[u8], at: usize, present: &[u16; VARIABLE_ROOM], count: u16) -> MadeExpr
+    requires { ⌜ (at + 1 < length (now s)) × (getD (now s) (at + 1) 0 < variableRoom) ⌝ }
     ensures { λ r. ⌜ r ≡ record { next = at + 2; gate = record { 0 = getD (now (present .entry)) (getD (now (s .entry)) (at + 1) 0) 0 }; count = count } ⌝ }
 {
     let x = s[at + 1] as usize;
@@ -61,8 +64,8 @@ fn make_expr(
     at: usize,
     want: Kind,
     deep: u8,
-    present: &[u16; 32],
-    quads: &mut [u32; 1024],
+    present: &[u16; VARIABLE_ROOM],
+    quads: &mut [u32; QUAD_ROOM],
     count: u16,
 ) -> MadeExpr
     requires { ⌜ Headed (now s) (6 + variables (now s)) × IsRead (readExpr deep (now s) want at) ⌝ }
@@ -94,7 +97,14 @@ fn make_expr(
             if c.arity == 1 {
                 MadeExpr {
                     next: x.next,
-                    count: circuit_make::push(quads, x.count, circuit_make::byte_of(op), x.gate.0 as u32, 0, 0),
+                    count: circuit_make::push(
+                        quads,
+                        x.count,
+                        circuit_make::byte_of(op),
+                        x.gate.0 as u32,
+                        0,
+                        0,
+                    ),
                     gate: GateId(x.count),
                 }
             } else {
@@ -120,8 +130,8 @@ fn make_argument(
     at: usize,
     want: Kind,
     deep: u8,
-    present: &[u16; 32],
-    quads: &mut [u32; 1024],
+    present: &[u16; VARIABLE_ROOM],
+    quads: &mut [u32; QUAD_ROOM],
     count: u16,
 ) -> MadeExpr
     requires { ⌜ Headed (now s) (6 + variables (now s)) × IsRead (readExpr deep (now s) want at) ⌝ }
@@ -144,15 +154,15 @@ fn nothing(at: usize, count: u16) -> MadeExpr {
 
 // The set of variable x alone.
 fn only(x: u8) -> u32
-    requires { ⌜ x < 32 ⌝ }
+    requires { ⌜ x < variableRoom ⌝ }
     ensures { λ r. ⌜ r ≡ 2 ^ x ⌝ }
 {
     1 << x
 }
 
 // Gates 0 to V - 1: the variables' starting values.
-fn make_starts(s: &[u8], present: &mut [u16; 32], quads: &mut [u32; 1024]) -> u16
-    requires { ⌜ Headed (now s) (6 + variables (now s)) × ((now quads ≡ replicate 1024 0) × (now present ≡ replicate 32 0)) ⌝ }
+fn make_starts(s: &[u8], present: &mut [u16; VARIABLE_ROOM], quads: &mut [u32; QUAD_ROOM]) -> u16
+    requires { ⌜ Headed (now s) (6 + variables (now s)) × ((now quads ≡ replicate quadRoom 0) × (now present ≡ replicate variableRoom 0)) ⌝ }
     ensures { λ r. ⌜ Held (now (s .entry)) (starts (variables (now (s .entry)))) (now (quads .exit)) (now (present .exit)) r ⌝ }
 {
     let v = s[5];
@@ -172,8 +182,8 @@ fn make_starts(s: &[u8], present: &mut [u16; 32], quads: &mut [u32; 1024]) -> u1
 fn make_assign(
     s: &[u8],
     at: usize,
-    present: &mut [u16; 32],
-    quads: &mut [u32; 1024],
+    present: &mut [u16; VARIABLE_ROOM],
+    quads: &mut [u32; QUAD_ROOM],
     count: u16,
 ) -> MadePart
     requires { ⌜ Headed (now s) (6 + variables (now s)) × IsRead (readAssign (now s) at) ⌝ }
@@ -185,7 +195,7 @@ fn make_assign(
         s,
         at + 2,
         rule_reader::kind_at(s, x),
-        rule_reader::DEEPEST,
+        rule::DEEPEST,
         present,
         quads,
         count,
@@ -215,23 +225,15 @@ fn make_branch(
     s: &[u8],
     at: usize,
     nest: u8,
-    present: &mut [u16; 32],
-    quads: &mut [u32; 1024],
+    present: &mut [u16; VARIABLE_ROOM],
+    quads: &mut [u32; QUAD_ROOM],
     count: u16,
 ) -> MadePart
     requires { ⌜ Headed (now s) (6 + variables (now s)) × ((at < length (now s)) × IsRead (branchWith (readBlock (now s)) (now s) nest at)) ⌝ }
     ensures made { λ r. ⌜ Done makeStatement assignsIn (now (s .entry)) (branchWith (readBlock (now (s .entry))) (now (s .entry)) nest at) (now (quads .entry)) (now (present .entry)) count (r .next) (r .count) (r .assigned) (now (quads .exit)) (now (present .exit)) ⌝ }
     ensures small { λ r. ⌜ r .count < 65536 ⌝ }
 {
-    let test = make_expr(
-        s,
-        at + 1,
-        Kind::Bit,
-        rule_reader::DEEPEST,
-        present,
-        quads,
-        count,
-    );
+    let test = make_expr(s, at + 1, Kind::Bit, rule::DEEPEST, present, quads, count);
     let mut first = *present;
     let mut second = *present;
     let x = make_block(s, test.next, nest - 1, &mut first, quads, test.count);
@@ -259,8 +261,8 @@ fn make_statement(
     s: &[u8],
     at: usize,
     nest: u8,
-    present: &mut [u16; 32],
-    quads: &mut [u32; 1024],
+    present: &mut [u16; VARIABLE_ROOM],
+    quads: &mut [u32; QUAD_ROOM],
     count: u16,
 ) -> MadePart
     requires { ⌜ Headed (now s) (6 + variables (now s)) × ((at < length (now s)) × IsRead (readStatement (now s) nest at)) ⌝ }
@@ -287,8 +289,8 @@ fn make_block(
     s: &[u8],
     at: usize,
     nest: u8,
-    present: &mut [u16; 32],
-    quads: &mut [u32; 1024],
+    present: &mut [u16; VARIABLE_ROOM],
+    quads: &mut [u32; QUAD_ROOM],
     count: u16,
 ) -> MadePart
     requires { ⌜ Headed (now s) (6 + variables (now s)) × IsRead (readBlock (now s) nest at) ⌝ }
@@ -315,12 +317,12 @@ fn make_block(
 
 // The plain circuit of an accepted rule, into arrays that are lent clear: its gates' quads, the variables' last gates, and the count of its gates,
 // 257 for any above 256.
-pub fn make_rule(s: &[u8], quads: &mut [u32; 1024], present: &mut [u16; 32]) -> u16
-    requires { ⌜ IsRead (readRule (now s)) × ((now quads ≡ replicate 1024 0) × (now present ≡ replicate 32 0)) ⌝ }
+pub fn make_rule(s: &[u8], quads: &mut [u32; QUAD_ROOM], present: &mut [u16; VARIABLE_ROOM]) -> u16
+    requires { ⌜ IsRead (readRule (now s)) × ((now quads ≡ replicate quadRoom 0) × (now present ≡ replicate variableRoom 0)) ⌝ }
     ensures { λ r. ⌜ RuleMade (now (s .entry)) (now (quads .exit)) (now (present .exit)) r ⌝ }
 {
     let v = s[5] as usize;
     let count = make_starts(s, present, quads);
-    let made = make_block(s, 6 + v, rule_reader::NESTED, present, quads, count);
+    let made = make_block(s, 6 + v, rule::NESTED, present, quads, count);
     made.count as u16
 }

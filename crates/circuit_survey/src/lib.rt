@@ -1,6 +1,8 @@
 // Document 01, "The plain circuit", over lent arrays: a gate is four numbers of `quads`, `count` gates at most 256; what gates cost, and which are conditions.
 // The lent arrays hold plain numbers; a gate's number in hand is a `GateId`.
-use circuit::MOST_CONDITIONS;
+use circuit::CONDITION_ROOM;
+use circuit::GATE_ROOM;
+use circuit::QUAD_ROOM;
 ghost use mathlib.Core.Path.{_≡_};
 ghost use Prim.Native.Nat.{_<_, _≤_};
 ghost use lib.ListN.{length, getD, replicate};
@@ -9,6 +11,7 @@ ghost use Rattle.circuit.specs.Gates.{Earlier, costs, conditions};
 ghost use Rattle.circuit.specs.Limits.{mostGates, mostConditions};
 ghost use Rattle.circuit_needed.specs.Held.{gatesIn, codeCost, costTable};
 ghost use Rattle.circuit_needed.specs.Ranks.{Marked, markedIn, NumberedBelow};
+ghost use Rattle.circuit.specs.Rooms.{gateRoom, conditionRoom};
 
 // The cost of a gate, by its code.
 fn cost_of(code: u32) -> u8
@@ -55,8 +58,8 @@ pub struct Surveyed {
 }
 
 // Counts the conditions and adds up the costs in one walk; it marks the gates that stand first in a choice gate, in ranks that are lent clear: the others are 0.
-pub fn survey(quads: &[u32; 1024], count: usize, ranks: &mut [u16; 256]) -> Surveyed
-    requires { ⌜ (count ≤ mostGates) × (Earlier (gatesIn (now quads) count) × (now ranks ≡ replicate 256 0)) ⌝ }
+pub fn survey(quads: &[u32; QUAD_ROOM], count: usize, ranks: &mut [u16; GATE_ROOM]) -> Surveyed
+    requires { ⌜ (count ≤ mostGates) × (Earlier (gatesIn (now quads) count) × (now ranks ≡ replicate gateRoom 0)) ⌝ }
     ensures counted { λ r. ⌜ r .conditions ≡ length (conditions (gatesIn (now (quads .entry)) count)) ⌝ }
     ensures cost { λ r. ⌜ r .cost ≡ costs (gatesIn (now (quads .entry)) count) ⌝ }
     ensures marked { λ r. ⌜ Marked (gatesIn (now (quads .entry)) count) (now (ranks .exit)) ⌝ }
@@ -83,8 +86,8 @@ pub fn survey(quads: &[u32; 1024], count: usize, ranks: &mut [u16; 256]) -> Surv
 }
 
 // Numbers the marked gates from 1, rising.
-pub fn number_marked(count: usize, ranks: &mut [u16; 256])
-    requires { ⌜ (count ≤ mostGates) × (length (now ranks) ≡ 256) ⌝ }
+pub fn number_marked(count: usize, ranks: &mut [u16; GATE_ROOM])
+    requires { ⌜ (count ≤ mostGates) × (length (now ranks) ≡ gateRoom) ⌝ }
     ensures { λ r. ⌜ NumberedBelow (now (ranks .entry)) (now (ranks .exit)) count ⌝ }
 {
     let mut t: u16 = 0;
@@ -99,9 +102,9 @@ pub fn number_marked(count: usize, ranks: &mut [u16; 256])
 }
 
 // The gates that have a number, in rising order, in an array that is lent clear: of ranks that number the conditions, condition t is element t.
-pub fn condition_gates(ranks: &[u16; 256], count: usize, gates: &mut [u16; MOST_CONDITIONS])
-    requires { ⌜ ((count ≤ mostGates) × (length (markedIn (now ranks) count) ≤ mostConditions)) × (now gates ≡ replicate mostConditions 0) ⌝ }
-    ensures { λ r. ⌜ now (gates .exit) ≡ over (markedIn (now (ranks .entry)) count) (replicate mostConditions 0) ⌝ }
+pub fn condition_gates(ranks: &[u16; GATE_ROOM], count: usize, gates: &mut [u16; CONDITION_ROOM])
+    requires { ⌜ ((count ≤ mostGates) × (length (markedIn (now ranks) count) ≤ mostConditions)) × (now gates ≡ replicate conditionRoom 0) ⌝ }
+    ensures { λ r. ⌜ now (gates .exit) ≡ over (markedIn (now (ranks .entry)) count) (replicate conditionRoom 0) ⌝ }
 {
     let mut t: usize = 0;
     let mut g: usize = 0;

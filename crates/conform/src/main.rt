@@ -1,14 +1,17 @@
 // Reads a conformance stream on standard input and prints one line a case (docs/CONFORMANCE.md).
 // Operations 01 to 09; any other ends the stream with `refused`.
 use base::Answer;
+use circuit::CONDITION_ROOM;
 use circuit::GateId;
-use circuit::MOST_CONDITIONS;
+use circuit::NEED_WORDS;
+use circuit::QUAD_ROOM;
+use circuit::VARIABLE_ROOM;
+use file::WireId;
 use libc::STDIN_FILENO;
 use libc::STDOUT_FILENO;
-use circuit::NEED_WORDS;
-use file::WireId;
 ghost use Prim.Native.Nat.{_*_, _≤_, _<_};
 ghost use lib.ListN.{length};
+ghost use Rattle.circuit.specs.Rooms.{gateRoom};
 
 // What every result place holds before the call, so that an untouched one shows.
 const UNTOUCHED: u32 = 3735928559;
@@ -142,7 +145,7 @@ fn print_hex(n: u64, width: usize)
 
 // Gate g's set of the lent words, the highest word first.
 fn print_set(needs: &[u64; NEED_WORDS], g: GateId)
-    requires { ⌜ g .0 < 256 ⌝ }
+    requires { ⌜ g .0 < gateRoom ⌝ }
 {
     let s = base_settings::load(needs, base_words::wide16(g.0));
     print_hex(s.w3, 16);
@@ -152,8 +155,8 @@ fn print_set(needs: &[u64; NEED_WORDS], g: GateId)
 }
 
 // A gate: CODE.A.B.C.NEEDS.
-fn print_gate(quads: &[u32; 1024], needs: &[u64; NEED_WORDS], g: GateId)
-    requires { ⌜ g .0 < 256 ⌝ }
+fn print_gate(quads: &[u32; QUAD_ROOM], needs: &[u64; NEED_WORDS], g: GateId)
+    requires { ⌜ g .0 < gateRoom ⌝ }
 {
     let i = base_words::wide16(g.0);
     print(b" ");
@@ -168,10 +171,10 @@ fn print_gate(quads: &[u32; 1024], needs: &[u64; NEED_WORDS], g: GateId)
     print_set(needs, g);
 }
 
-fn print_gates(quads: &[u32; 1024], needs: &[u64; NEED_WORDS], count: usize) {
+fn print_gates(quads: &[u32; QUAD_ROOM], needs: &[u64; NEED_WORDS], count: usize) {
     print(b" |");
     let mut g: usize = 0;
-    while g < 256 {
+    while g < circuit::GATE_ROOM {
         if g < count {
             print_gate(quads, needs, GateId(g as u16));
         }
@@ -255,10 +258,10 @@ fn write_line(rule: &[u8], plan: &[u8], out: &mut [u8]) {
 }
 
 fn circuit_line(rule: &[u8]) {
-    let mut quads = [0u32; 1024];
+    let mut quads = [0u32; QUAD_ROOM];
     let mut needs = [0u64; NEED_WORDS];
-    let mut outputs = [0u16; 32];
-    let mut conditions = [0u16; MOST_CONDITIONS];
+    let mut outputs = [0u16; VARIABLE_ROOM];
+    let mut conditions = [0u16; CONDITION_ROOM];
     let a = circuit_build::build(rule, &mut quads, &mut needs, &mut outputs, &mut conditions);
     print_answer(a);
     print_gates(&quads, &needs, a.gates);

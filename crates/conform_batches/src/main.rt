@@ -1,9 +1,9 @@
 // Reads a stream of cases on standard input, each a batch to be fed in pieces, and prints the report of each and an empty line.
 // A case is a two-byte size of its pieces (0 for 65,536), a four-byte length and so many bytes. The file `stdout` has what
 // the implementation in compare/ printed, which was not written from this code.
-use report::Progress;
 use libc::STDIN_FILENO;
 use libc::STDOUT_FILENO;
+use report::Progress;
 ghost use Prim.Native.Nat.{_+_, _≤_};
 ghost use lib.ListN.{length};
 
@@ -36,7 +36,7 @@ fn read_piece(window: &mut [u8], to: usize, piece: usize, stopped: bool) -> usiz
 }
 
 fn finish(progress: Progress) {
-    let mut line = [0u8; report_lines::LONGEST_TOTAL];
+    let mut line = [0u8; report::MOST_TOTAL];
     let n = report_batch::finish(progress, &mut line);
     print(&line, n);
     print(b"\n", 1);

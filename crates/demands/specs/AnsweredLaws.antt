@@ -34,7 +34,8 @@ use Rattle.circuit.specs.WholeLaws.{accepted, answer-bytes, answer-whole, whole
 use Rattle.run.specs.InputLaws.{row-is}
 use Rattle.run.specs.Direct.{runAnswer}
 use Rattle.run.specs.DirectLaws.{rule-answer, inputs-answer, run-answer, run-number}
-use Rattle.plan.specs.PlanFile.{leastPlanBytes, mostPlanBytes, mark, groupsCounted, groupsIn}
+use Rattle.plan.specs.PlanFile.{mark, groupsCounted, groupsIn}
+use Rattle.plan.specs.Limits.{leastPlanBytes, mostPlanBytes}
 use Rattle.plan.specs.Groups.{groupOf}
 use Rattle.plan.specs.Rows.{isCostly, rows, planRow, planAnswer}
 use Rattle.plan.specs.GroupLaws.{groupOf-named}

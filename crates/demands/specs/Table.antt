@@ -20,6 +20,7 @@ use Rattle.circuit.specs.Gates.{Gates, gateAt, operation, conditions}
 use Rattle.circuit.specs.PlainCircuit.{gatesOf, gateCount}
 use Rattle.circuit_needed.specs.Needed.{wantedOf}
 use Rattle.plan.specs.PlanFile as plan
+use Rattle.plan.specs.Limits.{leastPlanBytes, mostPlanBytes}
 use Rattle.plan.specs.PlanFile.{gatesCounted, groupsCounted, groupsIn, EachGroup, Rising, Apart, Ends}
 use Rattle.plan.specs.Groups.{groupOf}
 use Rattle.plan.specs.Accepted.{Exist, GroupsRise, OneCostly, NoTwoNeeded, NoCircle}
@@ -89,10 +90,10 @@ AllCostly C G = (g : ℕ) → g ∈ G → (op : Operation) × (costly op ≡ tru
 -- or not rising; 26: gate in two groups; 32 (C-15): groups out of order; 27: member not costly; 28: operations differ; 29: two members do not exclude each other; 30: a group waits in a circle
 abbrev pub planRows : List ℕ → List ℕ → List TableRow
 planRows s p =
-    row 20 ((plan.leastPlanBytes ≤ length p) × (length p ≤ plan.mostPlanBytes))
+    row 20 ((leastPlanBytes ≤ length p) × (length p ≤ mostPlanBytes))
     ∷ row 21 (take 5 p ≡ plan.mark)
     ∷ row 22 (gatesCounted p ≡ gateCount s)
-    ∷ row 23 (Ends (groupsCounted p) p plan.leastPlanBytes)
+    ∷ row 23 (Ends (groupsCounted p) p leastPlanBytes)
     ∷ row 24 (EachGroup (λ G. 2 ≤ length G) (groupsIn p))
     ∷ row 25 (EachGroup Rising (groupsIn p) × EachGroup (Exist (gateCount s)) (groupsIn p))
     ∷ row 26 (Apart (groupsIn p))

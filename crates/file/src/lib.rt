@@ -9,9 +9,9 @@ pub const NO_WIRE: u16 = 0xFFFF;
 // A file has its first record at this place, and at most so many bytes, variables and wires.
 pub const FIRST_RECORD: usize = 8;
 
-pub const MOST_BYTES: usize = 16384;
+pub const MOST_FILE_BYTES: usize = 16384;
 
-pub const MOST_VARIABLES: u8 = 32;
+pub const MOST_FILE_VARIABLES: u8 = 32;
 
 pub const MOST_WIRES: usize = 640;
 

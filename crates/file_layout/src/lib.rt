@@ -39,7 +39,7 @@ pub fn headed(file: &[u8]) -> bool
     if file.len() < file::FIRST_RECORD {
         return false;
     }
-    if file::MOST_BYTES < file.len() {
+    if file::MOST_FILE_BYTES < file.len() {
         return false;
     }
     if !marked(file) {
@@ -48,7 +48,7 @@ pub fn headed(file: &[u8]) -> bool
     if file[5] < 1 {
         return false;
     }
-    if file::MOST_VARIABLES < file[5] {
+    if file::MOST_FILE_VARIABLES < file[5] {
         return false;
     }
     base_words::wide16(base_words::read16(file, 6)) <= file::MOST_WIRES

@@ -31,13 +31,7 @@ fn of_kind(bits: &[bool; file::MOST_WIRES], w: WireId, want: bool) -> bool
 }
 
 // A wire that record i may read as a bit, or as a word.
-fn wire_fits(
-    file: &[u8],
-    at: usize,
-    i: WireId,
-    bits: &[bool; file::MOST_WIRES],
-    want: bool,
-) -> bool
+fn wire_fits(file: &[u8], at: usize, i: WireId, bits: &[bool; file::MOST_WIRES], want: bool) -> bool
     requires { ⌜ (at + 2 ≤ length (now file)) × (i .0 ≤ mostWires) ⌝ }
     ensures { λ r. ⌜ r ≡ fits (i .0) (heldKind (now (bits .entry))) (kindBy want) (numberAt 2 (now (file .entry)) at) ⌝ }
 {
@@ -259,12 +253,7 @@ fn record_stands(
 }
 
 // Every record in its turn, and its kind into the table; the place after the records, or 0 where one does not stand.
-fn records_stand(
-    file: &[u8],
-    v: usize,
-    count: usize,
-    bits: &mut [bool; file::MOST_WIRES],
-) -> usize
+fn records_stand(file: &[u8], v: usize, count: usize, bits: &mut [bool; file::MOST_WIRES]) -> usize
     requires { ⌜ (Headed (now file) × LaidOut (now file)) × (v ≡ fileVariables (now file)) × (count ≡ wireCount (now file)) × (length (now bits) ≡ mostWires) ⌝ }
     ensures place { λ r. ⌜ r ≡ cond (allStand v (wireKind (fileRecords (now (file .entry)))) 0 (fileRecords (now (file .entry)))) (recordPlace (now (file .entry)) count) 0 ⌝ }
     ensures kinds { λ r. ⌜ (0 < r → HoldsKinds (fileRecords (now (file .entry))) (now (bits .exit)) count) ⌝ }

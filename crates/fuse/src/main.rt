@@ -99,7 +99,7 @@ fn main() {
     let mut rule = [0u8; 4097];
     let mut plan = [0u8; 1025];
     let mut file = [0u8; 16384];
-    let mut line = [0u8; report_lines::LONGEST];
+    let mut line = [0u8; report::MOST_LINE];
     let r = read_file(b"rule.rul", &mut rule);
     let p = read_file(b"rule.pln", &mut plan);
     let fused = fuse_rule(&rule[..r], &plan[..p], &mut file, &mut line);

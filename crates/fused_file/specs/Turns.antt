@@ -13,6 +13,7 @@ use Rattle.rule.specs.Header.{variables, workingAt}
 use Rattle.fused_gate.specs.Emitted.{wireIn, Grouped, Coded, Writable}
 use Rattle.fused_group.specs.Joined.{Joinable, JoinWritable}
 use Rattle.fused_file.specs.Staged.{stage, Turnable}
+use Rattle.circuit.specs.Rooms.{variableRoom}
 
 -- group q, listed at the place at of the plan p, or alone where the place is 0, can be measured
 pub record Measurable (quads p group : List ℕ) (at q : ℕ) : Type 0 where
@@ -39,8 +40,8 @@ pub record Sum (p quads : List ℕ) (count : ℕ) (needs group places ord : List
 
 -- the first v of the 32 outputs can be written: the gates that give them have wires
 pub record OutputsPlaced (outputs : List ℕ) (v : ℕ) (group : List ℕ) : Type 0 where
-  pub held : length outputs ≡ 32
-  pub few : v ≤ 32
+  pub held : length outputs ≡ variableRoom
+  pub few : v ≤ variableRoom
   pub placed : (x : ℕ) → x < v → Grouped group (getD outputs x 0)
 
 -- the output of variable x of the rule s: the wire of its last gate, no wire for a working one

@@ -1,10 +1,13 @@
 // Document 01, "The fused circuit file": the whole file put together from lent arrays, its head, the records of the groups in the order of writing, each group's
 // behind the last record written, and the outputs; and what the records come to, before they are written.
+use circuit::CONDITION_ROOM;
+use circuit::GATE_ROOM;
 use circuit::GateId;
-use circuit::MOST_CONDITIONS;
-use fused_size::Size;
 use circuit::NEED_WORDS;
+use circuit::QUAD_ROOM;
+use circuit::VARIABLE_ROOM;
 use file::WireId;
+use fused_size::Size;
 ghost use mathlib.Core.Path.{_≡_};
 ghost use mathlib.Core.List.{List, _∷_, _++_, map};
 ghost use Prim.Native.Nat.{ℕ, _+_, _*_, _≤_, _<_};
@@ -22,18 +25,16 @@ ghost use Rattle.fused_size.specs.Sizes.{Measured};
 ghost use Rattle.fused_file.specs.Staged.{membersOf, stage, Turnable};
 ghost use Rattle.fused_file.specs.Turns.{Measurable, Puttable, Measures, Sum, OutputsPlaced, outputIn, fileIn};
 ghost use Rattle.base.specs.SetsHeld.{setsIn};
-
-// The bytes before the first record.
-pub const HEAD: usize = 8;
+ghost use Rattle.circuit.specs.Rooms.{gateRoom, variableRoom};
 
 // The size of group q, listed at the place `at` of the plan, or alone where the place is 0.
 fn size_group(
     plan: &[u8],
     at: usize,
-    quads: &[u32; 1024],
+    quads: &[u32; QUAD_ROOM],
     needs: &[u64; NEED_WORDS],
-    group: &[u16; 256],
-    wires: &[u16; 256],
+    group: &[u16; GATE_ROOM],
+    wires: &[u16; GATE_ROOM],
     q: GateId,
 ) -> Size
     requires { ⌜ Measurable (now quads) (now plan) (now group) at (q .0) ⌝ }
@@ -49,11 +50,11 @@ fn size_group(
 // after it depend on it.
 pub fn measure(
     plan: &[u8],
-    quads: &[u32; 1024],
+    quads: &[u32; QUAD_ROOM],
     needs: &[u64; NEED_WORDS],
-    group: &[u16; 256],
-    places: &[u16; 256],
-    order: &[u16; 256],
+    group: &[u16; GATE_ROOM],
+    places: &[u16; GATE_ROOM],
+    order: &[u16; GATE_ROOM],
     groups: usize,
 ) -> Size
     requires { ⌜ Measures (now plan) (now quads) (setsIn (now needs)) (now group) (now places) (now order) groups ⌝ }
@@ -61,7 +62,7 @@ pub fn measure(
         → Turnable (now (plan .entry)) (now (quads .entry)) count (setsIn (now (needs .entry))) (now (group .entry)) (now (places .entry)) conds (now (order .entry)) groups
         → Sum (now (plan .entry)) (now (quads .entry)) count (setsIn (now (needs .entry))) (now (group .entry)) (now (places .entry)) (now (order .entry)) groups (r .wires) (r .bytes) (r .cost)) ⌝ }
 {
-    let mut wires = [0u16; 256];
+    let mut wires = [0u16; GATE_ROOM];
     let mut total: usize = 0;
     let mut bytes: usize = 0;
     let mut cost: usize = 0;
@@ -97,12 +98,12 @@ fn put_group(
     at: usize,
     q: GateId,
     first: WireId,
-    quads: &[u32; 1024],
+    quads: &[u32; QUAD_ROOM],
     count: usize,
     needs: &[u64; NEED_WORDS],
-    conditions: &[u16; MOST_CONDITIONS],
-    group: &[u16; 256],
-    wires: &[u16; 256],
+    conditions: &[u16; CONDITION_ROOM],
+    group: &[u16; GATE_ROOM],
+    wires: &[u16; GATE_ROOM],
 ) -> Put
     requires { ⌜ (length (recordsBytes writtenVersion (emitIn (now quads) count (setsIn (now needs)) (wireIn (now group) (now wires)) (first .0) (membersOf (now plan) at (q .0)))) ≤ length (now out))
         × Puttable (now quads) (now plan) (now conditions) (now group) count at (q .0) (first .0) ⌝ }
@@ -139,18 +140,18 @@ fn put_group(
 fn put_records(
     out: &mut [u8],
     plan: &[u8],
-    quads: &[u32; 1024],
+    quads: &[u32; QUAD_ROOM],
     count: usize,
     needs: &[u64; NEED_WORDS],
-    conditions: &[u16; MOST_CONDITIONS],
-    group: &[u16; 256],
-    places: &[u16; 256],
-    order: &[u16; 256],
+    conditions: &[u16; CONDITION_ROOM],
+    group: &[u16; GATE_ROOM],
+    places: &[u16; GATE_ROOM],
+    order: &[u16; GATE_ROOM],
     groups: usize,
-    wires: &mut [u16; 256],
+    wires: &mut [u16; GATE_ROOM],
 ) -> usize
     requires { ⌜ (length (recordsBytes writtenVersion (stage (now plan) (now quads) count (setsIn (now needs)) (now group) (now places) (now order) groups .records)) ≤ length (now out))
-        × (Turnable (now plan) (now quads) count (setsIn (now needs)) (now group) (now places) (now conditions) (now order) groups × (now wires ≡ replicate mostGates 0)) ⌝ }
+        × (Turnable (now plan) (now quads) count (setsIn (now needs)) (now group) (now places) (now conditions) (now order) groups × (now wires ≡ replicate gateRoom 0)) ⌝ }
     ensures counted { λ r. ⌜ r ≡ length (recordsBytes writtenVersion (stage (now (plan .entry)) (now (quads .entry)) count (setsIn (now (needs .entry))) (now (group .entry)) (now (places .entry)) (now (order .entry)) groups .records)) ⌝ }
     ensures written { λ r. ⌜ now (out .exit) ≡ over (recordsBytes writtenVersion (stage (now (plan .entry)) (now (quads .entry)) count (setsIn (now (needs .entry))) (now (group .entry)) (now (places .entry)) (now (order .entry)) groups .records)) (now (out .entry)) ⌝ }
     ensures wired { λ r. ⌜ now (wires .exit) ≡ stage (now (plan .entry)) (now (quads .entry)) count (setsIn (now (needs .entry))) (now (group .entry)) (now (places .entry)) (now (order .entry)) groups .wires ⌝ }
@@ -187,11 +188,11 @@ fn put_records(
 fn output_of(
     rule: &[u8],
     x: u8,
-    outputs: &[u16; 32],
-    group: &[u16; 256],
-    wires: &[u16; 256],
+    outputs: &[u16; VARIABLE_ROOM],
+    group: &[u16; GATE_ROOM],
+    wires: &[u16; GATE_ROOM],
 ) -> WireId
-    requires { ⌜ (6 + x < length (now rule)) × (x < 32) × Grouped (now group) (getD (now outputs) x 0) ⌝ }
+    requires { ⌜ (6 + x < length (now rule)) × (x < variableRoom) × Grouped (now group) (getD (now outputs) x 0) ⌝ }
     ensures { λ r. ⌜ r .0 ≡ outputIn (now (rule .entry)) (now (outputs .entry)) (now (group .entry)) (now (wires .entry)) x ⌝ }
 {
     if rule_reader::working_at(rule, x) {
@@ -204,9 +205,9 @@ fn output_of(
 fn put_outputs(
     out: &mut [u8],
     rule: &[u8],
-    outputs: &[u16; 32],
-    group: &[u16; 256],
-    wires: &[u16; 256],
+    outputs: &[u16; VARIABLE_ROOM],
+    group: &[u16; GATE_ROOM],
+    wires: &[u16; GATE_ROOM],
 )
     requires { ⌜ (HasKinds (now rule) × OutputsPlaced (now outputs) (variables (now rule)) (now group)) × (2 * variables (now rule) ≤ length (now out)) ⌝ }
     ensures { λ r. ⌜ now (out .exit) ≡ over (wiresBytes (map (outputIn (now (rule .entry)) (now (outputs .entry)) (now (group .entry)) (now (wires .entry))) (upto (variables (now (rule .entry)))))) (now (out .entry)) ⌝ }
@@ -240,14 +241,14 @@ pub fn put_file(
     rule: &[u8],
     wired: u16,
     plan: &[u8],
-    quads: &[u32; 1024],
+    quads: &[u32; QUAD_ROOM],
     count: usize,
     needs: &[u64; NEED_WORDS],
-    conditions: &[u16; MOST_CONDITIONS],
-    outputs: &[u16; 32],
-    group: &[u16; 256],
-    places: &[u16; 256],
-    order: &[u16; 256],
+    conditions: &[u16; CONDITION_ROOM],
+    outputs: &[u16; VARIABLE_ROOM],
+    group: &[u16; GATE_ROOM],
+    places: &[u16; GATE_ROOM],
+    order: &[u16; GATE_ROOM],
     groups: usize,
 )
     requires { ⌜ (length (fileIn (now rule) (now plan) (now quads) count (setsIn (now needs)) (now group) (now places) (now order) groups (now outputs)) ≤ length (now out))
@@ -257,9 +258,9 @@ pub fn put_file(
     ensures { λ r. ⌜ now (out .exit) ≡ over (fileIn (now (rule .entry)) (now (plan .entry)) (now (quads .entry)) count (setsIn (now (needs .entry))) (now (group .entry)) (now (places .entry)) (now (order .entry)) groups (now (outputs .entry))) (now (out .entry)) ⌝ }
 {
     put_head(out, rule[5], wired);
-    let mut wires = [0u16; 256];
+    let mut wires = [0u16; GATE_ROOM];
     let n = put_records(
-        &mut out[HEAD..],
+        &mut out[file::FIRST_RECORD..],
         plan,
         quads,
         count,
@@ -271,5 +272,11 @@ pub fn put_file(
         groups,
         &mut wires,
     );
-    put_outputs(&mut out[HEAD + n..], rule, outputs, group, &wires);
+    put_outputs(
+        &mut out[file::FIRST_RECORD + n..],
+        rule,
+        outputs,
+        group,
+        &wires,
+    );
 }

@@ -1,6 +1,8 @@
 // Document 01, "The fused circuit file": the record of a gate alone, written at the start of a lent buffer; and what every record is written with, a gate's wire and a
 // code with its wires. The lent arrays hold plain numbers; a gate's number in hand is a `GateId`, a wire's a `WireId`.
+use circuit::GATE_ROOM;
 use circuit::GateId;
+use circuit::QUAD_ROOM;
 use file::WireId;
 ghost use mathlib.Core.Path.{_≡_};
 ghost use mathlib.Core.List.{_∷_, []};
@@ -12,9 +14,10 @@ ghost use Rattle.circuit_needed.specs.Held.{Applies, codeAt};
 ghost use Rattle.file.specs.Versions.{writtenVersion};
 ghost use Rattle.file.specs.CircuitFile.{wiresBytes, recordBytes};
 ghost use Rattle.fused_gate.specs.Emitted.{wireIn, aloneIn, Grouped, Writable};
+ghost use Rattle.circuit.specs.Rooms.{quadRoom};
 
 // The wire that stands for gate g: that of its group.
-pub fn wire_of(group: &[u16; 256], wires: &[u16; 256], g: GateId) -> WireId
+pub fn wire_of(group: &[u16; GATE_ROOM], wires: &[u16; GATE_ROOM], g: GateId) -> WireId
     requires { ⌜ Grouped (now group) (g .0) ⌝ }
     ensures { λ r. ⌜ r .0 ≡ wireIn (now (group .entry)) (now (wires .entry)) (g .0) ⌝ }
 {
@@ -24,8 +27,13 @@ pub fn wire_of(group: &[u16; 256], wires: &[u16; 256], g: GateId) -> WireId
 }
 
 // The wire that stands for the gate whose number stands at a place of the quads.
-pub fn wire_at(quads: &[u32; 1024], at: usize, group: &[u16; 256], wires: &[u16; 256]) -> WireId
-    requires { ⌜ (at < 1024) × Grouped (now group) (getD (now quads) at 0) ⌝ }
+pub fn wire_at(
+    quads: &[u32; QUAD_ROOM],
+    at: usize,
+    group: &[u16; GATE_ROOM],
+    wires: &[u16; GATE_ROOM],
+) -> WireId
+    requires { ⌜ (at < quadRoom) × Grouped (now group) (getD (now quads) at 0) ⌝ }
     ensures { λ r. ⌜ r .0 ≡ wireIn (now (group .entry)) (now (wires .entry)) (getD (now (quads .entry)) at 0) ⌝ }
 {
     let a = circuit_quads::argument(quads, at);
@@ -85,9 +93,9 @@ fn put_choice(out: &mut [u8], c: WireId, a: WireId, b: WireId)
 // An operation alone: one argument or two, as the table says.
 fn put_applied(
     out: &mut [u8],
-    quads: &[u32; 1024],
-    group: &[u16; 256],
-    wires: &[u16; 256],
+    quads: &[u32; QUAD_ROOM],
+    group: &[u16; GATE_ROOM],
+    wires: &[u16; GATE_ROOM],
     g: GateId,
 ) -> usize
     requires { ⌜ (length (recordBytes writtenVersion (aloneIn (now quads) (wireIn (now group) (now wires)) (g .0))) ≤ length (now out)) × (Writable (now quads) (now group) (g .0) × Applies (codeAt (now quads) (g .0))) ⌝ }
@@ -109,9 +117,9 @@ fn put_applied(
 // The record of gate g, a group alone; gives its bytes.
 pub fn put_alone(
     out: &mut [u8],
-    quads: &[u32; 1024],
-    group: &[u16; 256],
-    wires: &[u16; 256],
+    quads: &[u32; QUAD_ROOM],
+    group: &[u16; GATE_ROOM],
+    wires: &[u16; GATE_ROOM],
     g: GateId,
 ) -> usize
     requires { ⌜ (length (recordBytes writtenVersion (aloneIn (now quads) (wireIn (now group) (now wires)) (g .0))) ≤ length (now out)) × Writable (now quads) (now group) (g .0) ⌝ }

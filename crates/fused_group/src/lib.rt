@@ -1,11 +1,13 @@
 // Document 01, "The fused circuit file": the records of a joined group, written at the start of a lent buffer: a guard for each member, a pick for each argument place,
 // the operation. Document 02, C-18: no pick where the members' wires are equal, no guards where no pick remains.
-use circuit::GateId;
-use circuit::MOST_CONDITIONS;
-use circuit::NEED_WORDS;
-use file::WireId;
 use base::ConditionList;
 use base::Set;
+use circuit::CONDITION_ROOM;
+use circuit::GATE_ROOM;
+use circuit::GateId;
+use circuit::NEED_WORDS;
+use circuit::QUAD_ROOM;
+use file::WireId;
 ghost use mathlib.Core.Path.{_≡_};
 ghost use mathlib.Core.Bool.{cond};
 ghost use mathlib.Core.List.{_∷_, [], map};
@@ -33,9 +35,9 @@ const GUARD: u8 = 0x32;
 fn put_rested(
     out: &mut [u8],
     list: ConditionList,
-    conditions: &[u16; MOST_CONDITIONS],
-    group: &[u16; 256],
-    wires: &[u16; 256],
+    conditions: &[u16; CONDITION_ROOM],
+    group: &[u16; GATE_ROOM],
+    wires: &[u16; GATE_ROOM],
 )
     requires { ⌜ ((2 * length (conditionsIn list) ≤ length (now out)) × Guarded (now conditions) (now group)) × Lists list ⌝ }
     ensures { λ _. ⌜ now (out .exit) ≡ over (wiresBytes (map (λ t. wireIn (now (group .entry)) (now (wires .entry)) (getD (now (conditions .entry)) t 0)) (conditionsIn list))) (now (out .entry)) ⌝ }
@@ -56,9 +58,9 @@ fn put_rested(
 fn put_guard(
     out: &mut [u8],
     s: Set,
-    conditions: &[u16; MOST_CONDITIONS],
-    group: &[u16; 256],
-    wires: &[u16; 256],
+    conditions: &[u16; CONDITION_ROOM],
+    group: &[u16; GATE_ROOM],
+    wires: &[u16; GATE_ROOM],
 ) -> usize
     requires { ⌜ (length (recordBytes writtenVersion (guardIn (now conditions) (wireIn (now group) (now wires)) (setOf s))) ≤ length (now out)) × Guarded (now conditions) (now group) ⌝ }
     ensures counted { λ r. ⌜ r ≡ length (recordBytes writtenVersion (guardIn (now (conditions .entry)) (wireIn (now (group .entry)) (now (wires .entry))) (setOf s))) ⌝ }
@@ -79,9 +81,9 @@ fn put_guards(
     plan: &[u8],
     at: usize,
     needs: &[u64; NEED_WORDS],
-    conditions: &[u16; MOST_CONDITIONS],
-    group: &[u16; 256],
-    wires: &[u16; 256],
+    conditions: &[u16; CONDITION_ROOM],
+    group: &[u16; GATE_ROOM],
+    wires: &[u16; GATE_ROOM],
 ) -> usize
     requires { ⌜ (length (recordsBytes writtenVersion (guardsIn (now conditions) (wireIn (now group) (now wires)) (setsIn (now needs)) (groupAt (now plan) at))) ≤ length (now out))
         × (Lies (now plan) at × Guarded (now conditions) (now group)) ⌝ }
@@ -122,10 +124,10 @@ fn put_pairs(
     plan: &[u8],
     at: usize,
     first: WireId,
-    quads: &[u32; 1024],
+    quads: &[u32; QUAD_ROOM],
     k: usize,
-    group: &[u16; 256],
-    wires: &[u16; 256],
+    group: &[u16; GATE_ROOM],
+    wires: &[u16; GATE_ROOM],
 )
     requires { ⌜ (4 * getD (now plan) at 0 ≤ length (now out)) × (Paired (now quads) (now plan) (now group) k at × (first .0 ≤ mostWires)) ⌝ }
     ensures { λ r. ⌜ now (out .exit) ≡ over (wiresBytes (pairWires (pairsIn (now (quads .entry)) (wireIn (now (group .entry)) (now (wires .entry))) (first .0) k (groupAt (now (plan .entry)) at)))) (now (out .entry)) ⌝ }
@@ -149,10 +151,10 @@ fn put_pick(
     plan: &[u8],
     at: usize,
     first: WireId,
-    quads: &[u32; 1024],
+    quads: &[u32; QUAD_ROOM],
     k: usize,
-    group: &[u16; 256],
-    wires: &[u16; 256],
+    group: &[u16; GATE_ROOM],
+    wires: &[u16; GATE_ROOM],
 ) -> usize
     requires { ⌜ (2 + 4 * getD (now plan) at 0 ≤ length (now out)) × (Paired (now quads) (now plan) (now group) k at × (first .0 ≤ mostWires)) ⌝ }
     ensures counted { λ r. ⌜ r ≡ 2 + 4 * getD (now (plan .entry)) at 0 ⌝ }
@@ -174,10 +176,10 @@ pub struct Picks {
 fn one_wire(
     plan: &[u8],
     at: usize,
-    quads: &[u32; 1024],
+    quads: &[u32; QUAD_ROOM],
     k: usize,
-    group: &[u16; 256],
-    wires: &[u16; 256],
+    group: &[u16; GATE_ROOM],
+    wires: &[u16; GATE_ROOM],
 ) -> bool
     requires { ⌜ Paired (now quads) (now plan) (now group) k at × (0 < getD (now plan) at 0) ⌝ }
     ensures { λ r. ⌜ r ≡ oneWire (valuesIn (now (quads .entry)) (wireIn (now (group .entry)) (now (wires .entry))) k (groupAt (now (plan .entry)) at)) ⌝ }
@@ -203,9 +205,9 @@ fn one_wire(
 pub fn picks_of(
     plan: &[u8],
     at: usize,
-    quads: &[u32; 1024],
-    group: &[u16; 256],
-    wires: &[u16; 256],
+    quads: &[u32; QUAD_ROOM],
+    group: &[u16; GATE_ROOM],
+    wires: &[u16; GATE_ROOM],
 ) -> Picks
     requires { ⌜ Joinable (now quads) (now plan) (now group) at ⌝ }
     ensures { λ r. ⌜ Decided (now (quads .entry)) (wireIn (now (group .entry)) (now (wires .entry))) (groupAt (now (plan .entry)) at) r ⌝ }
@@ -249,9 +251,9 @@ fn put_kept(
     plan: &[u8],
     at: usize,
     needs: &[u64; NEED_WORDS],
-    conditions: &[u16; MOST_CONDITIONS],
-    group: &[u16; 256],
-    wires: &[u16; 256],
+    conditions: &[u16; CONDITION_ROOM],
+    group: &[u16; GATE_ROOM],
+    wires: &[u16; GATE_ROOM],
     picks: Picks,
 ) -> usize
     requires { ⌜ (length (recordsBytes writtenVersion (keptIn (now conditions) (wireIn (now group) (now wires)) (setsIn (now needs)) (groupAt (now plan) at) picks)) ≤ length (now out))
@@ -271,10 +273,10 @@ fn put_place(
     plan: &[u8],
     at: usize,
     first: WireId,
-    quads: &[u32; 1024],
+    quads: &[u32; QUAD_ROOM],
     k: usize,
-    group: &[u16; 256],
-    wires: &[u16; 256],
+    group: &[u16; GATE_ROOM],
+    wires: &[u16; GATE_ROOM],
     picked: bool,
 ) -> usize
     requires { ⌜ (length (recordsBytes writtenVersion (placeIn (now quads) (wireIn (now group) (now wires)) (first .0) k (groupAt (now plan) at) picked)) ≤ length (now out))
@@ -294,9 +296,9 @@ fn put_picks(
     plan: &[u8],
     at: usize,
     first: WireId,
-    quads: &[u32; 1024],
-    group: &[u16; 256],
-    wires: &[u16; 256],
+    quads: &[u32; QUAD_ROOM],
+    group: &[u16; GATE_ROOM],
+    wires: &[u16; GATE_ROOM],
     picks: Picks,
 ) -> usize
     requires { ⌜ (length (recordsBytes writtenVersion (picksIn (now quads) (wireIn (now group) (now wires)) (first .0) (groupAt (now plan) at) picks)) ≤ length (now out))
@@ -325,10 +327,10 @@ fn argument_wire(
     next: WireId,
     plan: &[u8],
     at: usize,
-    quads: &[u32; 1024],
+    quads: &[u32; QUAD_ROOM],
     k: usize,
-    group: &[u16; 256],
-    wires: &[u16; 256],
+    group: &[u16; GATE_ROOM],
+    wires: &[u16; GATE_ROOM],
 ) -> WireId
     requires { ⌜ Paired (now quads) (now plan) (now group) k at × (0 < getD (now plan) at 0) ⌝ }
     ensures { λ r. ⌜ r .0 ≡ readIn (now (quads .entry)) (wireIn (now (group .entry)) (now (wires .entry))) k (groupAt (now (plan .entry)) at) picked (next .0) ⌝ }
@@ -347,9 +349,9 @@ fn put_operation(
     plan: &[u8],
     at: usize,
     first: WireId,
-    quads: &[u32; 1024],
-    group: &[u16; 256],
-    wires: &[u16; 256],
+    quads: &[u32; QUAD_ROOM],
+    group: &[u16; GATE_ROOM],
+    wires: &[u16; GATE_ROOM],
     picks: Picks,
 ) -> usize
     requires { ⌜ (length (recordsBytes writtenVersion (operationIn (now quads) (wireIn (now group) (now wires)) (first .0) (groupAt (now plan) at) picks ∷ [])) ≤ length (now out))
@@ -382,9 +384,9 @@ fn put_fused(
     plan: &[u8],
     at: usize,
     first: WireId,
-    quads: &[u32; 1024],
-    group: &[u16; 256],
-    wires: &[u16; 256],
+    quads: &[u32; QUAD_ROOM],
+    group: &[u16; GATE_ROOM],
+    wires: &[u16; GATE_ROOM],
     picks: Picks,
 ) -> usize
     requires { ⌜ (length (recordsBytes writtenVersion (fusedIn (now quads) (wireIn (now group) (now wires)) (first .0) (groupAt (now plan) at) picks)) ≤ length (now out))
@@ -403,12 +405,12 @@ pub fn put_joined(
     plan: &[u8],
     at: usize,
     first: WireId,
-    quads: &[u32; 1024],
+    quads: &[u32; QUAD_ROOM],
     count: usize,
     needs: &[u64; NEED_WORDS],
-    conditions: &[u16; MOST_CONDITIONS],
-    group: &[u16; 256],
-    wires: &[u16; 256],
+    conditions: &[u16; CONDITION_ROOM],
+    group: &[u16; GATE_ROOM],
+    wires: &[u16; GATE_ROOM],
     picks: Picks,
 ) -> usize
     requires { ⌜ (length (recordsBytes writtenVersion (emitIn (now quads) count (setsIn (now needs)) (wireIn (now group) (now wires)) (first .0) (groupAt (now plan) at))) ≤ length (now out))

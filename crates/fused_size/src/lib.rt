@@ -1,7 +1,9 @@
 // Document 01, "The fused circuit file": what the records of one group come to, before they are written.
+use circuit::GATE_ROOM;
 use circuit::GateId;
-use fused_group::Picks;
 use circuit::NEED_WORDS;
+use circuit::QUAD_ROOM;
+use fused_group::Picks;
 ghost use mathlib.Core.Path.{_≡_};
 ghost use mathlib.Core.List.{List, _∷_, []};
 ghost use Prim.Native.Nat.{ℕ, _<_};
@@ -10,6 +12,7 @@ ghost use Rattle.fused_size.specs.Sizes.{restedBy, GuardsSized, PlaceSiz
 ghost use Rattle.fused_gate.specs.Emitted.{wireIn, Coded};
 ghost use Rattle.fused_group.specs.Joined.{Lies, Joinable};
 ghost use Rattle.base.specs.SetsHeld.{setsIn};
+ghost use Rattle.circuit.specs.Rooms.{gateRoom};
 
 // What the records of a group come to.
 pub struct Size {
@@ -19,7 +22,7 @@ pub struct Size {
 }
 
 // The size of a group alone.
-pub fn size_alone(quads: &[u32; 1024], g: GateId) -> Size
+pub fn size_alone(quads: &[u32; QUAD_ROOM], g: GateId) -> Size
     requires { ⌜ Coded (now quads) (g .0) ⌝ }
     ensures { λ r. ⌜ ((sets : List ℕ) (wire : ℕ → ℕ) → Measured (now (quads .entry)) sets wire (g .0 ∷ []) (r .wires) (r .bytes) (r .cost)) ⌝ }
 {
@@ -98,7 +101,7 @@ fn size_kept(plan: &[u8], at: usize, needs: &[u64; NEED_WORDS], picks: Picks) ->
 
 // The pick of one argument place, of so many pairs; nothing where the place has none.
 fn size_place(size: usize, picked: bool) -> Part
-    requires { ⌜ size < 256 ⌝ }
+    requires { ⌜ size < gateRoom ⌝ }
     ensures { λ r. ⌜ PlaceSized size picked (r .bytes) (r .cost) ⌝ }
 {
     if picked {
@@ -114,10 +117,10 @@ fn size_place(size: usize, picked: bool) -> Part
 pub fn size_joined(
     plan: &[u8],
     at: usize,
-    quads: &[u32; 1024],
+    quads: &[u32; QUAD_ROOM],
     needs: &[u64; NEED_WORDS],
-    group: &[u16; 256],
-    wires: &[u16; 256],
+    group: &[u16; GATE_ROOM],
+    wires: &[u16; GATE_ROOM],
 ) -> Size
     requires { ⌜ Joinable (now quads) (now plan) (now group) at ⌝ }
     ensures { λ r. ⌜ Measured (now (quads .entry)) (setsIn (now (needs .entry))) (wireIn (now (group .entry)) (now (wires .entry))) (groupAt (now (plan .entry)) at) (r .wires) (r .bytes) (r .cost) ⌝ }

@@ -1,9 +1,11 @@
 // Writes the fused circuit of a rule and a plan: the plan is checked, the file measured, and then written where there is room for it.
 use base::Answer;
-use fused_file::HEAD;
-use circuit::MOST_CONDITIONS;
-use fused_size::Size;
+use circuit::CONDITION_ROOM;
+use circuit::GATE_ROOM;
 use circuit::NEED_WORDS;
+use circuit::QUAD_ROOM;
+use circuit::VARIABLE_ROOM;
+use fused_size::Size;
 ghost use mathlib.Core.Path.{_≡_};
 ghost use Prim.Native.Nat.{_≤_};
 ghost use lib.ListN.{length, replicate};
@@ -14,6 +16,7 @@ ghost use Rattle.fused.specs.Answers.{fusedAnswer, writeAnswer, writtenOver};
 ghost use Rattle.fused_write.specs.Ready.{Ready};
 ghost use Rattle.circuit.specs.Limits.{mostConditions, mostGates};
 ghost use Rattle.base.specs.SetsHeld.{setsIn};
+ghost use Rattle.circuit.specs.Rooms.{gateRoom, quadRoom, variableRoom, conditionRoom};
 
 // The answer of a circuit that is written: the rule's counts, and those that were measured.
 fn counted(read: Answer, size: Size, bytes: usize) -> Answer
@@ -40,16 +43,16 @@ pub struct Prepared {
 pub fn prepare(
     rule: &[u8],
     plan: &[u8],
-    quads: &mut [u32; 1024],
+    quads: &mut [u32; QUAD_ROOM],
     needs: &mut [u64; NEED_WORDS],
-    outputs: &mut [u16; 32],
-    conditions: &mut [u16; MOST_CONDITIONS],
-    group: &mut [u16; 256],
-    places: &mut [u16; 256],
-    order: &mut [u16; 256],
+    outputs: &mut [u16; VARIABLE_ROOM],
+    conditions: &mut [u16; CONDITION_ROOM],
+    group: &mut [u16; GATE_ROOM],
+    places: &mut [u16; GATE_ROOM],
+    order: &mut [u16; GATE_ROOM],
 ) -> Prepared
-    requires { ⌜ ((now quads ≡ replicate 1024 0) × ((setsIn (now needs) ≡ replicate mostGates 0) × ((now outputs ≡ replicate 32 0) × (now conditions ≡ replicate mostConditions 0))))
-        × ((now group ≡ replicate 256 0) × ((now places ≡ replicate 256 0) × (now order ≡ replicate 256 0))) ⌝ }
+    requires { ⌜ ((now quads ≡ replicate quadRoom 0) × ((setsIn (now needs) ≡ replicate gateRoom 0) × ((now outputs ≡ replicate variableRoom 0) × (now conditions ≡ replicate conditionRoom 0))))
+        × ((now group ≡ replicate gateRoom 0) × ((now places ≡ replicate gateRoom 0) × (now order ≡ replicate gateRoom 0))) ⌝ }
     ensures { λ r. ⌜ Ready (now (rule .entry)) (now (plan .entry)) r (now (quads .exit)) (setsIn (now (needs .exit))) (now (outputs .exit)) (now (conditions .exit))
         (now (group .exit)) (now (places .exit)) (now (order .exit)) ⌝ }
 {
@@ -71,7 +74,7 @@ pub fn prepare(
     }
     let v = rule[5];
     let size = fused_file::measure(plan, quads, needs, group, places, order, groups);
-    let bytes = HEAD + size.bytes + 2 * (v as usize);
+    let bytes = file::FIRST_RECORD + size.bytes + 2 * (v as usize);
     Prepared {
         answer: counted(answer, size, bytes),
         groups,
@@ -84,13 +87,13 @@ pub fn put(
     rule: &[u8],
     plan: &[u8],
     prepared: Prepared,
-    quads: &[u32; 1024],
+    quads: &[u32; QUAD_ROOM],
     needs: &[u64; NEED_WORDS],
-    outputs: &[u16; 32],
-    conditions: &[u16; MOST_CONDITIONS],
-    group: &[u16; 256],
-    places: &[u16; 256],
-    order: &[u16; 256],
+    outputs: &[u16; VARIABLE_ROOM],
+    conditions: &[u16; CONDITION_ROOM],
+    group: &[u16; GATE_ROOM],
+    places: &[u16; GATE_ROOM],
+    order: &[u16; GATE_ROOM],
 )
     requires { ⌜ ((prepared .answer .number ≡ 0) × (prepared .answer .bytes ≤ length (now out)))
         × Ready (now rule) (now plan) prepared (now quads) (setsIn (now needs)) (now outputs) (now conditions) (now group) (now places) (now order) ⌝ }
@@ -118,13 +121,13 @@ pub fn put(
 pub fn count(rule: &[u8], plan: &[u8]) -> Answer
     ensures { λ r. ⌜ r ≡ fusedAnswer (now (rule .entry)) (now (plan .entry)) ⌝ }
 {
-    let mut quads = [0u32; 1024];
+    let mut quads = [0u32; QUAD_ROOM];
     let mut needs = [0u64; NEED_WORDS];
-    let mut outputs = [0u16; 32];
-    let mut conditions = [0u16; MOST_CONDITIONS];
-    let mut group = [0u16; 256];
-    let mut places = [0u16; 256];
-    let mut order = [0u16; 256];
+    let mut outputs = [0u16; VARIABLE_ROOM];
+    let mut conditions = [0u16; CONDITION_ROOM];
+    let mut group = [0u16; GATE_ROOM];
+    let mut places = [0u16; GATE_ROOM];
+    let mut order = [0u16; GATE_ROOM];
     let prepared = prepare(
         rule,
         plan,
@@ -145,13 +148,13 @@ pub fn write(rule: &[u8], plan: &[u8], out: &mut [u8]) -> Answer
     ensures answer { λ r. ⌜ r ≡ writeAnswer (now (rule .entry)) (now (plan .entry)) (length (now (out .entry))) ⌝ }
     ensures file { λ _. ⌜ now (out .exit) ≡ writtenOver (now (rule .entry)) (now (plan .entry)) (now (out .entry)) ⌝ }
 {
-    let mut quads = [0u32; 1024];
+    let mut quads = [0u32; QUAD_ROOM];
     let mut needs = [0u64; NEED_WORDS];
-    let mut outputs = [0u16; 32];
-    let mut conditions = [0u16; MOST_CONDITIONS];
-    let mut group = [0u16; 256];
-    let mut places = [0u16; 256];
-    let mut order = [0u16; 256];
+    let mut outputs = [0u16; VARIABLE_ROOM];
+    let mut conditions = [0u16; CONDITION_ROOM];
+    let mut group = [0u16; GATE_ROOM];
+    let mut places = [0u16; GATE_ROOM];
+    let mut order = [0u16; GATE_ROOM];
     let prepared = prepare(
         rule,
         plan,

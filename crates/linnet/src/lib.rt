@@ -1,9 +1,11 @@
 // The tool as C and Rust call it: each operation passed on, with the promise that it has, and with what the demands say of the very bytes and words that it is lent.
 use base::Answer;
-use file_reader::Part;
-use circuit::MOST_CONDITIONS;
+use circuit::CONDITION_ROOM;
 use circuit::NEED_WORDS;
+use circuit::QUAD_ROOM;
+use circuit::VARIABLE_ROOM;
 use file::WireId;
+use file_reader::Part;
 ghost use mathlib.Core.Path.{_≡_};
 ghost use lib.ListN.{length, take, drop};
 ghost use Rattle.base.specs.SetsHeld.{setsIn};
@@ -41,7 +43,7 @@ pub extern "C" fn linnet_run_rule(rule: &[u8], inputs: &[u32], results: &mut [u3
 #[repr(C)]
 pub struct Shown {
     pub answer: Answer,
-    pub rows: [u32; 1024],
+    pub rows: [u32; QUAD_ROOM],
     pub needs: [u64; NEED_WORDS],
 }
 
@@ -56,13 +58,13 @@ pub extern "C" fn linnet_show_plain(rule: &[u8]) -> Shown
 {
     let mut shown = Shown {
         answer: base_answers::refused(0, 0),
-        rows: [0u32; 1024],
+        rows: [0u32; QUAD_ROOM],
         needs: [0u64; NEED_WORDS],
     };
     // One call cannot be lent two fields of a struct to fill: one of the two is copied in.
     let mut needs = [0u64; NEED_WORDS];
-    let mut outputs = [0u16; 32];
-    let mut conditions = [0u16; MOST_CONDITIONS];
+    let mut outputs = [0u16; VARIABLE_ROOM];
+    let mut conditions = [0u16; CONDITION_ROOM];
     shown.answer = circuit_build::build(
         rule,
         &mut shown.rows,

@@ -1,8 +1,8 @@
 // Reads a batch on standard input and prints its report: a line for each entry, then the total, or `refused 75`. Writes no circuit.
-use report::Progress;
 use libc::STDERR_FILENO;
 use libc::STDIN_FILENO;
 use libc::STDOUT_FILENO;
+use report::Progress;
 ghost use Prim.Native.Nat.{_≤_, _<_};
 ghost use mathlib.Core.Path.{_≡_};
 ghost use lib.ListN.{length};
@@ -103,7 +103,7 @@ fn print(w: Watch, text: &[u8], n: usize) -> bool
 
 // The last line, once nothing more is to be read.
 fn finish(w: Watch, progress: Progress) {
-    let mut line = [0u8; report_lines::LONGEST_TOTAL];
+    let mut line = [0u8; report::MOST_TOTAL];
     let n = report_batch::finish(progress, &mut line);
     print(w, &line, n);
 }

@@ -10,7 +10,8 @@ use Rattle.base.specs.declared.Operation.{Operation}
 use Rattle.circuit.specs.Gates.{Gates, gateAt, operation}
 use Rattle.circuit.specs.PlainCircuit.{gatesOf, gateCount}
 use Rattle.circuit_needed.specs.Needed.{wantedOf, Exclude}
-use Rattle.plan.specs.PlanFile.{mark, leastPlanBytes, mostPlanBytes, gatesCounted, groupsCounted, Plan, groupsIn, EachGroup, Rising, Apart, Ends}
+use Rattle.plan.specs.PlanFile.{mark, gatesCounted, groupsCounted, Plan, groupsIn, EachGroup, Rising, Apart, Ends}
+use Rattle.plan.specs.Limits.{leastPlanBytes, mostPlanBytes}
 use Rattle.plan.specs.Groups.{smallest, groupOf, Waits, Chain}
 
 -- "A plan is laid out when it has 9 to 1,024 bytes, this mark and version, the plain circuit's gate count, and as many groups as it counts,

@@ -25,7 +25,8 @@ use Rattle.circuit_needed.specs.Pass.{rulePreconditions}
 use Rattle.circuit_needed.specs.RulePreconditions.{rule-earlier, wanted-inside, rule-exclude}
 use Rattle.circuit.specs.Whole.{ruleAnswer}
 use Rattle.circuit.specs.WholeLaws.{accepted}
-use Rattle.plan.specs.PlanFile.{mark, leastPlanBytes, mostPlanBytes, groupsCounted, groupsIn, Plan, EachGroup, Rising, Apart}
+use Rattle.plan.specs.PlanFile.{mark, groupsCounted, groupsIn, Plan, EachGroup, Rising, Apart}
+use Rattle.plan.specs.Limits.{leastPlanBytes, mostPlanBytes}
 use Rattle.plan.specs.Groups.{smallest, groupOf}
 use Rattle.plan.specs.Rows.{everyGroup, rises, groupsRise, Row, layoutRows, joinRows, orderRows, rows, firstFailing, planRow, planAnswer}
 use Rattle.plan.specs.Accepted.{LaidOut, Exist, GroupsRise, Acceptable}

@@ -7,7 +7,8 @@ use lib.ListN.{length, getD, length-append}
 use Rattle.base.specs.Lists.{flat}
 use Rattle.base.specs.Numbers.{bytesOf, numberAt}
 use Rattle.base.specs.NumberLaws.{length-bytes, number-found}
-use Rattle.plan.specs.PlanFile.{mark, leastPlanBytes, gatesCounted, groupsCounted, Plan, numbersAt, groupAt, after, groupsFrom, groupsIn, EachGroup, Ends}
+use Rattle.plan.specs.PlanFile.{mark, gatesCounted, groupsCounted, Plan, numbersAt, groupAt, after, groupsFrom, groupsIn, EachGroup, Ends}
+use Rattle.plan.specs.Limits.{leastPlanBytes}
 use Rattle.plan.specs.Layout.{Small, groupsBytes, planBytes}
 
 numbers-found : (G a b : List ℕ) → Small G → numbersAt (length G) (a ++ (flat (bytesOf 2) G ++ b)) (length a) ≡ G

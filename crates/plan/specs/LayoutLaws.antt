@@ -10,7 +10,8 @@ use Rattle.base.specs.Lists.{flat}
 use Rattle.base.specs.Numbers.{bytesOf, numberAt, Bytes}
 use Rattle.base.specs.NumberLaws.{number-back}
 use Rattle.circuit.specs.PlainCircuit.{gateCount}
-use Rattle.plan.specs.PlanFile.{leastPlanBytes, groupsCounted, numbersAt, groupAt, after, groupsFrom, groupsIn, Ends}
+use Rattle.plan.specs.PlanFile.{groupsCounted, numbersAt, groupAt, after, groupsFrom, groupsIn, Ends}
+use Rattle.plan.specs.Limits.{leastPlanBytes}
 use Rattle.plan.specs.Accepted.{LaidOut}
 use Rattle.plan.specs.Layout.{groupsBytes, planBytes}
 

@@ -1,3 +1,4 @@
+pub mod Limits
 pub mod PlanFile
 pub mod Groups
 pub mod Layout

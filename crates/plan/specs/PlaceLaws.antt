@@ -10,7 +10,8 @@ use Rattle.base.specs.Lists.{_∈_, elem}
 use Rattle.base.specs.MemberLaws.{elem→∈, ∈→elem}
 use Rattle.base.specs.TestLaws.{split}
 use Rattle.circuit.specs.PlainCircuit.{gateCount}
-use Rattle.plan.specs.PlanFile.{leastPlanBytes, groupsCounted, groupAt, after, groupsFrom, groupsIn, Ends, Rising, EachGroup, Listed, Apart}
+use Rattle.plan.specs.PlanFile.{groupsCounted, groupAt, after, groupsFrom, groupsIn, Ends, Rising, EachGroup, Listed, Apart}
+use Rattle.plan.specs.Limits.{leastPlanBytes}
 use Rattle.plan.specs.Groups.{smallest, groupOf, members}
 use Rattle.plan.specs.Accepted.{Acceptable, Exist}
 use Rattle.plan.specs.ListedLaws.{StandsIn, stands-each, name-to, members-listed, members-alone}

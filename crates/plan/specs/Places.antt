@@ -3,7 +3,8 @@ use Prim.Native.Nat.{ℕ, zero, suc}
 use mathlib.Core.List.{List}
 use mathlib.Core.Bool.{cond}
 use Rattle.base.specs.Lists.{elem}
-use Rattle.plan.specs.PlanFile.{leastPlanBytes, groupsCounted, groupAt, after}
+use Rattle.plan.specs.PlanFile.{groupsCounted, groupAt, after}
+use Rattle.plan.specs.Limits.{leastPlanBytes}
 
 -- of n groups from the place at on: the place of the first that lists the gate g, 0 when none does
 abbrev pub placeFrom : ℕ → List ℕ → ℕ → ℕ → ℕ

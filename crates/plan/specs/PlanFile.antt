@@ -8,17 +8,11 @@ use lib.ListN.{length, getD}
 use mathlib.Core.Logic.{_⊎_}
 use Rattle.base.specs.Lists.{_∈_}
 use Rattle.base.specs.Numbers.{numberAt}
+use Rattle.plan.specs.Limits.{leastPlanBytes}
 
 -- "PLN" and the version
 abbrev pub mark : List ℕ
 mark = 0x50 ∷ 0x4C ∷ 0x4E ∷ 0x00 ∷ 0x01 ∷ []
-
--- a plan has 9 to 1,024 bytes
-abbrev pub leastPlanBytes : ℕ
-leastPlanBytes = 9
-
-abbrev pub mostPlanBytes : ℕ
-mostPlanBytes = 1024
 
 -- the gate count and the group count, as the file gives them
 abbrev pub gatesCounted : List ℕ → ℕ

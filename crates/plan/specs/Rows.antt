@@ -13,7 +13,8 @@ use Rattle.circuit.specs.Gates.{Gate, start, word, bit, operation, choice, Gate
 use Rattle.circuit.specs.PlainCircuit.{gatesOf, gateCount}
 use Rattle.circuit_needed.specs.Pass.{rulePreconditions}
 use Rattle.circuit.specs.Whole.{ruleAnswer}
-use Rattle.plan.specs.PlanFile.{mark, leastPlanBytes, mostPlanBytes, gatesCounted, groupsCounted, Plan, ends, groupsIn}
+use Rattle.plan.specs.PlanFile.{mark, gatesCounted, groupsCounted, Plan, ends, groupsIn}
+use Rattle.plan.specs.Limits.{leastPlanBytes, mostPlanBytes}
 use Rattle.plan.specs.Groups.{smallest, groups, groupOf}
 use Rattle.plan.specs.Order.{allIn, order}
 

@@ -2,6 +2,7 @@
 // order and the members of each fit together. Each row is a pass over the whole file; the groups are known to lie in the file.
 use circuit::GateId;
 use circuit::NEED_WORDS;
+use circuit::QUAD_ROOM;
 ghost use mathlib.Core.Path.{_≡_};
 ghost use Prim.Native.Nat.{ℕ, _<_};
 ghost use lib.Dec.{ltb};
@@ -12,6 +13,7 @@ ghost use Rattle.plan.specs.Rows as checks;
 ghost use Rattle.plan_groups.specs.Tests.{memberTest, membersTest, joinTest, rowTest, operationCode};
 ghost use Rattle.plan_groups.specs.Walks.{ReadableGroup, Readable};
 ghost use Rattle.base.specs.SetsHeld.{setsIn};
+ghost use Rattle.circuit.specs.Rooms.{gateRoom};
 
 // The rows, by what they ask: of the groups together, then of each.
 const ORDER: u8 = 32;
@@ -31,7 +33,7 @@ fn groups_rise(plan: &[u8]) -> bool
     if left == 0 {
         return true;
     }
-    let mut at = plan_groups::LEAST_BYTES;
+    let mut at = plan::LEAST_PLAN_BYTES;
     let g = plan_member::member(plan, at, 0);
     let mut last = g.0 as usize;
     while 1 < left {
@@ -70,8 +72,8 @@ fn operation_code(code: u32) -> u32
     code
 }
 
-fn code_at(quads: &[u32; 1024], g: GateId) -> u32
-    requires { ⌜ g .0 < 256 ⌝ }
+fn code_at(quads: &[u32; QUAD_ROOM], g: GateId) -> u32
+    requires { ⌜ g .0 < gateRoom ⌝ }
     ensures { λ r. ⌜ r ≡ codeAt (now (quads .entry)) (g .0) ⌝ }
 {
     let i = g.0 as usize;
@@ -79,8 +81,8 @@ fn code_at(quads: &[u32; 1024], g: GateId) -> u32
 }
 
 // 27 or 28 of a member, by the first member.
-fn member_holds(row: u8, quads: &[u32; 1024], first: GateId, g: GateId) -> bool
-    requires { ⌜ (first .0 < 256) × (g .0 < 256) ⌝ }
+fn member_holds(row: u8, quads: &[u32; QUAD_ROOM], first: GateId, g: GateId) -> bool
+    requires { ⌜ (first .0 < gateRoom) × (g .0 < gateRoom) ⌝ }
     ensures { λ r. ⌜ r ≡ memberTest row (gateIn (now (quads .entry)) (first .0)) (gateIn (now (quads .entry)) (g .0)) ⌝ }
 {
     let code = code_at(quads, g);
@@ -92,7 +94,7 @@ fn member_holds(row: u8, quads: &[u32; 1024], first: GateId, g: GateId) -> bool
 }
 
 // 27 or 28 of the group that begins at a place.
-fn members_hold(row: u8, plan: &[u8], at: usize, quads: &[u32; 1024], count: usize) -> bool
+fn members_hold(row: u8, plan: &[u8], at: usize, quads: &[u32; QUAD_ROOM], count: usize) -> bool
     requires { ⌜ ReadableGroup count (now plan) at ⌝ }
     ensures { λ r. ⌜ r ≡ membersTest (gatesIn (now (quads .entry)) count) row (file.groupAt (now (plan .entry)) at) ⌝ }
 {
@@ -135,7 +137,7 @@ fn join_holds(
     row: u8,
     plan: &[u8],
     at: usize,
-    quads: &[u32; 1024],
+    quads: &[u32; QUAD_ROOM],
     count: usize,
     needs: &[u64; NEED_WORDS],
 ) -> bool
@@ -153,7 +155,7 @@ fn join_holds(
 fn every_join(
     row: u8,
     plan: &[u8],
-    quads: &[u32; 1024],
+    quads: &[u32; QUAD_ROOM],
     count: usize,
     needs: &[u64; NEED_WORDS],
 ) -> bool
@@ -161,7 +163,7 @@ fn every_join(
     ensures { λ r. ⌜ r ≡ checks.everyGroup (joinTest (gatesIn (now (quads .entry)) count) (setsIn (now (needs .entry))) row) (file.groupsIn (now (plan .entry))) ⌝ }
 {
     let mut unchecked = plan_groups::groups_counted(plan);
-    let mut at = plan_groups::LEAST_BYTES;
+    let mut at = plan::LEAST_PLAN_BYTES;
     while 0 < unchecked {
         if !join_holds(row, plan, at, quads, count, needs) {
             return false;
@@ -176,7 +178,7 @@ fn every_join(
 fn row_holds(
     row: u8,
     plan: &[u8],
-    quads: &[u32; 1024],
+    quads: &[u32; QUAD_ROOM],
     count: usize,
     needs: &[u64; NEED_WORDS],
 ) -> bool
@@ -192,7 +194,12 @@ fn row_holds(
 
 // Rows 32 and 27 to 29 of a plan that the rows before do not refuse, for the gates that lie in `quads` and their preconditions: the first that refuses it,
 // or 0.
-pub fn check_groups(plan: &[u8], quads: &[u32; 1024], count: usize, needs: &[u64; NEED_WORDS]) -> u8
+pub fn check_groups(
+    plan: &[u8],
+    quads: &[u32; QUAD_ROOM],
+    count: usize,
+    needs: &[u64; NEED_WORDS],
+) -> u8
     requires { ⌜ Readable count (now plan) ⌝ }
     ensures { λ r. ⌜ r ≡ checks.firstFailing (checks.joinRows (gatesIn (now (quads .entry)) count) (setsIn (now (needs .entry))) (now (plan .entry))) ⌝ }
 {

@@ -7,7 +7,8 @@ use native.Mathlib.Omega.{arith}
 use lib.Dec.{eqb}
 use lib.ListN.{length, getD}
 use borrow.Author.Tests.{le-leb, lt-leb}
-use Rattle.plan.specs.PlanFile.{leastPlanBytes, mostPlanBytes, groupsCounted, groupAt, after, groupsFrom, groupsIn, ends}
+use Rattle.plan.specs.PlanFile.{groupsCounted, groupAt, after, groupsFrom, groupsIn, ends}
+use Rattle.plan.specs.Limits.{leastPlanBytes, mostPlanBytes}
 use Rattle.plan.specs.Rows.{everyGroup}
 use Rattle.plan.specs.LayoutLaws.{length-numbers}
 use Rattle.plan_groups.specs.Walks.{Readable, Lie, Ahead, ReadableGroup}

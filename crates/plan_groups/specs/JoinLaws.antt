@@ -12,7 +12,8 @@ use Rattle.base.specs.Lists.{_∈_, elem, every}
 use Rattle.base.specs.MemberLaws.{elem→∈, ∈→elem, every-right}
 use Rattle.base.specs.TestLaws.{split}
 use Rattle.base.specs.ListLaws.{getD-zeros}
-use Rattle.plan.specs.PlanFile.{leastPlanBytes, groupsCounted, groupAt, after, groupsFrom, groupsIn, Listed, Apart}
+use Rattle.plan.specs.PlanFile.{groupsCounted, groupAt, after, groupsFrom, groupsIn, Listed, Apart}
+use Rattle.plan.specs.Limits.{leastPlanBytes}
 use Rattle.plan.specs.Groups.{smallest, groupOf}
 use Rattle.plan.specs.Rows.{apart}
 use Rattle.plan.specs.RowLaws.{apart-right}

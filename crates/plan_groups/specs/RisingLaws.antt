@@ -6,7 +6,8 @@ use mathlib.Core.Bool.{true, false}
 use native.Mathlib.Omega.{arith}
 use lib.ListN.{getD}
 use borrow.Author.Tests.{lt-ltb, le-ltb}
-use Rattle.plan.specs.PlanFile.{leastPlanBytes, groupsCounted, groupAt, after, groupsFrom, groupsIn}
+use Rattle.plan.specs.PlanFile.{groupsCounted, groupAt, after, groupsFrom, groupsIn}
+use Rattle.plan.specs.Limits.{leastPlanBytes}
 use Rattle.plan.specs.Groups.{smallest}
 use Rattle.plan.specs.Rows.{rises, groupsRise}
 use Rattle.plan_groups.specs.Walks.{Readable, Ahead}

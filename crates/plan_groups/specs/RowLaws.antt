@@ -14,7 +14,8 @@ use Rattle.base.specs.declared.Code.{Code}
 use Rattle.circuit.specs.Limits.{mostGates}
 use Rattle.circuit.specs.Gates.{Gates}
 use Rattle.circuit_needed.specs.HeldLaws.{code-above}
-use Rattle.plan.specs.PlanFile.{mark, leastPlanBytes, mostPlanBytes, gatesCounted, groupsCounted, Plan, groupAt, groupsIn, ends}
+use Rattle.plan.specs.PlanFile.{mark, gatesCounted, groupsCounted, Plan, groupAt, groupsIn, ends}
+use Rattle.plan.specs.Limits.{leastPlanBytes, mostPlanBytes}
 use Rattle.plan.specs.Rows.{everyGroup, rises, apart, groupsRise, parted, Row, layoutRows, joinRows, firstFailing}
 use Rattle.plan.specs.RowLaws.{each-right, ends-right, joins-right}
 use Rattle.plan.specs.FailingLaws.{Hold, none-fails, failing-first, failing-second}

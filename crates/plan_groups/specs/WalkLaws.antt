@@ -12,7 +12,8 @@ use Rattle.base.specs.Sets.{union, excludes}
 use Rattle.circuit.specs.Gates.{gateAt}
 use Rattle.circuit_needed.specs.Held.{gateIn, gatesIn}
 use Rattle.circuit_needed.specs.HeldLaws.{gates-at}
-use Rattle.plan.specs.PlanFile.{mostPlanBytes, groupAt, after}
+use Rattle.plan.specs.PlanFile.{groupAt, after}
+use Rattle.plan.specs.Limits.{mostPlanBytes}
 use Rattle.plan.specs.Groups.{smallest}
 use Rattle.plan.specs.Rows.{rises, parted}
 use Rattle.plan_groups.specs.Tests.{memberTest, membersTest, membersFrom, risingFrom, partedFrom}

@@ -3,7 +3,8 @@ use Prim.Native.Nat.{ℕ, _≤_}
 use mathlib.Core.List.{List}
 use lib.ListN.{length, getD}
 use Rattle.circuit.specs.Limits.{mostGates}
-use Rattle.plan.specs.PlanFile.{leastPlanBytes, mostPlanBytes, groupsCounted, groupAt, after, groupsFrom, groupsIn, EachGroup, Rising, Ends}
+use Rattle.plan.specs.PlanFile.{groupsCounted, groupAt, after, groupsFrom, groupsIn, EachGroup, Rising, Ends}
+use Rattle.plan.specs.Limits.{leastPlanBytes, mostPlanBytes}
 use Rattle.plan.specs.Accepted.{Exist}
 
 -- what the rows 20 to 25 establish of the plan p for n gates

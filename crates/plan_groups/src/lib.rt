@@ -1,6 +1,7 @@
 // Document 01, "The plan file and its check" and "Refusals by place": rows 20 to 26 of a plan, and each gate's group.
 // Each row is a pass over the whole file, in the order of their numbers; from row 24 on the groups are known to lie in the file.
 use base::Step;
+use circuit::GATE_ROOM;
 ghost use mathlib.Core.Path.{_≡_};
 ghost use mathlib.Core.Bool.{_&&_, true};
 ghost use Prim.Native.Nat.{_<_, _≤_};
@@ -14,11 +15,8 @@ ghost use Rattle.plan.specs.Rows as checks;
 ghost use Rattle.plan_groups.specs.Tables.{groupTable, placeTable, eachAlone};
 ghost use Rattle.plan_groups.specs.Tests.{shapeTest, putAll};
 ghost use Rattle.plan_groups.specs.Walks.{Lie, ReadableGroup, Readable};
-
-// A plan's bytes, at least and at most.
-pub const LEAST_BYTES: usize = 9;
-
-const MOST_BYTES: usize = 1024;
+ghost use Rattle.circuit.specs.Rooms.{gateRoom};
+ghost use Rattle.plan.specs.Limits.{leastPlanBytes, mostPlanBytes};
 
 // The rows that are tested of each group alone, by what they ask.
 const SIZES: u8 = 24;
@@ -35,7 +33,7 @@ pub fn size_at(plan: &[u8], at: usize) -> usize
 
 // The place after that group.
 pub fn after(plan: &[u8], at: usize) -> usize
-    requires { ⌜ (at < length (now plan)) × (length (now plan) ≤ 1024) ⌝ }
+    requires { ⌜ (at < length (now plan)) × (length (now plan) ≤ mostPlanBytes) ⌝ }
     ensures { λ r. ⌜ r ≡ file.after (now (plan .entry)) at ⌝ }
 {
     at + 1 + 2 * size_at(plan, at)
@@ -58,12 +56,12 @@ pub fn groups_counted(plan: &[u8]) -> usize
 
 // 20: the plan's size.
 fn size_fits(plan: &[u8]) -> bool
-    ensures { λ r. ⌜ r ≡ (leb file.leastPlanBytes (length (now (plan .entry))) && leb (length (now (plan .entry))) file.mostPlanBytes) ⌝ }
+    ensures { λ r. ⌜ r ≡ (leb leastPlanBytes (length (now (plan .entry))) && leb (length (now (plan .entry))) mostPlanBytes) ⌝ }
 {
-    if plan.len() < LEAST_BYTES {
+    if plan.len() < plan::LEAST_PLAN_BYTES {
         return false;
     }
-    plan.len() <= MOST_BYTES
+    plan.len() <= plan::MOST_PLAN_BYTES
 }
 
 // 21: the mark and version.
@@ -79,11 +77,11 @@ fn marked(plan: &[u8]) -> bool
 
 // 23: as many groups as the plan counts lie in the file and end where it ends.
 fn groups_end(plan: &[u8]) -> bool
-    requires { ⌜ (9 ≤ length (now plan)) × (length (now plan) ≤ 1024) ⌝ }
-    ensures { λ r. ⌜ r ≡ file.ends (file.groupsCounted (now (plan .entry))) (now (plan .entry)) file.leastPlanBytes ⌝ }
+    requires { ⌜ (leastPlanBytes ≤ length (now plan)) × (length (now plan) ≤ mostPlanBytes) ⌝ }
+    ensures { λ r. ⌜ r ≡ file.ends (file.groupsCounted (now (plan .entry))) (now (plan .entry)) leastPlanBytes ⌝ }
 {
     let mut left = groups_counted(plan);
-    let mut at = LEAST_BYTES;
+    let mut at = plan::LEAST_PLAN_BYTES;
     while 0 < left {
         if plan.len() <= at {
             return false;
@@ -99,7 +97,7 @@ fn groups_end(plan: &[u8]) -> bool
 
 // 25: the numbers of the group rise, and are gates: each is at least `least`, one above the number before it, and below the gate count.
 fn numbers_rise(plan: &[u8], at: usize, count: usize) -> bool
-    requires { ⌜ (file.after (now plan) at ≤ length (now plan)) × (length (now plan) ≤ 1024) ⌝ }
+    requires { ⌜ (file.after (now plan) at ≤ length (now plan)) × (length (now plan) ≤ mostPlanBytes) ⌝ }
     ensures { λ r. ⌜ r ≡ (checks.rises (file.groupAt (now (plan .entry)) at) && every (λ g. ltb g count) (file.groupAt (now (plan .entry)) at)) ⌝ }
 {
     let size = size_at(plan, at);
@@ -122,7 +120,7 @@ fn numbers_rise(plan: &[u8], at: usize, count: usize) -> bool
 
 // 24 or 25 of the group that begins at a place.
 fn shape_holds(row: u8, plan: &[u8], at: usize, count: usize) -> bool
-    requires { ⌜ (file.after (now plan) at ≤ length (now plan)) × (length (now plan) ≤ 1024) ⌝ }
+    requires { ⌜ (file.after (now plan) at ≤ length (now plan)) × (length (now plan) ≤ mostPlanBytes) ⌝ }
     ensures { λ r. ⌜ r ≡ shapeTest row count (file.groupAt (now (plan .entry)) at) ⌝ }
 {
     if row == SIZES {
@@ -134,11 +132,11 @@ fn shape_holds(row: u8, plan: &[u8], at: usize, count: usize) -> bool
 
 // 24 or 25 of every group.
 fn every_shape(row: u8, plan: &[u8], count: usize) -> bool
-    requires { ⌜ (9 ≤ length (now plan)) × Lie (now plan) (file.groupsCounted (now plan)) 9 ⌝ }
+    requires { ⌜ (leastPlanBytes ≤ length (now plan)) × Lie (now plan) (file.groupsCounted (now plan)) 9 ⌝ }
     ensures { λ r. ⌜ r ≡ checks.everyGroup (shapeTest row count) (file.groupsIn (now (plan .entry))) ⌝ }
 {
     let mut left = groups_counted(plan);
-    let mut at = LEAST_BYTES;
+    let mut at = plan::LEAST_PLAN_BYTES;
     while 0 < left {
         if !shape_holds(row, plan, at, count) {
             return false;
@@ -175,8 +173,8 @@ fn layout_row(plan: &[u8], count: usize) -> u8
 }
 
 // Each gate alone, in a table that is lent clear: a group that its own number names.
-fn number_gates(count: usize, group: &mut [u16; 256])
-    requires { ⌜ (count ≤ mostGates) × (now group ≡ replicate 256 0) ⌝ }
+fn number_gates(count: usize, group: &mut [u16; GATE_ROOM])
+    requires { ⌜ (count ≤ mostGates) × (now group ≡ replicate gateRoom 0) ⌝ }
     ensures { λ r. ⌜ now (group .exit) ≡ eachAlone count ⌝ }
 {
     let mut g: usize = 0;
@@ -191,8 +189,8 @@ fn join_members(
     plan: &[u8],
     at: usize,
     count: usize,
-    group: &mut [u16; 256],
-    places: &mut [u16; 256],
+    group: &mut [u16; GATE_ROOM],
+    places: &mut [u16; GATE_ROOM],
 ) -> bool
     requires { ⌜ ReadableGroup count (now plan) at ⌝ }
     ensures free { λ r. ⌜ r ≡ every (λ g. eqb (getD (now (places .entry)) g 0) 0) (file.groupAt (now (plan .entry)) at) ⌝ }
@@ -216,15 +214,20 @@ fn join_members(
 }
 
 // 26: no gate is in two groups. Every gate's group, and the place of its group in the plan, in tables that are lent clear.
-fn join_groups(plan: &[u8], count: usize, group: &mut [u16; 256], places: &mut [u16; 256]) -> bool
-    requires { ⌜ Readable count (now plan) × ((now group ≡ replicate 256 0) × (now places ≡ replicate 256 0)) ⌝ }
+fn join_groups(
+    plan: &[u8],
+    count: usize,
+    group: &mut [u16; GATE_ROOM],
+    places: &mut [u16; GATE_ROOM],
+) -> bool
+    requires { ⌜ Readable count (now plan) × ((now group ≡ replicate gateRoom 0) × (now places ≡ replicate gateRoom 0)) ⌝ }
     ensures once { λ r. ⌜ r ≡ checks.apart (file.groupsIn (now (plan .entry))) ⌝ }
     ensures groups { λ r. ⌜ (r ≡ true → now (group .exit) ≡ groupTable count (file.groupsIn (now (plan .entry)))) ⌝ }
     ensures places { λ r. ⌜ (r ≡ true → now (places .exit) ≡ placeTable count (now (plan .entry))) ⌝ }
 {
     number_gates(count, group);
     let mut unjoined = groups_counted(plan);
-    let mut at = LEAST_BYTES;
+    let mut at = plan::LEAST_PLAN_BYTES;
     while 0 < unjoined {
         if !join_members(plan, at, count, group, places) {
             return false;
@@ -237,12 +240,17 @@ fn join_groups(plan: &[u8], count: usize, group: &mut [u16; 256], places: &mut [
 
 // Rows 20 to 26 of the plan for a circuit of `count` gates: the first that refuses it, or 0. With 0 each gate's group, by its smallest member, is in
 // `group`, and the place of that group in the plan, 0 for a gate that no group lists, in `places`. Both are lent clear, and clear after a refusal.
-pub fn group_gates(plan: &[u8], count: usize, group: &mut [u16; 256], places: &mut [u16; 256]) -> u8
-    requires { ⌜ (count ≤ mostGates) × ((now group ≡ replicate 256 0) × (now places ≡ replicate 256 0)) ⌝ }
+pub fn group_gates(
+    plan: &[u8],
+    count: usize,
+    group: &mut [u16; GATE_ROOM],
+    places: &mut [u16; GATE_ROOM],
+) -> u8
+    requires { ⌜ (count ≤ mostGates) × ((now group ≡ replicate gateRoom 0) × (now places ≡ replicate gateRoom 0)) ⌝ }
     ensures number { λ r. ⌜ r ≡ checks.firstFailing (checks.layoutRows count (now (plan .entry))) ⌝ }
     ensures groups { λ r. ⌜ (r ≡ 0 → now (group .exit) ≡ groupTable count (file.groupsIn (now (plan .entry)))) ⌝ }
     ensures places { λ r. ⌜ (r ≡ 0 → now (places .exit) ≡ placeTable count (now (plan .entry))) ⌝ }
-    ensures refused { λ r. ⌜ ((r ≡ 0 → ⊥) → (now (group .exit) ≡ replicate 256 0) × (now (places .exit) ≡ replicate 256 0)) ⌝ }
+    ensures refused { λ r. ⌜ ((r ≡ 0 → ⊥) → (now (group .exit) ≡ replicate gateRoom 0) × (now (places .exit) ≡ replicate gateRoom 0)) ⌝ }
 {
     let row = layout_row(plan, count);
     if row != 0 {
@@ -251,7 +259,7 @@ pub fn group_gates(plan: &[u8], count: usize, group: &mut [u16; 256], places: &m
     if join_groups(plan, count, group, places) {
         return 0;
     }
-    *group = [0u16; 256];
-    *places = [0u16; 256];
+    *group = [0u16; GATE_ROOM];
+    *places = [0u16; GATE_ROOM];
     26
 }

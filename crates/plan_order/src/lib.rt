@@ -1,8 +1,10 @@
 // Document 01, "The fused circuit file", Order, and row 30 of "Refusals by place": the next ready group, again and again.
 // Sets of groups and the table of waits lie as `waiting` keeps them.
+use circuit::CONDITION_ROOM;
+use circuit::GATE_ROOM;
 use circuit::GateId;
-use circuit::MOST_CONDITIONS;
 use circuit::NEED_WORDS;
+use circuit::QUAD_ROOM;
 ghost use mathlib.Core.Path.{_≡_};
 ghost use mathlib.Core.Bool.{true};
 ghost use mathlib.Core.List.{reverse};
@@ -16,9 +18,16 @@ ghost use Rattle.plan_waits.specs.Reads.{Orderable};
 ghost use Rattle.plan_order.specs.Row.{orderOf, orderRow};
 ghost use Rattle.plan_order.specs.Search.{nextReady, placeOf, lowered, Holding};
 ghost use Rattle.base.specs.SetsHeld.{setsIn};
+ghost use Rattle.circuit.specs.Rooms.{gateRoom};
 
-// Gates for which a table of 128 words is enough.
+// So few gates have a small table of waits.
 const FEW: usize = 32;
+
+// The words of a table of waits: those of few gates, and of any.
+const FEW_WORDS: usize = base::SET_WORDS * FEW;
+
+const WAIT_WORDS: usize = base::SET_WORDS * GATE_ROOM;
+
 // What is noted at a group that holds up none: no group comes behind this one, so that a note of it changes nothing.
 const NONE: u8 = 255;
 
@@ -59,8 +68,8 @@ fn highest(x: u64) -> usize
 }
 
 // Group p is held up by group q: it is noted there, unless a lower one is.
-fn hold(watch: &mut [u8; 256], q: GateId, p: GateId)
-    requires { ⌜ (q .0 < 256) × ((p .0 < 256) × (length (now watch) ≡ 256)) ⌝ }
+fn hold(watch: &mut [u8; GATE_ROOM], q: GateId, p: GateId)
+    requires { ⌜ (q .0 < gateRoom) × ((p .0 < gateRoom) × (length (now watch) ≡ gateRoom)) ⌝ }
     ensures { λ r. ⌜ now (watch .exit) ≡ lowered (q .0) (p .0) (now (watch .entry)) ⌝ }
 {
     let i = q.0 as usize;
@@ -76,12 +85,12 @@ fn hold(watch: &mut [u8; 256], q: GateId, p: GateId)
 fn next_ready(
     waits: &[u64],
     left: &[u64],
-    watch: &mut [u8; 256],
-    seen: &mut [u8; 256],
+    watch: &mut [u8; GATE_ROOM],
+    seen: &mut [u8; GATE_ROOM],
     from: GateId,
     count: usize,
 ) -> Next
-    requires { ⌜ (count ≤ 256) × ((4 * count ≤ length (now waits)) × ((length (now left) ≡ 4) × ((from .0 ≤ count) × Holding (now waits) (now left) (now watch) (now seen) (from .0)))) ⌝ }
+    requires { ⌜ (count ≤ gateRoom) × ((4 * count ≤ length (now waits)) × ((length (now left) ≡ 4) × ((from .0 ≤ count) × Holding (now waits) (now left) (now watch) (now seen) (from .0)))) ⌝ }
     ensures next { λ r. ⌜ r ≡ nextReady (now (waits .entry)) (now (left .entry)) (from .0) count ⌝ }
     ensures held { λ r. ⌜ Holding (now (waits .entry)) (now (left .entry)) (now (watch .exit)) (now (seen .exit)) (placeOf r count) ⌝ }
 {
@@ -122,24 +131,24 @@ fn wide(x: u8) -> u16
 // group written may be then, and the search goes on there. `waits` is a clear table. That its note is read before the group is written and cleared where
 // it is used keeps the step to `from` a branch, which is mostly foreseen: as a choice of two numbers it is slower by 5 % for 256 gates.
 fn order_in(
-    quads: &[u32; 1024],
+    quads: &[u32; QUAD_ROOM],
     count: usize,
     needs: &[u64; NEED_WORDS],
-    conditions: &[u16; MOST_CONDITIONS],
-    group: &[u16; 256],
-    places: &[u16; 256],
+    conditions: &[u16; CONDITION_ROOM],
+    group: &[u16; GATE_ROOM],
+    places: &[u16; GATE_ROOM],
     waits: &mut [u64],
-    order: &mut [u16; 256],
+    order: &mut [u16; GATE_ROOM],
 ) -> Order
-    requires { ⌜ Orderable (now quads) count (now conditions) (now group) (now places) × ((length (now order) ≡ 256) × ((now waits ≡ replicate (length (now waits)) 0) × (4 * count ≤ length (now waits)))) ⌝ }
+    requires { ⌜ Orderable (now quads) count (now conditions) (now group) (now places) × ((length (now order) ≡ gateRoom) × ((now waits ≡ replicate (length (now waits)) 0) × (4 * count ≤ length (now waits)))) ⌝ }
     ensures answer { λ r. ⌜ r ≡ orderOf (gatesIn (now (quads .entry)) count) (setsIn (now (needs .entry))) (λ x. getD (now (group .entry)) x 0) ⌝ }
     ensures written { λ r. ⌜ now (order .exit) ≡ over (reverse (plan.order (gatesIn (now (quads .entry)) count) (setsIn (now (needs .entry))) (λ x. getD (now (group .entry)) x 0))) (now (order .entry)) ⌝ }
 {
     plan_waits::find_waits(quads, count, needs, conditions, group, places, waits);
     let mut left = [0u64; base::SET_WORDS];
     let n = plan_waits::find_left(group, count, &mut left);
-    let mut watch = [NONE; 256];
-    let mut seen = [0u8; 256];
+    let mut watch = [NONE; GATE_ROOM];
+    let mut seen = [0u8; GATE_ROOM];
     let mut from: u16 = 0;
     let mut k: usize = 0;
     while k < n {
@@ -167,20 +176,20 @@ fn order_in(
 
 // The groups in the order of writing. Few gates have a small table of waits, which is sooner cleared.
 pub fn order_groups(
-    quads: &[u32; 1024],
+    quads: &[u32; QUAD_ROOM],
     count: usize,
     needs: &[u64; NEED_WORDS],
-    conditions: &[u16; MOST_CONDITIONS],
-    group: &[u16; 256],
-    places: &[u16; 256],
-    order: &mut [u16; 256],
+    conditions: &[u16; CONDITION_ROOM],
+    group: &[u16; GATE_ROOM],
+    places: &[u16; GATE_ROOM],
+    order: &mut [u16; GATE_ROOM],
 ) -> Order
-    requires { ⌜ Orderable (now quads) count (now conditions) (now group) (now places) × (length (now order) ≡ 256) ⌝ }
+    requires { ⌜ Orderable (now quads) count (now conditions) (now group) (now places) × (length (now order) ≡ gateRoom) ⌝ }
     ensures answer { λ r. ⌜ r ≡ orderOf (gatesIn (now (quads .entry)) count) (setsIn (now (needs .entry))) (λ x. getD (now (group .entry)) x 0) ⌝ }
     ensures written { λ r. ⌜ now (order .exit) ≡ over (reverse (plan.order (gatesIn (now (quads .entry)) count) (setsIn (now (needs .entry))) (λ x. getD (now (group .entry)) x 0))) (now (order .entry)) ⌝ }
 {
     if count <= FEW {
-        let mut few = [0u64; 128];
+        let mut few = [0u64; FEW_WORDS];
         return order_in(
             quads,
             count,
@@ -192,7 +201,7 @@ pub fn order_groups(
             order,
         );
     }
-    let mut waits = [0u64; 1024];
+    let mut waits = [0u64; WAIT_WORDS];
     order_in(
         quads,
         count,

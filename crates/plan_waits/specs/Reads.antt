@@ -11,6 +11,7 @@ use Rattle.circuit.specs.Gates.{Earlier, conditions}
 use Rattle.circuit.specs.Limits.{mostGates, mostConditions}
 use Rattle.circuit_needed.specs.Held.{choiceCode, codeAt, firstAt, secondAt, thirdAt, gatesIn}
 use Rattle.plan.specs.Groups.{members}
+use Rattle.circuit.specs.Rooms.{gateRoom}
 
 -- the arguments of a gate by its code: a choice has three, an operation what the table says, any other none
 unfoldable pub arityOf : ℕ → ℕ
@@ -22,7 +23,7 @@ argumentsAt quads i = take (arityOf (codeAt quads i)) (firstAt quads i ∷ secon
 
 -- the numbers of l are places of the array of groups, and so are their groups
 abbrev pub Into : List ℕ → List ℕ → Type 0
-Into group l = (a : ℕ) → a ∈ l → (a < 256) × (getD group a 0 < 256)
+Into group l = (a : ℕ) → a ∈ l → (a < gateRoom) × (getD group a 0 < gateRoom)
 
 -- what the order is worked out from: gates in quads, arguments before their gates, the conditions, each gate's group by its smallest member,
 -- and a mark at the members of a group of two or more

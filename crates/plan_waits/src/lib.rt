@@ -1,9 +1,11 @@
 // Document 01, "The plan file and its check": which group waits for which, as sets of groups.
 // A set of groups is four words, as `bitsets` keeps them. The waits are one such set for each group p, from word 4 * p on.
-use circuit::GateId;
-use circuit::MOST_CONDITIONS;
-use circuit::NEED_WORDS;
 use base::ConditionList;
+use circuit::CONDITION_ROOM;
+use circuit::GATE_ROOM;
+use circuit::GateId;
+use circuit::NEED_WORDS;
+use circuit::QUAD_ROOM;
 ghost use mathlib.Core.Path.{_≡_};
 ghost use mathlib.Core.List.{map};
 ghost use Prim.Native.Nat.{_+_, _*_, _<_, _≤_};
@@ -15,13 +17,14 @@ ghost use Rattle.base.specs.BitWords.{bitIn, putBit, putEach, strikeBit};
 ghost use Rattle.plan_waits.specs.Reads.{arityOf, argumentsAt, Into, Orderable};
 ghost use Rattle.plan_waits.specs.Gathering.{Waiting, Left};
 ghost use Rattle.base.specs.SetsHeld.{setsIn};
+ghost use Rattle.circuit.specs.Rooms.{gateRoom};
 
 // A choice has three arguments.
 const CHOICE_ARITY: usize = 3;
 
 // Is group q in the set from word `base` on?
 pub fn has(words: &[u64], base: usize, q: GateId) -> bool
-    requires { ⌜ (base + 4 ≤ length (now words)) × (q .0 < 256) ⌝ }
+    requires { ⌜ (base + 4 ≤ length (now words)) × (q .0 < gateRoom) ⌝ }
     ensures { λ r. ⌜ r ≡ bitIn base (now (words .entry)) (q .0) ⌝ }
 {
     base_bits::has(words, base, q.0)
@@ -29,7 +32,7 @@ pub fn has(words: &[u64], base: usize, q: GateId) -> bool
 
 // Group q is put in the set from word `base` on.
 fn put(words: &mut [u64], base: usize, q: GateId)
-    requires { ⌜ (base + 4 ≤ length (now words)) × (q .0 < 256) ⌝ }
+    requires { ⌜ (base + 4 ≤ length (now words)) × (q .0 < gateRoom) ⌝ }
     ensures { λ r. ⌜ now (words .exit) ≡ putBit base (q .0) (now (words .entry)) ⌝ }
 {
     base_bits::put(words, base, q.0);
@@ -37,7 +40,7 @@ fn put(words: &mut [u64], base: usize, q: GateId)
 
 // Group q, which is in the set, is struck from it.
 pub fn strike(words: &mut [u64], q: GateId)
-    requires { ⌜ (4 ≤ length (now words)) × (q .0 < 256) ⌝ }
+    requires { ⌜ (4 ≤ length (now words)) × (q .0 < gateRoom) ⌝ }
     ensures { λ r. ⌜ now (words .exit) ≡ strikeBit (q .0) (now (words .entry)) ⌝ }
 {
     base_bits::strike(words, q.0);
@@ -57,8 +60,8 @@ fn arity_of(code: u32) -> usize
 }
 
 // The group of a gate, by its smallest member.
-fn group_of(group: &[u16; 256], g: GateId) -> GateId
-    requires { ⌜ g .0 < 256 ⌝ }
+fn group_of(group: &[u16; GATE_ROOM], g: GateId) -> GateId
+    requires { ⌜ g .0 < gateRoom ⌝ }
     ensures { λ r. ⌜ r .0 ≡ getD (now (group .entry)) (g .0) 0 ⌝ }
 {
     let i = g.0 as usize;
@@ -67,7 +70,7 @@ fn group_of(group: &[u16; 256], g: GateId) -> GateId
 
 // Group p waits for group q, which may be p itself.
 fn wait_for(waits: &mut [u64], p: GateId, q: GateId)
-    requires { ⌜ (4 * p .0 + 4 ≤ length (now waits)) × (q .0 < 256) ⌝ }
+    requires { ⌜ (4 * p .0 + 4 ≤ length (now waits)) × (q .0 < gateRoom) ⌝ }
     ensures { λ r. ⌜ now (waits .exit) ≡ putBit (4 * p .0) (q .0) (now (waits .entry)) ⌝ }
 {
     let i = p.0 as usize;
@@ -75,8 +78,14 @@ fn wait_for(waits: &mut [u64], p: GateId, q: GateId)
 }
 
 // Group p waits for the groups of gate m's arguments, its own too.
-fn wait_arguments(quads: &[u32; 1024], group: &[u16; 256], m: GateId, p: GateId, waits: &mut [u64])
-    requires { ⌜ (m .0 < 256) × ((4 * p .0 + 4 ≤ length (now waits)) × Into (now group) (argumentsAt (now quads) (m .0))) ⌝ }
+fn wait_arguments(
+    quads: &[u32; QUAD_ROOM],
+    group: &[u16; GATE_ROOM],
+    m: GateId,
+    p: GateId,
+    waits: &mut [u64],
+)
+    requires { ⌜ (m .0 < gateRoom) × ((4 * p .0 + 4 ≤ length (now waits)) × Into (now group) (argumentsAt (now quads) (m .0))) ⌝ }
     ensures { λ r. ⌜ now (waits .exit) ≡ putEach (4 * p .0) (map (λ a. getD (now (group .entry)) a 0) (argumentsAt (now (quads .entry)) (m .0))) (now (waits .entry)) ⌝ }
 {
     let i = m.0 as usize;
@@ -91,8 +100,8 @@ fn wait_arguments(quads: &[u32; 1024], group: &[u16; 256], m: GateId, p: GateId,
 
 // Group p waits for the groups of the conditions that a list has, its own too.
 fn wait_conditions(
-    conditions: &[u16; MOST_CONDITIONS],
-    group: &[u16; 256],
+    conditions: &[u16; CONDITION_ROOM],
+    group: &[u16; GATE_ROOM],
     list: ConditionList,
     p: GateId,
     waits: &mut [u64],
@@ -112,12 +121,12 @@ fn wait_conditions(
 
 // The waits of every group, in one pass over the gates, from a clear table.
 pub fn find_waits(
-    quads: &[u32; 1024],
+    quads: &[u32; QUAD_ROOM],
     count: usize,
     needs: &[u64; NEED_WORDS],
-    conditions: &[u16; MOST_CONDITIONS],
-    group: &[u16; 256],
-    places: &[u16; 256],
+    conditions: &[u16; CONDITION_ROOM],
+    group: &[u16; GATE_ROOM],
+    places: &[u16; GATE_ROOM],
     waits: &mut [u64],
 )
     requires { ⌜ Orderable (now quads) count (now conditions) (now group) (now places) × ((now waits ≡ replicate (length (now waits)) 0) × (4 * count ≤ length (now waits))) ⌝ }
@@ -138,8 +147,8 @@ pub fn find_waits(
 }
 
 // Every group is left to write at first, from a clear set; gives how many there are.
-pub fn find_left(group: &[u16; 256], count: usize, left: &mut [u64]) -> usize
-    requires { ⌜ (count ≤ 256) × (now left ≡ replicate 4 0) ⌝ }
+pub fn find_left(group: &[u16; GATE_ROOM], count: usize, left: &mut [u64]) -> usize
+    requires { ⌜ (count ≤ gateRoom) × (now left ≡ replicate 4 0) ⌝ }
     ensures counted { λ r. ⌜ r ≡ length (groups count (λ x. getD (now (group .entry)) x 0)) ⌝ }
     ensures left { λ r. ⌜ Left (λ x. getD (now (group .entry)) x 0) count (now (left .exit)) ⌝ }
 {

@@ -1,9 +1,9 @@
 // Document 02, C-16: a batch read step by step, one entry at most a step, from the bytes at hand.
+use base::Answer;
+use base::Step;
 use report::Progress;
 use report::Sums;
 use report::Taken;
-use base::Answer;
-use base::Step;
 ghost use mathlib.Core.Path.{_≡_};
 ghost use mathlib.Core.Bool.{true, cond};
 ghost use Prim.Native.Nat.{_+_, _-_, _≤_, _<_};
@@ -19,9 +19,6 @@ ghost use Rattle.report.specs.Promised.{took, Quiet, Does, Drains};
 
 // The bytes of a batch before its first entry.
 const HEAD: usize = 7;
-
-// No line of an entry is longer.
-pub const LONGEST: usize = report_lines::LONGEST;
 
 // A step that prints nothing.
 fn quiet(progress: Progress, bytes: usize) -> Taken
@@ -195,7 +192,7 @@ pub fn take_entries(progress: Progress, s: &[u8], out: &mut [u8]) -> Taken
     let mut bytes: usize = 0;
     let mut printed: usize = 0;
     loop {
-        if out.len() - printed < LONGEST {
+        if out.len() - printed < report::MOST_LINE {
             break;
         }
         let taken = step(reached, &s[bytes..], &mut out[printed..]);

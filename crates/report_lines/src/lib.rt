@@ -12,12 +12,6 @@ ghost use Rattle.report.specs.Total.{spacedLess, totalLine};
 // The last refusal that is printed with its place.
 const LAST_PLACED: u8 = 11;
 
-// No line has more bytes: `accepted`, four numbers of 20 digits behind spaces, a line feed.
-pub const LONGEST: usize = 93;
-
-// No total is longer: `total`, five numbers of 20 digits behind spaces, a sign, a line feed.
-pub const LONGEST_TOTAL: usize = 112;
-
 // The digits of n, the highest first: those of n / 10 and then the last. At most 20 calls deep.
 fn put_decimal(n: usize, out: &mut [u8]) -> usize
     requires { ⌜ length (decimal n) ≤ length (now out) ⌝ }
@@ -148,7 +142,7 @@ pub fn write_line(answer: Answer, out: &mut [u8]) -> usize
     ensures counted { λ r. ⌜ r ≡ putCount (lineOf answer) (now (out .entry)) ⌝ }
     ensures written { λ _. ⌜ now (out .exit) ≡ putOver (lineOf answer) (now (out .entry)) ⌝ }
 {
-    let mut text = [0u8; LONGEST];
+    let mut text = [0u8; report::MOST_LINE];
     let n = put_answer(answer, &mut text);
     put_whole(&text[0..n], out)
 }
@@ -164,7 +158,7 @@ pub fn write_total(
     ensures counted { λ r. ⌜ r ≡ putCount (totalLine accepted refused before after) (now (out .entry)) ⌝ }
     ensures written { λ _. ⌜ now (out .exit) ≡ putOver (totalLine accepted refused before after) (now (out .entry)) ⌝ }
 {
-    let mut text = [0u8; LONGEST_TOTAL];
+    let mut text = [0u8; report::MOST_TOTAL];
     let n = put_total(accepted, refused, before, after, &mut text);
     put_whole(&text[0..n], out)
 }

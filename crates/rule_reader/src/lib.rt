@@ -1,8 +1,8 @@
 // Reads a rule file: any bytes are taken, or refused by a number and a place.
 use base::Answer;
-use base::Step;
 use base::Form;
 use base::Kind;
+use base::Step;
 ghost use mathlib.Core.Path.{_≡_};
 ghost use mathlib.Core.Bool.{true};
 ghost use Prim.Native.Nat.{_+_, _≤_, _<_};
@@ -14,19 +14,6 @@ ghost use Rattle.rule.specs.Header.{HasKinds, kindAt, workingAt, readKinds, rea
 ghost use Rattle.rule.specs.Expressions.{readVariable, readWord, readBit, readExpr};
 ghost use Rattle.rule.specs.Blocks.{readAssign, readStatement, readBlock};
 ghost use Rattle.rule.specs.Rule.{readRule};
-
-// The limits of a rule file, all in this place.
-const LEAST_BYTES: usize = 6;
-
-const MOST_BYTES: usize = 4096;
-
-const MOST_VARIABLES: u8 = 32;
-
-const LAST_KIND: u8 = 3;
-
-pub const DEEPEST: u8 = 8;
-
-pub const NESTED: u8 = 8;
 
 // The kind of variable x, which the header has.
 pub fn kind_at(s: &[u8], x: u8) -> Kind
@@ -188,10 +175,10 @@ fn read_assign(s: &[u8], at: usize) -> Step
         return Step::Refused(6, at + 1);
     }
     let want = kind_at(s, x);
-    if is_variable(s, at + 2, want, DEEPEST) {
+    if is_variable(s, at + 2, want, rule::DEEPEST) {
         return Step::Past(at + 4);
     }
-    read_expr(s, at + 2, want, DEEPEST)
+    read_expr(s, at + 2, want, rule::DEEPEST)
 }
 
 // A statement, its code at `at`. `nest` is how many ifs may still nest.
@@ -208,7 +195,7 @@ fn read_statement(s: &[u8], at: usize, nest: u8) -> Step
             if nest == 0 {
                 return Step::Refused(8, at);
             }
-            match read_expr(s, at + 1, Kind::Bit, DEEPEST) {
+            match read_expr(s, at + 1, Kind::Bit, rule::DEEPEST) {
                 Step::Past(first) => match read_block(s, first, nest - 1) {
                     Step::Past(second) => read_block(s, second, nest - 1),
                     Step::Refused(number, place) => Step::Refused(number, place),
@@ -255,7 +242,7 @@ fn read_kinds(s: &[u8], from: usize, count: usize) -> Step
         if s.len() <= at {
             return Step::Refused(4, s.len());
         }
-        if LAST_KIND < s[at] {
+        if rule::LAST_KIND < s[at] {
             return Step::Refused(3, at);
         }
         at += 1;
@@ -275,7 +262,7 @@ fn read_header(s: &[u8]) -> Step
             if count == 0 {
                 return Step::Refused(3, 5);
             }
-            if MOST_VARIABLES < count {
+            if rule::MOST_VARIABLES < count {
                 return Step::Refused(3, 5);
             }
             read_kinds(s, 6, count as usize)
@@ -290,7 +277,7 @@ fn read_bytes(s: &[u8]) -> Step
     ensures { λ r. ⌜ r ≡ stepOf (readRule (now (s .entry))) ⌝ }
 {
     match read_header(s) {
-        Step::Past(body) => match read_block(s, body, NESTED) {
+        Step::Past(body) => match read_block(s, body, rule::NESTED) {
             Step::Past(end) => {
                 if end < s.len() {
                     return Step::Refused(9, end);
@@ -307,10 +294,10 @@ fn read_bytes(s: &[u8]) -> Step
 pub fn read_rule(rule: &[u8]) -> Answer
     ensures { λ r. ⌜ r ≡ answerOf (stepOf (readRule (now (rule .entry)))) ⌝ }
 {
-    if rule.len() < LEAST_BYTES {
+    if rule.len() < rule::LEAST_RULE_BYTES {
         return base_answers::refused(1, 0);
     }
-    if MOST_BYTES < rule.len() {
+    if rule::MOST_RULE_BYTES < rule.len() {
         return base_answers::refused(1, 0);
     }
     base_answers::of_step(read_bytes(rule))

@@ -1,6 +1,7 @@
 // Runs a rule directly on its inputs: rows 40 to 42, and every result variable's figure at its end.
 use base::Answer;
 use base::Kind;
+use circuit::VARIABLE_ROOM;
 ghost use mathlib.Core.Path.{_≡_};
 ghost use Prim.Native.Nat.{_≤_};
 ghost use mathlib.Core.List.{map};
@@ -17,7 +18,7 @@ ghost use Rattle.run.specs.Inputs.{inputRow};
 ghost use Rattle.run.specs.Direct.{runAnswer, runResults};
 
 // What a run writes of the figures at its end, into the first V results: 0 for a working variable.
-fn write_results(rule: &[u8], figures: &[u32; 32], results: &mut [u32])
+fn write_results(rule: &[u8], figures: &[u32; VARIABLE_ROOM], results: &mut [u32])
     requires { ⌜ HasKinds (now rule) × (variables (now rule) ≤ mostVariables) × (variables (now rule) ≤ length (now results)) ⌝ }
     ensures { λ _. ⌜ now (results .exit) ≡ over (map (λ x. writtenFor (now (rule .entry)) x (getD (now (figures .entry)) x 0)) (upto (variables (now (rule .entry))))) (now (results .entry)) ⌝ }
 {
@@ -46,9 +47,9 @@ fn run_checked(rule: &[u8], inputs: &[u32], results: &mut [u32])
     ensures { λ _. ⌜ now (results .exit) ≡ over (runWrites (now (rule .entry)) (now (inputs .entry))) (now (results .entry)) ⌝ }
 {
     let v = rule[5] as usize;
-    let mut figures = [0u32; 32];
+    let mut figures = [0u32; VARIABLE_ROOM];
     base_words::copy32(inputs, &mut figures);
-    run_walk::run_block(rule, 6 + v, rule_reader::NESTED, &mut figures);
+    run_walk::run_block(rule, 6 + v, rule::NESTED, &mut figures);
     write_results(rule, &figures, results);
 }
 

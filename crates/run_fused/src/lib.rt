@@ -1,7 +1,10 @@
 // Runs the fused circuit of a rule and a plan: writes it, then works its figures out from its own bytes.
 use base::Answer;
-use circuit::MOST_CONDITIONS;
+use circuit::CONDITION_ROOM;
+use circuit::GATE_ROOM;
 use circuit::NEED_WORDS;
+use circuit::QUAD_ROOM;
+use circuit::VARIABLE_ROOM;
 use fused_write::Prepared;
 ghost use mathlib.Core.Path.{_≡_};
 ghost use lib.ListN.{length};
@@ -15,9 +18,6 @@ ghost use Rattle.fused_write.specs.Ready.{Ready};
 ghost use Rattle.run.specs.FusedRun.{fusedResults};
 ghost use Rattle.base.specs.SetsHeld.{setsIn};
 
-// The bytes that suffice for every fused circuit; and those that a small one is given, so that less is cleared for it.
-const MOST_BYTES: usize = 16072;
-
 const FEW_BYTES: usize = 1024;
 
 // Writes a fused circuit that is prepared, and works its figures out from its own bytes, on inputs that no row refuses.
@@ -25,13 +25,13 @@ fn run_prepared(
     rule: &[u8],
     plan: &[u8],
     prepared: Prepared,
-    quads: &[u32; 1024],
+    quads: &[u32; QUAD_ROOM],
     needs: &[u64; NEED_WORDS],
-    outputs: &[u16; 32],
-    conditions: &[u16; MOST_CONDITIONS],
-    group: &[u16; 256],
-    places: &[u16; 256],
-    order: &[u16; 256],
+    outputs: &[u16; VARIABLE_ROOM],
+    conditions: &[u16; CONDITION_ROOM],
+    group: &[u16; GATE_ROOM],
+    places: &[u16; GATE_ROOM],
+    order: &[u16; GATE_ROOM],
     inputs: &[u32],
     results: &mut [u32],
 )
@@ -58,7 +58,7 @@ fn run_prepared(
         );
         file_figures::run_file(&file[0..bytes], inputs, results);
     } else {
-        let mut file = [0u8; MOST_BYTES];
+        let mut file = [0u8; fused::MOST_FUSED_BYTES];
         fused_write::put(
             &mut file,
             rule,
@@ -82,13 +82,13 @@ pub fn run(rule: &[u8], plan: &[u8], inputs: &[u32], results: &mut [u32]) -> Ans
     ensures answer { λ r. ⌜ r ≡ runAnswer (fusedAnswer (now (rule .entry)) (now (plan .entry))) (now (rule .entry)) (now (inputs .entry)) (length (now (results .entry))) ⌝ }
     ensures results { λ _. ⌜ now (results .exit) ≡ fusedResults (now (rule .entry)) (now (plan .entry)) (now (inputs .entry)) (now (results .entry)) ⌝ }
 {
-    let mut quads = [0u32; 1024];
+    let mut quads = [0u32; QUAD_ROOM];
     let mut needs = [0u64; NEED_WORDS];
-    let mut outputs = [0u16; 32];
-    let mut conditions = [0u16; MOST_CONDITIONS];
-    let mut group = [0u16; 256];
-    let mut places = [0u16; 256];
-    let mut order = [0u16; 256];
+    let mut outputs = [0u16; VARIABLE_ROOM];
+    let mut conditions = [0u16; CONDITION_ROOM];
+    let mut group = [0u16; GATE_ROOM];
+    let mut places = [0u16; GATE_ROOM];
+    let mut order = [0u16; GATE_ROOM];
     let prepared = fused_write::prepare(
         rule,
         plan,

@@ -1,7 +1,8 @@
 // Runs the blocks of an accepted rule over its bytes: statement by statement, on the variables' figures.
-use base::Step;
 use base::Form;
 use base::Kind;
+use base::Step;
+use circuit::VARIABLE_ROOM;
 ghost use mathlib.Core.Path.{_≡_};
 ghost use Prim.Native.Nat.{_+_, _<_};
 ghost use lib.ListN.{length, getD};
@@ -10,6 +11,7 @@ ghost use Rattle.rule.specs.Expressions.{readExpr};
 ghost use Rattle.rule.specs.Blocks.{readAssign, readStatement, readBlock};
 ghost use Rattle.circuit.specs.Running.{runStatement, runBlock};
 ghost use Rattle.run_walk.specs.Walking.{VariablesFit, WorkedOut, Ran, Passed};
+ghost use Rattle.circuit.specs.Rooms.{variableRoom};
 
 // An expression's figure, and the place after the expression.
 struct Value {
@@ -18,8 +20,8 @@ struct Value {
 }
 
 // The figure of the variable at `at`.
-fn run_variable(s: &[u8], at: usize, figures: &[u32; 32]) -> Value
-    requires { ⌜ (at + 1 < length (now s)) × (getD (now s) (at + 1) 0 < 32) ⌝ }
+fn run_variable(s: &[u8], at: usize, figures: &[u32; VARIABLE_ROOM]) -> Value
+    requires { ⌜ (at + 1 < length (now s)) × (getD (now s) (at + 1) 0 < variableRoom) ⌝ }
     ensures { λ r. ⌜ r ≡ record { figure = getD (now (figures .entry)) (getD (now (s .entry)) (at + 1) 0) 0; next = at + 2 } ⌝ }
 {
     let x = s[at + 1] as usize;
@@ -30,7 +32,7 @@ fn run_variable(s: &[u8], at: usize, figures: &[u32; 32]) -> Value
 }
 
 // The figure of the expression at `at`, of the kind wanted, worked out from the variables' figures.
-fn run_expr(s: &[u8], at: usize, want: Kind, deep: u8, figures: &[u32; 32]) -> Value
+fn run_expr(s: &[u8], at: usize, want: Kind, deep: u8, figures: &[u32; VARIABLE_ROOM]) -> Value
     requires { ⌜ VariablesFit (now s) × IsRead (readExpr deep (now s) want at) ⌝ }
     ensures { λ r. ⌜ WorkedOut (now (figures .entry)) (readExpr deep (now (s .entry)) want at) r ⌝ }
 {
@@ -86,7 +88,7 @@ fn run_expr(s: &[u8], at: usize, want: Kind, deep: u8, figures: &[u32; 32]) -> V
 }
 
 // The same for an argument or a value, most of which are variables: no further call for one.
-fn run_argument(s: &[u8], at: usize, want: Kind, deep: u8, figures: &[u32; 32]) -> Value
+fn run_argument(s: &[u8], at: usize, want: Kind, deep: u8, figures: &[u32; VARIABLE_ROOM]) -> Value
     requires { ⌜ VariablesFit (now s) × IsRead (readExpr deep (now s) want at) ⌝ }
     ensures { λ r. ⌜ WorkedOut (now (figures .entry)) (readExpr deep (now (s .entry)) want at) r ⌝ }
 {
@@ -97,13 +99,13 @@ fn run_argument(s: &[u8], at: usize, want: Kind, deep: u8, figures: &[u32; 32]) 
 }
 
 // 01 variable expression, its code at `at`: works out, then stores.
-fn run_assign(s: &[u8], at: usize, figures: &mut [u32; 32]) -> usize
+fn run_assign(s: &[u8], at: usize, figures: &mut [u32; VARIABLE_ROOM]) -> usize
     requires { ⌜ VariablesFit (now s) × IsRead (readAssign (now s) at) ⌝ }
     ensures { λ r. ⌜ Ran runStatement (readAssign (now (s .entry)) at) (now (figures .entry)) r (now (figures .exit)) ⌝ }
 {
     let x = s[at + 1];
     let want = rule_reader::kind_at(s, x);
-    let value = run_argument(s, at + 2, want, rule_reader::DEEPEST, figures);
+    let value = run_argument(s, at + 2, want, rule::DEEPEST, figures);
     figures[x as usize] = value.figure;
     value.next
 }
@@ -120,7 +122,7 @@ fn pass_block(s: &[u8], at: usize, nest: u8) -> usize
 }
 
 // The statement at `at`. An if works out its bit once, and only the block that the bit names runs.
-fn run_statement(s: &[u8], at: usize, nest: u8, figures: &mut [u32; 32]) -> usize
+fn run_statement(s: &[u8], at: usize, nest: u8, figures: &mut [u32; VARIABLE_ROOM]) -> usize
     requires { ⌜ VariablesFit (now s) × (at < length (now s)) × IsRead (readStatement (now s) nest at) ⌝ }
     ensures { λ r. ⌜ Ran runStatement (readStatement (now (s .entry)) nest at) (now (figures .entry)) r (now (figures .exit)) ⌝ }
 {
@@ -130,7 +132,7 @@ fn run_statement(s: &[u8], at: usize, nest: u8, figures: &mut [u32; 32]) -> usiz
         Form::Assign => run_assign(s, at, figures),
         Form::Skip => at + 1,
         Form::Branch => {
-            let test = run_expr(s, at + 1, Kind::Bit, rule_reader::DEEPEST, figures);
+            let test = run_expr(s, at + 1, Kind::Bit, rule::DEEPEST, figures);
             if test.figure == 1 {
                 let second = run_block(s, test.next, nest - 1, figures);
                 pass_block(s, second, nest - 1)
@@ -149,7 +151,7 @@ fn run_statement(s: &[u8], at: usize, nest: u8, figures: &mut [u32; 32]) -> usiz
 }
 
 // The block at `at`: its statements in file order. A loop over them, so that only nesting takes stack.
-pub fn run_block(s: &[u8], at: usize, nest: u8, figures: &mut [u32; 32]) -> usize
+pub fn run_block(s: &[u8], at: usize, nest: u8, figures: &mut [u32; VARIABLE_ROOM]) -> usize
     requires { ⌜ VariablesFit (now s) × IsRead (readBlock (now s) nest at) ⌝ }
     ensures { λ r. ⌜ Ran runBlock (readBlock (now (s .entry)) nest at) (now (figures .entry)) r (now (figures .exit)) ⌝ }
 {
