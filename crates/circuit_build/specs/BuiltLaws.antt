@@ -31,7 +31,7 @@ use Rattle.circuit_needed.specs.PassingLaws.{sets-length}
 use Rattle.circuit_needed.specs.RuleQuads.{quads-passable, quads-wanted, quads-preconditions}
 use Rattle.circuit.specs.Whole.{ruleAnswer}
 use Rattle.circuit.specs.WholeLaws.{Accepted}
-use Rattle.circuit_build.specs.Built.{ifAccepted, builtQuads, builtNeeds, builtOutputs, builtConditions}
+use Rattle.circuit_needed.specs.Built.{ifAccepted, builtQuads, builtNeeds, builtOutputs, builtConditions}
 use Rattle.circuit_build.specs.Making.{MadeWhole}
 use Rattle.circuit_build.specs.MakingLaws.{made-held}
 

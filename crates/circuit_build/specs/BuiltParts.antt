@@ -25,7 +25,7 @@ use Rattle.circuit_needed.specs.Held.{gatesIn}
 use Rattle.circuit_needed.specs.HeldQuads.{rule-held}
 use Rattle.circuit.specs.Whole.{ruleAnswer}
 use Rattle.circuit.specs.WholeLaws.{Accepted, accepted}
-use Rattle.circuit_build.specs.Built.{ifAccepted, builtQuads, builtNeeds, builtOutputs, builtConditions}
+use Rattle.circuit_needed.specs.Built.{ifAccepted, builtQuads, builtNeeds, builtOutputs, builtConditions}
 use Rattle.base.specs.Buffers.{padded}
 use Rattle.circuit_build.specs.BuiltLaws.{accepted-builds}
 

@@ -20,7 +20,7 @@ ghost use Rattle.circuit_needed.specs.Ranks.{Marked};
 ghost use Rattle.circuit_needed.specs.Pass.{preconditionSets};
 ghost use Rattle.circuit_needed.specs.Passing.{Passable};
 ghost use Rattle.circuit.specs.Whole.{ruleAnswer};
-ghost use Rattle.circuit_build.specs.Built.{builtQuads, builtNeeds, builtOutputs, builtConditions};
+ghost use Rattle.circuit_needed.specs.Built.{builtQuads, builtNeeds, builtOutputs, builtConditions};
 ghost use Rattle.circuit_build.specs.Making.{wholeIn};
 ghost use Rattle.base.specs.SetsHeld.{setsIn};
 ghost use Rattle.circuit.specs.Rooms.{gateRoom, quadRoom, variableRoom, conditionRoom};

@@ -25,3 +25,4 @@ pub mod HandSteps
 pub mod RulePreconditions
 pub mod RuleQuads
 pub mod Examples
+pub mod Built

@@ -15,7 +15,7 @@ use Rattle.circuit_needed.specs.Held.{Shaped}
 use Rattle.circuit.specs.QuadLaws.{quads-length}
 use Rattle.circuit_needed.specs.ShapedLaws.{rule-shaped}
 use Rattle.circuit.specs.Whole.{ruleAnswer}
-use Rattle.circuit_build.specs.Built.{builtQuads}
+use Rattle.circuit_needed.specs.Built.{builtQuads}
 use Rattle.base.specs.Buffers.{padded}
 use Rattle.circuit_build.specs.BuiltLaws.{accepted-builds}
 use Rattle.plan.specs.PlanFile.{groupsIn}

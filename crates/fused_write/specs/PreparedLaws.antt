@@ -16,7 +16,7 @@ use Rattle.rule.specs.FirstStatement.{rule-read}
 use Rattle.circuit.specs.PlainCircuit.{outputsOf, gateCount, costBefore}
 use Rattle.circuit.specs.Limits.{mostGates}
 use Rattle.circuit.specs.WholeLaws.{accepted}
-use Rattle.circuit_build.specs.Built.{ifAccepted}
+use Rattle.circuit_needed.specs.Built.{ifAccepted}
 use Rattle.circuit_build.specs.BuiltLaws.{accepted-builds}
 use Rattle.circuit_build.specs.BuiltParts.{built-output-inside, built-outputs-length, built-room, built-variables}
 use Rattle.plan.specs.Rows.{planAnswer}

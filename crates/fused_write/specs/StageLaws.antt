@@ -11,7 +11,7 @@ use Rattle.circuit.specs.Gates.{Gates, gateAt, arguments}
 use Rattle.circuit.specs.Limits.{mostGates}
 use Rattle.circuit.specs.PlainCircuit.{gatesOf, gateCount}
 use Rattle.circuit_needed.specs.Pass.{rulePreconditions}
-use Rattle.circuit_build.specs.Built.{builtQuads, builtNeeds}
+use Rattle.circuit_needed.specs.Built.{builtQuads, builtNeeds}
 use Rattle.circuit_build.specs.BuiltParts.{built-room, built-earlier, built-need}
 use Rattle.plan.specs.PlanFile.{groupsIn}
 use Rattle.plan.specs.Groups.{groupOf, members, restsOf}

@@ -19,7 +19,7 @@ use Rattle.circuit.specs.Limits.{mostGates}
 use Rattle.circuit.specs.PlainCircuit.{gatesOf, gateCount}
 use Rattle.circuit.specs.EachGateLaws.{StartGate, rule-starting}
 use Rattle.circuit_needed.specs.Pass.{rulePreconditions}
-use Rattle.circuit_build.specs.Built.{builtQuads, builtNeeds, builtOutputs, builtConditions}
+use Rattle.circuit_needed.specs.Built.{builtQuads, builtNeeds, builtOutputs, builtConditions}
 use Rattle.circuit_build.specs.BuiltParts.{built-room, built-earlier, built-condition, built-output, built-output-inside, built-variables}
 use Rattle.plan.specs.PlanFile.{groupsIn}
 use Rattle.plan.specs.Groups.{groupOf}

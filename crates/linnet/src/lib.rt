@@ -10,7 +10,7 @@ ghost use mathlib.Core.Path.{_≡_};
 ghost use lib.ListN.{length, take, drop};
 ghost use Rattle.base.specs.SetsHeld.{setsIn};
 ghost use Rattle.circuit.specs.Whole.{ruleAnswer};
-ghost use Rattle.circuit_build.specs.Built.{builtQuads, builtNeeds};
+ghost use Rattle.circuit_needed.specs.Built.{builtQuads, builtNeeds};
 ghost use Rattle.plan.specs.Rows.{planAnswer};
 ghost use Rattle.fused.specs.Answers.{fusedAnswer, writeAnswer, writtenOver};
 ghost use Rattle.run.specs.FusedRun.{fusedResults};

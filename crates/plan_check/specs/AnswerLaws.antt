@@ -12,7 +12,7 @@ use Rattle.circuit.specs.PlainCircuit.{gatesOf, gateCount}
 use Rattle.circuit_needed.specs.Held.{gatesIn}
 use Rattle.circuit_needed.specs.Pass.{rulePreconditions}
 use Rattle.circuit.specs.Whole.{ruleAnswer}
-use Rattle.circuit_build.specs.Built.{builtQuads}
+use Rattle.circuit_needed.specs.Built.{builtQuads}
 use Rattle.circuit_build.specs.BuiltParts.{built-count, built-room, built-gates, built-need}
 use Rattle.plan.specs.PlanFile.{groupsIn}
 use Rattle.plan.specs.Groups.{groupOf}

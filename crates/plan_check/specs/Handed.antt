@@ -3,7 +3,7 @@ use Prim.Native.Nat.{ℕ}
 use mathlib.Core.Path.{_≡_}
 use mathlib.Core.List.{List}
 use lib.ListN.{length}
-use Rattle.circuit_build.specs.Built.{builtQuads, builtNeeds, builtOutputs, builtConditions}
+use Rattle.circuit_needed.specs.Built.{builtQuads, builtNeeds, builtOutputs, builtConditions}
 use Rattle.plan_check.specs.Checked.{ifChecked, writingOrder, checkedGroups, checkedPlaces, checkedOrder}
 
 pub record Handed (s p quads needs outputs conds group places order : List ℕ) (groups : ℕ) : Type 0 where

@@ -14,7 +14,7 @@ use Rattle.base.specs.declared.Answer.{Answer}
 use Rattle.circuit.specs.Gates.{conditions}
 use Rattle.circuit.specs.Limits.{mostGates}
 use Rattle.base.specs.Buffers.{padded}
-use Rattle.circuit_build.specs.Built.{builtQuads, builtNeeds, builtOutputs, builtConditions}
+use Rattle.circuit_needed.specs.Built.{builtQuads, builtNeeds, builtOutputs, builtConditions}
 use Rattle.plan.specs.PlanFile.{groupsIn, Apart}
 use Rattle.plan.specs.Groups.{groupOf, Named, groups, members}
 use Rattle.plan.specs.Order.{order}

@@ -4,7 +4,7 @@ use mathlib.Core.Path.{_≡_}
 use mathlib.Core.List.{List}
 use Rattle.base.specs.declared.Answer.{Answer}
 use Rattle.circuit.specs.Whole.{ruleAnswer}
-use Rattle.circuit_build.specs.Built.{builtQuads, builtNeeds, builtOutputs, builtConditions}
+use Rattle.circuit_needed.specs.Built.{builtQuads, builtNeeds, builtOutputs, builtConditions}
 
 -- all that building the circuit of the rule s promises
 abbrev pub IsBuilt : List ℕ → Answer → List ℕ → List ℕ → List ℕ → List ℕ → Type 0

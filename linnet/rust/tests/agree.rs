@@ -2,11 +2,9 @@
 //! parameters, their order and types, and what it answers with. All three texts are parsed.
 
 const RATTLE: &str = include_str!("../../../crates/linnet/src/lib.rt");
-const ANSWERS: &str = include_str!("../../../crates/answers/src/lib.rt");
-const FOREIGN: &str = include_str!("../../../crates/foreign/src/lib.rt");
-const NEEDED: &str = include_str!("../../../crates/needed/src/lib.rt");
-const SETTINGS: &str = include_str!("../../../crates/settings/src/lib.rt");
-const BITSETS: &str = include_str!("../../../crates/bitsets/src/lib.rt");
+const BASE: &str = include_str!("../../../crates/base/src/lib.rt");
+const FILE_READER: &str = include_str!("../../../crates/file_reader/src/lib.rt");
+const CIRCUIT: &str = include_str!("../../../crates/circuit/src/lib.rt");
 const HEADER: &str = include_str!("../../linnet.h");
 const WRAPPER: &str = include_str!("../src/lib.rs");
 
@@ -208,13 +206,19 @@ fn every_function_of_the_wrapper_passes_its_parameters_on() {
     }
 }
 
-/// What `NEED_WORDS` stands for: so many words for each of 256 gates.
-fn need_words() -> usize {
-    assert!(NEEDED.contains("pub const NEED_WORDS: usize = settings::WORDS * 256;"));
-    assert!(SETTINGS.contains("pub const WORDS: usize = bitsets::WORDS;"));
-    let (words, _) =
-        between(BITSETS, "pub const WORDS: usize = ", ";").expect("the words of a set");
-    words.parse::<usize>().expect("a number") * 256
+/// The number that a constant of the Rattle source is given.
+fn constant(text: &str, name: &str) -> usize {
+    let (number, _) =
+        between(text, &format!("pub const {name}: usize = "), ";").expect("a constant");
+    number.parse().expect("a number")
+}
+
+/// The places of an array of quads, and the words of all gates' sets.
+fn rooms() -> (usize, usize) {
+    assert!(CIRCUIT.contains("pub const QUAD_ROOM: usize = 4 * GATE_ROOM;"));
+    assert!(CIRCUIT.contains("pub const NEED_WORDS: usize = base::SET_WORDS * GATE_ROOM;"));
+    let gates = constant(CIRCUIT, "GATE_ROOM");
+    (4 * gates, constant(BASE, "SET_WORDS") * gates)
 }
 
 #[test]
@@ -222,13 +226,16 @@ fn all_structs_are_the_same_in_all_texts() {
     for (name, c) in [("Answer", "answer"), ("Shown", "shown"), ("Part", "part")] {
         let open = format!("#[repr(C)]\npub struct {name} {{");
         // A struct stands in the crate whose operations give it, and in one crate only.
-        let mut found = [RATTLE, ANSWERS, FOREIGN]
+        let mut found = [RATTLE, BASE, FILE_READER]
             .iter()
             .filter_map(|text| between(text, &open, "}"));
         let (fields, _) = found.next().expect("the Rattle struct");
         assert!(found.next().is_none(), "{name} stands twice");
-        // The archive's text has a name for the words of all gates' sets.
-        let fields = fields.replace("NEED_WORDS", &need_words().to_string());
+        // The archive's text has names for the places of its arrays.
+        let (quads, words) = rooms();
+        let fields = fields
+            .replace("QUAD_ROOM", &quads.to_string())
+            .replace("NEED_WORDS", &words.to_string());
         let fields: Vec<Named> = parts(&fields, ',').iter().map(|part| named(part)).collect();
 
         let text = without_comments(HEADER);
