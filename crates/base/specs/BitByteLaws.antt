@@ -1,4 +1,4 @@
--- Laws of the bits of a big-endian number in bytes: bit j is a bit of one byte, since the last byte has the lowest bits. Assumes nothing.
+-- The bits of a big-endian number in bytes: bit j is a bit of one byte, since the last byte has the lowest bits.
 use Prim.Native.Nat.{ℕ, _+_, _-_, _*_, _/_, _%_, _^_, _≤_, _<_}
 use mathlib.Core.Path.{_≡_, sym, ap, _∙_}
 use mathlib.Core.List.{List}

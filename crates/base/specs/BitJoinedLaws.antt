@@ -1,4 +1,4 @@
--- Laws of the number whose words are given, for any number of words: its size, its bits, its bytes; what is common, unions and differences go word by word.
+-- The number whose words are given, for any number of words: its size, its bits, its bytes; what is common, unions and differences go word by word.
 use mathlib.Core.Path.{_≡_, refl, sym, ap, ap₂, _∙_}
 use mathlib.Core.Bool.{Bool, true, _&&_, and-true, and-assoc}
 use mathlib.Core.List.{List, [], _∷_, _++_, map}

@@ -1,4 +1,4 @@
--- Laws of sets of numbers held as bits of words: what a put and a strike change, and that all else stays. Assumes nothing.
+-- Sets of numbers held as bits of words: what a put and a strike change, and that all else stays.
 use Prim.Native.Nat.{ℕ, zero, suc, _+_, _*_, _/_, _%_, _^_, _≤_, _<_}
 use mathlib.Core.Path.{_≡_, refl, sym, ap, ap₂, _∙_}
 use mathlib.Core.Bool.{Bool, true, false, cond, _||_, or-true, or-false}

@@ -1,4 +1,4 @@
--- Laws of lists of bytes: none, one more, two joined, what lies behind some of them.
+-- Lists of bytes: none, one more, two joined, what lies behind some of them.
 use mathlib.Core.Path.{_≡_}
 use mathlib.Core.List.{List, [], _∷_, _++_}
 use Prim.Native.Nat.{ℕ, zero, suc, _+_, _<_}

@@ -1,4 +1,4 @@
--- Laws of kinds and code bytes. Assumes nothing.
+-- Laws of kinds and code bytes.
 use Prim.Native.Nat.{ℕ, suc, _<_, _≤_}
 use native.Mathlib.Omega.{arith}
 use mathlib.Core.Path.{_≡_, refl, sym, ap, subst⁻¹, _∙_}

@@ -1,4 +1,4 @@
--- Laws of a buffer filled piece by piece, each piece in the rest that is handed on. Assumes nothing.
+-- Laws of a buffer filled piece by piece, each piece in the rest that is handed on.
 use Prim.Native.Nat.{ℕ, zero, suc, _+_, _-_, _≤_, _<_}
 use mathlib.Core.Path.{_≡_, refl, sym, ap, _∙_}
 use mathlib.Core.List.{List, [], _++_, append-assoc, append-nil}

@@ -1,4 +1,4 @@
--- Laws of the rows of the inputs, one for each step of the code, and what no row says. Assumes nothing.
+-- Laws of the rows of the inputs, one for each step of the code, and what no row says.
 use Prim.Native.Nat.{ℕ, suc, _+_, _-_, _≤_, _<_}
 use native.Mathlib.Numerals.{add-one}
 use native.Mathlib.Omega.{arith}

@@ -1,4 +1,4 @@
--- Laws of lists that crates above cite: mapped lists, the members that pass a test, runs of numbers, places inside a list, the rest from a place on.
+-- Lists that crates above cite: mapped lists, the members that pass a test, runs of numbers, places inside a list, the rest from a place on.
 use mathlib.Core.Path.{_≡_, refl, sym, ap, _∙_}
 use mathlib.Core.Bool.{Bool, true, false, cond}
 use mathlib.Core.List.{List, [], _∷_, _++_, map, append-nil}

@@ -1,4 +1,4 @@
--- Laws of marks: reading one byte by byte finds it exactly when the bytes begin with it.
+-- Marks: reading one byte by byte finds it exactly when the bytes begin with it.
 use mathlib.Core.Path.{_≡_, refl, sym}
 use mathlib.Core.Bool.{true, false}
 use mathlib.Core.List.{List, [], _∷_}

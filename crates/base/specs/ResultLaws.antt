@@ -1,4 +1,4 @@
--- Laws of results: which operations commute (document 02, C-12), once for all of them, `commutes` saying just for which the order of two arguments does not matter;
+-- Results: which operations commute (document 02, C-12), once for all of them, `commutes` saying just for which the order of two arguments does not matter;
 -- and that a result is of the kind that its operation gives.
 use Prim.Native.Nat.{ℕ, _*_, _≤_}
 use mathlib.Core.Path.{_≡_, sym, ap, _∙_}

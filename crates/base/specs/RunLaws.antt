@@ -1,4 +1,4 @@
--- Laws of runs: what was given stays, each thing gives its value of those before it.
+-- Runs: what was given stays, each thing gives its value of those before it.
 use Prim.Native.Nat.{ℕ, zero, suc, _+_, _≤_, _<_}
 use mathlib.Core.Path.{_≡_, refl, sym, ap, _∙_}
 use mathlib.Core.List.{List, [], _∷_, _++_}

@@ -1,4 +1,4 @@
--- Laws of sets of settings as code holds them: a set in hand, and sets in lent words, read, stored and clear.
+-- Sets of settings as code holds them: a set in hand, and sets in lent words, read, stored and clear.
 use mathlib.Core.Path.{_≡_, refl, sym, ap, _∙_}
 use mathlib.Core.List.{List, [], _∷_, _++_, map, append-assoc}
 use mathlib.Core.Logic.{_⊎_, inl, inr}

@@ -1,4 +1,4 @@
--- Laws of a list of conditions in hand: the list of what a set rests on, and its conditions one by one. Assumes nothing.
+-- A list of conditions in hand: the list of what a set rests on, and its conditions one by one.
 use mathlib.Core.Path.{_≡_, sym, ap, _∙_}
 use mathlib.Core.List.{List}
 use Prim.Native.Nat.{ℕ, _<_, _-_}

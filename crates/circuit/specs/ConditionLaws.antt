@@ -1,4 +1,4 @@
--- Laws of conditions: the list holds exactly the gates that stand first in a choice gate, rising.
+-- Conditions: the list holds exactly the gates that stand first in a choice gate, rising.
 use Prim.Native.Nat.{ℕ, zero, suc, _+_, _≤_, _<_}
 use mathlib.Core.Path.{_≡_, refl}
 use mathlib.Core.Bool.{Bool}

@@ -1,4 +1,4 @@
--- Laws of costs: those of joined lists add up, and no gate costs more than a comparison.
+-- Costs: those of joined lists add up, and no gate costs more than a comparison.
 use Prim.Native.Nat.{ℕ, _+_, _*_, _≤_}
 use mathlib.Core.Path.{_≡_, sym, ap, _∙_}
 use mathlib.Core.List.{[], _∷_, _++_}

@@ -1,5 +1,5 @@
 -- Laws of what holds of every gate of a rule's plain circuit, the one induction over making for it; so every starting value is a variable's, gates 0 to V−1 are these,
--- and no later gate is one. Assumes nothing.
+-- and no later gate is one.
 use Prim.Native.Nat.{ℕ, _≤_, _<_}
 use native.Mathlib.Nat.{zero-add}
 use native.Mathlib.Omega.{arith}

@@ -1,4 +1,4 @@
--- Laws of gates made one after the other: what lies inside a circuit, and that arguments are made before their gates.
+-- Gates made one after the other: what lies inside a circuit, and that arguments are made before their gates.
 use Prim.Native.Nat.{ℕ, zero, suc, _≤_, _<_}
 use mathlib.Core.Path.{_≡_, refl, ap}
 use mathlib.Core.List.{List, [], _∷_, _++_}

@@ -1,4 +1,4 @@
--- Laws of the kinds of gates: an expression makes gates that fit and stands for one of its kind; choices between values of one kind fit.
+-- The kinds of gates: an expression makes gates that fit and stands for one of its kind; choices between values of one kind fit.
 use Prim.Native.Nat.{ℕ, _<_}
 use mathlib.Core.Path.{_≡_, refl, sym, _∙_}
 use mathlib.Core.List.{List, [], _∷_, _++_}

@@ -1,4 +1,4 @@
--- Laws of what the present gates give, for whatever is run gate by gate (figures, or kinds): it stays when gates are appended, and choices give what they are to give.
+-- What the present gates give, for whatever is run gate by gate (figures, or kinds): it stays when gates are appended, and choices give what they are to give.
 use Prim.Native.Nat.{ℕ, _<_}
 use mathlib.Core.Path.{_≡_, refl, sym, ap, _∙_}
 use mathlib.Core.List.{List, [], _∷_, _++_}

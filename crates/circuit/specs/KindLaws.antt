@@ -1,4 +1,4 @@
--- Laws of kinds: results are of their kind; so are the figures of a direct run, and those of the gates of a circuit whose gates fit.
+-- Kinds: results are of their kind; so are the figures of a direct run, and those of the gates of a circuit whose gates fit.
 use Prim.Native.Nat.{ℕ, zero, suc, _*_, _≤_, _<_}
 use mathlib.Core.Path.{_≡_, refl, _∙_, subst}
 use mathlib.Core.List.{List}

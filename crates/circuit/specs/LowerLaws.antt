@@ -1,4 +1,4 @@
--- Laws of the order of an operation's two arguments: of one that commutes every gate of a rule has the lower-numbered first (document 02, C-12). Assumes nothing.
+-- The order of an operation's two arguments: of one that commutes every gate of a rule has the lower-numbered first (document 02, C-12).
 use Prim.Native.Nat.{ℕ, _≤_}
 use native.Mathlib.Omega.{arith}
 use mathlib.Core.Path.{_≡_, sym, ap, _∙_}

@@ -1,4 +1,4 @@
--- Laws of the outputs of the plain circuit: for every typed tree, and for every rule that is read, they have the figures that the direct run ends with.
+-- The outputs of the plain circuit: for every typed tree, and for every rule that is read, they have the figures that the direct run ends with.
 use Prim.Native.Nat.{ℕ, _<_}
 use mathlib.Core.Path.{_≡_, refl, sym, _∙_}
 use mathlib.Core.List.{List, map}

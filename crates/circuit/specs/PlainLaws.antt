@@ -1,4 +1,4 @@
--- Laws of making the plain circuit: gates are only appended.
+-- Making the plain circuit: gates are only appended.
 use Prim.Native.Nat.{ℕ, _≤_}
 use mathlib.Core.Path.{_≡_, refl, sym, ap, _∙_}
 use mathlib.Core.List.{List, [], _∷_, _++_, append-assoc, append-nil}

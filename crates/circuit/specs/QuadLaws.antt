@@ -1,4 +1,4 @@
--- Laws of the gates' quads: how many numbers they are. Assumes nothing.
+-- The gates' quads: how many numbers they are.
 use Prim.Native.Nat.{ℕ, _*_}
 use native.Mathlib.Omega.{arith}
 use mathlib.Core.Path.{_≡_, refl}

@@ -1,4 +1,4 @@
--- Laws of the direct run: it keeps as many figures as there are; a variable that no statement assigns keeps its figure; figures past the variables' change nothing.
+-- The direct run: it keeps as many figures as there are; a variable that no statement assigns keeps its figure; figures past the variables' change nothing.
 use Prim.Native.Nat.{ℕ}
 use native.Mathlib.Omega.{arith}
 use mathlib.Core.Path.{_≡_, refl, ap, _∙_}

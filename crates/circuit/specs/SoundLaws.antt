@@ -1,4 +1,4 @@
--- Laws of making the plain circuit: V present gates stay V and inside the circuit; arguments are made before their gates.
+-- Making the plain circuit: V present gates stay V and inside the circuit; arguments are made before their gates.
 use Prim.Native.Nat.{ℕ, _+_, _≤_, _<_}
 use mathlib.Core.Path.{_≡_, refl, _∙_}
 use mathlib.Core.List.{List, [], _∷_, _++_}

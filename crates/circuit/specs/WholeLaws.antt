@@ -1,4 +1,4 @@
--- Laws of reading a rule as its caller sees it. Assumes nothing.
+-- Laws of reading a rule as its caller sees it.
 use Prim.Native.Nat.{ℕ, _<_, _≤_}
 use native.Mathlib.Omega.{arith}
 use mathlib.Core.Path.{_≡_, refl, sym, ap, _∙_}

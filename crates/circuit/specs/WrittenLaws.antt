@@ -1,4 +1,4 @@
--- Laws of what a run writes: 0 for a working variable, for a result variable its figure at the run's end. Assumes nothing.
+-- What a run writes: 0 for a working variable, for a result variable its figure at the run's end.
 use Prim.Native.Nat.{ℕ, _<_}
 use native.Mathlib.Omega.{arith}
 use mathlib.Core.Path.{_≡_, _∙_}

@@ -1,4 +1,4 @@
--- Laws of the plain circuit built. Assumes nothing.
+-- Laws of the plain circuit built.
 use Prim.Native.Nat.{ℕ, zero, suc, _-_, _*_, _≤_}
 use native.Mathlib.Omega.{arith}
 use mathlib.Core.Path.{_≡_, sym, ap, subst⁻¹, _∙_}

@@ -1,4 +1,4 @@
--- What is built of an accepted rule, part by part: its gates, their preconditions, its conditions and its outputs. Assumes nothing.
+-- What is built of an accepted rule, part by part: its gates, their preconditions, its conditions and its outputs.
 use Prim.Native.Nat.{ℕ, _-_, _*_, _<_, _≤_}
 use mathlib.Core.Path.{_≡_, ap, _∙_}
 use mathlib.Core.List.{List}

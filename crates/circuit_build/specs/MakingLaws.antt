@@ -1,4 +1,4 @@
--- Laws of a rule's gates in quads, once they are made. Assumes nothing.
+-- Laws of a rule's gates in quads, once they are made.
 use Prim.Native.Nat.{ℕ, _-_, _*_, _<_, _≤_}
 use native.Mathlib.Omega.{arith}
 use mathlib.Core.Path.{_≡_, sym, ap, subst⁻¹, _∙_}

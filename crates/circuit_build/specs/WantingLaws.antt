@@ -1,4 +1,4 @@
--- Laws of the loop that lists the gates that a rule wants: at variable x, k gates are listed. Assumes nothing.
+-- The loop that lists the gates that a rule wants: at variable x, k gates are listed.
 use Prim.Native.Nat.{ℕ, suc, _+_, _-_, _≤_, _<_}
 use native.Mathlib.Nat.{sub-zero}
 use native.Mathlib.Omega.{arith}

@@ -1,4 +1,4 @@
--- Laws of making a block, statement after statement, and a whole rule. Assumes nothing.
+-- Laws of making a block, statement after statement, and a whole rule.
 use Prim.Native.Nat.{ℕ, _+_, _-_, _≤_, _<_}
 use native.Mathlib.Omega.{arith}
 use mathlib.Core.Path.{_≡_, refl, sym, ap, subst, subst⁻¹, _∙_}

@@ -1,4 +1,4 @@
--- Laws of the variables' present gates, of starting values and of choices. Assumes nothing.
+-- Laws of the variables' present gates, of starting values and of choices.
 use Prim.Native.Nat.{ℕ, zero, suc, _+_, _-_, _^_, _/_, _%_, _≤_, _<_}
 use native.Mathlib.Omega.{arith}
 use mathlib.Core.Path.{_≡_, refl, sym, ap, subst, subst⁻¹, _∙_}

@@ -1,4 +1,4 @@
--- Laws of making an expression, one for each form that reading took. Assumes nothing.
+-- Laws of making an expression, one for each form that reading took.
 use Prim.Native.Nat.{ℕ, _+_, _-_, _≤_, _<_}
 use native.Mathlib.Omega.{arith}
 use mathlib.Core.Path.{_≡_, refl, sym, ap, subst, subst⁻¹, _∙_}

@@ -1,4 +1,4 @@
--- Laws of the quads of gates, and of pushing one. Assumes nothing.
+-- Laws of the quads of gates, and of pushing one.
 use Prim.Native.Nat.{ℕ, _+_, _*_, _≤_, _<_}
 use native.Mathlib.Omega.{arith}
 use mathlib.Core.Path.{_≡_, refl, sym, ap, _∙_}

@@ -1,4 +1,4 @@
--- Laws of making statements: an assignment, an if, a skip. Assumes nothing.
+-- Making statements: an assignment, an if, a skip.
 use Prim.Native.Nat.{ℕ, _+_, _-_, _≤_, _<_}
 use native.Mathlib.Omega.{arith}
 use mathlib.Core.Path.{_≡_, refl, sym, ap, subst, subst⁻¹, _∙_}

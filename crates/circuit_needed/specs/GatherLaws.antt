@@ -1,4 +1,4 @@
--- Laws of the conditions gathered: the gates that have a number, in rising order, are the conditions, and the turns of the loop that gathers them. Assumes nothing.
+-- The conditions gathered: the gates that have a number, in rising order, are the conditions, and the turns of the loop that gathers them.
 use Prim.Native.Nat.{ℕ, zero, suc, _+_, _-_, _≤_, _<_}
 use mathlib.Core.Path.{_≡_, refl, sym, ap, _∙_}
 use mathlib.Core.List.{List, [], _∷_, _++_, append-nil}

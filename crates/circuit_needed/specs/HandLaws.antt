@@ -1,4 +1,4 @@
--- Laws of one step of the backward pass, for any way to hold sets: handing a gate's set on changes only the sets of its arguments, and only by joins and parts.
+-- One step of the backward pass, for any way to hold sets: handing a gate's set on changes only the sets of its arguments, and only by joins and parts.
 use Prim.Native.Nat.{ℕ, _≤_, _<_}
 use mathlib.Core.Path.{_≡_, refl, _∙_}
 use mathlib.Core.List.{List, [], _∷_}

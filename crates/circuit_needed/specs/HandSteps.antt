@@ -1,4 +1,4 @@
--- Laws of one gate's turn in the pass, by its code: a choice, whose condition has its number, an operation of one or two arguments, or neither.
+-- One gate's turn in the pass, by its code: a choice, whose condition has its number, an operation of one or two arguments, or neither.
 use Prim.Native.Nat.{ℕ, suc, _-_, _≤_, _<_}
 use mathlib.Core.Path.{_≡_, refl, sym, ap, _∙_}
 use mathlib.Core.List.{List, [], _∷_}

@@ -1,4 +1,4 @@
--- Laws of gates read back from quads: each by its code, all of them one after the other, and their cost.
+-- Gates read back from quads: each by its code, all of them one after the other, and their cost.
 use Prim.Native.Nat.{ℕ, zero, suc, _+_, _*_, _≤_, _<_}
 use mathlib.Core.Path.{_≡_, refl, sym, ap, _∙_}
 use mathlib.Core.List.{List, [], _∷_, _++_}

@@ -1,4 +1,4 @@
--- Laws of one step of the backward pass at one setting: handing a gate's set on gives the setting exactly to what the gate asks for.
+-- One step of the backward pass at one setting: handing a gate's set on gives the setting exactly to what the gate asks for.
 use Prim.Native.Nat.{ℕ, _≤_, _<_}
 use mathlib.Core.Path.{_≡_}
 use mathlib.Core.List.{List, [], _∷_}

@@ -1,4 +1,4 @@
--- Laws of the marks: the gates standing first in a choice gate, gate by gate, and that the marked ones are the conditions.
+-- The marks: the gates standing first in a choice gate, gate by gate, and that the marked ones are the conditions.
 use Prim.Native.Nat.{ℕ, zero, suc, _+_, _≤_, _<_}
 use mathlib.Core.Path.{_≡_, refl, sym, ap, _∙_}
 use mathlib.Core.List.{List, [], _∷_, _++_, append-nil}

@@ -1,4 +1,4 @@
--- Laws of needed gates: what is asked for is an argument; what is needed is of the circuit, and follows what is wanted; settings that agree on the needed conditions need the same gates.
+-- Needed gates: what is asked for is an argument; what is needed is of the circuit, and follows what is wanted; settings that agree on the needed conditions need the same gates.
 use Prim.Native.Nat.{ℕ, _<_}
 use mathlib.Core.Path.{_≡_, refl}
 use mathlib.Core.List.{List, []}

@@ -1,4 +1,4 @@
--- Laws of the backward pass, for any way to hold sets: a gate's set is final when the pass reaches it, and the pass finds exactly the needed gates of each setting.
+-- The backward pass, for any way to hold sets: a gate's set is final when the pass reaches it, and the pass finds exactly the needed gates of each setting.
 use Prim.Native.Nat.{ℕ, zero, suc, _≤_, _<_}
 use mathlib.Core.Path.{_≡_, refl, sym, ap, _∙_}
 use mathlib.Core.List.{List}

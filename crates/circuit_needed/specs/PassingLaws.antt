@@ -1,4 +1,4 @@
--- Laws of the pass as the code goes: what is handed to one or two arguments and to a choice's, and the turns of the two loops, over the wanted gates and downwards over all.
+-- The pass as the code goes: what is handed to one or two arguments and to a choice's, and the turns of the two loops, over the wanted gates and downwards over all.
 use Prim.Native.Nat.{ℕ, zero, suc, _+_, _-_, _^_, _≤_, _<_}
 use mathlib.Core.Path.{_≡_, refl, sym, ap, _∙_}
 use mathlib.Core.List.{List, [], _∷_, _++_}

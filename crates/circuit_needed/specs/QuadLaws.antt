@@ -1,4 +1,4 @@
--- Laws of a gate read back from its quad, by its code: other crates cite these and never the text of `gateIn` or `gateOf`.
+-- A gate read back from its quad, by its code: other crates cite these and never the text of `gateIn` or `gateOf`.
 use Prim.Native.Nat.{ℕ, _≤_, _<_}
 use mathlib.Core.Path.{_≡_, refl, ap, _∙_}
 use mathlib.Core.List.{List, [], _∷_}

@@ -1,4 +1,4 @@
--- Laws of the conditions' numbers: where a gate stands in a list, which gates are marked, and the turns of the loop that numbers them.
+-- The conditions' numbers: where a gate stands in a list, which gates are marked, and the turns of the loop that numbers them.
 use Prim.Native.Nat.{ℕ, suc, _+_, _≤_, _<_}
 use mathlib.Core.Path.{_≡_, refl, sym, ap, _∙_}
 use mathlib.Core.List.{List, [], _∷_, _++_, append-nil}

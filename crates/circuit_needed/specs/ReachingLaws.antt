@@ -1,4 +1,4 @@
--- Laws of the list at each gate that the backward pass reaches: where the pass ends, and that a gate's set is final when the pass reaches it.
+-- The list at each gate that the backward pass reaches: where the pass ends, and that a gate's set is final when the pass reaches it.
 use Prim.Native.Nat.{ℕ, zero, suc, _≤_}
 use mathlib.Core.Path.{_≡_, refl, sym, ap, _∙_}
 use mathlib.Core.List.{List}

@@ -1,4 +1,4 @@
--- Laws of the walk that counts the conditions and adds up the costs: a gate newly marked is one condition more. Assumes nothing.
+-- The walk that counts the conditions and adds up the costs: a gate newly marked is one condition more.
 use Prim.Native.Nat.{ℕ, zero, suc, _+_, _-_, _*_, _≤_, _<_}
 use mathlib.Core.Path.{_≡_, sym, ap, _∙_}
 use mathlib.Core.List.{List}

@@ -1,4 +1,4 @@
--- Laws of what a rule wants from the start: the last gates of its result variables, and of nothing else. Assumes nothing.
+-- What a rule wants from the start: the last gates of its result variables, and of nothing else.
 use Prim.Native.Nat.{ℕ, _≤_, _<_}
 use native.Mathlib.Omega.{arith}
 use mathlib.Core.Path.{_≡_, sym, ap, _∙_}

@@ -1,4 +1,4 @@
--- Laws of answers: each operation answers by the rows of the table. Assumes nothing.
+-- Answers: each operation answers by the rows of the table.
 use Prim.Native.Nat.{ℕ, _≤_}
 use native.Mathlib.Omega.{arith}
 use mathlib.Core.Path.{_≡_, refl, sym, ap, subst, _∙_}

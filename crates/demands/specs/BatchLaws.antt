@@ -1,4 +1,4 @@
--- Laws of an entry that is refused: for its rule's size, for its plan's, or for its rule before its plan. Assumes nothing.
+-- An entry that is refused: for its rule's size, for its plan's, or for its rule before its plan.
 use Prim.Native.Nat.{_<_}
 use native.Mathlib.Omega.{arith}
 use mathlib.Core.Path.{_≡_, sym, ap, _∙_}

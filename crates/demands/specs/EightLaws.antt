@@ -1,4 +1,4 @@
--- Laws for document 02, C-17: the limits on conditions and nesting, sets of settings at six and at eight conditions. Assumes nothing.
+-- Laws for document 02, C-17: the limits on conditions and nesting, sets of settings at six and at eight conditions.
 use Prim.Native.Nat.{ℕ, _+_, _-_, _%_, _^_, _≤_, _<_}
 use native.Mathlib.Omega.{arith}
 use mathlib.Core.Path.{_≡_, sym, ap, _∙_}

@@ -1,4 +1,4 @@
--- Laws of the rows 29 and 30: where one is answered, two members and a setting that needs both, or a group that a chain of waits leads back to, are found. Assumes nothing.
+-- The rows 29 and 30: where one is answered, two members and a setting that needs both, or a group that a chain of waits leads back to, are found.
 use Prim.Native.Nat.{ℕ, _^_, _<_}
 use native.Mathlib.Nat.{lt-of-le-of-lt}
 use mathlib.Core.Path.{_≡_, refl, sym, _∙_}

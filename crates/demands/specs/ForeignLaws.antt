@@ -1,4 +1,4 @@
--- Laws for document 02, C-11: circuit files are answered by the rows of the table; our own are read, and their runs give what the direct run of their rule gives. Assumes nothing.
+-- Laws for document 02, C-11: circuit files are answered by the rows of the table; our own are read, and their runs give what the direct run of their rule gives.
 use Prim.Native.Nat.{ℕ, _≤_, _<_}
 use native.Mathlib.Omega.{arith}
 use mathlib.Core.Path.{_≡_, refl, sym, ap, subst⁻¹, _∙_}

@@ -1,4 +1,4 @@
--- Laws of a fused run beside a direct run of the same rule and inputs, and of a written file. Assumes nothing.
+-- Laws of a fused run beside a direct run of the same rule and inputs, and of a written file.
 use Prim.Native.Nat.{ℕ}
 use native.Mathlib.Omega.{arith}
 use mathlib.Core.Path.{_≡_, sym, ap, subst, _∙_}

@@ -1,4 +1,4 @@
--- Laws of the guards that stand in our own circuit: where each member's guard stands, what it is over, and its table bit by bit. Assumes nothing.
+-- The guards that stand in our own circuit: where each member's guard stands, what it is over, and its table bit by bit.
 use Prim.Native.Nat.{ℕ, zero, suc, _+_, _^_, _≤_, _<_}
 use native.Mathlib.Omega.{arith}
 use mathlib.Core.Path.{_≡_, refl, sym, ap, subst⁻¹, _∙_}

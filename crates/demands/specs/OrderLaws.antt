@@ -1,4 +1,4 @@
--- Laws of argument order: which operations commute, by their codes, and the order of a gate's arguments. Assumes nothing.
+-- Argument order: which operations commute, by their codes, and the order of a gate's arguments.
 use Prim.Native.Nat.{ℕ, _≤_}
 use mathlib.Core.Path.{_≡_, refl}
 use mathlib.Core.Bool.{true}

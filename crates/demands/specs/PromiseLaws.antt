@@ -1,4 +1,4 @@
--- Laws of the exported operations' promises: what the demands say holds of any answer, bytes and places that are what the definitions give. Assumes nothing.
+-- The exported operations' promises: what the demands say holds of any answer, bytes and places that are what the definitions give.
 use Prim.Native.Nat.{ℕ}
 use mathlib.Core.Path.{_≡_, sym, ap, subst, subst⁻¹, _∙_}
 use mathlib.Core.List.{List}

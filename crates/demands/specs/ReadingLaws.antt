@@ -1,4 +1,4 @@
--- Laws of rules that reading refuses, as they are answered: 3 at a kind byte (document 02, C-13), 8 at a ninth nested if (C-17). Assumes nothing.
+-- Rules that reading refuses, as they are answered: 3 at a kind byte (document 02, C-13), 8 at a ninth nested if (C-17).
 use Prim.Native.Nat.{ℕ, _+_, _≤_, _<_}
 use native.Mathlib.Omega.{arith}
 use mathlib.Core.Path.{_≡_}

@@ -1,4 +1,4 @@
--- Laws for sentences of document 01 beside the demands: the sizes of our own file, and which answer comes before which. Assumes nothing.
+-- Laws for sentences of document 01 beside the demands: the sizes of our own file, and which answer comes before which.
 use Prim.Native.Nat.{ℕ, _≤_}
 use native.Mathlib.Omega.{arith}
 use mathlib.Core.Path.{_≡_, sym, ap, subst⁻¹, _∙_}

@@ -1,4 +1,4 @@
--- Laws of lists of rows, whichever they are: what the first failing row fixes. Assumes nothing.
+-- Lists of rows, whichever they are: what the first failing row fixes.
 use Prim.Native.Nat.{ℕ, zero, suc, _≤_, _<_}
 use native.Mathlib.Omega.{arith}
 use mathlib.Core.Path.{_≡_, refl, sym, ap, subst, _∙_}

@@ -1,4 +1,4 @@
--- Laws for document 02, C-17: both versions of a circuit file: what is written, what is refused, what both hold. Assumes nothing.
+-- Laws for document 02, C-17: both versions of a circuit file: what is written, what is refused, what both hold.
 use Prim.Native.Nat.{ℕ, _+_, _-_, _%_, _^_, _≤_, _<_}
 use native.Mathlib.Omega.{arith}
 use mathlib.Core.Path.{_≡_, refl, sym, ap, subst, _∙_}

@@ -1,4 +1,4 @@
--- Laws for document 02, C-13: what works changes no rule's answer and makes no gate needed; what the file and every run give for working and for result variables. Assumes nothing.
+-- Laws for document 02, C-13: what works changes no rule's answer and makes no gate needed; what the file and every run give for working and for result variables.
 use Prim.Native.Nat.{ℕ, _<_}
 use native.Mathlib.Omega.{arith}
 use mathlib.Core.Path.{_≡_, sym, ap, subst, subst⁻¹, _∙_}

@@ -1,4 +1,4 @@
--- Laws of the result places after a run that is answered with 0: directly, of the fused circuit, of a circuit file. Assumes nothing.
+-- The result places after a run that is answered with 0: directly, of the fused circuit, of a circuit file.
 use Prim.Native.Nat.{ℕ, _≤_, _<_}
 use mathlib.Core.Path.{_≡_, sym, ap, subst, subst⁻¹, _∙_}
 use mathlib.Core.List.{List}

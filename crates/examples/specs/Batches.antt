@@ -1,4 +1,4 @@
--- Examples of document 02, C-16, "What a month saved", proved from the definitions. Assumes nothing.
+-- Examples of document 02, C-16, "What a month saved", proved from the definitions.
 use Prim.Native.Nat.{ℕ}
 use mathlib.Core.Path.{_≡_, refl}
 use mathlib.Core.List.{List, [], _∷_, _++_, map, flatMap}

@@ -1,4 +1,4 @@
--- Laws from what is computed of an accepted rule to what it means: a gate's precondition, what it rests on, which group waits, what a lent buffer holds. Assumes nothing.
+-- Laws from what is computed of an accepted rule to what it means: a gate's precondition, what it rests on, which group waits, what a lent buffer holds.
 use Prim.Native.Nat.{ℕ, _≤_, _<_}
 use mathlib.Core.Path.{_≡_, refl, subst}
 use mathlib.Core.List.{List, [], append-nil}

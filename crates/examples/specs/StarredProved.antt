@@ -1,4 +1,4 @@
--- The starred examples of document 01, proved from the definitions, as a single list. Assumes nothing.
+-- The starred examples of document 01, proved from the definitions, as a single list.
 use mathlib.Core.Path.{refl, ap}
 use Rattle.base.specs.Numbers.{number, bytesOf}
 use Rattle.base.specs.Buffers.{over}

@@ -1,5 +1,5 @@
 -- Laws for document 01, "The fused circuit file": the bytes of wires and of each form of record, taken apart and put together again, are the same bytes;
--- the theorems that rest on them are in InverseLaws. Assumes nothing.
+-- the theorems that rest on them are in InverseLaws.
 use Prim.Native.Nat.{ℕ, zero, suc, _+_, _*_, _≤_, _<_}
 use mathlib.Core.Path.{_≡_, refl, sym, ap, ap₂, subst, _∙_}
 use mathlib.Core.List.{List, [], _∷_, _++_, append-assoc}

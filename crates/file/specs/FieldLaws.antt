@@ -1,4 +1,4 @@
--- Laws of records that are read back from their bytes: the fields that are no wires fit, and every wire has two bytes. Assumes nothing.
+-- Records that are read back from their bytes: the fields that are no wires fit, and every wire has two bytes.
 use Prim.Native.Nat.{ℕ, suc, _^_, _<_}
 use mathlib.Core.Path.{_≡_}
 use mathlib.Core.List.{List, [], _∷_}

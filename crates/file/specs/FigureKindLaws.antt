@@ -1,5 +1,5 @@
--- Laws of figures and kinds: where records read earlier wires of the right kinds, and constants and inputs are of theirs, every wire's figure is of its kind.
--- So a pick with at most one guard at 1 gives the value whose guard is 1, else 0: the sum is not cut. Assumes nothing.
+-- Figures and kinds: where records read earlier wires of the right kinds, and constants and inputs are of theirs, every wire's figure is of its kind.
+-- So a pick with at most one guard at 1 gives the value whose guard is 1, else 0: the sum is not cut.
 use Prim.Native.Nat.{ℕ, zero, suc, _%_, _≤_, _<_}
 use mathlib.Core.Path.{_≡_, refl, subst, ap, _∙_}
 use mathlib.Core.Bool.{Bool, true, false}

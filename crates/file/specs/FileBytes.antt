@@ -1,4 +1,4 @@
--- Laws for document 01, "The fused circuit file": a file of records that fit consists of bytes. Assumes nothing.
+-- Laws for document 01, "The fused circuit file": a file of records that fit consists of bytes.
 use mathlib.Core.Path.{_≡_}
 use mathlib.Core.List.{List, [], _∷_, _++_}
 use Prim.Native.Nat.{ℕ, _<_}

@@ -1,5 +1,5 @@
 -- Laws for document 01, "The fused circuit file": "Each record begins where the one before ended." A circuit file put together and taken apart again
--- gives its records and its outputs, and so its figures; where each record lies. Assumes nothing.
+-- gives its records and its outputs, and so its figures; where each record lies.
 use mathlib.Core.Path.{_≡_, refl, sym, ap, ap₂, _∙_}
 use mathlib.Core.List.{List, [], _∷_, _++_, map, append-assoc, append-nil}
 use Prim.Native.Nat.{ℕ, zero, suc, _+_, _*_, _^_, _≤_, _<_}

@@ -1,4 +1,4 @@
--- Laws of a circuit file's wires and records, taken from its bytes one after another, and of its figures: what a run of the file cites. Assumes nothing.
+-- A circuit file's wires and records, taken from its bytes one after another, and of its figures: what a run of the file cites.
 use Prim.Native.Nat.{ℕ, zero, suc, _+_, _*_, _<_}
 use mathlib.Core.Path.{_≡_, refl, ap, subst, _∙_}
 use mathlib.Core.List.{List, [], _∷_, _++_, map}

@@ -1,5 +1,5 @@
 -- Laws for document 02, C-11: a file passes the rows 60 to 62 exactly when it is the bytes, in one of the two versions, of a list of records and outputs that is
--- well-formed for that version. Assumes nothing.
+-- well-formed for that version.
 use Prim.Native.Nat.{ℕ, _≤_}
 use mathlib.Core.Path.{_≡_, refl, subst, subst⁻¹}
 use mathlib.Core.List.{List}

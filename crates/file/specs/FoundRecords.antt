@@ -1,4 +1,4 @@
--- Laws for document 01, "The fused circuit file": a record put together and taken apart again is the same, and so are records one after another. Assumes nothing.
+-- Laws for document 01, "The fused circuit file": a record put together and taken apart again is the same, and so are records one after another.
 use mathlib.Core.Path.{_≡_, sym, ap, ap₂, _∙_}
 use mathlib.Core.List.{List, [], _∷_, _++_, append-assoc}
 use Prim.Native.Nat.{ℕ, _+_, _*_}

@@ -1,4 +1,4 @@
--- Laws for document 01, "The fused circuit file": wires and pairs of wires put together and taken apart again are the same. Assumes nothing.
+-- Laws for document 01, "The fused circuit file": wires and pairs of wires put together and taken apart again are the same.
 use mathlib.Core.Path.{_≡_, refl, sym, ap, ap₂, _∙_}
 use mathlib.Core.List.{List, [], _∷_, _++_, append-assoc}
 use mathlib.Core.Logic.{inl, inr}

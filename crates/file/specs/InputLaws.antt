@@ -1,4 +1,4 @@
--- Laws of the inputs of a circuit file that is read: the first V records, two bytes each, in order. Assumes nothing.
+-- The inputs of a circuit file that is read: the first V records, two bytes each, in order.
 use Prim.Native.Nat.{ℕ, zero, suc, _+_, _*_, _≤_, _<_}
 use mathlib.Core.Path.{_≡_, refl, sym, ap, subst, _∙_}
 use mathlib.Core.List.{List}

@@ -1,7 +1,7 @@
 -- Laws for document 01, "The fused circuit file": writing (`recordBytes`, `fileBytes`) and reading (`recordAt`, `fileRecords`) are inverse, both ways.
 -- What is put together and taken apart is the same: a record by `record-found` (FoundRecords), a file by `file-found` (FileLaws).
 -- What is taken apart and put together is the same bytes: a record by `record-back`, records one after another by `records-back`, a file by `file-back`, where the bytes are
--- bytes and laid out (LaidOut). So the files that are laid out are just those that can be written: `file-format`. Assumes nothing.
+-- bytes and laid out (LaidOut). So the files that are laid out are just those that can be written: `file-format`.
 use Prim.Native.Nat.{ℕ, zero, suc, _+_, _-_, _*_, _^_, _≤_, _<_}
 use mathlib.Core.Path.{_≡_, refl, sym, ap, ap₂, subst, subst⁻¹, _∙_}
 use mathlib.Core.List.{List, _∷_, _++_, append-assoc, append-nil}

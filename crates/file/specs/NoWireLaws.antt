@@ -1,5 +1,5 @@
 -- Laws for document 02, C-13, "the circuit reader admits FF FF as an output": of any circuit that is read, any output may be made no wire;
--- it is still read, and running it writes 0 for that variable and for every other what it wrote. Assumes nothing.
+-- it is still read, and running it writes 0 for that variable and for every other what it wrote.
 use Prim.Native.Nat.{ℕ, zero, suc, _<_}
 use native.Mathlib.Omega.{arith}
 use mathlib.Core.Path.{_≡_, refl, sym, ap, _∙_}

@@ -1,4 +1,4 @@
--- Laws of a record's first bytes: which codes there are, and what a record can be by its code. Assumes nothing.
+-- A record's first bytes: which codes there are, and what a record can be by its code.
 use mathlib.Core.Path.{_≡_, refl}
 use mathlib.Core.Logic.{inl, inr}
 use Prim.Native.Nat.{ℕ, _≤_, _<_}

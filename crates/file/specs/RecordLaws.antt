@@ -1,4 +1,4 @@
--- Laws of records: a record's figure reads only the wires that it names; records that read only earlier wires are each worked out from them. Assumes nothing.
+-- Records: a record's figure reads only the wires that it names; records that read only earlier wires are each worked out from them.
 use Prim.Native.Nat.{ℕ, zero, suc, _+_, _%_, _≤_, _<_}
 use mathlib.Core.Path.{_≡_, refl, ap}
 use mathlib.Core.List.{List, [], _∷_, _++_, map}

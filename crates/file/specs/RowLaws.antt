@@ -1,4 +1,4 @@
--- Laws of the rows 60 to 62: what each test says. Assumes nothing.
+-- The rows 60 to 62: what each test says.
 use Prim.Native.Nat.{ℕ, zero, suc, _+_, _*_, _^_, _≤_, _<_}
 use mathlib.Core.Path.{_≡_, refl, sym, ap, _∙_}
 use mathlib.Core.List.{List, [], _∷_}

@@ -1,4 +1,4 @@
--- Laws of running a circuit file, by the answer of reading it, then by the row of the inputs. Assumes nothing.
+-- Laws of running a circuit file, by the answer of reading it, then by the row of the inputs.
 use Prim.Native.Nat.{ℕ}
 use mathlib.Core.Path.{_≡_, sym, ap, _∙_}
 use mathlib.Core.List.{List}

@@ -1,4 +1,4 @@
--- Laws for document 01, "The fused circuit file": the bytes of each form of record, and bytes and costs of records one after another. Assumes nothing.
+-- Laws for document 01, "The fused circuit file": the bytes of each form of record, and bytes and costs of records one after another.
 use mathlib.Core.Path.{_≡_, refl, sym, ap, _∙_}
 use mathlib.Core.List.{List, [], _∷_, _++_, map, append-assoc, append-nil}
 use Prim.Native.Nat.{ℕ, suc, _+_, _*_, _<_}

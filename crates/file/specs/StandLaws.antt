@@ -1,4 +1,4 @@
--- Laws of row 62: what its tests say of one record, of records one after another and of outputs. Assumes nothing.
+-- Row 62: what its tests say of one record, of records one after another and of outputs.
 use Prim.Native.Nat.{ℕ, zero, suc, _+_, _^_, _≤_, _<_}
 use mathlib.Core.Path.{_≡_, refl}
 use mathlib.Core.List.{List, [], _∷_}

@@ -1,4 +1,4 @@
--- Laws of row 62: the file's records and outputs stand as `Standing` says. Assumes nothing.
+-- Row 62: the file's records and outputs stand as `Standing` says.
 use Prim.Native.Nat.{ℕ, zero, suc, _≤_, _<_}
 use mathlib.Core.Path.{_≡_, refl, ap, subst⁻¹}
 use mathlib.Core.List.{List}

@@ -1,4 +1,4 @@
--- Laws of picks as sums: with at most one guard at 1, a pick is the sum of the values whose guards are 1. Assumes nothing.
+-- Picks as sums: with at most one guard at 1, a pick is the sum of the values whose guards are 1.
 use Prim.Native.Nat.{ℕ, zero, suc, _+_, _≤_, _<_}
 use mathlib.Core.Path.{_≡_, refl}
 use mathlib.Core.List.{List, [], _∷_}

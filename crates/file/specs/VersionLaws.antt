@@ -1,4 +1,4 @@
--- Laws of the versions of a circuit file, each for any version. Assumes nothing.
+-- Laws of the versions of a circuit file, each for any version.
 use Prim.Native.Nat.{ℕ, _+_, _*_, _^_, _≤_, _<_}
 use mathlib.Core.Path.{_≡_, refl, sym, ap, _∙_}
 use native.Mathlib.Omega.{arith}

@@ -1,4 +1,4 @@
--- Laws of the kinds of wires: a record's kind reads only the wires that the record names; so of records that read only earlier wires each has its kind. Assumes nothing.
+-- The kinds of wires: a record's kind reads only the wires that the record names; so of records that read only earlier wires each has its kind.
 use Prim.Native.Nat.{ℕ, suc, _<_}
 use mathlib.Core.Path.{_≡_, refl, sym, ap, _∙_}
 use mathlib.Core.List.{List, [], _∷_, _++_, append-assoc}

@@ -1,4 +1,4 @@
--- Laws of a file that passes rows 60 to 62: what a run of it relies on. Assumes nothing.
+-- A file that passes rows 60 to 62: what a run of it relies on.
 use Prim.Native.Nat.{ℕ, suc, _<_}
 use mathlib.Core.Path.{_≡_, sym, subst, subst⁻¹, _∙_}
 use mathlib.Core.List.{List, [], _∷_}

@@ -1,4 +1,4 @@
--- Laws of giving the outputs, one for each step of the code. Assumes nothing.
+-- Laws of giving the outputs, one for each step of the code.
 use Prim.Native.Nat.{ℕ, _+_, _*_, _≤_, _<_}
 use mathlib.Core.Path.{_≡_, sym, ap, subst, _∙_}
 use mathlib.Core.List.{List, [], _∷_, _++_, map, map-append}

@@ -1,4 +1,4 @@
--- Laws of working out an operation from its one or two wires. Assumes nothing.
+-- Laws of working out an operation from its one or two wires.
 use Prim.Native.Nat.{ℕ, _+_, _*_, _≤_, _<_}
 use mathlib.Core.Path.{_≡_, refl, sym, ap, subst, _∙_}
 use mathlib.Core.List.{List, map}

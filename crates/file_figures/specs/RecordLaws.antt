@@ -1,4 +1,4 @@
--- Laws of one record, by its first byte: what its figure needs, and that the code's figure is it. Assumes nothing.
+-- One record, by its first byte: what its figure needs, and that the code's figure is it.
 use Prim.Native.Nat.{ℕ, _+_, _*_, _%_, _≤_, _<_}
 use mathlib.Core.Path.{_≡_, refl, sym, ap, subst, _∙_}
 use mathlib.Core.Bool.{Bool}

@@ -1,4 +1,4 @@
--- Laws of working out a choice, a pick's sum and a guard's number, one for each step of the code. Assumes nothing.
+-- Laws of working out a choice, a pick's sum and a guard's number, one for each step of the code.
 use Prim.Native.Nat.{ℕ, zero, suc, _+_, _-_, _*_, _%_, _^_, _≤_, _<_}
 use mathlib.Core.Path.{_≡_, refl, sym, ap, _∙_}
 use mathlib.Core.Bool.{Bool, true, false, cond}

@@ -1,4 +1,4 @@
--- Laws of working out the records in order, one for each step of the code. Assumes nothing.
+-- Laws of working out the records in order, one for each step of the code.
 use Prim.Native.Nat.{ℕ, suc, _+_, _≤_, _<_}
 use mathlib.Core.Path.{_≡_, refl, sym, ap, subst, _∙_}
 use mathlib.Core.Bool.{Bool}

@@ -1,4 +1,4 @@
--- Laws of the rows 60 and 61, one for each step of the code. Assumes nothing.
+-- Laws of the rows 60 and 61, one for each step of the code.
 use Prim.Native.Nat.{ℕ, zero, suc, _+_, _*_, _-_, _≤_, _<_}
 use mathlib.Core.Path.{_≡_, refl, ap, _∙_}
 use mathlib.Core.Bool.{Bool, true, false, _&&_, _||_, cond, and-true}

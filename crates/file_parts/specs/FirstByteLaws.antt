@@ -1,4 +1,4 @@
--- Laws of a record's first byte, as a decision over it is told it. Assumes nothing.
+-- Laws of a record's first byte, as a decision over it is told it.
 use Prim.Native.Nat.{ℕ, _+_, _≤_, _<_}
 use mathlib.Core.Path.{_≡_}
 use mathlib.Core.List.{List}

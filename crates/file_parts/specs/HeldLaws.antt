@@ -1,4 +1,4 @@
--- Laws of the kinds that a table holds, and of a record's kind from them, by its first byte. Assumes nothing.
+-- Laws of the kinds that a table holds, and of a record's kind from them, by its first byte.
 use Prim.Native.Nat.{ℕ, suc, _+_, _-_, _*_, _≤_, _<_}
 use mathlib.Core.Path.{_≡_, refl, sym, ap, subst, _∙_}
 use mathlib.Core.Bool.{Bool, true, false}

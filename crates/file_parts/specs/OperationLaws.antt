@@ -1,4 +1,4 @@
--- Laws of the record of an operation by its byte: how many bytes it has, and whether it gives a bit. Assumes nothing.
+-- The record of an operation by its byte: how many bytes it has, and whether it gives a bit.
 use Prim.Native.Nat.{ℕ}
 use mathlib.Core.Path.{_≡_, sym, ap, _∙_}
 use mathlib.Core.Bool.{Bool, true}

@@ -1,4 +1,4 @@
--- Laws of a table of the kinds of wires that is filled record by record: it holds the kinds of the wires so far. Assumes nothing.
+-- A table of the kinds of wires that is filled record by record: it holds the kinds of the wires so far.
 use Prim.Native.Nat.{ℕ, _+_, _<_}
 use mathlib.Core.Path.{_≡_, sym, ap, _∙_}
 use mathlib.Core.Bool.{Bool, false}

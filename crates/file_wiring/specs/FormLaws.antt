@@ -1,4 +1,4 @@
--- Laws of row 62 for each form of record: what stands is tested wire by wire, each for being earlier and of its kind at once. Assumes nothing.
+-- Row 62 for each form of record: what stands is tested wire by wire, each for being earlier and of its kind at once.
 use Prim.Native.Nat.{ℕ, zero, suc, _+_, _^_}
 use mathlib.Core.Path.{_≡_, refl, sym, ap, _∙_}
 use mathlib.Core.List.{List, [], _∷_}

@@ -1,4 +1,4 @@
--- Laws of row 62 over the whole file, one for each step of the code: record after record, output after output. Assumes nothing.
+-- Row 62 over the whole file, one for each step of the code: record after record, output after output.
 use Prim.Native.Nat.{ℕ, suc, _+_, _-_, _*_, _≤_, _<_}
 use mathlib.Core.Path.{_≡_, refl, sym, ap, subst, _∙_}
 use mathlib.Core.List.{List}

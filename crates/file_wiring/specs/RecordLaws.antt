@@ -1,4 +1,4 @@
--- Laws of row 62 for the record at a place of a file that is laid out: what the code may read of it, and what it answers, by its first byte. Assumes nothing.
+-- Row 62 for the record at a place of a file that is laid out: what the code may read of it, and what it answers, by its first byte.
 use Prim.Native.Nat.{ℕ, zero, suc, _+_, _*_, _^_, _≤_, _<_}
 use mathlib.Core.Path.{_≡_, refl, sym, ap, subst, _∙_}
 use mathlib.Core.List.{List}

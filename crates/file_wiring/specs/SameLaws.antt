@@ -1,4 +1,4 @@
--- Laws of row 62 from a table of kinds: where it holds the kinds of the earlier wires, what stands by the table stands. Assumes nothing.
+-- Row 62 from a table of kinds: where it holds the kinds of the earlier wires, what stands by the table stands.
 use Prim.Native.Nat.{ℕ, suc, _+_, _≤_, _<_}
 use mathlib.Core.Path.{_≡_, refl}
 use mathlib.Core.List.{List, [], _∷_}

@@ -1,4 +1,4 @@
--- Laws of row 62, one for each step of the code: a wire, an output, wires at equal distances. Assumes nothing.
+-- Row 62, one for each step of the code: a wire, an output, wires at equal distances.
 use Prim.Native.Nat.{ℕ, zero, suc, _+_, _-_, _*_, _^_, _≤_, _<_}
 use mathlib.Core.Path.{_≡_, refl, sym, ap, _∙_}
 use mathlib.Core.List.{List}

@@ -1,4 +1,4 @@
--- Laws of a guard's table in row 62: a big-endian number is below a bound when the bytes above the bound's are 0 and the rest is below it. Assumes nothing.
+-- A guard's table in row 62: a big-endian number is below a bound when the bytes above the bound's are 0 and the rest is below it.
 use Prim.Native.Nat.{ℕ, _+_, _-_, _*_, _^_, _≤_, _<_}
 use mathlib.Core.Path.{_≡_, refl, sym, ap, _∙_}
 use mathlib.Core.List.{List}

@@ -1,4 +1,4 @@
--- The bytes that an accepted answer counts are within the buffer that it was written into. Assumes nothing.
+-- The bytes that an accepted answer counts are within the buffer that it was written into.
 use Prim.Native.Nat.{ℕ, _≤_}
 use native.Mathlib.Omega.{arith}
 use mathlib.Core.Path.{_≡_, sym, ap, _∙_}

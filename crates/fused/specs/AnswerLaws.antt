@@ -1,4 +1,4 @@
--- Laws of the answer of an accepted plan and of a refused one, of the bytes that it counts, and of writing it into a buffer. Assumes nothing.
+-- Laws of the answer of an accepted plan and of a refused one, of the bytes that it counts, and of writing it into a buffer.
 use Prim.Native.Nat.{ℕ, _≤_, _<_}
 use native.Mathlib.Omega.{arith}
 use mathlib.Core.Path.{_≡_, refl, sym, ap, _∙_}

@@ -1,4 +1,4 @@
--- Laws of a group's records: there is one at least, two or more members of two arguments are a joined group, and they read only earlier wires when what the group reads is earlier. Assumes nothing.
+-- A group's records: there is one at least, two or more members of two arguments are a joined group, and they read only earlier wires when what the group reads is earlier.
 use Prim.Native.Nat.{ℕ, suc, _+_, _≤_, _<_}
 use mathlib.Core.Path.{_≡_, refl, sym, ap, _∙_}
 use mathlib.Core.List.{List, [], _∷_, map}

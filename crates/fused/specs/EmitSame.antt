@@ -1,4 +1,4 @@
--- A group's records depend only on the wires that they read and on the preconditions of its members. Assumes nothing.
+-- A group's records depend only on the wires that they read and on the preconditions of its members.
 use Prim.Native.Nat.{ℕ, _≤_}
 use mathlib.Core.Path.{_≡_, refl, ap, ap₂}
 use mathlib.Core.List.{List, [], _∷_, map}

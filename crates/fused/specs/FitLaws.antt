@@ -1,4 +1,4 @@
--- Laws for document 01, "The fused circuit file": the records of a group of gates that fit do fit their bytes. Assumes nothing.
+-- Laws for document 01, "The fused circuit file": the records of a group of gates that fit do fit their bytes.
 use mathlib.Core.Path.{_≡_, refl, _∙_}
 use mathlib.Core.Bool.{false}
 use mathlib.Core.List.{List, [], _∷_, map}

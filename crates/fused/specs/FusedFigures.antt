@@ -1,4 +1,4 @@
--- Laws of the fused circuit of an accepted plan: its records read only earlier wires, and the figures of its result variables, from its records and from its file's bytes,
+-- The fused circuit of an accepted plan: its records read only earlier wires, and the figures of its result variables, from its records and from its file's bytes,
 -- are the direct run's; for a working variable it gives 0, so that it gives what a direct run writes.
 -- The inputs are of their variables' kinds: with a bit above 1 there is no direct run (row 41), and no input has more than 32 bits. (There a pick would be cut to its kind.)
 use Prim.Native.Nat.{ℕ, _<_}

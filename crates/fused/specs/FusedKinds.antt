@@ -1,4 +1,4 @@
--- Laws of the kinds of the fused circuit of an accepted plan: every record reads wires of the right kinds, a gate's wire is of the gate's kind, a result variable's output of the variable's. Assumes nothing.
+-- The kinds of the fused circuit of an accepted plan: every record reads wires of the right kinds, a gate's wire is of the gate's kind, a result variable's output of the variable's.
 use Prim.Native.Nat.{ℕ, _<_}
 use mathlib.Core.Path.{_≡_, ap, _∙_}
 use mathlib.Core.List.{List}

@@ -1,4 +1,4 @@
--- Laws of plans that form the same groups, in whatever order (document 02, C-15): their files are the same. Assumes nothing.
+-- Plans that form the same groups, in whatever order (document 02, C-15): their files are the same.
 use Prim.Native.Nat.{ℕ}
 use mathlib.Core.Path.{_≡_, ap, fun-ext}
 use mathlib.Core.Bool.{cond}

@@ -1,5 +1,5 @@
 -- Where the records of a group stand in the fused circuit, as they follow from the wires of the whole circuit; distinct groups have distinct wires, and what a group
--- waits for has an earlier one. Assumes nothing.
+-- waits for has an earlier one.
 use Prim.Native.Nat.{ℕ, _+_, _-_, _≤_, _<_}
 use mathlib.Core.Path.{_≡_, refl, sym, ap, _∙_}
 use mathlib.Core.List.{List, [], _∷_, _++_, append-assoc, append-nil}

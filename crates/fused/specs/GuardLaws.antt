@@ -1,5 +1,5 @@
--- Laws of guards: a guard says whether its member is needed under the setting that the wires of the conditions make, and that is whether it is needed
--- under the actual setting, also where a wire that it reads belongs to a condition that nothing needs. Assumes nothing.
+-- Guards: a guard says whether its member is needed under the setting that the wires of the conditions make, and that is whether it is needed
+-- under the actual setting, also where a wire that it reads belongs to a condition that nothing needs.
 use Prim.Native.Nat.{ℕ, _≤_, _<_}
 use mathlib.Core.Path.{_≡_, sym, ap, _∙_}
 use mathlib.Core.Bool.{Bool, cond}

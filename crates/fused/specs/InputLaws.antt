@@ -1,4 +1,4 @@
--- Laws of the inputs of the fused circuit of an accepted plan: they are its first V records, in the variables' order, and no later record is one. Assumes nothing.
+-- The inputs of the fused circuit of an accepted plan: they are its first V records, in the variables' order, and no later record is one.
 use Prim.Native.Nat.{ℕ, zero, suc, _+_, _-_, _≤_, _<_}
 use mathlib.Core.Path.{_≡_, refl, sym, ap, subst, _∙_}
 use mathlib.Core.List.{List, [], _∷_, _++_, map, append-assoc, append-nil, map-append}

@@ -1,4 +1,4 @@
--- What the check of a plan leaves of a group of two or more, and that no setting needs two of its members. Assumes nothing.
+-- What the check of a plan leaves of a group of two or more, and that no setting needs two of its members.
 use Prim.Native.Nat.{ℕ, _≤_}
 use mathlib.Core.Path.{_≡_}
 use mathlib.Core.Bool.{false}

@@ -1,5 +1,5 @@
--- Laws of the parts of a joined group (document 02, C-18): the guards and picks that are written and what its operation reads; what holds of these holds along the group, and
--- back. F i are its members' wires at place i, for the places i of a list. Assumes nothing.
+-- The parts of a joined group (document 02, C-18): the guards and picks that are written and what its operation reads; what holds of these holds along the group, and
+-- back. F i are its members' wires at place i, for the places i of a list.
 use Prim.Native.Nat.{ℕ, suc, _+_, _-_, _≤_, _<_}
 use mathlib.Core.Path.{_≡_, refl, sym, ap, _∙_}
 use mathlib.Core.Bool.{true, false}

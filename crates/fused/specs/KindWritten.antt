@@ -1,4 +1,4 @@
--- Laws of the kinds of what is written, group by group: a gate's wire is of the gate's kind, and every record reads wires of the right kinds. Assumes nothing.
+-- The kinds of what is written, group by group: a gate's wire is of the gate's kind, and every record reads wires of the right kinds.
 use Prim.Native.Nat.{ℕ, _+_, _-_, _≤_, _<_}
 use mathlib.Core.Path.{_≡_, refl, sym, ap, subst, _∙_}
 use mathlib.Core.List.{List, [], _∷_, _++_}

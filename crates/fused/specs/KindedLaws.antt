@@ -1,4 +1,4 @@
--- Laws of the kinds of a group's records: a gate alone is of its gate's kind; in a joined group guards are bits, and picks and wires that all members have what the operation takes. Assumes nothing.
+-- The kinds of a group's records: a gate alone is of its gate's kind; in a joined group guards are bits, and picks and wires that all members have what the operation takes.
 use Prim.Native.Nat.{ℕ, suc, _+_, _-_}
 use mathlib.Core.Path.{_≡_, refl, sym, ap, _∙_}
 use mathlib.Core.Bool.{false}

@@ -1,4 +1,4 @@
--- Laws of the outputs of a fused circuit, one for each variable: no wire for a working one, the wire of its last gate for a result variable. Assumes nothing.
+-- The outputs of a fused circuit, one for each variable: no wire for a working one, the wire of its last gate for a result variable.
 use Prim.Native.Nat.{ℕ, _<_}
 use mathlib.Core.Path.{_≡_, _∙_}
 use mathlib.Core.List.{List}

@@ -1,4 +1,4 @@
--- Laws of the figures of a group's records: a gate alone, a joined group, a pick by its members' guards. Assumes nothing.
+-- The figures of a group's records: a gate alone, a joined group, a pick by its members' guards.
 use Prim.Native.Nat.{ℕ, suc, _+_, _-_, _<_}
 use mathlib.Core.Path.{_≡_, refl, sym, ap, _∙_}
 use mathlib.Core.Bool.{Bool, true, false}

@@ -1,4 +1,4 @@
--- Laws of an argument place of a joined group (document 02, C-18): its members have one wire there exactly when each has the first one's. Assumes nothing.
+-- An argument place of a joined group (document 02, C-18): its members have one wire there exactly when each has the first one's.
 use Prim.Native.Nat.{ℕ, _<_}
 use mathlib.Core.Path.{_≡_, refl, _∙_}
 use mathlib.Core.Bool.{true, false, false≢true}

@@ -1,5 +1,5 @@
 -- What an accepted plan gives the fused circuit: its groups' members are alike and exclude each other, every group is written, each gate's wire is a record's,
--- and at most one guard of a pick is 1. Assumes nothing.
+-- and at most one guard of a pick is 1.
 use Prim.Native.Nat.{ℕ, _≤_, _<_}
 use mathlib.Core.Path.{_≡_, sym, ap, _∙_}
 use mathlib.Core.List.{List}

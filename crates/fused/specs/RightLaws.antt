@@ -1,4 +1,4 @@
--- The fused circuit gives every needed gate its plain figure, group by group in the order of writing. Assumes nothing.
+-- The fused circuit gives every needed gate its plain figure, group by group in the order of writing.
 use Prim.Native.Nat.{ℕ, _+_, _-_, _≤_, _<_}
 use mathlib.Core.Path.{_≡_, refl, sym, ap, _∙_, subst}
 use mathlib.Core.Bool.{true, false}

@@ -1,5 +1,5 @@
 -- Laws for document 01, "The fused circuit file": what a group of k members comes to at most: k + 3 records where two or more are joined; how many, how many bytes
--- and what cost any group has. Assumes nothing.
+-- and what cost any group has.
 use mathlib.Core.Path.{_≡_, refl, ap, _∙_}
 use mathlib.Core.Bool.{true, false≢true}
 use mathlib.Core.List.{List, [], _∷_, map}

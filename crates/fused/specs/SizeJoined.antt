@@ -1,4 +1,4 @@
--- Laws for document 01, "The fused circuit file": the records of a group: how many, how many bytes, what cost. Assumes nothing.
+-- Laws for document 01, "The fused circuit file": the records of a group: how many, how many bytes, what cost.
 use mathlib.Core.Path.{_≡_, refl, ap, ap₂, _∙_}
 use mathlib.Core.List.{List, [], _∷_, _++_, map}
 use Prim.Native.Nat.{ℕ, suc, _+_, _*_, _≤_}

@@ -1,4 +1,4 @@
--- Counting the numbers of a list group by group: over distinct groups each number is counted at most once. Assumes nothing.
+-- Counting the numbers of a list group by group: over distinct groups each number is counted at most once.
 use mathlib.Core.Path.{_≡_, refl}
 use mathlib.Core.List.{List, [], _∷_}
 use mathlib.Core.Logic.{inl, inr}

@@ -1,4 +1,4 @@
--- Laws of the guards of picks: whatever figures the other wires hold, at most one guard of a pick is 1. Assumes nothing.
+-- The guards of picks: whatever figures the other wires hold, at most one guard of a pick is 1.
 use Prim.Native.Nat.{ℕ, zero, suc, _+_, _≤_, _<_}
 use mathlib.Core.Path.{_≡_, refl, ap, _∙_}
 use mathlib.Core.Bool.{Bool, true, false}

@@ -1,4 +1,4 @@
--- Laws for document 02, C-11: "Every file that our writer makes is read": the circuit of an accepted plan is well-formed, so rows 60 to 62 find no fault with its file. Assumes nothing.
+-- Laws for document 02, C-11: "Every file that our writer makes is read": the circuit of an accepted plan is well-formed, so rows 60 to 62 find no fault with its file.
 use Prim.Native.Nat.{ℕ, _^_, _≤_, _<_}
 use mathlib.Core.Path.{_≡_, refl, sym, ap, _∙_}
 use mathlib.Core.List.{List, [], _∷_, map}

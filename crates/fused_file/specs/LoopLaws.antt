@@ -1,4 +1,4 @@
--- Laws of the loops that measure and write the groups in turn: start, room, step, end. Assumes nothing.
+-- The loops that measure and write the groups in turn: start, room, step, end.
 use Prim.Native.Nat.{ℕ, zero, suc, _+_, _-_, _≤_, _<_}
 use mathlib.Core.Path.{_≡_, refl, sym, ap, _∙_}
 use mathlib.Core.List.{List, [], _++_}

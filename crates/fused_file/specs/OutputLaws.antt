@@ -1,4 +1,4 @@
--- Laws of the outputs, the head and the whole file: room, and what is written. Assumes nothing.
+-- The outputs, the head and the whole file: room, and what is written.
 use Prim.Native.Nat.{ℕ, zero, suc, _+_, _-_, _*_, _≤_, _<_}
 use mathlib.Core.Path.{_≡_, refl, sym, ap, _∙_}
 use mathlib.Core.List.{List, [], _∷_, _++_, map, map-append, append-assoc, append-nil}

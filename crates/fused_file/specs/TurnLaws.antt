@@ -1,4 +1,4 @@
--- Laws of a turn: what the code finds in the arrays at turn i, and what the turn adds to the stage. Assumes nothing.
+-- A turn: what the code finds in the arrays at turn i, and what the turn adds to the stage.
 use Prim.Native.Nat.{ℕ, suc, _+_, _-_, _≤_, _<_}
 use mathlib.Core.Path.{_≡_, refl, sym, ap, _∙_}
 use mathlib.Core.List.{List, [], _∷_, _++_, append-nil}

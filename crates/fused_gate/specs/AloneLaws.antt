@@ -1,4 +1,4 @@
--- Laws of the record of a gate alone, by its code: its bytes, its cost, and what its arguments keep to. Assumes nothing.
+-- The record of a gate alone, by its code: its bytes, its cost, and what its arguments keep to.
 use Prim.Native.Nat.{ℕ, suc, _≤_, _<_}
 use mathlib.Core.Path.{_≡_, refl, sym, ap, subst, _∙_}
 use mathlib.Core.List.{List, [], _∷_, map}

@@ -1,4 +1,4 @@
--- Laws of bytes written one behind another: wires, pairs of wires, a word constant. Assumes nothing.
+-- Bytes written one behind another: wires, pairs of wires, a word constant.
 use Prim.Native.Nat.{ℕ, suc, _+_, _-_, _*_, _≤_}
 use mathlib.Core.Path.{_≡_, refl, sym, ap, _∙_}
 use mathlib.Core.List.{List, [], _∷_, _++_, append-assoc, append-nil}

@@ -1,5 +1,5 @@
 -- The record of a gate alone, of quads that hold a circuit, is the circuit's; and what the writer asks holds of quads that hold a circuit whose variables and
--- bit constants are bytes, with at most 256 gates. Assumes nothing.
+-- bit constants are bytes, with at most 256 gates.
 use Prim.Native.Nat.{ℕ, _*_, _≤_, _<_}
 use mathlib.Core.Path.{_≡_, refl, sym, ap, ap₂, _∙_}
 use mathlib.Core.List.{List}

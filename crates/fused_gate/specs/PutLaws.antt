@@ -1,4 +1,4 @@
--- Laws of writing a gate alone: the room that its record finds, and that the bytes written are its record's. Assumes nothing.
+-- Writing a gate alone: the room that its record finds, and that the bytes written are its record's.
 use Prim.Native.Nat.{ℕ, _≤_, _<_}
 use mathlib.Core.Path.{_≡_, sym, ap, _∙_}
 use mathlib.Core.List.{List, [], _∷_}

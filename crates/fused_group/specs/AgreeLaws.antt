@@ -1,4 +1,4 @@
--- Laws of the loop that compares the members' wires at an argument place with the first one's: start, step, end. Assumes nothing.
+-- The loop that compares the members' wires at an argument place with the first one's: start, step, end.
 use Prim.Native.Nat.{ℕ, suc, _+_, _≤_, _<_}
 use mathlib.Core.Path.{_≡_, sym, ap, _∙_}
 use mathlib.Core.Bool.{true, false}

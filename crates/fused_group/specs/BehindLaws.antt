@@ -1,4 +1,4 @@
--- Laws of records written behind records: room, and what is written. Assumes nothing.
+-- Records written behind records: room, and what is written.
 use Prim.Native.Nat.{ℕ, _+_, _-_, _≤_}
 use mathlib.Core.Path.{_≡_, ap, _∙_}
 use mathlib.Core.List.{List, _++_}

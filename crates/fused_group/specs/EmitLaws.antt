@@ -1,4 +1,4 @@
--- What the records of a group of the quads are of a rule: quads that hold a circuit emit what the circuit emits; a joined group has a record. Assumes nothing.
+-- What the records of a group of the quads are of a rule: quads that hold a circuit emit what the circuit emits; a joined group has a record.
 use Prim.Native.Nat.{ℕ, _*_, _≤_}
 use mathlib.Core.Path.{_≡_, refl, ap}
 use mathlib.Core.List.{List, [], _∷_}

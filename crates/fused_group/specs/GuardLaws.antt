@@ -1,4 +1,4 @@
--- Laws of writing a guard and a pick: their sizes, and that the bytes written are the record's. Assumes nothing.
+-- Writing a guard and a pick: their sizes, and that the bytes written are the record's.
 use Prim.Native.Nat.{ℕ, suc, _+_, _-_, _*_, _≤_}
 use mathlib.Core.Path.{_≡_, refl, sym, ap, _∙_}
 use mathlib.Core.List.{List, [], _∷_, _++_, map}

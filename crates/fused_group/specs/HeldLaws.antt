@@ -1,4 +1,4 @@
--- What the writers of a joined group ask holds of quads that hold a circuit with at most 256 gates. Assumes nothing.
+-- What the writers of a joined group ask holds of quads that hold a circuit with at most 256 gates.
 use Prim.Native.Nat.{ℕ, _*_, _≤_, _<_}
 use mathlib.Core.Path.{_≡_, sym, ap, _∙_}
 use mathlib.Core.List.{List}

@@ -1,4 +1,4 @@
--- Laws of a joined group: its records, by the decision which picks it has, are those that the definition gives. Assumes nothing.
+-- A joined group: its records, by the decision which picks it has, are those that the definition gives.
 use Prim.Native.Nat.{ℕ, zero, suc, _+_, _*_, _≤_, _<_}
 use mathlib.Core.Path.{_≡_, refl, sym, ap, ap₂, _∙_}
 use mathlib.Core.Bool.{Bool, cond, not, _||_}

@@ -1,4 +1,4 @@
--- Laws of a joined group in a plan: what its writers ask follows from what the caller shows, and its records are those of the decision. Assumes nothing.
+-- A joined group in a plan: what its writers ask follows from what the caller shows, and its records are those of the decision.
 use Prim.Native.Nat.{ℕ, _+_, _<_}
 use mathlib.Core.Path.{_≡_, refl, ap, _∙_}
 use mathlib.Core.Bool.{cond}

@@ -1,4 +1,4 @@
--- Laws of the loops that write the wires of a guard, the guards of a group and the pairs of a pick: start, room, step, end. Assumes nothing.
+-- The loops that write the wires of a guard, the guards of a group and the pairs of a pick: start, room, step, end.
 use Prim.Native.Nat.{ℕ, _+_, _-_, _*_, _≤_, _<_}
 use mathlib.Core.Path.{_≡_, sym, ap, _∙_}
 use mathlib.Core.List.{List, [], _∷_, map}

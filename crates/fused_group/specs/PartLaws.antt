@@ -1,4 +1,4 @@
--- Laws of the parts of a joined group: guards, a pick, the operation, each written or not by the decision. Assumes nothing.
+-- The parts of a joined group: guards, a pick, the operation, each written or not by the decision.
 use Prim.Native.Nat.{ℕ, suc, _+_, _*_, _≤_}
 use mathlib.Core.Path.{_≡_, refl, sym, ap, ap₂, _∙_}
 use mathlib.Core.Bool.{Bool, true, false, cond, _||_, true≢false}

@@ -1,4 +1,4 @@
--- Laws of what a loop writes, piece by piece: the wires of a guard, the guards and the pairs of a group. Assumes nothing.
+-- What a loop writes, piece by piece: the wires of a guard, the guards and the pairs of a group.
 use Prim.Native.Nat.{ℕ, suc, _+_}
 use mathlib.Core.Path.{_≡_, sym, ap, ap₂, _∙_}
 use mathlib.Core.List.{List, [], _∷_, _++_, map}

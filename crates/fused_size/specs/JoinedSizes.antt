@@ -1,4 +1,4 @@
--- Laws of the size of a joined group: how many wires and bytes its records come to, and their cost. Assumes nothing.
+-- The size of a joined group: how many wires and bytes its records come to, and their cost.
 use Prim.Native.Nat.{ℕ, suc, _+_, _*_, _≤_, _<_}
 use mathlib.Core.Path.{_≡_, refl, sym, ap, ap₂, _∙_}
 use mathlib.Core.Bool.{Bool, true, false, cond}

@@ -1,4 +1,4 @@
--- Laws of the size of a group alone, by the code of its gate. Assumes nothing.
+-- Laws of the size of a group alone, by the code of its gate.
 use Prim.Native.Nat.{ℕ, _+_, _*_, _≤_}
 use mathlib.Core.Path.{_≡_, refl, sym, ap, subst, _∙_}
 use mathlib.Core.List.{List, [], _∷_, append-nil}

@@ -1,4 +1,4 @@
--- Laws of the loop that counts the conditions that the members of a group rest on: start, step, end. Assumes nothing.
+-- The loop that counts the conditions that the members of a group rest on: start, step, end.
 use Prim.Native.Nat.{ℕ, _+_, _*_, _≤_, _<_}
 use mathlib.Core.Path.{_≡_, sym, ap, _∙_}
 use mathlib.Core.List.{List, [], _∷_}

@@ -1,4 +1,4 @@
--- Laws of what the arrays of an accepted plan hold: the rule's gates in quads, and the members of each group. Assumes nothing.
+-- What the arrays of an accepted plan hold: the rule's gates in quads, and the members of each group.
 use Prim.Native.Nat.{ℕ, _*_, _≤_, _<_}
 use mathlib.Core.Path.{_≡_, sym, ap, _∙_}
 use mathlib.Core.List.{List}

@@ -1,4 +1,4 @@
--- The groups written after i turns, the last first: each waits only for those before it, each stands once. Assumes nothing.
+-- The groups written after i turns, the last first: each waits only for those before it, each stands once.
 use Prim.Native.Nat.{ℕ, suc, _<_}
 use mathlib.Core.Path.{_≡_, refl, sym, ap, subst, _∙_}
 use mathlib.Core.List.{List, [], _∷_, _++_, reverse, reverse-append, reverse-reverse}

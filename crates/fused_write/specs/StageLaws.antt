@@ -1,4 +1,4 @@
--- What the arrays hold after i turns is what is written of the fused circuit after i groups. Assumes nothing.
+-- What the arrays hold after i turns is what is written of the fused circuit after i groups.
 use Prim.Native.Nat.{ℕ, zero, suc, _+_, _-_, _≤_, _<_}
 use native.Mathlib.Omega.{arith}
 use mathlib.Core.Path.{_≡_, sym, ap, ap₂, subst, _∙_}

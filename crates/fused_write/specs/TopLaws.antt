@@ -1,4 +1,4 @@
--- The arrays of an accepted plan can be written turn by turn, and what stands at the end is the fused circuit. Assumes nothing.
+-- The arrays of an accepted plan can be written turn by turn, and what stands at the end is the fused circuit.
 use Prim.Native.Nat.{ℕ, _≤_, _<_}
 use native.Mathlib.Omega.{arith}
 use mathlib.Core.Path.{_≡_, sym, ap, _∙_}

@@ -1,4 +1,4 @@
--- Laws of writing the fused circuit as its caller sees it, once it is prepared: the plan's refusal, row 50, and the file. Assumes nothing.
+-- Writing the fused circuit as its caller sees it, once it is prepared: the plan's refusal, row 50, and the file.
 use Prim.Native.Nat.{ℕ, _≤_, _<_}
 use native.Mathlib.Omega.{arith}
 use mathlib.Core.Path.{_≡_, sym, ap, _∙_}

@@ -1,4 +1,4 @@
--- Laws of how many groups there are, and how many the order of writing places. Assumes nothing.
+-- Laws of how many groups there are, and how many the order of writing places.
 use Prim.Native.Nat.{ℕ, suc, _≤_}
 use mathlib.Core.Path.{_≡_, refl, sym, ap, _∙_}
 use mathlib.Core.Bool.{true, cond}

@@ -1,4 +1,4 @@
--- Laws of the first failing row of a list of rows, whichever they are. Assumes nothing.
+-- Laws of the first failing row of a list of rows, whichever they are.
 use mathlib.Core.Path.{_≡_, refl}
 use mathlib.Core.Bool.{Bool, true, false, not}
 use mathlib.Core.List.{List, [], _∷_, _++_, map}

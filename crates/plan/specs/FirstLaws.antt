@@ -1,5 +1,5 @@
--- Laws of what the order of writing begins with: the groups 0, 1, .., v − 1, where each of these is a gate alone that reads nothing;
--- of an accepted plan every starting value is a group alone. Assumes nothing.
+-- What the order of writing begins with: the groups 0, 1, .., v − 1, where each of these is a gate alone that reads nothing;
+-- of an accepted plan every starting value is a group alone.
 use Prim.Native.Nat.{ℕ, zero, suc, _+_, _-_, _≤_, _<_}
 use mathlib.Core.Path.{_≡_, refl, sym, ap, _∙_}
 use mathlib.Core.Bool.{Bool, true, false}

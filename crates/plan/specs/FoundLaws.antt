@@ -1,4 +1,4 @@
--- Laws of a plan put together: taken apart again it gives its gate count and its groups, and ends where the file ends.
+-- A plan put together: taken apart again it gives its gate count and its groups, and ends where the file ends.
 use mathlib.Core.Path.{_≡_, refl, sym, ap, ap₂, _∙_, subst, subst⁻¹}
 use mathlib.Core.List.{List, [], _∷_, _++_, append-assoc}
 use Prim.Native.Nat.{ℕ, suc, _+_, _*_, _^_, _≤_, _<_}

@@ -1,4 +1,4 @@
--- Laws of groups: they are named by their smallest member, and every gate's group is one of the groups.
+-- Groups: they are named by their smallest member, and every gate's group is one of the groups.
 use mathlib.Core.Path.{_≡_, refl}
 use mathlib.Core.Bool.{false}
 use mathlib.Core.List.{List, [], _∷_}

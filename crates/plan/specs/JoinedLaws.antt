@@ -1,4 +1,4 @@
--- Laws of accepted plans: what they say of the members of any group of two or more, listed or not,
+-- Accepted plans: what they say of the members of any group of two or more, listed or not,
 -- as the order of writing and the fused circuit name them.
 use mathlib.Core.Path.{_≡_, refl, sym, _∙_}
 use mathlib.Core.Bool.{false, true≢false}

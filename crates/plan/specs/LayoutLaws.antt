@@ -1,4 +1,4 @@
--- Laws of layout: a plan that is laid out is, byte for byte, its gate count and its groups put together.
+-- Layout: a plan that is laid out is, byte for byte, its gate count and its groups put together.
 use mathlib.Core.Path.{_≡_, refl, sym, ap, ap₂, _∙_}
 use mathlib.Core.List.{List, _∷_, _++_, append-assoc}
 use Prim.Native.Nat.{ℕ, zero, suc, _+_, _*_, _≤_, _<_}

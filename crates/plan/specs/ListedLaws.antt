@@ -1,4 +1,4 @@
--- Laws of listed groups: the members of a group are those that the plan lists for it; an unlisted gate is a group alone. Assumes nothing.
+-- Listed groups: the members of a group are those that the plan lists for it; an unlisted gate is a group alone.
 use mathlib.Core.Path.{_≡_, refl, sym, ap, _∙_}
 use mathlib.Core.Bool.{Bool, false, true≢false}
 use mathlib.Core.List.{List, [], _∷_}

@@ -1,5 +1,5 @@
--- Laws of joined gates and the names of their groups: a plan joins two gates exactly when they have one group; plans that form the same groups, in whatever
--- order, name the gates alike (document 02, C-15). Assumes nothing.
+-- Joined gates and the names of their groups: a plan joins two gates exactly when they have one group; plans that form the same groups, in whatever
+-- order, name the gates alike (document 02, C-15).
 use mathlib.Core.Path.{_≡_, sym}
 use mathlib.Core.List.{List, [], _∷_}
 use mathlib.Core.Logic.{_⊎_, inl, inr, _↔_}

@@ -1,4 +1,4 @@
--- Laws of the members of a group of a plan, read one by one. Assumes nothing.
+-- Laws of the members of a group of a plan, read one by one.
 use Prim.Native.Nat.{ℕ, zero, suc, _+_, _*_, _<_}
 use mathlib.Core.Path.{_≡_, ap, _∙_}
 use mathlib.Core.List.{List}

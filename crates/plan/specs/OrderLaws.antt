@@ -1,4 +1,4 @@
--- Laws of the order of writing: it places every group exactly when no group waits for itself by a chain of one or more waits;
+-- The order of writing: it places every group exactly when no group waits for itself by a chain of one or more waits;
 -- what it places is in order, each group once. Over any table of waits.
 use mathlib.Core.Path.{_≡_, refl, sym, ap, _∙_}
 use mathlib.Core.Bool.{true, false, not, false≢true, true≢false}

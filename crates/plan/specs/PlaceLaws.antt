@@ -1,4 +1,4 @@
--- Laws of the place of a gate's group in the plan: what stands there. Assumes nothing.
+-- The place of a gate's group in the plan: what stands there.
 use Prim.Native.Nat.{ℕ, zero, suc, _≤_, _<_}
 use native.Mathlib.Omega.{arith}
 use mathlib.Core.Path.{_≡_, refl, sym, ap, _∙_}

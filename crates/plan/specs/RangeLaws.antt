@@ -1,4 +1,4 @@
--- Laws of the numbers of a plan's rows: which they are, in the order in which they are checked. Assumes nothing.
+-- The numbers of a plan's rows: which they are, in the order in which they are checked.
 use Prim.Native.Nat.{ℕ}
 use mathlib.Core.Path.{_≡_, refl}
 use mathlib.Core.List.{List, [], _∷_}

@@ -1,4 +1,4 @@
--- Laws of what a group reads, for any sets of settings: it is in the circuit, so what a group waits for is a group. Assumes nothing.
+-- What a group reads, for any sets of settings: it is in the circuit, so what a group waits for is a group.
 use Prim.Native.Nat.{ℕ, _≤_, _<_}
 use mathlib.Core.Path.{_≡_, refl}
 use mathlib.Core.Bool.{cond}

@@ -1,4 +1,4 @@
--- Laws of the condition gates listed for a gate: few, gates of the circuit, and just those that it rests on. Assumes nothing.
+-- The condition gates listed for a gate: few, gates of the circuit, and just those that it rests on.
 use mathlib.Core.Path.{_≡_, refl, sym, ap, _∙_}
 use mathlib.Core.Bool.{Bool, true, false, not, true≢false}
 use mathlib.Core.List.{List, map}

@@ -1,4 +1,4 @@
--- Laws of accepted plans that form the same groups (document 02, C-15): they have the same groups in the same order, and so the same bytes. Assumes nothing.
+-- Accepted plans that form the same groups (document 02, C-15): they have the same groups in the same order, and so the same bytes.
 use mathlib.Core.Path.{_≡_, refl, sym, ap, ap₂, _∙_, fun-ext}
 use mathlib.Core.List.{List, [], _∷_, map}
 use mathlib.Core.Logic.{inl, inr}

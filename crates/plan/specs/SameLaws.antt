@@ -1,4 +1,4 @@
--- Laws of what the check of a plan depends on: no group of a gate past the circuit, nor how the sets are held past their end. Assumes nothing.
+-- What the check of a plan depends on: no group of a gate past the circuit, nor how the sets are held past their end.
 use Prim.Native.Nat.{ℕ, zero, suc, _<_}
 use mathlib.Core.Path.{_≡_, refl, ap, ap₂, _∙_}
 use mathlib.Core.Bool.{Bool, true, cond}

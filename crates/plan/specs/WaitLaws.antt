@@ -1,4 +1,4 @@
--- Laws of waits: the groups listed for a group are those that it waits for;
+-- Waits: the groups listed for a group are those that it waits for;
 -- so the order of writing places every group exactly when no group waits for itself by a chain.
 use mathlib.Core.Path.{_≡_, sym, _∙_}
 use mathlib.Core.Bool.{true, false, true≢false, cond}

@@ -1,4 +1,4 @@
--- Laws of the answer of a plan's check, row by row as the code finds it. Assumes nothing.
+-- Laws of the answer of a plan's check, row by row as the code finds it.
 use Prim.Native.Nat.{ℕ, _≤_}
 use mathlib.Core.Path.{_≡_, refl, sym, ap, subst, _∙_}
 use mathlib.Core.List.{List, _++_}

@@ -1,4 +1,4 @@
--- Laws of what the check of a plan hands up: nothing of a refused plan; of an accepted one each gate's group, its place, the order. Assumes nothing.
+-- What the check of a plan hands up: nothing of a refused plan; of an accepted one each gate's group, its place, the order.
 use Prim.Native.Nat.{ℕ, _<_}
 use mathlib.Core.Path.{_≡_, ap, _∙_}
 use mathlib.Core.List.{List, [], map}

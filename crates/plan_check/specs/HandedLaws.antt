@@ -1,4 +1,4 @@
--- Laws of what the check of a plan hands up: nothing of a refused plan, the tables and the order of an accepted one. Assumes nothing.
+-- What the check of a plan hands up: nothing of a refused plan, the tables and the order of an accepted one.
 use Prim.Native.Nat.{ℕ, _-_, _≤_, _<_}
 use native.Mathlib.Omega.{arith}
 use mathlib.Core.Path.{_≡_, refl, sym, ap, _∙_}

@@ -1,4 +1,4 @@
--- Laws of the check of a plan that is laid out: its tables can be ordered, and what is handed up of an accepted plan. Assumes nothing.
+-- The check of a plan that is laid out: its tables can be ordered, and what is handed up of an accepted plan.
 use Prim.Native.Nat.{ℕ, _<_}
 use mathlib.Core.Path.{_≡_, sym, ap, subst⁻¹, _∙_}
 use mathlib.Core.List.{List, map, reverse}

@@ -1,4 +1,4 @@
--- Laws of the rows 27 and 28: what a gate's code says of them. Assumes nothing.
+-- The rows 27 and 28: what a gate's code says of them.
 use Prim.Native.Nat.{ℕ, _≤_, _<_}
 use mathlib.Core.Path.{_≡_, refl, sym, ap, _∙_}
 use mathlib.Core.List.{List, [], _∷_}

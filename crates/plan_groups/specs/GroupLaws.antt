@@ -1,4 +1,4 @@
--- Laws of a pass over the groups of a plan: where it stands, one group more, its end. Assumes nothing.
+-- A pass over the groups of a plan: where it stands, one group more, its end.
 use Prim.Native.Nat.{ℕ, zero, suc, _+_, _-_, _≤_, _<_}
 use mathlib.Core.Path.{_≡_, refl, sym, ap, _∙_}
 use mathlib.Core.List.{List}

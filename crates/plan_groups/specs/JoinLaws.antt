@@ -1,4 +1,4 @@
--- Laws of row 26 with the tables, group by group: no gate is in two groups, and every gate's group and place. Assumes nothing.
+-- Row 26 with the tables, group by group: no gate is in two groups, and every gate's group and place.
 use Prim.Native.Nat.{ℕ, zero, suc, _-_, _≤_, _<_}
 use mathlib.Core.Path.{_≡_, refl, sym, ap, _∙_}
 use mathlib.Core.List.{List}

@@ -1,4 +1,4 @@
--- Laws of a walk over the members of a group: what is left of them, and which they are. Assumes nothing.
+-- A walk over the members of a group: what is left of them, and which they are.
 use Prim.Native.Nat.{ℕ, suc, _+_, _-_, _*_, _≤_, _<_}
 use mathlib.Core.Path.{_≡_, ap, ap₂, _∙_}
 use mathlib.Core.List.{List, [], _∷_}

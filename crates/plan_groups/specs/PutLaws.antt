@@ -1,4 +1,4 @@
--- Laws of row 26 with the tables, for the members of one group: each takes the group's name and place. Assumes nothing.
+-- Row 26 with the tables, for the members of one group: each takes the group's name and place.
 use Prim.Native.Nat.{ℕ, _+_, _≤_, _<_}
 use mathlib.Core.Path.{_≡_, sym, ap, _∙_}
 use mathlib.Core.List.{List, _∷_}

@@ -1,4 +1,4 @@
--- Laws of the loop over the groups for row 32: each group's smallest member after the one before it. Assumes nothing.
+-- The loop over the groups for row 32: each group's smallest member after the one before it.
 use Prim.Native.Nat.{ℕ, zero, suc, _-_, _≤_, _<_}
 use mathlib.Core.Path.{_≡_, sym, ap, _∙_}
 use mathlib.Core.List.{List, _∷_, map}

@@ -1,4 +1,4 @@
--- Laws of the rows 20 to 29 and 32 one after the other, and what they establish. Assumes nothing.
+-- Laws of the rows 20 to 29 and 32 one after the other, and what they establish.
 use Prim.Native.Nat.{ℕ, _+_, _≤_, _<_}
 use mathlib.Core.Path.{_≡_, refl, sym, ap, _∙_}
 use mathlib.Core.List.{List, [], _∷_}

@@ -1,4 +1,4 @@
--- Laws of the tables of groups and places: what lies in them, before any group is joined and at the end. Assumes nothing.
+-- The tables of groups and places: what lies in them, before any group is joined and at the end.
 use Prim.Native.Nat.{ℕ, _+_, _≤_, _<_}
 use mathlib.Core.Path.{_≡_, refl, sym, ap, _∙_}
 use mathlib.Core.List.{List, [], _∷_, map}

@@ -1,4 +1,4 @@
--- Laws of the rows 25 and 29 number by number: what the code tests of each member is what the row tests of the group. Assumes nothing.
+-- The rows 25 and 29 number by number: what the code tests of each member is what the row tests of the group.
 use Prim.Native.Nat.{ℕ, zero, suc, _+_, _^_, _<_}
 use mathlib.Core.Path.{_≡_, refl, sym, ap, _∙_}
 use mathlib.Core.List.{List, [], _∷_}

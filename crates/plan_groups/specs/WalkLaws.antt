@@ -1,4 +1,4 @@
--- Laws of the loops over a group's members, for the rows 25, 27, 28 and 29: start, one member more, a member that fails, end. Assumes nothing.
+-- The loops over a group's members, for the rows 25, 27, 28 and 29: start, one member more, a member that fails, end.
 use Prim.Native.Nat.{ℕ, _+_, _≤_, _<_}
 use mathlib.Core.Path.{_≡_, sym, ap, _∙_}
 use mathlib.Core.List.{List, _∷_}

@@ -1,4 +1,4 @@
--- Laws of row 30: what the answer of ordering the groups says, and its number. Assumes nothing.
+-- Row 30: what the answer of ordering the groups says, and its number.
 use Prim.Native.Nat.{ℕ}
 use mathlib.Core.Path.{_≡_, refl}
 use mathlib.Core.Bool.{Bool, true, false, cond}

@@ -1,4 +1,4 @@
--- Laws of the search for the highest number of a word. Assumes nothing.
+-- Laws of the search for the highest number of a word.
 use Prim.Native.Nat.{ℕ, suc, _+_, _-_, _/_, _%_, _^_, _≤_, _<_}
 use mathlib.Core.Path.{_≡_, ap, _∙_}
 use mathlib.Core.Bool.{true}

@@ -1,4 +1,4 @@
--- Laws of what holds groups up: none of those passed by is ready, also after a group is struck, up to the lowest that it held up. Assumes nothing.
+-- What holds groups up: none of those passed by is ready, also after a group is struck, up to the lowest that it held up.
 use Prim.Native.Nat.{ℕ, zero, suc, _+_, _-_, _*_, _/_, _%_, _^_, _≤_, _<_}
 use mathlib.Core.Path.{_≡_, refl, sym, ap, ap₂, _∙_}
 use mathlib.Core.Bool.{Bool, true, false, _&&_, true≢false, false≢true}

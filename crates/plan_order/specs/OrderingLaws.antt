@@ -1,4 +1,4 @@
--- Laws of ordering: what the loop over the tables leaves is the order of writing, and its answer. Assumes nothing.
+-- Ordering: what the loop over the tables leaves is the order of writing, and its answer.
 use Prim.Native.Nat.{ℕ, _≤_, _<_}
 use mathlib.Core.Path.{_≡_, sym, ap, _∙_}
 use mathlib.Core.List.{List, [], reverse}

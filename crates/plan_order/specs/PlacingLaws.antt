@@ -1,4 +1,4 @@
--- Laws of the loop that writes the groups in order, the next ready one at each turn. Assumes nothing.
+-- Laws of the loop that writes the groups in order, the next ready one at each turn.
 use Prim.Native.Nat.{ℕ, suc, _+_, _-_, _≤_, _<_}
 use mathlib.Core.Path.{_≡_, refl, sym, ap, _∙_}
 use mathlib.Core.Bool.{true, false, cond, true≢false}

@@ -1,4 +1,4 @@
--- Laws of the search over tables that hold the waits and what is left: it finds the first ready group. Assumes nothing.
+-- The search over tables that hold the waits and what is left: it finds the first ready group.
 use Prim.Native.Nat.{ℕ, zero, suc, _+_, _-_, _*_, _/_, _%_, _^_, _≤_, _<_}
 use mathlib.Core.Path.{_≡_, refl, sym, _∙_}
 use mathlib.Core.Bool.{true, false, cond, false≢true}

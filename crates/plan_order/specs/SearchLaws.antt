@@ -1,4 +1,4 @@
--- Laws of the search for the next ready group as the code goes: the turns of its two loops. Assumes nothing.
+-- The search for the next ready group as the code goes: the turns of its two loops.
 use Prim.Native.Nat.{ℕ, suc, _+_, _-_, _*_, _≤_, _<_}
 use mathlib.Core.Path.{_≡_, refl, sym, ap, _∙_}
 use mathlib.Core.Bool.{true, false}

@@ -1,4 +1,4 @@
--- Laws of the words at which groups were last found waiting: what is left only shrinks, so that the words before these stay clear. Assumes nothing.
+-- The words at which groups were last found waiting: what is left only shrinks, so that the words before these stay clear.
 use Prim.Native.Nat.{ℕ, zero, suc, _+_, _-_, _*_, _^_, _≤_, _<_}
 use mathlib.Core.Path.{_≡_, refl, sym, ap, _∙_}
 use mathlib.Core.Bool.{true}

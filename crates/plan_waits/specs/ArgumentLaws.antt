@@ -1,4 +1,4 @@
--- Laws of the two loops that put waits, over a gate's arguments and over the conditions that its set rests on: each walks a list. Assumes nothing.
+-- The two loops that put waits, over a gate's arguments and over the conditions that its set rests on: each walks a list.
 use Prim.Native.Nat.{ℕ, _+_, _*_, _≤_, _<_}
 use mathlib.Core.Path.{_≡_, refl, sym, ap, _∙_}
 use mathlib.Core.List.{List, [], _∷_, _++_, map, map-append}

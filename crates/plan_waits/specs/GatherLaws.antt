@@ -1,4 +1,4 @@
--- Laws of the pass over the gates that fills the table of waits, gate by gate. Assumes nothing.
+-- Laws of the pass over the gates that fills the table of waits, gate by gate.
 use Prim.Native.Nat.{ℕ, _+_, _*_, _≤_, _<_}
 use mathlib.Core.Path.{_≡_, refl, sym, ap, _∙_}
 use mathlib.Core.Bool.{true, cond}

@@ -1,4 +1,4 @@
--- Laws of the pass over the gates that finds the set of groups left at first, and their count. Assumes nothing.
+-- Laws of the pass over the gates that finds the set of groups left at first, and their count.
 use Prim.Native.Nat.{ℕ, _+_, _≤_, _<_}
 use mathlib.Core.Path.{_≡_, refl, _∙_}
 use mathlib.Core.List.{List}

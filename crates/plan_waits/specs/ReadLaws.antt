@@ -1,4 +1,4 @@
--- Laws of what a gate reads: its arguments by its code, and lists joined. Assumes nothing.
+-- What a gate reads: its arguments by its code, and lists joined.
 use Prim.Native.Nat.{ℕ, zero, suc, _+_, _*_, _≤_, _<_}
 use mathlib.Core.Path.{_≡_, refl, sym, ap, _∙_}
 use mathlib.Core.Bool.{true, cond}

@@ -1,4 +1,4 @@
--- Laws of how large a report's sums become: no entry costs more than 10,240, so an entry more keeps the sums those of a batch.
+-- How large a report's sums become: no entry costs more than 10,240, so an entry more keeps the sums those of a batch.
 use mathlib.Core.Bool.{true, false}
 use mathlib.Core.List.{List, [], _∷_, map}
 use mathlib.Core.Logic.{_⊎_}

@@ -1,4 +1,4 @@
--- Laws of `decimal`: how it is made digit by digit, that its value is the number, that no zero leads it, and how long it is.
+-- `decimal`: how it is made digit by digit, that its value is the number, that no zero leads it, and how long it is.
 use mathlib.Core.Path.{_≡_, refl, sym, ap, _∙_}
 use mathlib.Core.List.{List, [], _∷_, _++_}
 use Prim.Native.Nat.{ℕ, zero, suc, _+_, _-_, _*_, _/_, _%_, _^_, _≤_, _<_}

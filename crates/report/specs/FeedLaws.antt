@@ -1,4 +1,4 @@
--- Laws of feeding: in whatever pieces a batch comes, and whatever the buffer has room for, what is printed is its report.
+-- Feeding: in whatever pieces a batch comes, and whatever the buffer has room for, what is printed is its report.
 use mathlib.Core.Bool.{true, false}
 use mathlib.Core.List.{List, [], _∷_, _++_, append-assoc, append-nil, flatten}
 use mathlib.Core.Logic.{_⊎_, inl, inr, ⊎-elim}

@@ -1,4 +1,4 @@
--- Laws of any bytes as a batch: each is one of the five sorts, and its report is what is printed of that sort; the sums are those of the accepted entries.
+-- Any bytes as a batch: each is one of the five sorts, and its report is what is printed of that sort; the sums are those of the accepted entries.
 use mathlib.Core.Bool.{true, false, true≢false}
 use mathlib.Core.List.{List, [], _∷_, _++_, append-assoc, append-nil, map, flatMap}
 use mathlib.Core.Logic.{_⊎_, inl, inr, ⊎-elim}

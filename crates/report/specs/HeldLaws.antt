@@ -1,4 +1,4 @@
--- Laws of how many bytes are held: where no step takes a byte, no more than two parts are at hand; so it is after every piece.
+-- How many bytes are held: where no step takes a byte, no more than two parts are at hand; so it is after every piece.
 use mathlib.Core.Bool.{true, false, true≢false}
 use mathlib.Core.List.{List, [], _∷_, _++_, flatten}
 use mathlib.Core.Logic.{_⊎_, inl, inr}

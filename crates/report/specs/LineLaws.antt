@@ -1,4 +1,4 @@
--- Laws of the line: which case it is, how long it is, and what a buffer holds of it.
+-- The line: which case it is, how long it is, and what a buffer holds of it.
 use mathlib.Core.Path.{_≡_, refl}
 use mathlib.Core.List.{List, [], _∷_, _++_}
 use Prim.Native.Nat.{ℕ, _+_, _*_, _≤_, _<_, _^_}

@@ -1,4 +1,4 @@
--- Laws of a batch that is made of its entries: each is found again, and so its line is in the report; a cut entry is not whole.
+-- A batch that is made of its entries: each is found again, and so its line is in the report; a cut entry is not whole.
 use mathlib.Core.Bool.{true, false}
 use mathlib.Core.List.{List, [], _∷_, _++_, append-assoc, append-nil, flatMap}
 use mathlib.Core.Path.{_≡_, refl, sym, ap, _∙_}

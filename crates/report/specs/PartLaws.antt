@@ -1,4 +1,4 @@
--- Laws of parts and entries: what is whole at the start of some bytes is the same with more bytes behind them; how long it can be.
+-- Parts and entries: what is whole at the start of some bytes is the same with more bytes behind them; how long it can be.
 use mathlib.Core.Bool.{true, _&&_}
 use mathlib.Core.List.{List, [], _∷_, _++_}
 use mathlib.Core.Path.{_≡_, sym, ap, _∙_}

@@ -1,4 +1,4 @@
--- Laws of a step: what it printed and where it left the report make up the report, whatever bytes come; where none takes a byte, the last line is the report.
+-- A step: what it printed and where it left the report make up the report, whatever bytes come; where none takes a byte, the last line is the report.
 use mathlib.Core.Bool.{true, false}
 use mathlib.Core.List.{List, [], _∷_, _++_}
 use mathlib.Core.Path.{_≡_, refl, sym, ap, _∙_}

@@ -1,4 +1,4 @@
--- Laws of the last line of a report: what before less after is, how long the line is, and what a lent buffer holds of it.
+-- The last line of a report: what before less after is, how long the line is, and what a lent buffer holds of it.
 use mathlib.Core.Path.{_≡_, refl, sym, ap, _∙_}
 use mathlib.Core.List.{List, [], _∷_, _++_, append-assoc}
 use Prim.Native.Nat.{ℕ, _+_, _-_, _≤_, _<_, _^_}

@@ -1,4 +1,4 @@
--- Laws of reading what the format writes, expressions: the bytes of a well-formed expression are read back to it.
+-- Reading what the format writes, expressions: the bytes of a well-formed expression are read back to it.
 use Prim.Native.Nat.{ℕ, suc, _+_, _-_, _≤_, _<_}
 use native.Mathlib.Omega.{arith}
 use native.Mathlib.Nat.{add-zero}

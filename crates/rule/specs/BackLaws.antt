@@ -1,4 +1,4 @@
--- Laws of reading what the format writes, statements and blocks: the bytes of a well-formed block are read back to it.
+-- Reading what the format writes, statements and blocks: the bytes of a well-formed block are read back to it.
 use Prim.Native.Nat.{ℕ, suc, _+_, _-_, _≤_, _<_}
 use native.Mathlib.Omega.{arith}
 use mathlib.Core.Path.{_≡_, refl, sym, ap, _∙_}

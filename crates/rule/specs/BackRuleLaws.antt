@@ -1,4 +1,4 @@
--- Laws of reading what the format writes, a whole rule: the file of a well-formed rule is read back to it.
+-- Reading what the format writes, a whole rule: the file of a well-formed rule is read back to it.
 use Prim.Native.Nat.{ℕ, _+_, _≤_, _<_}
 use native.Mathlib.Omega.{arith}
 use mathlib.Core.Path.{_≡_, refl, sym, ap, _∙_}

@@ -1,4 +1,4 @@
--- Laws of reading statements and blocks, one for each step of the code. Assumes nothing.
+-- Laws of reading statements and blocks, one for each step of the code.
 use Prim.Native.Nat.{ℕ, _+_, _-_, _<_, _≤_}
 use mathlib.Core.Path.{_≡_, refl, sym, ap, _∙_}
 use mathlib.Core.List.{List}

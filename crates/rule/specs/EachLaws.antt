@@ -1,4 +1,4 @@
--- Laws of the relations on trees: a fact of every expression follows from another, and only the kinds of the variables count.
+-- The relations on trees: a fact of every expression follows from another, and only the kinds of the variables count.
 use Prim.Native.Nat.{ℕ, _<_}
 use mathlib.Core.Path.{_≡_, sym, subst, _∙_}
 use Rattle.base.specs.Codes.{entryOf}

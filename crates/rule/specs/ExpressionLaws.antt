@@ -1,4 +1,4 @@
--- Laws of reading an expression: by its code, and that reading goes forward. Assumes nothing.
+-- Reading an expression: by its code, and that reading goes forward.
 use Prim.Native.Nat.{ℕ, zero, suc, _+_, _-_, _<_, _≤_}
 use native.Mathlib.Omega.{arith}
 use native.Mathlib.Numerals.{sub-one}

@@ -1,4 +1,4 @@
--- What was read, by its first byte: for the passes that walk the bytes of an accepted rule again. Assumes nothing.
+-- What was read, by its first byte: for the passes that walk the bytes of an accepted rule again.
 use Prim.Native.Nat.{ℕ, _+_, _-_, _<_, _≤_}
 use native.Mathlib.Omega.{arith}
 use mathlib.Core.Path.{_≡_, refl, ap, subst, _∙_}

@@ -1,4 +1,4 @@
--- What was read of statements, blocks and a whole rule: for the passes that walk the bytes of an accepted rule again. Assumes nothing.
+-- What was read of statements, blocks and a whole rule: for the passes that walk the bytes of an accepted rule again.
 use Prim.Native.Nat.{ℕ, _+_, _-_, _<_, _≤_}
 use mathlib.Core.Path.{_≡_, refl, sym, ap, subst, _∙_}
 use mathlib.Core.List.{List}

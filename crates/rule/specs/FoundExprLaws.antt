@@ -1,4 +1,4 @@
--- Laws of what reading finds, expressions: what was read is typed, not too deep, and its bytes stand in the file from its first place to the place after it.
+-- What reading finds, expressions: what was read is typed, not too deep, and its bytes stand in the file from its first place to the place after it.
 use Prim.Native.Nat.{ℕ, zero, suc, _+_, _-_, _≤_, _<_}
 use native.Mathlib.Omega.{arith}
 use mathlib.Core.Path.{_≡_, refl, sym, ap, _∙_}

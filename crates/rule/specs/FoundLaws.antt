@@ -1,4 +1,4 @@
--- Laws of what reading finds, statements and blocks: every expression is good, ifs nest no deeper than asked, and the bytes stand in the file.
+-- What reading finds, statements and blocks: every expression is good, ifs nest no deeper than asked, and the bytes stand in the file.
 use Prim.Native.Nat.{ℕ, zero, suc, _+_, _-_, _≤_, _<_}
 use native.Mathlib.Omega.{arith}
 use mathlib.Core.Path.{_≡_, refl, sym, ap, _∙_}

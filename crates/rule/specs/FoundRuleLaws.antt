@@ -1,4 +1,4 @@
--- Laws of what reading finds, a whole rule: what is read is well-formed, and it is the tree of the file's bytes.
+-- What reading finds, a whole rule: what is read is well-formed, and it is the tree of the file's bytes.
 use Prim.Native.Nat.{ℕ, _+_, _≤_, _<_}
 use native.Mathlib.Omega.{arith}
 use mathlib.Core.Path.{_≡_, refl, sym, ap, subst, subst⁻¹, _∙_}

@@ -1,4 +1,4 @@
--- Laws of reading blocks: reading goes forward, and more fuel than the file has bytes changes nothing. Assumes nothing.
+-- Reading blocks: reading goes forward, and more fuel than the file has bytes changes nothing.
 use Prim.Native.Nat.{ℕ, zero, suc, _+_, _-_, _<_, _≤_}
 use native.Mathlib.Omega.{arith}
 use mathlib.Core.Path.{_≡_, refl, ap}

@@ -1,4 +1,4 @@
--- Laws of kind bytes. Assumes nothing.
+-- Laws of kind bytes.
 use Prim.Native.Nat.{ℕ, _+_, _%_}
 use mathlib.Core.Path.{_≡_, refl}
 use mathlib.Core.Bool.{true, false}

@@ -1,4 +1,4 @@
--- Laws for document 02, C-13: a rule is refused with 3 at a kind byte exactly when that byte is above 03. Assumes nothing.
+-- Laws for document 02, C-13: a rule is refused with 3 at a kind byte exactly when that byte is above 03.
 use Prim.Native.Nat.{ℕ, zero, suc, _+_, _-_, _≤_, _<_}
 use native.Mathlib.Omega.{arith}
 use mathlib.Core.Path.{_≡_, refl, subst, _∙_}

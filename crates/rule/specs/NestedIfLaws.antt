@@ -1,4 +1,4 @@
--- Laws for document 02, C-17: a refusal inside ifs is the whole block's, and an if inside eight is 8 at its code. Assumes nothing.
+-- Laws for document 02, C-17: a refusal inside ifs is the whole block's, and an if inside eight is 8 at its code.
 use Prim.Native.Nat.{ℕ, suc, _+_, _-_, _≤_, _<_}
 use native.Mathlib.Omega.{arith}
 use mathlib.Core.Path.{_≡_, refl, sym, ap, _∙_}

@@ -1,4 +1,4 @@
--- Laws for document 02, C-17: a rule that is refused with 8 on a 03 has a ninth nested if there. Assumes nothing.
+-- Laws for document 02, C-17: a rule that is refused with 8 on a 03 has a ninth nested if there.
 use Prim.Native.Nat.{ℕ, zero, suc, _+_, _-_, _≤_, _<_}
 use native.Mathlib.Omega.{arith}
 use mathlib.Core.Path.{_≡_, refl, sym, ap, subst, subst⁻¹, _∙_}

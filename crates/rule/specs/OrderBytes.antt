@@ -1,4 +1,4 @@
--- C-12 on bytes (document 02): two files that differ by `10 x 10 y` against `10 y 10 x` after the code of an operation that commutes. Assumes nothing.
+-- C-12 on bytes (document 02): two files that differ by `10 x 10 y` against `10 y 10 x` after the code of an operation that commutes.
 use Prim.Native.Nat.{ℕ}
 use mathlib.Core.Path.{_≡_, sym, ap, subst}
 use mathlib.Core.List.{List, _∷_, _++_}

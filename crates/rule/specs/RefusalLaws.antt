@@ -1,4 +1,4 @@
--- Laws of what a reader may refuse: any fact of its refusals, part by part; of an expression's, that none is below 4 and none with 8 lies on a 03. Assumes nothing.
+-- What a reader may refuse: any fact of its refusals, part by part; of an expression's, that none is below 4 and none with 8 lies on a 03.
 use Prim.Native.Nat.{ℕ, zero, suc, _+_, _-_, _≤_, _<_}
 use native.Mathlib.Omega.{arith}
 use mathlib.Core.Path.{_≡_, refl, subst⁻¹}

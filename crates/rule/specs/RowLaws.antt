@@ -1,4 +1,4 @@
--- Laws of refusals byte by byte: each is a row of document 01's table, its number 1 to 9 and its place where that row lies. Assumes nothing.
+-- Refusals byte by byte: each is a row of document 01's table, its number 1 to 9 and its place where that row lies.
 use Prim.Native.Nat.{ℕ, zero, suc, _+_, _-_, _≤_, _<_}
 use native.Mathlib.Omega.{arith}
 use mathlib.Core.Path.{_≡_, refl, sym, ap}

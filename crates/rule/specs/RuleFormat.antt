@@ -1,4 +1,4 @@
--- The rule's format decides what reading takes: which files pass rows 1 to 9, and to which tree each is read, said without a reader. Assumes nothing.
+-- The rule's format decides what reading takes: which files pass rows 1 to 9, and to which tree each is read, said without a reader.
 use Prim.Native.Nat.{ℕ}
 use mathlib.Core.Path.{_≡_, subst⁻¹}
 use mathlib.Core.List.{List}

@@ -1,4 +1,4 @@
--- Laws of reading a header and a whole rule, one for each step of the code. Assumes nothing.
+-- Laws of reading a header and a whole rule, one for each step of the code.
 use Prim.Native.Nat.{ℕ, zero, suc, _+_, _-_, _<_, _≤_}
 use native.Mathlib.Nat.{add-zero}
 use native.Mathlib.Omega.{arith}

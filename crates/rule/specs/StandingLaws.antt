@@ -1,4 +1,4 @@
--- Laws of where an expression stands: the block's bytes are those before it, its own and those after it; and another can stand in its place.
+-- Where an expression stands: the block's bytes are those before it, its own and those after it; and another can stand in its place.
 use Prim.Native.Nat.{ℕ}
 use mathlib.Core.Path.{_≡_, sym, ap}
 use mathlib.Core.List.{List, _∷_, _++_, append-assoc, append-nil}

@@ -1,4 +1,4 @@
--- Laws for document 02, C-13: a well-formed rule stays well-formed whichever of its variables work. Assumes nothing.
+-- Laws for document 02, C-13: a well-formed rule stays well-formed whichever of its variables work.
 use Prim.Native.Nat.{ℕ, _≤_, _<_}
 use native.Mathlib.Omega.{arith}
 use mathlib.Core.Path.{_≡_, ap, subst}

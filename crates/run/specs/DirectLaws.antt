@@ -1,4 +1,4 @@
--- Laws of a direct run's answer and results, by the rule's answer, then by the row of the inputs. Assumes nothing.
+-- Laws of a direct run's answer and results, by the rule's answer, then by the row of the inputs.
 use Prim.Native.Nat.{ℕ}
 use mathlib.Core.Path.{_≡_, sym, ap, _∙_}
 use mathlib.Core.List.{List}

@@ -1,4 +1,4 @@
--- Laws of what no row says of a rule's inputs; each is that of any inputs (`codes`). Assumes nothing.
+-- Laws of what no row says of a rule's inputs; each is that of any inputs (`codes`).
 use Prim.Native.Nat.{ℕ, _≤_, _<_}
 use mathlib.Core.Path.{_≡_, refl}
 use mathlib.Core.List.{List}

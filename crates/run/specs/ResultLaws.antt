@@ -1,4 +1,4 @@
--- Laws of the results of a fused run: they are those of a direct run that is answered so. Assumes nothing.
+-- The results of a fused run: they are those of a direct run that is answered so.
 use Prim.Native.Nat.{ℕ}
 use mathlib.Core.Path.{_≡_, sym, ap, _∙_}
 use mathlib.Core.List.{List}

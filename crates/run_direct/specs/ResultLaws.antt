@@ -1,4 +1,4 @@
--- Laws of what a direct run writes: figures past the V variables change nothing, and the first V are the results. Assumes nothing.
+-- What a direct run writes: figures past the V variables change nothing, and the first V are the results.
 use Prim.Native.Nat.{ℕ, _+_, _-_, _≤_}
 use mathlib.Core.Path.{_≡_, sym, ap, _∙_}
 use mathlib.Core.List.{List}

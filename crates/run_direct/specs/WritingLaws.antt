@@ -1,4 +1,4 @@
--- Laws of what a direct run writes: the loop over the variables, and that the first V results are then what the run writes. Assumes nothing.
+-- What a direct run writes: the loop over the variables, and that the first V results are then what the run writes.
 use Prim.Native.Nat.{ℕ, _+_, _≤_, _<_}
 use native.Mathlib.Numerals.{add-one}
 use native.Mathlib.Omega.{arith}

@@ -1,4 +1,4 @@
--- Laws of a fused run, step by step as the code takes it: the circuit is written, the inputs are looked at, the file is run. Assumes nothing.
+-- A fused run, step by step as the code takes it: the circuit is written, the inputs are looked at, the file is run.
 use Prim.Native.Nat.{ℕ, _-_, _≤_}
 use native.Mathlib.Omega.{arith}
 use mathlib.Core.Path.{_≡_, sym, ap, _∙_}

@@ -1,4 +1,4 @@
--- Laws of working out an expression in a direct run, one for each step of the code. Assumes nothing.
+-- Laws of working out an expression in a direct run, one for each step of the code.
 use Prim.Native.Nat.{ℕ, _+_, _-_, _<_}
 use mathlib.Core.Path.{_≡_, sym, ap, subst, subst⁻¹, _∙_}
 use mathlib.Core.List.{List}
