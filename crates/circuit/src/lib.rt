@@ -1,4 +1,4 @@
-// Definitions and theorems of the plain circuit (specs/); the code that makes it is in `making`.
+// Definitions and laws of the plain circuit (specs/), the number of a gate, and the places of lent arrays; the code is in the crates `circuit_..`.
 
 // A gate's number in the plain circuit; never taken for a wire number of a circuit file.
 pub struct GateId(pub u16);

@@ -1,4 +1,4 @@
--- The inner contract of making, here and in `plain`: what the lent arrays hold of the gates made so far, and what each function does to them.
+-- The inner contract of making, here and in `circuit_plain`: what the lent arrays hold of the gates made so far, and what each function does to them.
 -- The outermost function's promise is stated without it. At most 256 gates are stored; a count of 257 says that there are more.
 use Prim.Native.Nat.{ℕ, _-_, _≤_, _<_, min}
 use mathlib.Core.Path.{_≡_}

@@ -1,5 +1,5 @@
 // Document 01, "The fused circuit file", Order, and row 30 of "Refusals by place": the next ready group, again and again.
-// Sets of groups and the table of waits lie as `waiting` keeps them.
+// Sets of groups and the table of waits lie as `plan_waits` keeps them.
 use circuit::CONDITION_ROOM;
 use circuit::GATE_ROOM;
 use circuit::GateId;

@@ -1,5 +1,5 @@
 // Document 01, "The plan file and its check": which group waits for which, as sets of groups.
-// A set of groups is four words, as `bitsets` keeps them. The waits are one such set for each group p, from word 4 * p on.
+// A set of groups is four words, as `base_bits` keeps them. The waits are one such set for each group p, from word 4 * p on.
 use base::ConditionList;
 use circuit::CONDITION_ROOM;
 use circuit::GATE_ROOM;

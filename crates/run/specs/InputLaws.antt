@@ -1,4 +1,4 @@
--- Laws of what no row says of a rule's inputs; each is that of any inputs (`codes`).
+-- Where no row refuses the inputs of a rule: there are V of them, each of its kind, and V result places (`base`, InputLaws, says it of any kinds).
 use Prim.Native.Nat.{ℕ, _≤_, _<_}
 use mathlib.Core.Path.{_≡_, refl}
 use mathlib.Core.List.{List}
