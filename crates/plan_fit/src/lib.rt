@@ -53,11 +53,7 @@ fn groups_rise(plan: &[u8]) -> bool
 fn costly(code: u32) -> bool
     ensures { λ r. ⌜ r ≡ ltb 0 (codeOf code .cost) ⌝ }
 {
-    if code < 256 {
-        0 < base_codes::code_of(code as u8).cost
-    } else {
-        false
-    }
+    0 < circuit_quads::code_entry(code).cost
 }
 
 fn operation_code(code: u32) -> u32

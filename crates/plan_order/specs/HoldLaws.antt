@@ -1,5 +1,5 @@
 -- What holds groups up: none of those passed by is ready, also after a group is struck, up to the lowest that it held up.
-use Prim.Native.Nat.{ℕ, zero, suc, _+_, _-_, _*_, _/_, _%_, _^_, _≤_, _<_}
+use Prim.Native.Nat.{ℕ, zero, suc, _+_, _-_, _*_, _/_, _%_, _≤_, _<_}
 use mathlib.Core.Path.{_≡_, refl, sym, ap, ap₂, _∙_}
 use mathlib.Core.Bool.{Bool, true, false, _&&_, true≢false, false≢true}
 use mathlib.Core.List.{List}
@@ -8,7 +8,7 @@ use native.Mathlib.Nat.{zero-add}
 use native.Mathlib.Omega.{arith}
 use lib.Bits.{bitAnd}
 use lib.Dec.{ltb}
-use lib.ListN.{length, getD, set, replicate, length-set}
+use lib.ListN.{length, getD, set, length-set}
 use lib.Seq.{getD-set-same, getD-set-other}
 use borrow.Author.Tests.{eq-eqb, ne-eqb, eqb-true, ltb-true, ltb-false, lt-ltb, le-ltb}
 use Rattle.base.specs.TestLaws.{split, same?}
@@ -16,8 +16,7 @@ use Rattle.base.specs.Bits.{bit}
 use Rattle.base.specs.Sets.{excludes}
 use Rattle.base.specs.BitLaws.{bit-and, bit-none}
 use Rattle.base.specs.BitWords.{bitIn, strikeBit}
-use Rattle.plan_order.specs.SeenLaws.{seen-start, seen-put, seen-struck}
-use Rattle.plan_order.specs.Search.{freeFrom, readyIn, searchFrom, nextReady, lowered, HeldUp, Clear, Holding}
+use Rattle.plan_order.specs.Search.{freeFrom, readyIn, searchFrom, nextReady, lowered, HeldUp, Holding}
 use Rattle.base.specs.BitWordLaws.{bit-at, at-word, strike-bit}
 
 both-true : (a b : Bool) → (a && b) ≡ true → (a ≡ true) × (b ≡ true)
@@ -26,8 +25,8 @@ both-true true false e = absurd (false≢true e)
 both-true false b e = absurd (false≢true e)
 
 -- nothing is passed by yet
-pub holding-start : (waits left watch seen : List ℕ) → length watch ≡ 256 → seen ≡ replicate 256 0 → Holding waits left watch seen 0
-holding-start waits left watch seen e f = record { size = e; passed = λ q l m. absurd (omega arith); words = seen-start waits left seen f }
+pub holding-start : (waits left watch : List ℕ) → length watch ≡ 256 → Holding waits left watch 0
+holding-start waits left watch e = record { size = e; passed = λ q l m. absurd (omega arith) }
 
 -- a note at g: it is p or lower there, and no other place is changed, nor one that is lower
 note-here : (g p : ℕ) (watch : List ℕ) → g < length watch → getD (lowered g p watch) g 0 ≤ p
@@ -69,24 +68,19 @@ same-all p watch = record { size = refl; others = λ a f. refl }
 pub same-else : (p v : ℕ) (watch fresh : List ℕ) → fresh ≡ set watch p v → SameElse p watch fresh
 same-else p v watch fresh e = record { size = rw e (length-set watch p v); others = λ a f. rw e (getD-set-other watch p a v 0 f) }
 
-module _ (waits left watch seen : List ℕ) (p : ℕ) (s : Holding waits left watch seen p) where
+module _ (waits left watch : List ℕ) (p : ℕ) (s : Holding waits left watch p) where
   -- a gate that names no group left
-  pub holding-pass : bitIn 0 left p ≡ false → Holding waits left watch seen (p + 1)
-  holding-pass e = record { size = s .size; passed = λ q l m. go q l m (same? q p); words = s .words }
+  pub holding-pass : bitIn 0 left p ≡ false → Holding waits left watch (p + 1)
+  holding-pass e = record { size = s .size; passed = λ q l m. go q l m (same? q p) }
     where
       go : (q : ℕ) → q < p + 1 → bitIn 0 left q ≡ true → (q ≡ p) ⊎ (q ≡ p → ⊥) → HeldUp waits left watch q
       go q l m (inl f) = absurd (true≢false (sym m ∙ ap (bitIn 0 left) f ∙ e))
       go q l m (inr f) = s .passed q (omega arith) m
 
-  -- a group that waits for group 64 * w + j, its words before w clear
-  pub holding-more : (w j : ℕ) → p < 256 → w < 4 → j < 64 → Clear waits left p w → bit (bitAnd (getD waits (4 * p + w) 0) (getD left w 0)) j ≡ true
-      → Holding waits left (lowered (64 * w + j) p watch) (set seen p w) (p + 1)
-  holding-more w j r l k c x =
-      record {
-        size = note-size (64 * w + j) p watch ∙ s .size;
-        passed = λ q i m. go q i m (same? q p);
-        words = seen-put waits left seen (s .words) p w r l c;
-      }
+  -- a group that waits for group 64 * w + j
+  pub holding-more : (w j : ℕ) → w < 4 → j < 64 → bit (bitAnd (getD waits (4 * p + w) 0) (getD left w 0)) j ≡ true
+      → Holding waits left (lowered (64 * w + j) p watch) (p + 1)
+  holding-more w j l k x = record { size = note-size (64 * w + j) p watch ∙ s .size; passed = λ q i m. go q i m (same? q p) }
     where
       room : 64 * w + j < length watch
       room = rw (s .size) (omega arith)
@@ -141,11 +135,9 @@ module _ (waits left watch seen : List ℕ) (p : ℕ) (s : Holding waits left wa
           rw (e, f, unready i (omega arith)) (skip a (i + 1) (omega arith))
 
 -- p is struck: what was held up by others stays so, and p itself is not left; what is noted at p may be another number then
-pub holding-struck : (waits left new watch fresh seen : List ℕ) (p next : ℕ) → ((i : ℕ) → getD waits i 0 < 2 ^ 64) → length left ≡ 4 → p < 256
-    → bitIn 0 left p ≡ true → Holding waits left watch seen p → next ≤ getD watch p 0 → next ≤ p + 1 → new ≡ strikeBit p left → SameElse p watch fresh
-    → Holding waits new fresh seen next
-holding-struck waits left new watch fresh seen p next h z l b s x y e w =
-    record { size = w .size ∙ s .size; passed = passed; words = seen-struck waits left seen (s .words) new p h z l b e }
+pub holding-struck : (waits left new watch fresh : List ℕ) (p next : ℕ) → length left ≡ 4 → p < 256 → bitIn 0 left p ≡ true
+    → Holding waits left watch p → next ≤ getD watch p 0 → next ≤ p + 1 → new ≡ strikeBit p left → SameElse p watch fresh → Holding waits new fresh next
+holding-struck waits left new watch fresh p next z l b s x y e w = record { size = w .size ∙ s .size; passed = passed }
   where
     struck : (a : ℕ) → a < 256 → (a ≡ p → ⊥) → bitIn 0 new a ≡ bitIn 0 left a
     struck a k f = ap (λ (d : List ℕ). bitIn 0 d a) e ∙ strike-bit left z p l b a k ∙ rw (ne-eqb a p f)

@@ -1,7 +1,6 @@
 pub mod Row
 pub mod Search
 pub mod HighestLaws
-pub mod SeenLaws
 pub mod HoldLaws
 pub mod SearchLaws
 pub mod ReadyLaws

@@ -7,7 +7,7 @@ use mathlib.Core.Logic.{_⊎_, inl, inr}
 use mathlib.Core.Option.{some}
 use native.Mathlib.Omega.{arith}
 use lib.Dec.{eqb}
-use lib.ListN.{length, getD, set, replicate, length-reverse}
+use lib.ListN.{length, getD, set, length-reverse}
 use borrow.Author.Tests.{eq-eqb, ne-eqb}
 use Rattle.base.specs.Lists.{_∈_, elem}
 use Rattle.base.specs.MemberLaws.{elem→∈, ∈→elem}
@@ -31,37 +31,37 @@ use Rattle.plan_order.specs.HoldLaws.{holding-start, holding-search, hol
 use Rattle.plan_order.specs.SearchLaws.{as-none, as-some}
 use Rattle.plan_order.specs.ReadyLaws.{Tabled, next-right}
 
--- done is written, the last first, k groups; held holds up the groups below `first`, seen is what was seen of the waits; what the order places from the start it places from here
-pub record Placing (W : ℕ → List ℕ) (group : ℕ → ℕ) (n : ℕ) (waits order₀ order left held seen : List ℕ) (k first : ℕ) (done : List ℕ) : Type 0 where
+-- done is written, the last first, k groups; held holds up the groups below `first`; what the order places from the start it places from here
+pub record Placing (W : ℕ → List ℕ) (group : ℕ → ℕ) (n : ℕ) (waits order₀ order left held : List ℕ) (k first : ℕ) (done : List ℕ) : Type 0 where
   pub tabled : Tabled W group n waits left done
   pub once : Once done
   pub inside : (p : ℕ) → p ∈ done → p ∈ groups n group
   pub below : first ≤ n
-  pub holding : Holding waits left held seen first
+  pub holding : Holding waits left held first
   pub counted : length done ≡ k
   pub same : schedule W (groups n group) (length (groups n group)) [] ≡ schedule W (groups n group) (length (groups n group) - k) done
   pub size : length order₀ ≡ 256
   pub written : order ≡ over (reverse done) order₀
 
 module _ (W : ℕ → List ℕ) (group : ℕ → ℕ) (n : ℕ) (waits order₀ : List ℕ) where
-  pub placing-start : (left held seen : List ℕ) → Tabled W group n waits left [] → length order₀ ≡ 256 → length held ≡ 256 → seen ≡ replicate 256 0
-      → Placing W group n waits order₀ order₀ left held seen 0 0 []
-  placing-start left held seen t s e f =
+  pub placing-start : (left held : List ℕ) → Tabled W group n waits left [] → length order₀ ≡ 256 → length held ≡ 256
+      → Placing W group n waits order₀ order₀ left held 0 0 []
+  placing-start left held t s e =
       record {
         tabled = t;
         once = tt;
         inside = λ p m. absurd m;
         below = omega arith;
-        holding = holding-start waits left held seen e f;
+        holding = holding-start waits left held e;
         counted = refl;
         same = let z : length (groups n group) ≡ length (groups n group) - 0 = omega arith in ap (λ (k : ℕ). schedule W (groups n group) k []) z;
         size = s;
         written = sym (over-nil order₀);
       }
 
-  module _ (order left held seen : List ℕ) (k first : ℕ) (done : List ℕ) (s : Placing W group n waits order₀ order left held seen k first done) where
+  module _ (order left held : List ℕ) (k first : ℕ) (done : List ℕ) (s : Placing W group n waits order₀ order left held k first done) where
     first-of : (r : Next) → r ≡ nextReady waits left first n → r ≡ asNext (firstReady W done (groups n group))
-    first-of r e = e ∙ sym (holding-search waits left held seen first (s .holding) n (s .below)) ∙ next-right W group n waits left done (s .tabled)
+    first-of r e = e ∙ sym (holding-search waits left held first (s .holding) n (s .below)) ∙ next-right W group n waits left done (s .tabled)
 
     -- the next ready group is one that is not written: there is room for it
     module _ (p : GateId) (e : Group p ≡ nextReady waits left first n) where
@@ -97,9 +97,9 @@ module _ (W : ℕ → List ℕ) (group : ℕ → ℕ) (n : ℕ) (waits order₀ 
           go (inl f) = rw (eq-eqb q (p .0) f)
           go (inr f) = rw (ne-eqb q (p .0) f)
 
-      take : (order′ left′ held′ seen′ : List ℕ) (first′ : ℕ) → order′ ≡ set order k (p .0) → left′ ≡ strikeBit (p .0) left → first′ ≤ n
-          → Holding waits left′ held′ seen′ first′ → Placing W group n waits order₀ order′ left′ held′ seen′ (k + 1) first′ (p .0 ∷ done)
-      take order′ left′ held′ seen′ first′ f h a b =
+      take : (order′ left′ held′ : List ℕ) (first′ : ℕ) → order′ ≡ set order k (p .0) → left′ ≡ strikeBit (p .0) left → first′ ≤ n
+          → Holding waits left′ held′ first′ → Placing W group n waits order₀ order′ left′ held′ (k + 1) first′ (p .0 ∷ done)
+      take order′ left′ held′ first′ f h a b =
           record {
             tabled = record {
               room = s .tabled .room;
@@ -128,12 +128,12 @@ module _ (W : ℕ → List ℕ) (group : ℕ → ℕ) (n : ℕ) (waits order₀ 
               rw z (turn W done (groups n group) (length (groups n group) - (k + 1)) (p .0) ready-group)
 
       -- the search goes on at the lowest that it held up, or behind it
-      pub placing-on : (order′ left′ held′ seen′ fresh : List ℕ) (next : ℕ) (r : Next) → r ≡ Group p → Holding waits left held′ seen′ (placeOf r n)
+      pub placing-on : (order′ left′ held′ fresh : List ℕ) (next : ℕ) (r : Next) → r ≡ Group p → Holding waits left held′ (placeOf r n)
           → next ≤ getD held′ (p .0) 0 → next ≤ p .0 + 1 → order′ ≡ set order k (p .0) → left′ ≡ strikeBit (p .0) left → SameElse (p .0) held′ fresh
-          → Placing W group n waits order₀ order′ left′ fresh seen′ (k + 1) next (p .0 ∷ done)
-      placing-on order′ left′ held′ seen′ fresh next r x a b c f h w =
-          take order′ left′ fresh seen′ next f h (omega (arith, group-of n group (p .0) (new-group .0) .0))
-          (holding-struck waits left left′ held′ fresh seen′ (p .0) next (s .tabled .fits) (s .tabled .lefts .size) (placing-room .0) is (rw x at a) b c h w)
+          → Placing W group n waits order₀ order′ left′ fresh (k + 1) next (p .0 ∷ done)
+      placing-on order′ left′ held′ fresh next r x a b c f h w =
+          take order′ left′ fresh next f h (omega (arith, group-of n group (p .0) (new-group .0) .0))
+          (holding-struck waits left left′ held′ fresh (p .0) next (s .tabled .lefts .size) (placing-room .0) is (rw x at a) b c h w)
 
     -- no group is ready though not all are written: a circle remains
     pub placing-circle : Circle ≡ nextReady waits left first n → k < length (groups n group)

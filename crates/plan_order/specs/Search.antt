@@ -48,18 +48,7 @@ lowered q p watch = cond (ltb p (getD watch q 0)) (set watch q p) watch
 abbrev pub HeldUp : List ℕ → List ℕ → List ℕ → ℕ → Type 0
 HeldUp waits left watch q = (g : ℕ) × (g < gateRoom) × (bitIn (4 * q) waits g ≡ true) × (bitIn 0 left g ≡ true) × (getD watch g 0 ≤ q)
 
--- none of q's words before w has any of what is left
-abbrev pub Clear : List ℕ → List ℕ → ℕ → ℕ → Type 0
-Clear waits left q w = (v : ℕ) → v < w → excludes (getD waits (4 * q + v) 0) (getD left v 0) ≡ true
-
--- seen has for each group the word at which it was last found waiting, 0 at first: those before it stay clear, since what is left only shrinks
-pub record Seen (waits left seen : List ℕ) : Type 0 where
-  pub size : length seen ≡ gateRoom
-  pub short : (q : ℕ) → getD seen q 0 < 4
-  pub clear : (q : ℕ) → Clear waits left q (getD seen q 0)
-
--- what the search remembers: where each group below p that is left is held up, and what it has seen of the waits
-pub record Holding (waits left watch seen : List ℕ) (p : ℕ) : Type 0 where
+-- what the search remembers: each group below p that is left is held up
+pub record Holding (waits left watch : List ℕ) (p : ℕ) : Type 0 where
   pub size : length watch ≡ gateRoom
   pub passed : (q : ℕ) → q < p → bitIn 0 left q ≡ true → HeldUp waits left watch q
-  pub words : Seen waits left seen

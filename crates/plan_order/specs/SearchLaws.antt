@@ -7,93 +7,89 @@ use mathlib.Core.Option.{Option, none, some}
 use native.Mathlib.Omega.{arith}
 use lib.Bits.{bitAnd}
 use borrow.Author.Tests.{eq-eqb, ne-eqb}
-use lib.ListN.{length, getD, set}
+use lib.ListN.{length, getD}
 use Rattle.base.specs.Bits.{bit}
 use Rattle.circuit.specs.declared.GateId.{GateId}
 use Rattle.base.specs.BitWords.{bitIn}
-use Rattle.plan_order.specs.Search.{freeFrom, readyIn, searchFrom, nextReady, asNext, lowered, Clear, Holding}
-use Rattle.plan_order.specs.SeenLaws.{clear-next, clear-free}
+use Rattle.plan_order.specs.Search.{freeFrom, readyIn, searchFrom, nextReady, asNext, lowered, Holding}
 use Rattle.plan_order.specs.HoldLaws.{holding-pass, holding-more}
 use Rattle.plan_order.specs.declared.Next.the-variants.{Group, Circle}
 
 less : (n p : ℕ) → p < n → n - p ≡ suc (n - (p + 1))
 less n p h = omega arith
 
--- no group below p, from `from` on, is ready; held holds up those that are left, seen is what was seen of the waits
-pub record Searching (waits left : List ℕ) (first count : ℕ) (held seen : List ℕ) (p : ℕ) : Type 0 where
+-- no group below p, from `from` on, is ready; held holds up those that are left
+pub record Searching (waits left : List ℕ) (first count : ℕ) (held : List ℕ) (p : ℕ) : Type 0 where
   pub room : count ≤ 256
   pub wide : 4 * count ≤ length waits
   pub lefts : length left ≡ 4
-  pub holding : Holding waits left held seen p
+  pub holding : Holding waits left held p
   pub below : p ≤ count
   pub here : nextReady waits left first count ≡ searchFrom waits left p (count - p)
 
 -- p is left, and waits for none that is left as far as its words below w say
-pub record TestingWords (waits left : List ℕ) (first count : ℕ) (held seen : List ℕ) (p w : ℕ) : Type 0 where
-  pub search : Searching waits left first count held seen p
+pub record TestingWords (waits left : List ℕ) (first count : ℕ) (held : List ℕ) (p w : ℕ) : Type 0 where
+  pub search : Searching waits left first count held p
   pub inside : p < count
   pub isLeft : bitIn 0 left p ≡ true
   pub below : w ≤ 4
-  pub tested : Clear waits left p w
+  pub tested : freeFrom waits left p 0 4 ≡ freeFrom waits left p w (4 - w)
 
 module _ (waits left : List ℕ) (first count : ℕ) where
-  pub searching-start : (held seen : List ℕ) → count ≤ 256 → 4 * count ≤ length waits → length left ≡ 4 → first ≤ count → Holding waits left held seen first
-      → Searching waits left first count held seen first
+  pub searching-start : (held : List ℕ) → count ≤ 256 → 4 * count ≤ length waits → length left ≡ 4 → first ≤ count → Holding waits left held first
+      → Searching waits left first count held first
   unfolding nextReady
-  searching-start held seen h a b l s = record { room = h; wide = a; lefts = b; holding = s; below = l; here = refl }
+  searching-start held h a b l s = record { room = h; wide = a; lefts = b; holding = s; below = l; here = refl }
 
-  step : (held seen held′ seen′ : List ℕ) (p : ℕ) → Searching waits left first count held seen p → p < count → readyIn waits left p ≡ false
-      → Holding waits left held′ seen′ (p + 1) → Searching waits left first count held′ seen′ (p + 1)
+  step : (held new : List ℕ) (p : ℕ) → Searching waits left first count held p → p < count → readyIn waits left p ≡ false → Holding waits left new (p + 1)
+      → Searching waits left first count new (p + 1)
   unfolding searchFrom
-  step held seen held′ seen′ p s l e h =
+  step held new p s l e h =
       record { room = s .room; wide = s .wide; lefts = s .lefts; holding = h; below = omega arith; here = s .here ∙ rw (less count p l, e) }
 
   -- past a gate that names no group left
-  pub searching-past : (held seen held′ seen′ : List ℕ) (p : ℕ) → Searching waits left first count held seen p → p < count → bitIn 0 left p ≡ false
-      → held′ ≡ held → seen′ ≡ seen → Searching waits left first count held′ seen′ (p + 1)
+  pub searching-past : (held new : List ℕ) (p : ℕ) → Searching waits left first count held p → p < count → bitIn 0 left p ≡ false → new ≡ held
+      → Searching waits left first count new (p + 1)
   unfolding readyIn
-  searching-past held seen held′ seen′ p s l e f g = step held seen held′ seen′ p s l (rw e) (rw (f, g) (holding-pass waits left held seen p (s .holding) e))
+  searching-past held new p s l e f = step held new p s l (rw e) (rw f (holding-pass waits left held p (s .holding) e))
 
   -- past a group that waits
-  pub searching-held : (held seen held′ seen′ : List ℕ) (p w j : ℕ) → TestingWords waits left first count held seen p w → w < 4
+  pub searching-held : (held new : List ℕ) (p w j : ℕ) → TestingWords waits left first count held p w → w < 4
       → (bitAnd (getD waits (4 * p + w) 0) (getD left w 0) ≡ 0 → ⊥) → (j < 64) × (bit (bitAnd (getD waits (4 * p + w) 0) (getD left w 0)) j ≡ true)
-      → held′ ≡ lowered (64 * w + j) p held → seen′ ≡ set seen p w → Searching waits left first count held′ seen′ (p + 1)
+      → new ≡ lowered (64 * w + j) p held → Searching waits left first count new (p + 1)
   unfolding readyIn
-  searching-held held seen held′ seen′ p w j t l e x f g =
-      step held seen held′ seen′ p (t .search) (t .inside) (rw (t .isLeft) (clear-free waits left p w (t .below) (t .tested) ∙ waiting))
-      (rw (f, g) (holding-more waits left held seen p (t .search .holding) w j (omega (arith, t .inside, t .search .room)) l (x .0) (t .tested) (x .1)))
+  searching-held held new p w j t l e x f =
+      step held new p (t .search) (t .inside) (rw (t .isLeft) (t .tested ∙ waiting)) (rw f (holding-more waits left held p (t .search .holding) w j l (x .0) (x .1)))
     where
       waiting : freeFrom waits left p w (4 - w) ≡ false
       waiting = unfold freeFrom in rw (less 4 w l, ne-eqb (bitAnd (getD waits (4 * p + w) 0) (getD left w 0)) 0 e)
 
-  module _ (held seen : List ℕ) where
-    -- from the word at which p was last found waiting
-    pub testing-start : (p w : ℕ) → Searching waits left first count held seen p → p < count → bitIn 0 left p ≡ true → w ≡ getD seen p 0
-        → TestingWords waits left first count held seen p w
-    testing-start p w s l e f =
-        record { search = s; inside = l; isLeft = e; below = omega (arith, s .holding .words .short p); tested = rw f (s .holding .words .clear p) }
+  module _ (held : List ℕ) where
+    pub testing-start : (p : ℕ) → Searching waits left first count held p → p < count → bitIn 0 left p ≡ true → TestingWords waits left first count held p 0
+    testing-start p s l e = record { search = s; inside = l; isLeft = e; below = omega arith; tested = refl }
 
-    pub testing-next : (p w : ℕ) → TestingWords waits left first count held seen p w → w < 4 → bitAnd (getD waits (4 * p + w) 0) (getD left w 0) ≡ 0
-        → TestingWords waits left first count held seen p (w + 1)
+    pub testing-next : (p w : ℕ) → TestingWords waits left first count held p w → w < 4 → bitAnd (getD waits (4 * p + w) 0) (getD left w 0) ≡ 0
+        → TestingWords waits left first count held p (w + 1)
+    unfolding freeFrom
     testing-next p w t l e =
         record {
           search = t .search;
           inside = t .inside;
           isLeft = t .isLeft;
           below = omega arith;
-          tested = clear-next waits left p w (t .tested) (eq-eqb (bitAnd (getD waits (4 * p + w) 0) (getD left w 0)) 0 e);
+          tested = t .tested ∙ rw (less 4 w l, eq-eqb (bitAnd (getD waits (4 * p + w) 0) (getD left w 0)) 0 e);
         }
 
     -- a group left that waits for none that is
-    pub testing-end : (p w : ℕ) → TestingWords waits left first count held seen p w → 4 ≤ w → Group (record { 0 = p }) ≡ nextReady waits left first count
+    pub testing-end : (p w : ℕ) → TestingWords waits left first count held p w → 4 ≤ w → Group (record { 0 = p }) ≡ nextReady waits left first count
     unfolding searchFrom readyIn
-    testing-end p w t l = sym (t .search .here ∙ rw (less count p (t .inside), t .isLeft, clear-free waits left p w (t .below) (t .tested) ∙ free))
+    testing-end p w t l = sym (t .search .here ∙ rw (less count p (t .inside), t .isLeft, t .tested ∙ free))
       where
         free : freeFrom waits left p w (4 - w) ≡ true
         free = unfold freeFrom in let e : 4 - w ≡ 0 = omega arith in rw e
 
-    pub searching-end : (p : ℕ) → Searching waits left first count held seen p → count ≤ p
-        → (Circle ≡ nextReady waits left first count) × Holding waits left held seen count
+    pub searching-end : (p : ℕ) → Searching waits left first count held p → count ≤ p
+        → (Circle ≡ nextReady waits left first count) × Holding waits left held count
     unfolding searchFrom
     searching-end p s l =
         let e : count - p ≡ 0 = omega arith in

@@ -80,19 +80,17 @@ fn hold(watch: &mut [u8; GATE_ROOM], q: GateId, p: GateId)
 }
 
 // The first group from `from` on that is left and waits for none that is left; or that a circle remains. Each group left that is passed by on the
-// way waits for one that is left, and is noted in `watch` there: it need not be asked again before that one is struck. `seen` keeps for it the
-// word that says so: when it is asked again, those before that one are clear, since what is left only shrinks.
+// way waits for one that is left, and is noted in `watch` there: it need not be asked again before that one is struck.
 fn next_ready(
     waits: &[u64],
     left: &[u64],
     watch: &mut [u8; GATE_ROOM],
-    seen: &mut [u8; GATE_ROOM],
     from: GateId,
     count: usize,
 ) -> Next
-    requires { ⌜ (count ≤ gateRoom) × ((4 * count ≤ length (now waits)) × ((length (now left) ≡ 4) × ((from .0 ≤ count) × Holding (now waits) (now left) (now watch) (now seen) (from .0)))) ⌝ }
+    requires { ⌜ (count ≤ gateRoom) × ((4 * count ≤ length (now waits)) × ((length (now left) ≡ 4) × ((from .0 ≤ count) × Holding (now waits) (now left) (now watch) (from .0)))) ⌝ }
     ensures next { λ r. ⌜ r ≡ nextReady (now (waits .entry)) (now (left .entry)) (from .0) count ⌝ }
-    ensures held { λ r. ⌜ Holding (now (waits .entry)) (now (left .entry)) (now (watch .exit)) (now (seen .exit)) (placeOf r count) ⌝ }
+    ensures held { λ r. ⌜ Holding (now (waits .entry)) (now (left .entry)) (now (watch .exit)) (placeOf r count) ⌝ }
 {
     let first = from.0 as usize;
     let mut p = first;
@@ -101,7 +99,7 @@ fn next_ready(
             break 'search Next::Circle;
         }
         if plan_waits::has(left, 0, GateId(p as u16)) {
-            let mut w = base_words::wide8(seen[p]);
+            let mut w: usize = 0;
             'waits: loop {
                 if w >= base::SET_WORDS {
                     break 'search Next::Group(GateId(p as u16));
@@ -110,7 +108,6 @@ fn next_ready(
                 if both != 0 {
                     let q = 64 * w + highest(both);
                     hold(watch, GateId(q as u16), GateId(p as u16));
-                    seen[p] = w as u8;
                     break 'waits;
                 }
                 w = w + 1;
@@ -148,11 +145,10 @@ fn order_in(
     let mut left = [0u64; base::SET_WORDS];
     let n = plan_waits::find_left(group, count, &mut left);
     let mut watch = [NONE; GATE_ROOM];
-    let mut seen = [0u8; GATE_ROOM];
     let mut from: u16 = 0;
     let mut k: usize = 0;
     while k < n {
-        match next_ready(waits, &left, &mut watch, &mut seen, GateId(from), count) {
+        match next_ready(waits, &left, &mut watch, GateId(from), count) {
             Next::Group(p) => {
                 let i = p.0 as usize;
                 let lower = wide(watch[i]);

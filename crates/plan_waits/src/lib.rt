@@ -46,16 +46,14 @@ pub fn strike(words: &mut [u64], q: GateId)
     base_bits::strike(words, q.0);
 }
 
-// How many arguments a gate of this code has; a number that is no byte is no code.
+// How many arguments a gate of this code has.
 fn arity_of(code: u32) -> usize
     ensures { λ r. ⌜ r ≡ arityOf code ⌝ }
 {
     if code == circuit::CHOICE {
         CHOICE_ARITY
-    } else if code < 256 {
-        base_codes::code_of(code as u8).arity as usize
     } else {
-        0
+        circuit_quads::code_entry(code).arity as usize
     }
 }
 

@@ -2,21 +2,11 @@ use borrow.Author.Needs.{needs}
 use mathlib.Core.Path.{ap}
 use lib.Dec.{ltb}
 use Rattle.base.specs.declared.Code.{Code}
-use Rattle.plan_groups.specs.RowLaws.{cost-above}
 use Rattle.plan_fit.proofs.costly.Statement.{statement}
 use Rattle.plan_fit.proofs.costly.Tie as tie
 
 returns : tie.Need-returns
-returns c = ap (λ (r : Code). ltb 0 (r .cost)) (c .before .code-of .ensures)
-
-returns-2 : tie.Need-returns-2
-returns-2 c = cost-above _ (c .if1 .left)
+returns c = ap (λ (r : Code). ltb 0 (r .cost)) (c .code-entry .ensures)
 
 pub costly-spec : {M : Type 1} → statement M
-costly-spec =
-    tie.close
-    (tie.spec
-    (λ c. search needs)
-    (λ c κs. search needs)
-    returns
-    returns-2)
+costly-spec = tie.close (tie.spec (λ c κs. search needs) returns)
