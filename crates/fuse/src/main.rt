@@ -9,6 +9,12 @@ ghost use Rattle.io.specs.Counts.{Counts};
 ghost use Rattle.base.specs.Buffers.{over};
 ghost use Rattle.fused.specs.Answers.{writeAnswer, writtenOver};
 ghost use Rattle.report.specs.Line.{lineOf};
+ghost use Rattle.report.specs.Steps.{mostLine};
+
+// One byte more than the limit of each file is read, so that a longer one is seen.
+const RULE_ROOM: usize = rule::MOST_RULE_BYTES + 1;
+
+const PLAN_ROOM: usize = plan::MOST_PLAN_BYTES + 1;
 
 // Nothing is left to read: a read answers 0, neither a byte nor a failure.
 fn at_end(fd: i32) -> bool {
@@ -76,7 +82,7 @@ struct Fused {
 // All that the program says of a rule and a plan, whole before any of it is saved or printed: the file of an accepted plan, and the line.
 // The line buffer holds the longest line.
 fn fuse_rule(rule: &[u8], plan: &[u8], file: &mut [u8], line: &mut [u8]) -> Fused
-    requires { ⌜ 93 ≤ length (now line) ⌝ }
+    requires { ⌜ mostLine ≤ length (now line) ⌝ }
     ensures accepted { λ r. ⌜ r .accepted ≡ eqb (writeAnswer (now (rule .entry)) (now (plan .entry)) (length (now (file .entry))) .number) 0 ⌝ }
     ensures bytes { λ r. ⌜ r .bytes ≡ writeAnswer (now (rule .entry)) (now (plan .entry)) (length (now (file .entry))) .bytes ⌝ }
     ensures saved { λ _. ⌜ now (file .exit) ≡ writtenOver (now (rule .entry)) (now (plan .entry)) (now (file .entry)) ⌝ }
@@ -96,9 +102,9 @@ fn fuse_rule(rule: &[u8], plan: &[u8], file: &mut [u8], line: &mut [u8]) -> Fuse
 // One byte more than each limit is read, so that a file too long is seen to be. There is no line where the file could not be saved, and the line is
 // printed in one write.
 fn main() {
-    let mut rule = [0u8; 4097];
-    let mut plan = [0u8; 1025];
-    let mut file = [0u8; 16384];
+    let mut rule = [0u8; RULE_ROOM];
+    let mut plan = [0u8; PLAN_ROOM];
+    let mut file = [0u8; file::MOST_FILE_BYTES];
     let mut line = [0u8; report::MOST_LINE];
     let r = read_file(b"rule.rul", &mut rule);
     let p = read_file(b"rule.pln", &mut plan);

@@ -10,10 +10,8 @@ use borrow.Author.Tests.{eq-eqb, ne-eqb, leb-true, le-leb, lt-leb}
 use Rattle.base.specs.Lists.{every, same}
 use Rattle.base.specs.TestLaws.{both}
 use Rattle.base.specs.Codes.{codeOf}
-use Rattle.base.specs.declared.Code.{Code}
 use Rattle.circuit.specs.Limits.{mostGates}
 use Rattle.circuit.specs.Gates.{Gates}
-use Rattle.circuit_needed.specs.HeldLaws.{code-above}
 use Rattle.plan.specs.PlanFile.{mark, gatesCounted, groupsCounted, Plan, groupAt, groupsIn, ends}
 use Rattle.plan.specs.Limits.{leastPlanBytes, mostPlanBytes}
 use Rattle.plan.specs.Rows.{everyGroup, rises, apart, groupsRise, parted, Row, layoutRows, joinRows, firstFailing}
@@ -42,13 +40,6 @@ shape-size row n p at size h e = rw (eq-eqb row 24 h, length-numbers (getD p at 
 pub shape-numbers : (row n : ℕ) (G : List ℕ) → (row ≡ 24 → ⊥) → (rises G && every (λ g. ltb g n) G) ≡ shapeTest row n G
 unfolding shapeTest
 shape-numbers row n G h = rw (ne-eqb row 24 h)
-
--- a number that is no byte is no code
-pub cost-above : (code : ℕ) → 256 ≤ code → false ≡ ltb 0 (codeOf code .cost)
-cost-above code h = sym (ap (λ (r : Code). ltb 0 (r .cost)) (sym (code-above code h)) ∙ none)
-  where
-    none : ltb 0 (codeOf 0xFF .cost) ≡ false
-    none = unfold codeOf in refl
 
 -- The rows 20 to 25 one after the other: the first that fails decides.
 

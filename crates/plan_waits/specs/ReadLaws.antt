@@ -12,10 +12,9 @@ use borrow.Author.Tests.{eq-eqb, ne-eqb}
 use Rattle.base.specs.Lists.{elem, flat}
 use Rattle.base.specs.TestLaws.{split, same?}
 use Rattle.base.specs.Codes.{codeOf}
-use Rattle.base.specs.declared.Code.{Code}
 use Rattle.circuit.specs.Gates.{arguments}
 use Rattle.circuit_needed.specs.Held.{choiceCode, gateIn, codeAt, firstAt, secondAt, thirdAt}
-use Rattle.circuit_needed.specs.HeldLaws.{EachCode, each-code, each-entry, code-above}
+use Rattle.circuit_needed.specs.HeldLaws.{EachCode, each-code, each-entry}
 use Rattle.circuit_needed.specs.QuadLaws.{choice-in, arguments-in}
 use Rattle.plan_waits.specs.Reads.{arityOf, argumentsAt}
 
@@ -27,10 +26,6 @@ arity-choice code h = rw (eq-eqb code choiceCode h)
 pub arity-other : (code n : ℕ) → (code ≡ choiceCode → ⊥) → n ≡ codeOf code .arity → n ≡ arityOf code
 unfolding arityOf
 arity-other code n h e = rw (ne-eqb code choiceCode h) e
-
-pub arity-above : (code : ℕ) → (code ≡ choiceCode → ⊥) → 256 ≤ code → 0 ≡ arityOf code
-unfolding codeOf
-arity-above code h l = arity-other code 0 h (ap (λ (r : Code). r .arity) (code-above code l))
 
 two-most : (code : ℕ) → codeOf code .arity ≤ 2
 two-most code = each-code (λ r. r .arity ≤ 2) each code
