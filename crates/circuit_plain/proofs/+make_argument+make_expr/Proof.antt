@@ -15,19 +15,19 @@ use borrow.Fn.Kinds.{In}
 use borrow.Fn.PlainCycle.{Measures, is, falls, and}
 use Rattle.circuit_plain.proofs.make_argument.Reads as make-argument
 use Rattle.circuit_plain.proofs.make_argument.Kinds as make-argument-kinds
-use Rattle.plain.proofs.+make_argument+make_expr.Lts-make_argument as make-argument-lts
+use Rattle.circuit_plain.proofs.+make_argument+make_expr.Lts-make_argument as make-argument-lts
 use Rattle.circuit_plain.proofs.make_expr.Reads as make-expr
 use Rattle.circuit_plain.proofs.make_expr.Kinds as make-expr-kinds
-use Rattle.plain.proofs.+make_argument+make_expr.Lts-make_expr as make-expr-lts
-use Rattle.codes.proofs.code_of.Reads as code-of-reads
-use Rattle.making.proofs.apply_gate.Reads as apply-gate-reads
-use Rattle.making.proofs.byte_of.Reads as byte-of-reads
+use Rattle.circuit_plain.proofs.+make_argument+make_expr.Lts-make_expr as make-expr-lts
+use Rattle.base_codes.proofs.code_of.Reads as code-of-reads
+use Rattle.circuit_make.proofs.apply_gate.Reads as apply-gate-reads
+use Rattle.circuit_make.proofs.byte_of.Reads as byte-of-reads
 use Rattle.circuit_plain.proofs.make_variable.Reads as make-variable-reads
 use Rattle.circuit_plain.proofs.nothing.Reads as nothing-reads
-use Rattle.making.proofs.push.Reads as push-reads
-use Rattle.words.proofs.read32.Reads as read32-reads
-use Rattle.plain.proofs.+make_argument+make_expr.{statement}
-use Rattle.plain.proofs.+make_argument+make_expr.Tie.{close}
+use Rattle.circuit_make.proofs.push.Reads as push-reads
+use Rattle.base_words.proofs.read32.Reads as read32-reads
+use Rattle.circuit_plain.proofs.+make_argument+make_expr.{statement}
+use Rattle.circuit_plain.proofs.+make_argument+make_expr.Tie.{close}
 
 abbrev μ-make-argument : Measures 3 make-argument-kinds.ps ℕ
 μ-make-argument κs a = 2 * a .1 .1 .1 .0 + 1

@@ -24,20 +24,20 @@ use borrow.Fn.Kinds.{In}
 use borrow.Fn.PlainCycle.{Measures, is, falls, and}
 use Rattle.circuit_plain.proofs.make_block.Reads as make-block
 use Rattle.circuit_plain.proofs.make_block.Kinds as make-block-kinds
-use Rattle.plain.proofs.+make_block+make_branch+make_statement.Lts-make_block as make-block-lts
+use Rattle.circuit_plain.proofs.+make_block+make_branch+make_statement.Lts-make_block as make-block-lts
 use Rattle.circuit_plain.proofs.make_branch.Reads as make-branch
 use Rattle.circuit_plain.proofs.make_branch.Kinds as make-branch-kinds
-use Rattle.plain.proofs.+make_block+make_branch+make_statement.Lts-make_branch as make-branch-lts
+use Rattle.circuit_plain.proofs.+make_block+make_branch+make_statement.Lts-make_branch as make-branch-lts
 use Rattle.circuit_plain.proofs.make_statement.Reads as make-statement
 use Rattle.circuit_plain.proofs.make_statement.Kinds as make-statement-kinds
-use Rattle.plain.proofs.+make_block+make_branch+make_statement.Lts-make_statement as make-statement-lts
-use Rattle.codes.proofs.code_of.Reads as code
+use Rattle.circuit_plain.proofs.+make_block+make_branch+make_statement.Lts-make_statement as make-statement-lts
+use Rattle.base_codes.proofs.code_of.Reads as code
 use Rattle.circuit_plain.proofs.make_assign.Reads as assign
-use Rattle.making.proofs.make_choices.Reads as choices
+use Rattle.circuit_make.proofs.make_choices.Reads as choices
 use Rattle.circuit_plain.proofs.make_expr.Reads as expr
 use Rattle.circuit_plain.proofs.passed.Reads as passed
-use Rattle.plain.proofs.+make_block+make_branch+make_statement.{statement}
-use Rattle.plain.proofs.+make_block+make_branch+make_statement.Tie.{close}
+use Rattle.circuit_plain.proofs.+make_block+make_branch+make_statement.{statement}
+use Rattle.circuit_plain.proofs.+make_block+make_branch+make_statement.Tie.{close}
 
 abbrev μ-make-block : Measures 3 make-block-kinds.ps ℕ
 μ-make-block κs a = 3 * (length (now (a .0)) - a .1 .0) + 2

@@ -6,11 +6,11 @@ use borrow.Fn.Kinds.{In}
 use borrow.Fn.PlainCycle.{Measures, is, falls, and}
 use Rattle.report.specs.DecimalLaws.{length-some, length-more}
 use Rattle.report.specs.PutLaws.{put-one, put-more}
-use Rattle.lines.proofs.+put_decimal.{statement}
-use Rattle.lines.proofs.+put_decimal.Tie.{close}
+use Rattle.report_lines.proofs.+put_decimal.{statement}
+use Rattle.report_lines.proofs.+put_decimal.Tie.{close}
 use Rattle.report_lines.proofs.put_decimal.Reads as put-decimal
 use Rattle.report_lines.proofs.put_decimal.Kinds as put-decimal-kinds
-use Rattle.lines.proofs.+put_decimal.Lts-put_decimal as put-decimal-lts
+use Rattle.report_lines.proofs.+put_decimal.Lts-put_decimal as put-decimal-lts
 
 abbrev μ-put-decimal : Measures 1 put-decimal-kinds.ps ℕ
 μ-put-decimal κs a = a .0

@@ -19,15 +19,15 @@ use borrow.Fn.Kinds.{In}
 use borrow.Fn.PlainCycle.{Measures, is, falls, and}
 use Rattle.rule_reader.proofs.read_block.Reads as read-block
 use Rattle.rule_reader.proofs.read_block.Kinds as read-block-kinds
-use Rattle.reading.proofs.+read_block+read_statement.Lts-read_block as read-block-lts
+use Rattle.rule_reader.proofs.+read_block+read_statement.Lts-read_block as read-block-lts
 use Rattle.rule_reader.proofs.read_statement.Reads as read-statement
 use Rattle.rule_reader.proofs.read_statement.Kinds as read-statement-kinds
-use Rattle.reading.proofs.+read_block+read_statement.Lts-read_statement as read-statement-lts
-use Rattle.codes.proofs.code_of.Reads as code
+use Rattle.rule_reader.proofs.+read_block+read_statement.Lts-read_statement as read-statement-lts
+use Rattle.base_codes.proofs.code_of.Reads as code
 use Rattle.rule_reader.proofs.read_assign.Reads as assign
 use Rattle.rule_reader.proofs.read_expr.Reads as expr
-use Rattle.reading.proofs.+read_block+read_statement.{statement}
-use Rattle.reading.proofs.+read_block+read_statement.Tie.{close}
+use Rattle.rule_reader.proofs.+read_block+read_statement.{statement}
+use Rattle.rule_reader.proofs.+read_block+read_statement.Tie.{close}
 
 abbrev μ-read-block : Measures 1 read-block-kinds.ps ℕ
 μ-read-block κs a = 2 * (length (now (a .0)) - a .1 .0) + 1

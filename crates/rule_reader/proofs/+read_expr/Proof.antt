@@ -15,15 +15,15 @@ use borrow.Fn.Kinds.{In}
 use borrow.Fn.PlainCycle.{Measures, is, falls, and}
 use Rattle.rule_reader.proofs.read_expr.Reads as read-expr
 use Rattle.rule_reader.proofs.read_expr.Kinds as read-expr-kinds
-use Rattle.reading.proofs.+read_expr.Lts-read_expr as read-expr-lts
-use Rattle.codes.proofs.code_of.Reads as code-of-reads
-use Rattle.codes.proofs.same_kind.Reads as same-kind-reads
+use Rattle.rule_reader.proofs.+read_expr.Lts-read_expr as read-expr-lts
+use Rattle.base_codes.proofs.code_of.Reads as code-of-reads
+use Rattle.base_codes.proofs.same_kind.Reads as same-kind-reads
 use Rattle.rule_reader.proofs.is_variable.Reads as is-variable-reads
 use Rattle.rule_reader.proofs.read_bit.Reads as read-bit-reads
 use Rattle.rule_reader.proofs.read_variable.Reads as read-variable-reads
 use Rattle.rule_reader.proofs.read_word.Reads as read-word-reads
-use Rattle.reading.proofs.+read_expr.{statement}
-use Rattle.reading.proofs.+read_expr.Tie.{close}
+use Rattle.rule_reader.proofs.+read_expr.{statement}
+use Rattle.rule_reader.proofs.+read_expr.Tie.{close}
 
 abbrev μ-read-expr : Measures 1 read-expr-kinds.ps ℕ
 μ-read-expr κs a = a .1 .1 .1 .0

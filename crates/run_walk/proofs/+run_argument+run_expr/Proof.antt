@@ -13,16 +13,16 @@ use borrow.Fn.Kinds.{In}
 use borrow.Fn.PlainCycle.{Measures, is, falls, and}
 use Rattle.run_walk.proofs.run_argument.Reads as run-argument
 use Rattle.run_walk.proofs.run_argument.Kinds as run-argument-kinds
-use Rattle.walking.proofs.+run_argument+run_expr.Lts-run_argument as run-argument-lts
+use Rattle.run_walk.proofs.+run_argument+run_expr.Lts-run_argument as run-argument-lts
 use Rattle.run_walk.proofs.run_expr.Reads as run-expr
 use Rattle.run_walk.proofs.run_expr.Kinds as run-expr-kinds
-use Rattle.walking.proofs.+run_argument+run_expr.Lts-run_expr as run-expr-lts
-use Rattle.codes.proofs.apply.Reads as apply-reads
-use Rattle.codes.proofs.code_of.Reads as code-of-reads
+use Rattle.run_walk.proofs.+run_argument+run_expr.Lts-run_expr as run-expr-lts
+use Rattle.base_codes.proofs.apply.Reads as apply-reads
+use Rattle.base_codes.proofs.code_of.Reads as code-of-reads
 use Rattle.run_walk.proofs.run_variable.Reads as run-variable-reads
-use Rattle.words.proofs.read32.Reads as read32-reads
-use Rattle.walking.proofs.+run_argument+run_expr.{statement}
-use Rattle.walking.proofs.+run_argument+run_expr.Tie.{close}
+use Rattle.base_words.proofs.read32.Reads as read32-reads
+use Rattle.run_walk.proofs.+run_argument+run_expr.{statement}
+use Rattle.run_walk.proofs.+run_argument+run_expr.Tie.{close}
 
 abbrev μ-run-argument : Measures 2 run-argument-kinds.ps ℕ
 μ-run-argument κs a = 2 * a .1 .1 .1 .0 + 1

@@ -18,16 +18,16 @@ use borrow.Fn.Kinds.{In}
 use borrow.Fn.PlainCycle.{Measures, is, falls, and}
 use Rattle.run_walk.proofs.run_block.Reads as run-block
 use Rattle.run_walk.proofs.run_block.Kinds as run-block-kinds
-use Rattle.walking.proofs.+run_block+run_statement.Lts-run_block as run-block-lts
+use Rattle.run_walk.proofs.+run_block+run_statement.Lts-run_block as run-block-lts
 use Rattle.run_walk.proofs.run_statement.Reads as run-statement
 use Rattle.run_walk.proofs.run_statement.Kinds as run-statement-kinds
-use Rattle.walking.proofs.+run_block+run_statement.Lts-run_statement as run-statement-lts
-use Rattle.codes.proofs.code_of.Reads as code
+use Rattle.run_walk.proofs.+run_block+run_statement.Lts-run_statement as run-statement-lts
+use Rattle.base_codes.proofs.code_of.Reads as code
 use Rattle.run_walk.proofs.pass_block.Reads as pass
 use Rattle.run_walk.proofs.run_assign.Reads as assign
 use Rattle.run_walk.proofs.run_expr.Reads as expr
-use Rattle.walking.proofs.+run_block+run_statement.{statement}
-use Rattle.walking.proofs.+run_block+run_statement.Tie.{close}
+use Rattle.run_walk.proofs.+run_block+run_statement.{statement}
+use Rattle.run_walk.proofs.+run_block+run_statement.Tie.{close}
 
 abbrev μ-run-block : Measures 2 run-block-kinds.ps ℕ
 μ-run-block κs a = 2 * (length (now (a .0)) - a .1 .0) + 1

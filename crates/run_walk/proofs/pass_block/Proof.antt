@@ -5,7 +5,7 @@ use Rattle.rule.specs.Blocks.{readBlock}
 use borrow.Author.Needs.{needs}
 use Rattle.run_walk.proofs.pass_block.Statement.{statement}
 use Rattle.run_walk.proofs.pass_block.Tie as tie
-use Rattle.reading.proofs.read_block.Reads as read-block-reads
+use Rattle.rule_reader.proofs.read_block.Reads as read-block-reads
 
 returns : tie.Need-returns
 returns c =
