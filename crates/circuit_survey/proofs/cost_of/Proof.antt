@@ -12,10 +12,4 @@ returns-2 : tie.Need-returns-2
 returns-2 c = ap (λ (r : Code). r .cost) (c .code-entry .ensures) ∙ sym (cost-other _ (c .before .if1 .left))
 
 pub cost-of-spec : {M : Type 1} → statement M
-cost-of-spec =
-    tie.close
-    (tie.spec
-    (λ c. search needs)
-    (λ c κs. search needs)
-    returns
-    returns-2)
+cost-of-spec = tie.close (tie.spec (λ c κs. search needs) returns returns-2)

@@ -31,6 +31,7 @@ size-alone-spec =
     (λ c. search needs)
     (λ c. search needs)
     (λ c. search needs)
+    (λ c. search needs)
     returns
     returns-2
     cast-code-of

@@ -39,79 +39,79 @@ slice-aggregate-next-ready c = sym (c .before .before .before .loop .inv .1 .1 .
 
 next-ready-requires : tie.Need-next-ready-requires Inv-loop μ-loop
 next-ready-requires c κs =
-    let i = c .before .before .before .before .before .loop .inv .1 .1 in (i .tabled .room, (i .tabled .wide, (i .tabled .lefts .size, (i .below, i .holding))))
+    let i = c .before .before .before .before .loop .inv .1 .1 in (i .tabled .room, (i .tabled .wide, (i .tabled .lefts .size, (i .below, i .holding))))
 
 array-read-wide : tie.Need-array-read-wide Inv-loop μ-loop
 array-read-wide c =
-    let i = c .before .before .before .before .before .before .before .before .before .before .loop .inv .1 .1 in
+    let i = c .before .before .before .before .before .before .before .before .before .loop .inv .1 .1 in
     let n = c .before .before .before .before .next-ready .ensures in
     let room = placing-room _ _ _ _ _ _ _ _ _ _ _ i _ (sym (c .before .before .p .given .1) ∙ n .0) in
     room .0
 
 mul-order : tie.Need-mul-order Inv-loop μ-loop
 mul-order c =
-    let i = c .before .before .before .before .before .before .before .before .before .before .before .loop .inv .1 .1 in
+    let i = c .before .before .before .before .before .before .before .before .before .before .loop .inv .1 .1 in
     let n = c .before .before .before .before .before .next-ready .ensures in
     let room = placing-room _ _ _ _ _ _ _ _ _ _ _ i _ (sym (c .before .before .before .p .given .1) ∙ n .0) in
     record { fits = omega (arith, room .1) }
 
 element-write-order : tie.Need-element-write-order Inv-loop μ-loop
 element-write-order c =
-    let i = c .before .before .before .before .before .before .before .before .before .before .before .loop .inv .1 .1 in
+    let i = c .before .before .before .before .before .before .before .before .before .before .loop .inv .1 .1 in
     let n = c .before .before .before .before .before .next-ready .ensures in
     let room = placing-room _ _ _ _ _ _ _ _ _ _ _ i _ (sym (c .before .before .before .p .given .1) ∙ n .0) in
     room .1
 
 slice-aggregate-strike : tie.Need-slice-aggregate-strike Inv-loop μ-loop
-slice-aggregate-strike c = sym (c .before .before .before .before .before .before .before .before .before .before .before .before .loop .inv .1 .1 .tabled .lefts .size)
+slice-aggregate-strike c = sym (c .before .before .before .before .before .before .before .before .before .before .before .loop .inv .1 .1 .tabled .lefts .size)
 
 strike-requires : tie.Need-strike-requires Inv-loop μ-loop
 strike-requires c κs =
-    let i = c .before .before .before .before .before .before .before .before .before .before .before .before .loop .inv .1 .1 in
+    let i = c .before .before .before .before .before .before .before .before .before .before .before .loop .inv .1 .1 in
     let n = c .before .before .before .before .before .before .next-ready .ensures in
     let room = placing-room _ _ _ _ _ _ _ _ _ _ _ i _ (sym (c .before .before .before .before .p .given .1) ∙ n .0) in
     (omega (arith, i .tabled .lefts .size), room .0)
 
 add-k : tie.Need-add-k Inv-loop μ-loop
 add-k c =
-    let i = c .before .before .before .before .before .before .before .before .before .before .before .before .before .before .loop .inv .1 .1 in
+    let i = c .before .before .before .before .before .before .before .before .before .before .before .before .before .loop .inv .1 .1 in
     let n = c .before .before .before .before .before .before .before .before .next-ready .ensures in
     let room = placing-room _ _ _ _ _ _ _ _ _ _ _ i _ (sym (c .before .before .before .before .before .before .p .given .1) ∙ n .0) in
     record { fits = omega (arith, room .1) }
 
 array-write-watch : tie.Need-array-write-watch Inv-loop μ-loop
 array-write-watch c =
-    let i = c .before .before .before .before .before .before .before .before .before .before .before .before .before .before .before .before .loop .inv .1 .1 in
+    let i = c .before .before .before .before .before .before .before .before .before .before .before .before .before .before .before .loop .inv .1 .1 in
     let n = c .before .before .before .before .before .before .before .before .before .before .next-ready .ensures in
     let room = placing-room _ _ _ _ _ _ _ _ _ _ _ i _ (sym (c .before .before .before .before .before .before .before .before .p .given .1) ∙ n .0) in
     room .0
 
 loop-again : tie.Need-loop-again Inv-loop μ-loop
 loop-again c =
-    let i = c .before .before .before .before .before .before .before .before .before .before .before .before .before .before .before .before .loop .inv in
+    let i = c .before .before .before .before .before .before .before .before .before .before .before .before .before .before .before .loop .inv in
     let e = c .before .before .before .before .before .before .before .before .p .given .1 in
     let n = c .before .before .before .before .before .before .before .before .before .before .next-ready .ensures in
     (i .0, (_, placing-on _ _ _ _ _ _ _ _ _ _ _ (i .1 .1) _ (sym e ∙ n .0) _ _ _ _ _ _ e (n .1) (omega (arith, c .if1 .taken)) (omega (arith, c .if1 .taken)) refl (c .before .before .before .strike .ensures) (same-else _ 255 _ _ refl)))
 
 add-from : tie.Need-add-from Inv-loop μ-loop
 add-from c =
-    let i = c .before .before .before .before .before .before .before .before .before .before .before .before .before .before .before .before .before .loop .inv .1 .1 in
+    let i = c .before .before .before .before .before .before .before .before .before .before .before .before .before .before .before .before .loop .inv .1 .1 in
     let n = c .before .before .before .before .before .before .before .before .before .before .before .next-ready .ensures in
     let room = placing-room _ _ _ _ _ _ _ _ _ _ _ i _ (sym (c .before .before .before .before .before .before .before .before .before .p .given .1) ∙ n .0) in
     record { fits = omega (arith, room .0) }
 
 loop-again-2 : tie.Need-loop-again-2 Inv-loop μ-loop
 loop-again-2 c =
-    let i = c .before .before .before .before .before .before .before .before .before .before .before .before .before .before .before .before .before .loop .inv in
+    let i = c .before .before .before .before .before .before .before .before .before .before .before .before .before .before .before .before .loop .inv in
     let e = c .before .before .before .before .before .before .before .before .before .p .given .1 in
     let n = c .before .before .before .before .before .before .before .before .before .before .before .next-ready .ensures in
     (i .0, (_, placing-on _ _ _ _ _ _ _ _ _ _ _ (i .1 .1) _ (sym e ∙ n .0) _ _ _ _ _ _ e (n .1) (omega (arith, c .before .if1 .left)) (omega (arith, c .before .if1 .left)) refl (c .before .before .before .before .strike .ensures) (same-all _ _)))
 
 returns : tie.Need-returns Inv-loop μ-loop
 returns c =
-    let i = c .before .before .before .before .before .before .before .before .loop .inv in
-    let group = c .before .before .before .before .before .before .before .before .before .before .before .before .before .before .before .before .before .args .group .now in
-    ordering-circle _ _ _ group _ _ _ _ _ _ _ _ (i .1 .1) _ (i .0) (sym (c .enum-told .given .1) ∙ c .before .before .next-ready .ensures .0) (c .before .before .before .before .before .before .before .loop-test .taken)
+    let i = c .before .before .before .before .before .before .before .loop .inv in
+    let group = c .before .before .before .before .before .before .before .before .before .before .before .before .before .before .before .before .args .group .now in
+    ordering-circle _ _ _ group _ _ _ _ _ _ _ _ (i .1 .1) _ (i .0) (sym (c .enum-told .given .1) ∙ c .before .before .next-ready .ensures .0) (c .before .before .before .before .before .before .loop-test .taken)
 
 returns-2 : tie.Need-returns-2 Inv-loop μ-loop
 returns-2 c = let i = c .before .loop .inv in ordering-end _ _ _ (c .before .before .before .before .before .before .before .before .before .before .args .group .now) _ _ _ _ _ _ _ _ (i .1 .1) _ (i .0) (c .loop-test .left)

@@ -9,7 +9,7 @@ returns : tie.Need-returns
 returns c = arity-choice _ (c .if1 .taken)
 
 returns-2 : tie.Need-returns-2
-returns-2 c = arity-other _ _ (c .before .if1 .left) (ap (λ (r : Code). r .arity) (c .code-entry .ensures))
+returns-2 c = arity-other _ _ (c .before .before .if1 .left) (ap (λ (r : Code). r .arity) (c .before .code-entry .ensures))
 
 pub arity-of-spec : {M : Type 1} → statement M
-arity-of-spec = tie.close (tie.spec (λ c κs. search needs) returns returns-2)
+arity-of-spec = tie.close (tie.spec (λ c κs. search needs) (λ c. search needs) returns returns-2)
