@@ -1,4 +1,4 @@
--- Laws of a buffer filled piece by piece, each piece in the rest that is handed on.
+-- A buffer filled piece by piece, each in the rest that is handed on: every piece finds room, and at the end the buffer has all pieces, joined, over what it held.
 use Prim.Native.Nat.{ℕ, zero, suc, _+_, _-_, _≤_, _<_}
 use mathlib.Core.Path.{_≡_, refl, sym, ap, _∙_}
 use mathlib.Core.List.{List, [], _++_, append-assoc, append-nil}

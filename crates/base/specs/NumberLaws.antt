@@ -1,4 +1,4 @@
--- Laws of `number` and `bytesOf`, over the width.
+-- Big-endian numbers of any width: a number written and read back is the same, and so are bytes read and written; the number of two runs of bytes by those of each.
 use mathlib.Core.Path.{_≡_, refl, sym, ap, ap₂, subst⁻¹, _∙_}
 use mathlib.Core.List.{List, [], _∷_, _++_}
 use Prim.Native.Nat.{ℕ, zero, suc, _+_, _*_, _/_, _%_, _^_, _≤_, _<_}

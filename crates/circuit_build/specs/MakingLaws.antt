@@ -1,4 +1,4 @@
--- Laws of a rule's gates in quads, once they are made.
+-- A rule's gates, made into quads: up to 256 of them, read back, are the rule's; so rows 10 and 11 and the answer, worked out from the quads, are the rule's.
 use Prim.Native.Nat.{ℕ, _-_, _*_, _<_, _≤_}
 use native.Mathlib.Omega.{arith}
 use mathlib.Core.Path.{_≡_, sym, ap, subst⁻¹, _∙_}

@@ -1,4 +1,4 @@
--- Laws of giving the outputs, one for each step of the code.
+-- The loop that gives the outputs: no wire (FF FF) gives 0, any other its wire's figure; after all V of them the results begin with the file's figures, and the rest is as before.
 use Prim.Native.Nat.{ℕ, _+_, _*_, _≤_, _<_}
 use mathlib.Core.Path.{_≡_, sym, ap, subst, _∙_}
 use mathlib.Core.List.{List, [], _∷_, _++_, map, map-append}

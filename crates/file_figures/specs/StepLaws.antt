@@ -1,4 +1,4 @@
--- Laws of working out a choice, a pick's sum and a guard's number, one for each step of the code.
+-- The figures of a choice, a pick and a guard, turn by turn: the value that the condition picks, the sum of the values whose guards are 1, the table's bit at the wires' number.
 use Prim.Native.Nat.{ℕ, zero, suc, _+_, _-_, _*_, _%_, _^_, _≤_, _<_}
 use mathlib.Core.Path.{_≡_, refl, sym, ap, _∙_}
 use mathlib.Core.Bool.{Bool, true, false, cond}
