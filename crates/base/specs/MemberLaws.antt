@@ -1,4 +1,4 @@
--- Membership: of the members that pass a test, of runs, of joined and mapped lists; of numbers that all lie below a bound.
+-- Membership, as a type and as a test, which reflects it: in what passes a test, in runs, in joined and mapped lists; numbers that all lie below a bound.
 use mathlib.Core.Path.{_≡_, refl, sym, ap, _∙_}
 use mathlib.Core.Bool.{Bool, true, cond, false≢true, _&&_}
 use mathlib.Core.List.{List, [], _∷_, _++_, map}

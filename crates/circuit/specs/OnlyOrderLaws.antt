@@ -1,4 +1,4 @@
--- Rules that differ only in the order of such variables have the same plain circuit (document 02, C-12).
+-- Rules that differ only in the order of variables that are the two arguments of an operation that commutes have the same plain circuit (document 02, C-12).
 use Prim.Native.Nat.{ℕ, _+_, _<_}
 use native.Mathlib.Omega.{arith}
 use mathlib.Core.Path.{_≡_, refl, sym, ap, _∙_}

@@ -1,4 +1,4 @@
--- Examples of document 02, C-13, "Working figures are not results": examples, proved from the definitions.
+-- Examples of document 02, C-13, "Working figures are not results", proved from the definitions.
 use Prim.Native.Nat.{ℕ}
 use mathlib.Core.Path.{_≡_, refl}
 use mathlib.Core.List.{List, [], _∷_, map}

@@ -1,4 +1,4 @@
--- One record, by its first byte: what its figure needs, and that the code's figure is it.
+-- One record, by its first byte: what its figure needs is there, and what the code works out is its figure.
 use Prim.Native.Nat.{ℕ, _+_, _*_, _%_, _≤_, _<_}
 use mathlib.Core.Path.{_≡_, refl, sym, ap, subst, _∙_}
 use mathlib.Core.Bool.{Bool}

@@ -1,4 +1,4 @@
--- Row 62 over the whole file, one for each step of the code: record after record, output after output.
+-- Row 62 over the whole file, record after record and output after output: what is left decides, one that does not stand ends it, and the table holds the kinds so far.
 use Prim.Native.Nat.{ℕ, suc, _+_, _-_, _*_, _≤_, _<_}
 use mathlib.Core.Path.{_≡_, refl, sym, ap, subst, _∙_}
 use mathlib.Core.List.{List}

@@ -1,4 +1,4 @@
--- Row 62, one for each step of the code: a wire, an output, wires at equal distances.
+-- Row 62 of a wire, of an output and of wires at equal distances: what the code tests, one after another, is what the row tests.
 use Prim.Native.Nat.{ℕ, zero, suc, _+_, _-_, _*_, _^_, _≤_, _<_}
 use mathlib.Core.Path.{_≡_, refl, sym, ap, _∙_}
 use mathlib.Core.List.{List}

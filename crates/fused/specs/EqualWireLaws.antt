@@ -1,5 +1,5 @@
--- Document 02, C-18, on an accepted plan: when members have one wire at a place, what stands where a group has no guards and what its wire holds; that a joined
--- gate still comes after the conditions that it rests on; what a group's records come to by its picks.
+-- Laws for document 02, C-18, on an accepted plan: when members have one wire at a place, what stands where a group has no guards and what its wire holds; that a
+-- joined gate still comes after the conditions that it rests on; what a group's records come to by its picks.
 use Prim.Native.Nat.{ℕ, _+_, _*_, _≤_, _<_}
 use mathlib.Core.Path.{_≡_, refl, sym, ap, ap₂, _∙_}
 use mathlib.Core.Bool.{true}

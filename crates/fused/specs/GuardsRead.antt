@@ -1,4 +1,4 @@
--- Document 02, C-18, "If no pick remains, write no guards for the group": every guard of a fused circuit is named by a pick.
+-- Laws for document 02, C-18, "If no pick remains, write no guards for the group": every guard of a fused circuit is named by a pick.
 use Prim.Native.Nat.{ℕ, suc, _+_, _-_, _≤_, _<_}
 use mathlib.Core.Path.{_≡_, sym, ap, _∙_}
 use mathlib.Core.List.{List, [], _∷_, _++_, map, append-assoc, append-nil}
