@@ -49,7 +49,7 @@ pieces-room f (suc n) i h = rw (length-append (pieces f n) (f n)) (go (same? i n
     go (inl e) ih = rw e (omega arith)
     go (inr m) ih = omega (arith, ih (omega arith))
 
--- i pieces of n are written
+-- loop invariant: i pieces of n are written
 pub record Filling (f : ℕ → List ℕ) (out out₀ : List ℕ) (n at i : ℕ) : Type 0 where
   pub below : i ≤ n
   pub room : length (pieces f n) ≤ length out₀

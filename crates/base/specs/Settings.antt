@@ -52,7 +52,7 @@ anyBelow p (suc n) = cond (p n) true (anyBelow p n)
 abbrev pub moves : (Setting → Bool) → List ℕ → ℕ → ℕ → Bool
 moves P cs c j = unlike (P (settingOf cs j)) (P (flip (settingOf cs j) c))
 
--- P rests on condition c: changing c alone moves some setting over cs in or out
+-- P rests on condition c, which is then in its support: changing c alone moves some setting over cs in or out
 unfoldable pub preRestsOn : (Setting → Bool) → List ℕ → ℕ → Bool
 preRestsOn P cs c = anyBelow (moves P cs c) (2 ^ length cs)
 

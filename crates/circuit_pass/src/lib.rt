@@ -1,4 +1,4 @@
-// Document 01, "Needed gates", over lent arrays: the one backward pass that finds every gate's precondition.
+// Document 01, "Needed gates", over lent arrays: the one backward pass that finds every gate's precondition: liveness, for all settings of the conditions at once.
 // The lent arrays hold plain numbers; a gate's number in hand is a `GateId`, its set a `Set`.
 use base::Set;
 use circuit::GATE_ROOM;

@@ -105,7 +105,7 @@ module _ (f : List ℕ) where
         omega (arith, a, b, row-passed f h .layout .whole w l .inside))
         (λ t. let (a, (b, _)) = part-none t in omega (arith, a, b))
 
--- amid the records before wire w
+-- loop invariant, amid the records before wire w
 pub record AmidPlaces (f : List ℕ) (w at i : ℕ) : Type 0 where
   pub passed : Passed f
   pub below : w < wireCount f

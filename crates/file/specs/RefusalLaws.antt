@@ -21,7 +21,7 @@ use Rattle.file.specs.InputLaws.{input-inside, input-kind}
 abbrev pub fileInputsRow : List ℕ → List ℕ → ℕ → ℕ
 fileInputsRow f inputs room = inputsRow (fileVariables f) (wireKind (fileRecords f)) inputs room
 
--- amid the inputs: those that are left decide
+-- loop invariant, amid the inputs: those that are left decide
 pub record AmidInputs (f inputs : List ℕ) (v x : ℕ) : Type 0 where
   pub passed : Passed f
   pub count : v ≡ fileVariables f

@@ -36,7 +36,7 @@ module _ (figures : List ℕ) (n w : ℕ) (e : n ≡ w) where
     pub output-held : (g : ℕ) → g ≡ held figures n → g ≡ outputHeld figures w
     output-held g q = rw (ne-eqb w noWire (λ z. h (e ∙ z)), ← e) q
 
--- amid the outputs: the first x are given over the results that were there before
+-- loop invariant, amid the outputs: the first x are given over the results that were there before
 pub record Giving (f figures before results : List ℕ) (at x : ℕ) : Type 0 where
   pub few : x ≤ fileVariables f
   pub inside : at + 2 * fileVariables f ≤ length f

@@ -43,7 +43,7 @@ module _ (count : ℕ) (k : ℕ → Kind) (x n w : ℕ) (e : n ≡ w) where
   pub output-wire : (n ≡ noWire → ⊥) → (b : Bool) → b ≡ fits count k (k x) w → b ≡ outputStands count k x w
   output-wire h b q = rw (ne-eqb w noWire (λ z. h (e ∙ z))) q
 
--- wires at equal distances: those that are left decide
+-- loop invariant, amid wires at equal distances: those that are left decide
 pub record AmidWires (f : List ℕ) (t : ℕ → Bool) (step at count here left : ℕ) : Type 0 where
   pub inside : here + step * left + 2 ≤ length f + step
   pub same : every t (wiresBy step count f at) ≡ every t (wiresBy step left f here)

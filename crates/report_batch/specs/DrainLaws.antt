@@ -19,7 +19,7 @@ use Rattle.report.specs.StepLaws.{step-orderly}
 use Rattle.report.specs.FeedLaws.{drain-no-room, drain-last, drain-on}
 use Rattle.report_batch.specs.TakenLaws.{rest-lent}
 
--- the steps taken so far: where they lead, what they took of s and printed to d
+-- loop invariant, the steps taken so far: where they lead, what they took of s and printed to d
 pub record Draining (p : Progress) (s d : List ℕ) (reached : Progress) (bytes printed : ℕ) (e : List ℕ) : Type 0 where
   pub fuel : ℕ
   pub text : List ℕ
