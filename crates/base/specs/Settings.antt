@@ -12,7 +12,8 @@ use Rattle.base.specs.Bits.{odd, bitOf, unlike}
 abbrev pub Setting : Type 0
 Setting = ℕ → Bool
 
--- setting j gives condition t the bit t of j, so `bit j` is setting j over conditions named by their places; over the conditions cs the condition at place t gets the bit t of j, whatever is no condition gets 0
+-- setting j gives condition t the bit t of j, so `bit j` is setting j over conditions named by their places;
+-- over the conditions cs the condition at place t gets the bit t of j, and whatever is no condition gets 0
 abbrev pub settingOf : List ℕ → ℕ → Setting
 settingOf [] j d = false
 settingOf (c ∷ cs) j d = cond (eqb d c) (odd j) (settingOf cs (j / 2) d)
