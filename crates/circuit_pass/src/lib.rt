@@ -92,8 +92,8 @@ fn hand_choice(
     add(sets, b, parts.without);
 }
 
-// Gate g hands its set on to what it asks for; its row is read once. A starting value or a constant asks for nothing, and its set is not read.
-// A number of the row is a gate's only where the code says so: not has one argument, every other operation two, a choice three.
+// Gate g hands its set on to what it asks for; its quad is read once. A starting value or a constant asks for nothing, and its set is not read.
+// A number of the quad is a gate's only where the code says so: not has one argument, every other operation two, a choice three.
 fn hand(
     quads: &[u32; QUAD_ROOM],
     count: usize,
