@@ -1,4 +1,4 @@
--- Laws for the code of a run of steps: what it has done so far, and one step more.
+-- A run of steps: what it took and printed so far is what the definition's run does; a step that takes bytes brings it nearer, one that takes none ends it.
 use mathlib.Core.List.{List, [], _∷_, _++_, append-nil}
 use mathlib.Core.Logic.{inl, inr, ⊎-elim}
 use mathlib.Core.Path.{_≡_, refl, sym, ap, _∙_}
