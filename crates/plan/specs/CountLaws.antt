@@ -1,4 +1,4 @@
--- No group stands twice, and there are at most as many as gates; so it is with the order of writing, and one that places every group is as long as their list.
+-- No group stands twice, and there are at most as many as gates; the order of writing is no longer than that, and as long as their list where it places every group.
 use Prim.Native.Nat.{ℕ, suc, _≤_}
 use mathlib.Core.Path.{_≡_, refl, sym, ap, _∙_}
 use mathlib.Core.Bool.{true, cond}
