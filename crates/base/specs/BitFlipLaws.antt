@@ -1,4 +1,4 @@
--- Laws for document 01, "Needed gates (000 Def. 4)": changing bit t alone of a number.
+-- Laws for document 01, "Needed gates (000 Def. 4)": changing bit t alone of a number changes that bit, keeps the number's size, and done twice changes nothing.
 use mathlib.Core.Path.{_≡_, refl, sym, ap, ap₂, _∙_}
 use mathlib.Core.Bool.{Bool, true, false, not, Bool·not-not}
 use mathlib.Core.List.{[], _∷_}

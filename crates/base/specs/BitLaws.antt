@@ -1,4 +1,4 @@
--- Laws of the bits of a number and of a collected set, for any number of bits.
+-- The bits of a number, from the lowest on; those of what is common, of a union, of a difference; same bits, same number. A collected set has bit j exactly when j passes the test.
 use mathlib.Core.Path.{_≡_, refl, sym, ap, ap₂, _∙_}
 use mathlib.Core.Bool.{Bool, true, false, not, _&&_, _||_}
 use Prim.Native.Nat.{ℕ, zero, suc, _+_, _-_, _*_, _/_, _%_, _^_, _≤_, _<_, min, max}

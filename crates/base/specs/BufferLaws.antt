@@ -1,4 +1,4 @@
--- `over` and `padded`: what a lent buffer or an array holds after stores, and after its rest was handed on.
+-- What a lent buffer or an array holds after stores, and after its rest was handed on: a list written over its start (`over`), or a list and zeros (`padded`).
 use mathlib.Core.Path.{_≡_, refl, sym, ap, _∙_}
 use mathlib.Core.List.{List, [], _∷_, _++_, append-assoc, append-nil}
 use Prim.Native.Nat.{ℕ, zero, suc, _+_, _-_, _≤_, _<_}

@@ -1,4 +1,4 @@
--- Lists of bytes: none, one more, two joined, what lies behind some of them.
+-- Lists of bytes: the empty one, one byte more, two joined, the parts of a joined one.
 use mathlib.Core.Path.{_≡_}
 use mathlib.Core.List.{List, [], _∷_, _++_}
 use Prim.Native.Nat.{ℕ, zero, suc, _+_, _<_}

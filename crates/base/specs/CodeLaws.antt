@@ -1,4 +1,4 @@
--- Laws of kinds and code bytes.
+-- Kinds and code bytes: the test of kinds is equality; each of 20 to 27 is its operation's entry, there and back; a code's form tells its byte; any other byte is unknown.
 use Prim.Native.Nat.{ℕ, suc, _<_, _≤_}
 use native.Mathlib.Omega.{arith}
 use mathlib.Core.Path.{_≡_, refl, sym, ap, subst⁻¹, _∙_}

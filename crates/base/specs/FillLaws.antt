@@ -1,4 +1,4 @@
--- Laws of a buffer filled piece by piece, each piece in the rest that is handed on.
+-- A buffer filled piece by piece, each in the rest that is handed on: every piece finds room, and at the end the buffer has all pieces, joined, over what it held.
 use Prim.Native.Nat.{ℕ, zero, suc, _+_, _-_, _≤_, _<_}
 use mathlib.Core.Path.{_≡_, refl, sym, ap, _∙_}
 use mathlib.Core.List.{List, [], _++_, append-assoc, append-nil}
@@ -49,7 +49,7 @@ pieces-room f (suc n) i h = rw (length-append (pieces f n) (f n)) (go (same? i n
     go (inl e) ih = rw e (omega arith)
     go (inr m) ih = omega (arith, ih (omega arith))
 
--- i pieces of n are written
+-- loop invariant: i pieces of n are written
 pub record Filling (f : ℕ → List ℕ) (out out₀ : List ℕ) (n at i : ℕ) : Type 0 where
   pub below : i ≤ n
   pub room : length (pieces f n) ≤ length out₀

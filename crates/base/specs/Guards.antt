@@ -1,5 +1,5 @@
 -- Document 01, "The fused circuit file": a guard is a record that reads the wires of the conditions that a member rests on;
--- its table says, for each choice of their bits, whether the member is needed.
+-- its table, a lookup table, says for each choice of their bits whether the member is needed.
 use mathlib.Core.Bool.{Bool}
 use mathlib.Core.List.{List}
 use Prim.Native.Nat.{ℕ, _^_}
@@ -17,7 +17,7 @@ preTable P cs j = P (settingOf (preRests P cs) j)
 abbrev pub preGuard : (Setting → Bool) → List ℕ → Setting → Bool
 preGuard P cs σ = preTable P cs (numberOf (preRests P cs) σ)
 
--- the number of the setting of n conditions that gives the conditions ts, in that order, the bits of j, and the others 0
+-- the number of the setting of n conditions that gives the conditions ts, in that order, the bits of j, and the others 0: the bits of j deposited there
 unfoldable pub spread : ℕ → List ℕ → ℕ → ℕ
 spread n ts j = numberOf (upto n) (settingOf ts j)
 

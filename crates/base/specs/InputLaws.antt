@@ -1,4 +1,4 @@
--- Laws of the rows of the inputs, one for each step of the code, and what no row says.
+-- Rows 40 to 42, for variables of any kinds: which row each of the code's tests leads to; where none is answered there are v inputs, each of its kind, and room for v results.
 use Prim.Native.Nat.{ℕ, suc, _+_, _-_, _≤_, _<_}
 use native.Mathlib.Numerals.{add-one}
 use native.Mathlib.Omega.{arith}

@@ -1,4 +1,4 @@
--- Lists that crates above cite: mapped lists, the members that pass a test, runs of numbers, places inside a list, the rest from a place on.
+-- Lists: mapped ones, the members that pass a test, runs of numbers, places inside a list, the rest from a place on, each element by element.
 use mathlib.Core.Path.{_≡_, refl, sym, ap, _∙_}
 use mathlib.Core.Bool.{Bool, true, false, cond}
 use mathlib.Core.List.{List, [], _∷_, _++_, map, append-nil}

@@ -1,4 +1,4 @@
--- Membership: of the members that pass a test, of runs, of joined and mapped lists; of numbers that all lie below a bound.
+-- Membership, as a type and as a test, which reflects it: in what passes a test, in runs, in joined and mapped lists; numbers that all lie below a bound.
 use mathlib.Core.Path.{_≡_, refl, sym, ap, _∙_}
 use mathlib.Core.Bool.{Bool, true, cond, false≢true, _&&_}
 use mathlib.Core.List.{List, [], _∷_, _++_, map}
@@ -130,6 +130,7 @@ inside-more l h i a m = omega (arith, i a m)
 pub inside-at : (n : ℕ) (l : List ℕ) (x : ℕ) → Inside n l → x < length l → getD l x 0 < n
 inside-at n l x i h = i _ (getD-in l x h)
 
+-- A law `..-right` is reflection: a boolean test is true exactly when the relation that it tests holds.
 -- a test of all members, and of two lists
 pub every-right : (t : ℕ → Bool) (l : List ℕ) → (every t l ≡ true) ↔ ((a : ℕ) → a ∈ l → t a ≡ true)
 every-right t l = (to l, back l)

@@ -1,8 +1,9 @@
--- Laws of `number` and `bytesOf`, over the width.
+-- Big-endian numbers of any width: a number written and read back is the same, and so are bytes read and written; the number of two runs of bytes by those of each.
 use mathlib.Core.Path.{_≡_, refl, sym, ap, ap₂, subst⁻¹, _∙_}
 use mathlib.Core.List.{List, [], _∷_, _++_}
 use Prim.Native.Nat.{ℕ, zero, suc, _+_, _*_, _/_, _%_, _^_, _≤_, _<_}
-use native.Mathlib.Nat.{zero-add, suc-add, add-assoc, zero-mul, add-mul, mul-assoc, mul-comm, pow-succ', one-le-pow, le-of-lt, lt-of-le-of-lt, mul-le-mul-left, mul-lt-mul-of-pos-right, mod-eq-of-lt, div-add-mod', div-div-eq-div-mul, mul-add-div-right, mul-add-mod-self-right}
+use native.Mathlib.Nat.{zero-add, suc-add, add-assoc, zero-mul, add-mul, mul-assoc, mul-comm, pow-succ', one-le-pow}
+use native.Mathlib.Nat.{le-of-lt, lt-of-le-of-lt, mul-le-mul-left, mul-lt-mul-of-pos-right, mod-eq-of-lt, div-add-mod', div-div-eq-div-mul, mul-add-div-right, mul-add-mod-self-right}
 use native.Mathlib.Omega.{arith}
 use lib.Arith.{digits-lt, digits-div, mod-mul}
 use lib.ListN.{length, take, drop, getD, length-append, length-drop, take-append-drop}

@@ -7,7 +7,7 @@ use mathlib.Core.Bool.{Bool, true, false}
 use Rattle.base.specs.declared.Step.{Step}
 use Rattle.base.specs.declared.Step.the-variants.{Past, Refused}
 
--- what was read and the place after it, or a refusal's number and place
+-- the result of a parser: what was read and the place after it, or a refusal's number and place
 pub data Parsed (A : Type 0) : Type 0 where
   parsed : A → ℕ → Parsed A
   refused : ℕ → ℕ → Parsed A

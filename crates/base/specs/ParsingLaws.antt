@@ -1,5 +1,4 @@
 -- Reading byte by byte: steps of parts make the step of the whole; what was read says that its parts were; reading goes forward.
---
 use Prim.Native.Nat.{ℕ, _+_, _<_, _≤_}
 use native.Mathlib.Omega.{arith}
 use native.Mathlib.Numerals.{add-one}

@@ -1,5 +1,5 @@
--- Results: which operations commute (document 02, C-12), once for all of them, `commutes` saying just for which the order of two arguments does not matter;
--- and that a result is of the kind that its operation gives.
+-- What operations give: `commutes` says exactly for which of them the order of two arguments does not matter (document 02, C-12), once for all of them;
+-- a result is of the kind that its operation gives.
 use Prim.Native.Nat.{ℕ, _*_, _≤_}
 use mathlib.Core.Path.{_≡_, sym, ap, _∙_}
 use mathlib.Core.Logic.{_⊎_, inl, inr}

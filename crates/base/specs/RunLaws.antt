@@ -1,4 +1,4 @@
--- Runs: what was given stays, each thing gives its value of those before it.
+-- A run over a list: what was given stays, what is appended changes nothing before it, and each thing gives its value of those before it.
 use Prim.Native.Nat.{ℕ, zero, suc, _+_, _≤_, _<_}
 use mathlib.Core.Path.{_≡_, refl, sym, ap, _∙_}
 use mathlib.Core.List.{List, [], _∷_, _++_}

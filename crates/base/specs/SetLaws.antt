@@ -1,4 +1,4 @@
--- Laws for document 01, "Needed gates (000 Def. 4)": sets of settings held as numbers, for any number of settings or conditions.
+-- Laws for document 01, "Needed gates (000 Def. 4)": sets of settings held as numbers: which settings are in each, how large it is, and that the tests reflect what they ask.
 use mathlib.Core.Path.{_≡_, refl, sym, ap, ap₂, _∙_}
 use mathlib.Core.Bool.{Bool, true, false, not, _&&_, _||_, true≢false, false≢true, or-true}
 use mathlib.Core.Logic.{_↔_}

@@ -32,7 +32,7 @@ giving N t = collect N (λ j. bit j t)
 abbrev pub lacking : ℕ → ℕ → ℕ
 lacking N t = collect N (λ j. not (bit j t))
 
--- those of the set s, among the first N settings, that give condition t the bit 1, and those that give it 0
+-- the parts of the set s by condition t, its cofactors: those, among the first N settings, that give t the bit 1, and those that give it 0
 abbrev pub given : ℕ → ℕ → ℕ → ℕ
 given N t s = bitAnd s (giving N t)
 
@@ -47,7 +47,7 @@ Disjoint N s t = (j : ℕ) → j < N → has s j ≡ true → has t j ≡ true �
 abbrev pub excludes : ℕ → ℕ → Bool
 excludes s t = eqb (bitAnd s t) 0
 
--- a set of settings of n conditions rests on condition t: changing bit t alone moves some setting in or out
+-- a set of settings of n conditions rests on condition t, t is in its support: changing bit t alone moves some setting in or out
 abbrev pub MovedBy : ℕ → ℕ → ℕ → Type 0
 MovedBy n s t = (j : ℕ) × (j < 2 ^ n) × (has s j ≡ has s (flipBit t j) → ⊥)
 

@@ -1,4 +1,4 @@
--- Sets of settings as code holds them: a set in hand, and sets in lent words, read, stored and clear.
+-- Sets of settings as code holds them, in four words or in lent ones: what is stored is read, other sets stay, clear words are empty sets, and the sets fix the words.
 use mathlib.Core.Path.{_≡_, refl, sym, ap, _∙_}
 use mathlib.Core.List.{List, [], _∷_, _++_, map, append-assoc}
 use mathlib.Core.Logic.{_⊎_, inl, inr}

@@ -1,4 +1,4 @@
--- Laws for document 01, "Needed gates (000 Def. 4)": settings and of their numbers, for any list of conditions.
+-- Laws for document 01, "Needed gates (000 Def. 4)": settings and their numbers go over into each other, for any list of conditions; bit t of the number is condition t.
 use mathlib.Core.Path.{_≡_, refl, sym, ap, _∙_}
 use mathlib.Core.Bool.{Bool, true, false}
 use mathlib.Core.List.{List, [], _∷_, map}

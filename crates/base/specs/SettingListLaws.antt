@@ -1,4 +1,4 @@
--- Laws for document 01, "Needed gates (000 Def. 4)": searches below a number, of rising lists of conditions, and of lists that hold nothing twice.
+-- Laws for document 01, "Needed gates (000 Def. 4)": a search below a number finds what passes, or nothing does; runs of numbers, and what is kept of them, hold nothing twice.
 use mathlib.Core.Path.{_≡_, refl, sym, _∙_}
 use mathlib.Core.Bool.{Bool, true, false, true≢false, false≢true}
 use mathlib.Core.List.{List, [], _∷_, _++_}

@@ -12,7 +12,8 @@ use Rattle.base.specs.Bits.{odd, bitOf, unlike}
 abbrev pub Setting : Type 0
 Setting = ℕ → Bool
 
--- setting j gives condition t the bit t of j, so `bit j` is setting j over conditions named by their places; over the conditions cs the condition at place t gets the bit t of j, whatever is no condition gets 0
+-- setting j gives condition t the bit t of j, so `bit j` is setting j over conditions named by their places;
+-- over the conditions cs the condition at place t gets the bit t of j, and whatever is no condition gets 0
 abbrev pub settingOf : List ℕ → ℕ → Setting
 settingOf [] j d = false
 settingOf (c ∷ cs) j d = cond (eqb d c) (odd j) (settingOf cs (j / 2) d)
@@ -52,7 +53,7 @@ anyBelow p (suc n) = cond (p n) true (anyBelow p n)
 abbrev pub moves : (Setting → Bool) → List ℕ → ℕ → ℕ → Bool
 moves P cs c j = unlike (P (settingOf cs j)) (P (flip (settingOf cs j) c))
 
--- P rests on condition c: changing c alone moves some setting over cs in or out
+-- P rests on condition c, which is then in its support: changing c alone moves some setting over cs in or out
 unfoldable pub preRestsOn : (Setting → Bool) → List ℕ → ℕ → Bool
 preRestsOn P cs c = anyBelow (moves P cs c) (2 ^ length cs)
 

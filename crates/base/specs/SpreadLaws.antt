@@ -1,4 +1,4 @@
--- Laws for document 01, "The fused circuit file": the settings that a table goes through, one after another; for any number of conditions.
+-- Laws for document 01, "The fused circuit file": the settings that a table goes through, each from the one before it; the first gives every condition 0.
 use mathlib.Core.Path.{_≡_, refl, sym, ap, ap₂, _∙_}
 use mathlib.Core.Bool.{Bool, true, false, cond, _&&_, and-true}
 use mathlib.Core.List.{[], _∷_}

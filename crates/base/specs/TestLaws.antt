@@ -1,4 +1,4 @@
--- Tests: to go by one, two numbers are the same or not. Nothing here is of document 01 alone.
+-- Boolean tests: to go by one with its equation; both, either and neither of two; whether two numbers are the same. Nothing here is of document 01 alone.
 use mathlib.Core.Path.{_≡_, refl, sym}
 use mathlib.Core.Bool.{_&&_, and-eq-true-iff, Bool, true, false, _||_, false≢true}
 use mathlib.Core.Logic.{_⊎_, inl, inr}

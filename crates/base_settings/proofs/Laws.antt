@@ -60,7 +60,8 @@ listing-in n p at new on or k j t y z h e q f g r = record {
 
 pub listing-out : (n : ℕ) (p : ℕ → Bool) (at new : List ℕ) (on or k j t : ℕ) → Listing n p at on k t → t < n → p t ≡ false → new ≡ at → or ≡ on → j ≡ k
     → Listing n p new or j (t + 1)
-listing-out n p at new on or k j t z h e q g r = record { below = omega arith; marked = g ∙ collect-out p t on (z .marked) e; counted = rw (r, keep-no p t e) (z .counted); listed = rw (q, keep-no p t e) (z .listed) }
+listing-out n p at new on or k j t z h e q g r =
+    record { below = omega arith; marked = g ∙ collect-out p t on (z .marked) e; counted = rw (r, keep-no p t e) (z .counted); listed = rw (q, keep-no p t e) (z .listed) }
 
 pub listing-end : (n s : ℕ) (at : List ℕ) (on k t : ℕ) → Listing n (restsOn n s) at on k t → n ≤ t
     → (k ≡ length (rests n s)) × ((at ≡ padded n (rests n s)) × (on ≡ collect n (restsOn n s)))

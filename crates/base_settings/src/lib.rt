@@ -161,7 +161,7 @@ fn giving(t: u8) -> Set
     }
 }
 
-// A set of settings parted by a condition.
+// A set of settings parted by a condition: its two cofactors.
 pub struct Parted {
     pub given: Set,
     pub without: Set,

@@ -1,4 +1,4 @@
--- The gate of an operation of two arguments (`applyGate`): other files cite these and never its text.
+-- The gate of an operation of two arguments (`applyGate`): its arguments, figure and kind, in whichever order it takes them. Other files cite these and never its text.
 use Prim.Native.Nat.{ℕ}
 use mathlib.Core.Path.{_≡_, refl}
 use mathlib.Core.List.{List, [], _∷_}

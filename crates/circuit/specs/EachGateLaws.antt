@@ -1,4 +1,4 @@
--- Laws of what holds of every gate of a rule's plain circuit, the one induction over making for it; so every starting value is a variable's, gates 0 to V−1 are these,
+-- What holds of whatever gate is made holds of every gate of a rule's plain circuit: the one induction over making. So gates 0 to V−1 are the variables' starting values,
 -- and no later gate is one.
 use Prim.Native.Nat.{ℕ, _≤_, _<_}
 use native.Mathlib.Nat.{zero-add}

@@ -1,4 +1,4 @@
--- Runs gate by gate: figures read only arguments, so each gate gives its value of those before it.
+-- Figures, gate by gate: each reads only its gate's arguments, so each gate gives its value of those before it.
 use Prim.Native.Nat.{ℕ, zero, suc, _+_, _<_}
 use mathlib.Core.Path.{_≡_, refl, ap, _∙_}
 use mathlib.Core.List.{List, [], _∷_, _++_, map}

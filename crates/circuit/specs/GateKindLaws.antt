@@ -22,7 +22,8 @@ use Rattle.rule.specs.FoundRuleLaws.{read-typed, read-words}
 use Rattle.circuit.specs.Running.{runBlock}
 use Rattle.circuit.specs.Gates.{start, Gates, gateAt, figureAt}
 use Rattle.circuit.specs.GateKinds.{gateKind, kindOfGate, GateFits, GatesFit}
-use Rattle.circuit.specs.PlainCircuit.{Making, Made, makeExpr, choices, assignedIn, asBefore, makeStatement, makeBlock, conditionMade, firstMade, secondMade, starts, plainCircuit, gatesOf, outputsOf}
+use Rattle.circuit.specs.PlainCircuit.{Making, Made, makeExpr, choices, assignedIn, asBefore, makeStatement, makeBlock}
+use Rattle.circuit.specs.PlainCircuit.{conditionMade, firstMade, secondMade, starts, plainCircuit, gatesOf, outputsOf}
 use Rattle.circuit.specs.PlainLaws.{extends-trans, expr-extends}
 use Rattle.circuit.specs.SoundLaws.{Sound, sound-again, assigned-below, Parts, parts-ready, parts-of, statement-sound}
 use Rattle.circuit.specs.HoldLaws.{PresentGives, holds-extends, condition-stays, first-stays, before-stays, parts-hold}

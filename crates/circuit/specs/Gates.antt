@@ -10,7 +10,7 @@ use Rattle.base.specs.Codes.{entryOf, choiceCost}
 use Rattle.base.specs.Results.{isOne, resultOn}
 use Rattle.base.specs.declared.Operation.{Operation}
 
--- gates name their arguments by gate number
+-- gates name their arguments by gate number: nodes of a data-flow graph; a choice is a multiplexer
 pub data Gate : Type 0 where
   start : ℕ → Gate  -- a variable's starting value
   word : ℕ → Gate  -- a written constant, 11

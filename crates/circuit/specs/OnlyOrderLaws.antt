@@ -1,4 +1,4 @@
--- Rules that differ only in the order of such variables have the same plain circuit (document 02, C-12).
+-- Rules that differ only in the order of variables that are the two arguments of an operation that commutes have the same plain circuit (document 02, C-12).
 use Prim.Native.Nat.{ℕ, _+_, _<_}
 use native.Mathlib.Omega.{arith}
 use mathlib.Core.Path.{_≡_, refl, sym, ap, _∙_}
@@ -15,7 +15,8 @@ use Rattle.rule.specs.Rule.{readRule}
 use Rattle.rule.specs.OrderLaws.{both-read}
 use Rattle.rule.specs.OnlyOrder.{ExprUpToOrder, same, turned, inOne, inTwo, StatementUpToOrder, assign, skip, branch, BlockUpToOrder, end, then, ReadUpToOrder, OnlyOrder}
 use Rattle.circuit.specs.Gates.{Gates}
-use Rattle.circuit.specs.PlainCircuit.{Making, add, makeExpr, assignsIn, assigns, assignedIn, asBefore, makeStatement, makeBlock, conditionMade, firstMade, starts, plainOf, plainRead, plainCircuit}
+use Rattle.circuit.specs.PlainCircuit.{Making, add, makeExpr, assignsIn, assigns, assignedIn, asBefore, makeStatement}
+use Rattle.circuit.specs.PlainCircuit.{makeBlock, conditionMade, firstMade, starts, plainOf, plainRead, plainCircuit}
 use Rattle.circuit.specs.ApplyLaws.{apply-commutes}
 
 expr-same : {d e : Expr} → ExprUpToOrder d e → (present : List ℕ) (C : Gates) → makeExpr d present C ≡ makeExpr e present C

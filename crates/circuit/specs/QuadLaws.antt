@@ -1,4 +1,4 @@
--- The gates' quads: how many numbers they are.
+-- Quads have four numbers a gate.
 use Prim.Native.Nat.{ℕ, _*_}
 use native.Mathlib.Omega.{arith}
 use mathlib.Core.Path.{_≡_, refl}

@@ -1,6 +1,6 @@
 -- Document 01, "The plain circuit" and "The fused circuit file": gates as they lie in a lent array, four numbers a gate:
 -- the code that the gate's record of a circuit file begins with, then the variable of a starting value, the figure of a constant,
--- or the argument gates; 0 where there is none.
+-- or the argument gates; 0 where there is none. So a quad is a four-address node: a code and up to three operands.
 use Prim.Native.Nat.{ℕ}
 use mathlib.Core.List.{List, [], _∷_, _++_}
 use lib.ListN.{getD}

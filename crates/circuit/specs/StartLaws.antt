@@ -1,4 +1,4 @@
--- Laws of the starting gates and of the plain circuit of a rule that was read.
+-- The gates that making starts with are the variables' starting values; of a rule that was read, plain circuit and direct run are its tree's, and its gates read only earlier ones.
 use Prim.Native.Nat.{ℕ, zero, suc, _+_, _<_}
 use mathlib.Core.Path.{_≡_, ap, _∙_}
 use mathlib.Core.List.{List, map}

@@ -1,4 +1,4 @@
--- Laws of reading a rule as its caller sees it.
+-- What reading a rule answers: 1 to 9 exactly as reading byte by byte refuses; of a rule that was read 10 or 11 over a limit, else number 0 with its gates and cost.
 use Prim.Native.Nat.{ℕ, _<_, _≤_}
 use native.Mathlib.Omega.{arith}
 use mathlib.Core.Path.{_≡_, refl, sym, ap, _∙_}

@@ -1,4 +1,4 @@
--- Laws of the plain circuit built.
+-- The plain circuit built: of an accepted rule the arrays hold its gates, preconditions, outputs and conditions; a refused rule leaves them clear.
 use Prim.Native.Nat.{ℕ, zero, suc, _-_, _*_, _≤_}
 use native.Mathlib.Omega.{arith}
 use mathlib.Core.Path.{_≡_, sym, ap, subst⁻¹, _∙_}

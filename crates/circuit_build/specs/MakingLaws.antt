@@ -1,4 +1,4 @@
--- Laws of a rule's gates in quads, once they are made.
+-- A rule's gates, made into quads: up to 256 of them, read back, are the rule's; so rows 10 and 11 and the answer, worked out from the quads, are the rule's.
 use Prim.Native.Nat.{ℕ, _-_, _*_, _<_, _≤_}
 use native.Mathlib.Omega.{arith}
 use mathlib.Core.Path.{_≡_, sym, ap, subst⁻¹, _∙_}
@@ -29,7 +29,7 @@ use Rattle.circuit.specs.Whole.{wholeWithin, ruleAnswer}
 use Rattle.circuit.specs.WholeLaws.{whole-gates, whole-conditions, whole-success, answer-read, answer-whole, accepted}
 use Rattle.circuit_build.specs.Making.{wholeIn, MadeWhole}
 
--- rows 10 by the count alone
+-- row 10, by the count alone
 pub whole-over : (quads : List ℕ) (count size : ℕ) → mostGates < count → wholeIn quads count size ≡ refusal 10 size
 unfolding wholeIn
 whole-over quads count size h = rw (lt-leb _ _ h)
@@ -38,7 +38,7 @@ pub whole-in : (quads : List ℕ) (count size : ℕ) → count ≤ mostGates →
 unfolding wholeIn
 whole-in quads count size h = rw (le-leb _ _ h)
 
--- rows 11 and success, by the conditions' count and the cost
+-- row 11 and success, by the conditions' count and the cost
 pub whole-eleven : (quads : List ℕ) (count size conds : ℕ) → count ≤ mostGates → conds ≡ length (conditions (gatesIn quads count)) → mostConditions < conds
     → wholeIn quads count size ≡ refusal 11 size
 whole-eleven quads count size conds h e l =

@@ -20,6 +20,7 @@ use Rattle.circuit_needed.specs.Pass.{preconditionSets}
 abbrev pub wantedBelow : List ℕ → List ℕ → ℕ → List ℕ
 wantedBelow s outputs x = map (λ y. getD outputs y 0) (keep (λ y. not (workingAt s y)) (upto x))
 
+-- loop invariant
 pub record Listing (s outputs wanted : List ℕ) (x k : ℕ) : Type 0 where
   pub low : x ≤ variables s
   pub few : variables s ≤ mostVariables

@@ -104,7 +104,8 @@ fn rule_needs(
 )
     requires { ⌜ ((HasKinds (now rule) × (variables (now rule) ≤ mostVariables)) × (Passable (now quads) (now ranks) count × Inside count (wantedAmong (now rule) (now outputs))))
         × (setsIn (now needs) ≡ replicate gateRoom 0) ⌝ }
-    ensures { λ r. ⌜ setsIn (now (needs .exit)) ≡ preconditionSets mostConditions (gatesIn (now (quads .entry)) count) (wantedAmong (now (rule .entry)) (now (outputs .entry))) ++ replicate (mostGates - count) 0 ⌝ }
+    ensures { λ r. ⌜ setsIn (now (needs .exit)) ≡ preconditionSets mostConditions (gatesIn (now (quads .entry)) count) (wantedAmong (now (rule .entry)) (now (outputs .entry)))
+        ++ replicate (mostGates - count) 0 ⌝ }
 {
     let mut wanted = [0u16; VARIABLE_ROOM];
     let k = list_wanted(rule, outputs, &mut wanted);

@@ -1,4 +1,4 @@
--- Laws of making a block, statement after statement, and a whole rule.
+-- Making a block, statement after statement, and so a whole rule: then the lent arrays hold the gates and outputs of its plain circuit; of more than 256 gates the count is 257.
 use Prim.Native.Nat.{ℕ, _+_, _-_, _≤_, _<_}
 use native.Mathlib.Omega.{arith}
 use mathlib.Core.Path.{_≡_, refl, sym, ap, subst, subst⁻¹, _∙_}

@@ -1,4 +1,4 @@
--- Laws of the variables' present gates, of starting values and of choices.
+-- The loops over the variables: the first leaves their starting values; the one after an if gives each assigned variable the next choice as its gate, and every other keeps its own.
 use Prim.Native.Nat.{ℕ, zero, suc, _+_, _-_, _^_, _/_, _%_, _≤_, _<_}
 use native.Mathlib.Omega.{arith}
 use mathlib.Core.Path.{_≡_, refl, sym, ap, subst, subst⁻¹, _∙_}

@@ -1,4 +1,4 @@
--- Laws of making an expression, one for each form that reading took.
+-- Making an expression, by the form that reading took: a variable makes no gate, a constant makes one, an operation makes its arguments' gates and then its own.
 use Prim.Native.Nat.{ℕ, _+_, _-_, _≤_, _<_}
 use native.Mathlib.Omega.{arith}
 use mathlib.Core.Path.{_≡_, refl, sym, ap, subst, subst⁻¹, _∙_}

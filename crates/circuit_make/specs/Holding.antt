@@ -74,7 +74,7 @@ pub record Chosen (condition : ℕ) (first second : List ℕ) (mask v : ℕ) (qu
       → (length (m .gates) ≤ gateRoom → ChoiceParts c p q condition first second)
       → Held s m quads present count → Held s (choices c p q (keep (has mask) (upto v)) m) quads′ present′ more
 
--- the choices before variable x were made, from those of m on: `now` is what they were made into
+-- loop invariant: the choices before variable x were made, from those of m on: `now` is what they were made into
 pub record Choosing (s : List ℕ) (m : Making) (c : ℕ) (p q : List ℕ) (mask v x : ℕ) (quads′ present′ : List ℕ) (n : ℕ) : Type 0 where
   pub now : Making
   pub count : length (now .present) ≡ v
@@ -88,14 +88,14 @@ pub record ChosenTo (condition : ℕ) (first second : List ℕ) (mask v : ℕ) (
       → (length (m .gates) ≤ gateRoom → ChoiceParts c p q condition first second)
       → Held s m quads present count → Choosing s m c p q mask v x quads′ present′ n
 
--- the starting values before variable x were made
+-- loop invariant: the starting values before variable x were made
 pub record Started (s : List ℕ) (x : ℕ) (quads present : List ℕ) (count : ℕ) : Type 0 where
   pub inside : x ≤ variables s
   pub wide : length present ≡ variableRoom
   pub stored : Stored s (map start (upto x)) quads count
   pub stand : StandsFor (upto x) present
 
--- a block b was made up to its rest: `now` is what m was made into
+-- loop invariant: a block b was made up to its rest: `now` is what m was made into
 pub record WalkingBlock (s : List ℕ) (m : Making) (b rest : Block) (quads′ present′ : List ℕ) (n : ℕ) : Type 0 where
   pub now : Making
   pub count : length (now .present) ≡ variables s

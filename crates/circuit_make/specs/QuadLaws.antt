@@ -1,4 +1,4 @@
--- Laws of the quads of gates, and of pushing one.
+-- Gates in quads: those of joined lists are joined; a gate is pushed behind the others where there is room, and where there is none the count becomes 257 and no more is stored.
 use Prim.Native.Nat.{ℕ, _+_, _*_, _≤_, _<_}
 use native.Mathlib.Omega.{arith}
 use mathlib.Core.Path.{_≡_, refl, sym, ap, _∙_}

@@ -1,4 +1,4 @@
--- Making statements: an assignment, an if, a skip.
+-- Making a statement, whose parts were read too: an assignment, an if with its blocks and choices, a skip leave what the definition makes of it.
 use Prim.Native.Nat.{ℕ, _+_, _-_, _≤_, _<_}
 use native.Mathlib.Omega.{arith}
 use mathlib.Core.Path.{_≡_, refl, sym, ap, subst, subst⁻¹, _∙_}

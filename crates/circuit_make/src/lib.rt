@@ -28,7 +28,7 @@ pub fn push(quads: &mut [u32; QUAD_ROOM], count: u16, code: u32, a: u32, b: u32,
     count + 1
 }
 
-// The byte of an operation, as wide as a row's numbers.
+// The byte of an operation, as wide as a quad's numbers.
 pub fn byte_of(op: Operation) -> u32
     ensures { λ r. ⌜ r ≡ byteOf op ⌝ }
 {

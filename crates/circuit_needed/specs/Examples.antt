@@ -27,7 +27,9 @@ set s g = getD (rulePreconditions s) g 0
 
 -- example 1, over the 256 settings of eight conditions (document 02, C-17): AAAA.. and 5555.. for gates 3 and 4
 pub example-1 : rulePreconditions r1 ≡
-    0xFFFFFFFFFFFFFFFFFFFFFFFFFFFFFFFFFFFFFFFFFFFFFFFFFFFFFFFFFFFFFFFF ∷ 0xAAAAAAAAAAAAAAAAAAAAAAAAAAAAAAAAAAAAAAAAAAAAAAAAAAAAAAAAAAAAAAAA ∷ 0xFFFFFFFFFFFFFFFFFFFFFFFFFFFFFFFFFFFFFFFFFFFFFFFFFFFFFFFFFFFFFFFF ∷ 0xAAAAAAAAAAAAAAAAAAAAAAAAAAAAAAAAAAAAAAAAAAAAAAAAAAAAAAAAAAAAAAAA ∷ 0x5555555555555555555555555555555555555555555555555555555555555555 ∷ 0xFFFFFFFFFFFFFFFFFFFFFFFFFFFFFFFFFFFFFFFFFFFFFFFFFFFFFFFFFFFFFFFF ∷ []
+    0xFFFFFFFFFFFFFFFFFFFFFFFFFFFFFFFFFFFFFFFFFFFFFFFFFFFFFFFFFFFFFFFF ∷ 0xAAAAAAAAAAAAAAAAAAAAAAAAAAAAAAAAAAAAAAAAAAAAAAAAAAAAAAAAAAAAAAAA
+    ∷ 0xFFFFFFFFFFFFFFFFFFFFFFFFFFFFFFFFFFFFFFFFFFFFFFFFFFFFFFFFFFFFFFFF ∷ 0xAAAAAAAAAAAAAAAAAAAAAAAAAAAAAAAAAAAAAAAAAAAAAAAAAAAAAAAAAAAAAAAA
+    ∷ 0x5555555555555555555555555555555555555555555555555555555555555555 ∷ 0xFFFFFFFFFFFFFFFFFFFFFFFFFFFFFFFFFFFFFFFFFFFFFFFFFFFFFFFFFFFFFFFF ∷ []
 unfolding number kindOf workingOf operationOf codeOf readMark readCount readKinds readHeader readVariable readWord readBit operationWith exprWith readExpr readAssign branchWith
     statementWith blockWith blockFuel readBlock readRule applyGate makeExpr assignsIn assigns choices makeStatement makeBlock plainCircuit conditions collect numbers
     preconditions preconditionSets
@@ -39,7 +41,9 @@ unfolding number kindOf operationOf codeOf readMark readCount readKinds readHead
     statementWith blockWith blockFuel readBlock readRule applyGate makeExpr assignsIn assigns choices makeStatement makeBlock plainCircuit conditions
 example-6-conditions = refl
 
-pub example-6 : map (set r2) (4 ∷ 5 ∷ 6 ∷ 7 ∷ []) ≡ 0xAAAAAAAAAAAAAAAAAAAAAAAAAAAAAAAAAAAAAAAAAAAAAAAAAAAAAAAAAAAAAAAA ∷ 0xAAAAAAAAAAAAAAAAAAAAAAAAAAAAAAAAAAAAAAAAAAAAAAAAAAAAAAAAAAAAAAAA ∷ 0x5555555555555555555555555555555555555555555555555555555555555555 ∷ 0x4444444444444444444444444444444444444444444444444444444444444444 ∷ []
+pub example-6 : map (set r2) (4 ∷ 5 ∷ 6 ∷ 7 ∷ []) ≡
+    0xAAAAAAAAAAAAAAAAAAAAAAAAAAAAAAAAAAAAAAAAAAAAAAAAAAAAAAAAAAAAAAAA ∷ 0xAAAAAAAAAAAAAAAAAAAAAAAAAAAAAAAAAAAAAAAAAAAAAAAAAAAAAAAAAAAAAAAA
+    ∷ 0x5555555555555555555555555555555555555555555555555555555555555555 ∷ 0x4444444444444444444444444444444444444444444444444444444444444444 ∷ []
 unfolding number kindOf workingOf operationOf codeOf readMark readCount readKinds readHeader readVariable readWord readBit operationWith exprWith readExpr readAssign branchWith
     statementWith blockWith blockFuel readBlock readRule applyGate makeExpr assignsIn assigns choices makeStatement makeBlock plainCircuit conditions collect numbers
     preconditions preconditionSets
@@ -60,7 +64,9 @@ unfolding number kindOf workingOf operationOf codeOf readMark readCount readKind
 example-7 = refl
 
 -- example 8: gate 5 is needed where condition 0 is 1, gate 9 where condition 1 is 1; a setting that gives both 1 needs both, so they do not exclude each other
-pub example-8 : set r8 5 ∷ set r8 9 ∷ bitAnd (set r8 5) (set r8 9) ∷ [] ≡ 0xAAAAAAAAAAAAAAAAAAAAAAAAAAAAAAAAAAAAAAAAAAAAAAAAAAAAAAAAAAAAAAAA ∷ 0xCCCCCCCCCCCCCCCCCCCCCCCCCCCCCCCCCCCCCCCCCCCCCCCCCCCCCCCCCCCCCCCC ∷ 0x8888888888888888888888888888888888888888888888888888888888888888 ∷ []
+pub example-8 : set r8 5 ∷ set r8 9 ∷ bitAnd (set r8 5) (set r8 9) ∷ [] ≡
+    0xAAAAAAAAAAAAAAAAAAAAAAAAAAAAAAAAAAAAAAAAAAAAAAAAAAAAAAAAAAAAAAAA ∷ 0xCCCCCCCCCCCCCCCCCCCCCCCCCCCCCCCCCCCCCCCCCCCCCCCCCCCCCCCCCCCCCCCC
+    ∷ 0x8888888888888888888888888888888888888888888888888888888888888888 ∷ []
 unfolding number kindOf workingOf operationOf codeOf readMark readCount readKinds readHeader readVariable readWord readBit operationWith exprWith readExpr readAssign branchWith
     statementWith blockWith blockFuel readBlock readRule applyGate makeExpr assignsIn assigns choices makeStatement makeBlock plainCircuit conditions collect numbers
     preconditions preconditionSets

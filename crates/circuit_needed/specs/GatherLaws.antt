@@ -43,7 +43,7 @@ conditions-gathered quads ranks count h e =
     ap (λ (p : List ℕ). markedIn p count) e ∙ ap (markedIn (ranksOf (gatesIn quads count) mostGates)) (sym n)
     ∙ numbered-conditions (gatesIn quads count) mostGates (rw n h)
 
--- The loop that gathers them: what holds at gate g, t gates being gathered.
+-- The loop that gathers them, and its invariant at gate g, t gates being gathered.
 
 pub record GatheringConditions (ranks gates : List ℕ) (count g t : ℕ) : Type 0 where
   pub low : g ≤ count

@@ -1,4 +1,5 @@
 -- Document 01, "Needed gates (000 Def. 4)": which gates are needed under a setting. A setting gives each condition, named by its gate, 0 or 1 freely.
+-- Needed is what compilers call live, here under each setting of the branch conditions apart.
 use Prim.Native.Nat.{ℕ}
 use mathlib.Core.List.{List, [], _∷_, map}
 use mathlib.Core.Bool.{cond}
@@ -26,10 +27,10 @@ pub data Needed (C : Gates) (wanted : List ℕ) (σ : Setting) : ℕ → Type 0 
 abbrev pub wantedAmong : List ℕ → List ℕ → List ℕ
 wantedAmong s outputs = map (λ x. getD outputs x 0) (resultVariables s)
 
--- what a rule wants from the start. Document 02, C-13: "Only the other variables' last gates are needed from the start", not the working ones'
+-- what a rule wants from the start, the roots of liveness. Document 02, C-13: "Only the other variables' last gates are needed from the start", not the working ones'
 abbrev pub wantedOf : List ℕ → List ℕ
 wantedOf s = wantedAmong s (outputsOf s)
 
--- two gates exclude each other if no setting needs both
+-- two gates exclude each other, are mutually exclusive, if no setting needs both
 abbrev pub Exclude : Gates → List ℕ → ℕ → ℕ → Type 0
 Exclude C wanted g h = (σ : Setting) → Needed C wanted σ g → Needed C wanted σ h → ⊥

@@ -1,5 +1,6 @@
 -- Document 01, "Needed gates (000 Def. 4)": a gate's precondition is the set of settings under which it is needed. One backward pass finds
 -- the preconditions of all gates: it goes from the last gate to the first over one list of sets, changed in place, and hands each gate's set on to what the gate asks for.
+-- It is liveness by backward data-flow analysis; gates read only earlier ones, so that one pass is enough.
 use Prim.Native.Nat.{ℕ, zero, suc, _^_}
 use mathlib.Core.Path.{refl}
 use mathlib.Core.List.{List, [], _∷_}

@@ -40,7 +40,7 @@ choice-sets t c a b s g w M M₁ M₂ M₃ e₁ eg e₂ ew e₃ =
     e₃ ∙ ap (addNumber b w) (e₂ ∙ ap (addNumber a g) e₁) ∙ ap (λ (k : ℕ). addNumber b w (addNumber a k (addNumber c s M))) eg
     ∙ ap (λ (k : ℕ). addNumber b k (addNumber a (given mostSettings t s) (addNumber c s M))) ew
 
--- The loop over the wanted gates.
+-- The loop over the wanted gates, and its invariant.
 
 pub record Wanting (wanted M₀ M : List ℕ) (x : ℕ) : Type 0 where
   pub low : x ≤ length wanted
@@ -69,7 +69,7 @@ wanting-end wanted M₀ M x w l =
     let e : x ≡ length wanted = omega (arith, w .low) in
     w .done ∙ ap (λ (k : List ℕ). addNumbers k (whole mostSettings) M₀) (rw e (take-length wanted))
 
--- The loop downwards over the gates, the lent list being M: where the pass is, and the gates gone over handed on the sets that they end with.
+-- The loop downwards over the gates, and its invariant, the lent list being M: where the pass is, and the gates gone over handed on the sets that they end with.
 
 pub record WalkingBack (quads ranks M₀ M : List ℕ) (count i : ℕ) : Type 0 where
   pub low : i ≤ count

@@ -87,7 +87,7 @@ pub marked-count : (marks : List ℕ) (n : ℕ) → length (markedIn marks n) �
 unfolding markedIn
 marked-count marks n = rw (length-from 0 n) at (length-keep (λ g. not (eqb (getD marks g 0) 0)) (upto n))
 
--- The loop that numbers them: what holds at gate g, t gates being numbered.
+-- The loop that numbers them, and its invariant at gate g, t gates being numbered.
 
 pub record Numbering (marks ranks : List ℕ) (count g t : ℕ) : Type 0 where
   pub low : g ≤ count

@@ -71,7 +71,7 @@ marks-more marks n c l h b = go (same? (getD marks c 0) 0)
         each a (inl f) = rw f (set-here ∙ sym (ap not (ne-eqb (getD marks c 0) 0 m)))
         each a (inr k) = sym (others a k)
 
--- The walk: what holds at gate i.
+-- The walk, and its invariant at gate i.
 
 pub record Surveying (quads ranks : List ℕ) (count i found cost : ℕ) : Type 0 where
   pub marking : Marking quads ranks count i

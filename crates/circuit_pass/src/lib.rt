@@ -1,4 +1,4 @@
-// Document 01, "Needed gates", over lent arrays: the one backward pass that finds every gate's precondition.
+// Document 01, "Needed gates", over lent arrays: the one backward pass that finds every gate's precondition: liveness, for all settings of the conditions at once.
 // The lent arrays hold plain numbers; a gate's number in hand is a `GateId`, its set a `Set`.
 use base::Set;
 use circuit::GATE_ROOM;
@@ -92,8 +92,8 @@ fn hand_choice(
     add(sets, b, parts.without);
 }
 
-// Gate g hands its set on to what it asks for; its row is read once. A starting value or a constant asks for nothing, and its set is not read.
-// A number of the row is a gate's only where the code says so: not has one argument, every other operation two, a choice three.
+// Gate g hands its set on to what it asks for; its quad is read once. A starting value or a constant asks for nothing, and its set is not read.
+// A number of the quad is a gate's only where the code says so: not has one argument, every other operation two, a choice three.
 fn hand(
     quads: &[u32; QUAD_ROOM],
     count: usize,

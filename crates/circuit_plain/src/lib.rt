@@ -187,7 +187,8 @@ fn make_assign(
     count: u16,
 ) -> MadePart
     requires { ⌜ Headed (now s) (6 + variables (now s)) × IsRead (readAssign (now s) at) ⌝ }
-    ensures made { λ r. ⌜ Done makeStatement assignsIn (now (s .entry)) (readAssign (now (s .entry)) at) (now (quads .entry)) (now (present .entry)) count (r .next) (r .count) (r .assigned) (now (quads .exit)) (now (present .exit)) ⌝ }
+    ensures made { λ r. ⌜ Done makeStatement assignsIn (now (s .entry)) (readAssign (now (s .entry)) at) (now (quads .entry)) (now (present .entry)) count
+        (r .next) (r .count) (r .assigned) (now (quads .exit)) (now (present .exit)) ⌝ }
     ensures small { λ r. ⌜ r .count < 65536 ⌝ }
 {
     let x = s[at + 1];
@@ -230,7 +231,8 @@ fn make_branch(
     count: u16,
 ) -> MadePart
     requires { ⌜ Headed (now s) (6 + variables (now s)) × ((at < length (now s)) × IsRead (branchWith (readBlock (now s)) (now s) nest at)) ⌝ }
-    ensures made { λ r. ⌜ Done makeStatement assignsIn (now (s .entry)) (branchWith (readBlock (now (s .entry))) (now (s .entry)) nest at) (now (quads .entry)) (now (present .entry)) count (r .next) (r .count) (r .assigned) (now (quads .exit)) (now (present .exit)) ⌝ }
+    ensures made { λ r. ⌜ Done makeStatement assignsIn (now (s .entry)) (branchWith (readBlock (now (s .entry))) (now (s .entry)) nest at) (now (quads .entry)) (now (present .entry)) count
+        (r .next) (r .count) (r .assigned) (now (quads .exit)) (now (present .exit)) ⌝ }
     ensures small { λ r. ⌜ r .count < 65536 ⌝ }
 {
     let test = make_expr(s, at + 1, Kind::Bit, rule::DEEPEST, present, quads, count);
@@ -266,7 +268,8 @@ fn make_statement(
     count: u16,
 ) -> MadePart
     requires { ⌜ Headed (now s) (6 + variables (now s)) × ((at < length (now s)) × IsRead (readStatement (now s) nest at)) ⌝ }
-    ensures made { λ r. ⌜ Done makeStatement assignsIn (now (s .entry)) (readStatement (now (s .entry)) nest at) (now (quads .entry)) (now (present .entry)) count (r .next) (r .count) (r .assigned) (now (quads .exit)) (now (present .exit)) ⌝ }
+    ensures made { λ r. ⌜ Done makeStatement assignsIn (now (s .entry)) (readStatement (now (s .entry)) nest at) (now (quads .entry)) (now (present .entry)) count
+        (r .next) (r .count) (r .assigned) (now (quads .exit)) (now (present .exit)) ⌝ }
     ensures small { λ r. ⌜ r .count < 65536 ⌝ }
 {
     let c = base_codes::code_of(s[at]);
@@ -294,7 +297,8 @@ fn make_block(
     count: u16,
 ) -> MadePart
     requires { ⌜ Headed (now s) (6 + variables (now s)) × IsRead (readBlock (now s) nest at) ⌝ }
-    ensures made { λ r. ⌜ Done makeBlock assigns (now (s .entry)) (readBlock (now (s .entry)) nest at) (now (quads .entry)) (now (present .entry)) count (r .next) (r .count) (r .assigned) (now (quads .exit)) (now (present .exit)) ⌝ }
+    ensures made { λ r. ⌜ Done makeBlock assigns (now (s .entry)) (readBlock (now (s .entry)) nest at) (now (quads .entry)) (now (present .entry)) count
+        (r .next) (r .count) (r .assigned) (now (quads .exit)) (now (present .exit)) ⌝ }
     ensures small { λ r. ⌜ r .count < 65536 ⌝ }
 {
     let mut here = at;

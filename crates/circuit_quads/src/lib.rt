@@ -1,4 +1,4 @@
-// A gate as four numbers of a lent array, its quad (specs/Quads.antt of `circuit`): the gate that an argument names, and what a code means.
+// A gate as four numbers of a lent array, its quad, a four-address node (specs/Quads.antt of `circuit`): the gate that an argument names, and what a code means.
 use base::Code;
 use circuit::GateId;
 use circuit::QUAD_ROOM;

@@ -1,4 +1,4 @@
--- Answers: each operation answers by the rows of the table.
+-- Each operation answers by the rows of the table: rules by 1 to 11, plans by 20 to 32, inputs by 40 to 42, buffers by 50.
 use Prim.Native.Nat.{ℕ, _≤_}
 use native.Mathlib.Omega.{arith}
 use mathlib.Core.Path.{_≡_, refl, sym, ap, subst, _∙_}

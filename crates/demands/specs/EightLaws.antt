@@ -1,4 +1,4 @@
--- Laws for document 02, C-17: the limits on conditions and nesting, sets of settings at six and at eight conditions.
+-- Laws for document 02, C-17: a rule is 11 exactly when it has too many conditions; sets held over more conditions repeat the pattern, so what is rested on, tables and exclusion stay.
 use Prim.Native.Nat.{ℕ, _+_, _-_, _%_, _^_, _≤_, _<_}
 use native.Mathlib.Omega.{arith}
 use mathlib.Core.Path.{_≡_, sym, ap, _∙_}

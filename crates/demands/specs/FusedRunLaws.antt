@@ -1,4 +1,4 @@
--- Laws of a fused run beside a direct run of the same rule and inputs, and of a written file.
+-- A fused run beside a direct run of the same rule and inputs: of an accepted plan number and results are the same; what is written is the file, and the rest of the buffer stays.
 use Prim.Native.Nat.{ℕ}
 use native.Mathlib.Omega.{arith}
 use mathlib.Core.Path.{_≡_, sym, ap, subst, _∙_}

@@ -1,4 +1,4 @@
--- Argument order: which operations commute, by their codes, and the order of a gate's arguments.
+-- Which operations commute, by their codes; of one that does, a gate's first argument is not the higher-numbered (document 02, C-12).
 use Prim.Native.Nat.{ℕ, _≤_}
 use mathlib.Core.Path.{_≡_, refl}
 use mathlib.Core.Bool.{true}

@@ -1,4 +1,4 @@
--- Laws for sentences of document 01 beside the demands: the sizes of our own file, and which answer comes before which.
+-- Laws for sentences of document 01 beside the demands: our own file counts at most 640 wires, a buffer of 16,384 bytes suffices, and a refused rule is answered before plan and inputs.
 use Prim.Native.Nat.{ℕ, _≤_}
 use native.Mathlib.Omega.{arith}
 use mathlib.Core.Path.{_≡_, sym, ap, subst⁻¹, _∙_}

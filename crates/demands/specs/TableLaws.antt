@@ -1,4 +1,4 @@
--- Lists of rows, whichever they are: what the first failing row fixes.
+-- Any list of rows with distinct numbers: the first failing row fixes the answer; where tests hold exactly when the rows' facts do, the first failing test is that row's.
 use Prim.Native.Nat.{ℕ, zero, suc, _≤_, _<_}
 use native.Mathlib.Omega.{arith}
 use mathlib.Core.Path.{_≡_, refl, sym, ap, subst, _∙_}

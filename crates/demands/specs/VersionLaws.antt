@@ -1,4 +1,4 @@
--- Laws for document 02, C-17: both versions of a circuit file: what is written, what is refused, what both hold.
+-- Laws for document 02, C-17: version 2 is written, either is read, any other is 60; a guard of more wires than its version admits is 61; a circuit gives the same figures in both.
 use Prim.Native.Nat.{ℕ, _+_, _-_, _%_, _^_, _≤_, _<_}
 use native.Mathlib.Omega.{arith}
 use mathlib.Core.Path.{_≡_, refl, sym, ap, subst, _∙_}

@@ -1,4 +1,4 @@
--- Examples of document 02, C-12, "Argument order no longer matters": examples, proved from the definitions.
+-- Examples of document 02, C-12, "Argument order no longer matters", proved from the definitions.
 use Prim.Native.Nat.{ℕ}
 use mathlib.Core.Path.{_≡_, refl, sym, ap, _∙_}
 use mathlib.Core.List.{List, [], _∷_, map}

@@ -64,12 +64,14 @@ saved-nine = refl
 -- the folder examples/dearer-plan: two ands, which the plan joins; the picks for them cost more than an and
 abbrev pub dearer : Entry
 dearer = record {
-  rule = 0x52 ∷ 0x55 ∷ 0x4C ∷ 0x00 ∷ 0x01 ∷ 0x05 ∷ 0x01 ∷ 0x01 ∷ 0x01 ∷ 0x01 ∷ 0x01 ∷ 0x03 ∷ 0x10 ∷ 0x00 ∷ 0x01 ∷ 0x04 ∷ 0x25 ∷ 0x10 ∷ 0x01 ∷ 0x10 ∷ 0x02 ∷ 0x00 ∷ 0x01 ∷ 0x04 ∷ 0x25 ∷ 0x10 ∷ 0x02 ∷ 0x10 ∷ 0x03 ∷ 0x00 ∷ 0x00 ∷ [];
+  rule = 0x52 ∷ 0x55 ∷ 0x4C ∷ 0x00 ∷ 0x01 ∷ 0x05 ∷ 0x01 ∷ 0x01 ∷ 0x01 ∷ 0x01 ∷ 0x01 ∷ 0x03 ∷ 0x10 ∷ 0x00 ∷ 0x01 ∷ 0x04 ∷ 0x25 ∷ 0x10 ∷ 0x01 ∷ 0x10 ∷ 0x02
+      ∷ 0x00 ∷ 0x01 ∷ 0x04 ∷ 0x25 ∷ 0x10 ∷ 0x02 ∷ 0x10 ∷ 0x03 ∷ 0x00 ∷ 0x00 ∷ [];
   plan = 0x50 ∷ 0x4C ∷ 0x4E ∷ 0x00 ∷ 0x01 ∷ 0x00 ∷ 0x08 ∷ 0x00 ∷ 0x01 ∷ 0x02 ∷ 0x00 ∷ 0x05 ∷ 0x00 ∷ 0x06 ∷ [];
 }
 
 -- "which may be negative": `accepted 8 11 5 14`, `total 1 0 5 14 -9`
-pub lost-nine : reportOf (batchOf (dearer ∷ [])) ≡ accepted ++ (32 ∷ 56 ∷ 32 ∷ 49 ∷ 49 ∷ 32 ∷ 53 ∷ 32 ∷ 49 ∷ 52 ∷ 10 ∷ []) ++ (total ++ (32 ∷ 49 ∷ 32 ∷ 48 ∷ 32 ∷ 53 ∷ 32 ∷ 49 ∷ 52 ∷ 32 ∷ 45 ∷ 57 ∷ 10 ∷ []))
+pub lost-nine : reportOf (batchOf (dearer ∷ []))
+    ≡ accepted ++ (32 ∷ 56 ∷ 32 ∷ 49 ∷ 49 ∷ 32 ∷ 53 ∷ 32 ∷ 49 ∷ 52 ∷ 10 ∷ []) ++ (total ++ (32 ∷ 49 ∷ 32 ∷ 48 ∷ 32 ∷ 53 ∷ 32 ∷ 49 ∷ 52 ∷ 32 ∷ 45 ∷ 57 ∷ 10 ∷ []))
 unfolding number kindOf workingOf operationOf codeOf readMark readCount readKinds readHeader readVariable readWord readBit operationWith exprWith readExpr readAssign branchWith
     statementWith blockWith blockFuel readBlock readRule applyGate makeExpr assignsIn assigns choices makeStatement makeBlock plainCircuit conditions collect numbers
     preconditions preconditionSets costs wholeWithin ruleAnswer restsOn rests groupsIn groups restsOf waitsFor order planRow planAnswer bytesOf spread tableOver table

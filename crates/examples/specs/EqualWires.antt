@@ -1,4 +1,4 @@
--- Examples of document 02, C-18, "No pick between equal wires": examples, proved from the definitions.
+-- Examples of document 02, C-18, "No pick between equal wires", proved from the definitions.
 use Prim.Native.Nat.{ℕ}
 use mathlib.Core.Path.{_≡_, refl}
 use mathlib.Core.List.{List, [], _∷_, map}

@@ -1,4 +1,4 @@
--- Examples of document 02, C-15, "Groups in one order": examples, proved from the definitions.
+-- Examples of document 02, C-15, "Groups in one order", proved from the definitions.
 use Prim.Native.Nat.{ℕ}
 use mathlib.Core.Path.{_≡_, refl}
 use mathlib.Core.List.{List, [], _∷_, _++_, map}

@@ -67,8 +67,8 @@ pub record Starred : Type 0 where
       × (map (λ x. runAnswer (ruleAnswer r1) r1 (x ∷ 6 ∷ 7 ∷ []) 3) (1 ∷ 0 ∷ 2 ∷ []) ≡ success 6 0 0 33 0 ∷ success 6 0 0 33 0 ∷ refusal 41 0 ∷ [])
       × ((a b c : ℕ) → map (λ x. runResults (ruleAnswer r1) r1 (x ∷ 6 ∷ 7 ∷ []) (a ∷ b ∷ c ∷ [])) (1 ∷ 0 ∷ 2 ∷ [])
       ≡ (1 ∷ 42 ∷ 7 ∷ []) ∷ (0 ∷ 49 ∷ 7 ∷ []) ∷ (a ∷ b ∷ c ∷ []) ∷ [])
-  -- 3. R1 with P1, whole, with document 02's C-17 and C-18: 43 49 52 00 02 03 00 08; 01 00; 00 01; 00 02; 32 01 00 00 and a table of 32 bytes that ends 02; the same ending 01; 31 02 00 03 00 01 00 04 00 02;
-  -- 22 00 05 00 02; 30 00 00 00 06 00 06; 00 00 00 07 00 02 (file3). 114 bytes; a buffer of 113: 50.
+  -- 3. R1 with P1, whole, with document 02's C-17 and C-18: 43 49 52 00 02 03 00 08; 01 00; 00 01; 00 02; 32 01 00 00 and a table of 32 bytes that ends 02; the same ending 01;
+  -- 31 02 00 03 00 01 00 04 00 02; 22 00 05 00 02; 30 00 00 00 06 00 06; 00 00 00 07 00 02 (file3). 114 bytes; a buffer of 113: 50.
   pub example-3 :
       (fusedFile r1 p1 ≡ file3)
       × (length file3 ≡ 114)

@@ -40,7 +40,12 @@ unfolding number bytesOf kindOf workingOf operationOf codeOf resultOf readMark r
     waitsFor order planRow planAnswer over someAbove inputsRow inputRow runAnswer runResults
 starred =
     record {
-      example-1 = (refl, refl, precondition r1 refl 3 0xAAAAAAAAAAAAAAAAAAAAAAAAAAAAAAAAAAAAAAAAAAAAAAAAAAAAAAAAAAAAAAAA refl, precondition r1 refl 4 0x5555555555555555555555555555555555555555555555555555555555555555 refl);
+      example-1 = (
+        refl,
+        refl,
+        precondition r1 refl 3 0xAAAAAAAAAAAAAAAAAAAAAAAAAAAAAAAAAAAAAAAAAAAAAAAAAAAAAAAAAAAAAAAA refl,
+        precondition r1 refl 4 0x5555555555555555555555555555555555555555555555555555555555555555 refl,
+      );
       example-2 = (example-2, refl, λ a b c. refl);
       example-3 = (
         example-3,

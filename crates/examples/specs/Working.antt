@@ -1,4 +1,4 @@
--- Examples of document 02, C-13, "Working figures are not results": examples, proved from the definitions.
+-- Examples of document 02, C-13, "Working figures are not results", proved from the definitions.
 use Prim.Native.Nat.{ℕ}
 use mathlib.Core.Path.{_≡_, refl}
 use mathlib.Core.List.{List, [], _∷_, map}
@@ -58,7 +58,8 @@ products = 0x50 ∷ 0x4C ∷ 0x4E ∷ 0x00 ∷ 0x01 ∷ 0x00 ∷ 0x0A ∷ 0x00 �
 
 -- as results both products are needed always; as working words each on its side
 pub needed-then : map (λ k. map (λ g. getD (rulePreconditions (scraps k)) g 0) (7 ∷ 8 ∷ [])) (0x00 ∷ 0x02 ∷ [])
-    ≡ (0xFFFFFFFFFFFFFFFFFFFFFFFFFFFFFFFFFFFFFFFFFFFFFFFFFFFFFFFFFFFFFFFF ∷ 0xFFFFFFFFFFFFFFFFFFFFFFFFFFFFFFFFFFFFFFFFFFFFFFFFFFFFFFFFFFFFFFFF ∷ []) ∷ (0xAAAAAAAAAAAAAAAAAAAAAAAAAAAAAAAAAAAAAAAAAAAAAAAAAAAAAAAAAAAAAAAA ∷ 0x5555555555555555555555555555555555555555555555555555555555555555 ∷ []) ∷ []
+    ≡ (0xFFFFFFFFFFFFFFFFFFFFFFFFFFFFFFFFFFFFFFFFFFFFFFFFFFFFFFFFFFFFFFFF ∷ 0xFFFFFFFFFFFFFFFFFFFFFFFFFFFFFFFFFFFFFFFFFFFFFFFFFFFFFFFFFFFFFFFF ∷ [])
+    ∷ (0xAAAAAAAAAAAAAAAAAAAAAAAAAAAAAAAAAAAAAAAAAAAAAAAAAAAAAAAAAAAAAAAA ∷ 0x5555555555555555555555555555555555555555555555555555555555555555 ∷ []) ∷ []
 unfolding number kindOf workingOf operationOf codeOf readMark readCount readKinds readHeader readVariable readWord readBit operationWith exprWith readExpr readAssign branchWith
     statementWith blockWith blockFuel readBlock readRule applyGate makeExpr assignsIn assigns choices makeStatement makeBlock plainCircuit conditions collect numbers
     preconditions preconditionSets
@@ -115,5 +116,6 @@ alone-read = refl
 pub alone-run : map (λ n. runAnswer (ruleAnswer (alone 0x03)) (alone 0x03) (n ∷ []) 1) (0 ∷ 1 ∷ 2 ∷ [])
     ≡ success 1 0 0 0 0 ∷ success 1 0 0 0 0 ∷ refusal 41 0 ∷ []
 unfolding number kindOf workingOf operationOf codeOf readMark readCount readKinds readHeader readVariable readWord readBit operationWith exprWith readExpr readAssign branchWith
-    statementWith blockWith blockFuel readBlock readRule applyGate makeExpr assignsIn assigns choices makeStatement makeBlock plainCircuit conditions collect costs wholeWithin ruleAnswer someAbove inputsRow inputRow runAnswer
+    statementWith blockWith blockFuel readBlock readRule applyGate makeExpr assignsIn assigns choices makeStatement makeBlock plainCircuit conditions collect costs wholeWithin ruleAnswer
+    someAbove inputsRow inputRow runAnswer
 alone-run = refl

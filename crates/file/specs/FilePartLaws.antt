@@ -1,4 +1,4 @@
--- A circuit file's wires and records, taken from its bytes one after another, and of its figures: what a run of the file cites.
+-- A circuit file's wires, records and figures, taken from its bytes one after another: how many there are, one more, and the one at a place. A run of the file cites these.
 use Prim.Native.Nat.{ℕ, zero, suc, _+_, _*_, _<_}
 use mathlib.Core.Path.{_≡_, refl, ap, subst, _∙_}
 use mathlib.Core.List.{List, [], _∷_, _++_, map}

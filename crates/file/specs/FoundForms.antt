@@ -1,4 +1,4 @@
--- Laws of what the first byte of a record says of it, and of its bytes; one for each form.
+-- The record at a place of a file, by its first byte: which record is read there, and how many bytes it has; one at least.
 use mathlib.Core.Path.{_≡_, refl, sym, ap, ap₂, subst, _∙_}
 use mathlib.Core.List.{List}
 use Prim.Native.Nat.{ℕ, _+_, _*_, _≤_}

@@ -35,7 +35,11 @@ pub place-is : (n : ℕ) (f : List ℕ) (at : ℕ) → placeAfter n f at ≡ at 
 place-is zero f at = omega arith
 place-is (suc n) f at =
     place-is n f (at + sizeAt f at)
-    ∙ rw (size-is f at, length-append (recordBytes (versionIn f) (recordAt f at)) (recordsBytes (versionIn f) (recordsFrom n f (at + length (recordBytes (versionIn f) (recordAt f at)))))) (omega arith)
+    ∙ rw (
+      size-is f at,
+      length-append (recordBytes (versionIn f) (recordAt f at))
+          (recordsBytes (versionIn f) (recordsFrom n f (at + length (recordBytes (versionIn f) (recordAt f at))))),
+    ) (omega arith)
 
 module _ (f : List ℕ) (bytes : Bytes f) where
   -- the part of a file that holds a whole record is the bytes of the record that is read there

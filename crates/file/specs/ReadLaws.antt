@@ -1,4 +1,4 @@
--- Laws of reading a circuit file and of showing one record, one for each step of the code.
+-- Reading a circuit file: which of rows 60 to 62 the code's tests lead to, and the answer; showing a record: where it lies, found record by record, or nothing.
 use Prim.Native.Nat.{ℕ, _+_, _≤_, _<_}
 use mathlib.Core.Path.{_≡_, refl, sym, ap, _∙_}
 use mathlib.Core.List.{List}
@@ -105,7 +105,7 @@ module _ (f : List ℕ) where
         omega (arith, a, b, row-passed f h .layout .whole w l .inside))
         (λ t. let (a, (b, _)) = part-none t in omega (arith, a, b))
 
--- amid the records before wire w
+-- loop invariant, amid the records before wire w
 pub record AmidPlaces (f : List ℕ) (w at i : ℕ) : Type 0 where
   pub passed : Passed f
   pub below : w < wireCount f

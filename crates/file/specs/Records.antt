@@ -12,7 +12,7 @@ use Rattle.base.specs.declared.Kind.{Kind}
 use Rattle.base.specs.declared.Operation.{Operation}
 use Rattle.base.specs.Results.{isOne, resultOn}
 
--- a pair of a pick: the wire of the guard and the wire of the value
+-- a pair of a pick, which is a one-hot multiplexer: the wire of the guard and the wire of the value
 pub record Pair : Type 0 where
   pub guarding : ℕ
   pub value : ℕ

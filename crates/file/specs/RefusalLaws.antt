@@ -1,4 +1,4 @@
--- Laws of the rows 40 to 42 for a circuit file that is read, one for each step of the code.
+-- Rows 40 to 42 for a circuit file that is read: which row the code's tests lead to, input by input, each kind told by the first byte of an input's record.
 use Prim.Native.Nat.{ℕ, _+_, _-_, _*_, _≤_, _<_}
 use mathlib.Core.Path.{_≡_, sym, ap, _∙_}
 use mathlib.Core.List.{List}
@@ -21,7 +21,7 @@ use Rattle.file.specs.InputLaws.{input-inside, input-kind}
 abbrev pub fileInputsRow : List ℕ → List ℕ → ℕ → ℕ
 fileInputsRow f inputs room = inputsRow (fileVariables f) (wireKind (fileRecords f)) inputs room
 
--- amid the inputs: those that are left decide
+-- loop invariant, amid the inputs: those that are left decide
 pub record AmidInputs (f inputs : List ℕ) (v x : ℕ) : Type 0 where
   pub passed : Passed f
   pub count : v ≡ fileVariables f

@@ -1,4 +1,4 @@
--- The rows 60 to 62: what each test says.
+-- Rows 60 and 61: their tests reflect a head with its mark and limits, and a file that is laid out; the mark is that of one of the two versions.
 use Prim.Native.Nat.{ℕ, zero, suc, _+_, _*_, _^_, _≤_, _<_}
 use mathlib.Core.Path.{_≡_, refl, sym, ap, _∙_}
 use mathlib.Core.List.{List, [], _∷_}

@@ -1,4 +1,4 @@
--- Laws of running a circuit file, by the answer of reading it, then by the row of the inputs.
+-- Running a circuit file: it is refused by reading's row or by that of the inputs, and then nothing is written; else the answer is reading's, and the results begin with the outputs' figures.
 use Prim.Native.Nat.{ℕ}
 use mathlib.Core.Path.{_≡_, sym, ap, _∙_}
 use mathlib.Core.List.{List}

@@ -1,4 +1,4 @@
--- Laws of the versions of a circuit file, each for any version.
+-- The versions of a circuit file: the byte of each names it; a guard's table has a bit for each setting of the most wires; no version has more wires or bytes of a table than the second.
 use Prim.Native.Nat.{ℕ, _+_, _*_, _^_, _≤_, _<_}
 use mathlib.Core.Path.{_≡_, refl, sym, ap, _∙_}
 use native.Mathlib.Omega.{arith}

@@ -25,7 +25,7 @@ TableFits (choice c a b) = Unit {0}
 TableFits (pick l) = Unit {0}
 TableFits (guard cs t) = t < 2 ^ 2 ^ length cs
 
--- 62: what the records and outputs of v variables are to each other
+-- 62: what the records and outputs of v variables are to each other; each then stands, is well-formed where it is
 pub record Standing (v : ℕ) (R : List Record) (outputs : List ℕ) : Type 0 where
   -- the inputs are exactly the first V records, in order
   pub first : (x : ℕ) → x < v → (x < length R) × ((k : Kind) × (recordIn R x ≡ input k x))

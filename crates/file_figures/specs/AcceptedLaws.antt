@@ -1,4 +1,4 @@
--- A file that passes rows 60 to 62: what a run of it relies on.
+-- A file that passes rows 60 to 62: every output is no wire or one of the file, and every record has what its figure needs.
 use Prim.Native.Nat.{ℕ, suc, _<_}
 use mathlib.Core.Path.{_≡_, sym, subst, subst⁻¹, _∙_}
 use mathlib.Core.List.{List, [], _∷_}

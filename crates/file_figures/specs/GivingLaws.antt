@@ -1,4 +1,4 @@
--- Laws of giving the outputs, one for each step of the code.
+-- The loop that gives the outputs: no wire (FF FF) gives 0, any other its wire's figure; after all V of them the results begin with the file's figures, and the rest is as before.
 use Prim.Native.Nat.{ℕ, _+_, _*_, _≤_, _<_}
 use mathlib.Core.Path.{_≡_, sym, ap, subst, _∙_}
 use mathlib.Core.List.{List, [], _∷_, _++_, map, map-append}
@@ -36,7 +36,7 @@ module _ (figures : List ℕ) (n w : ℕ) (e : n ≡ w) where
     pub output-held : (g : ℕ) → g ≡ held figures n → g ≡ outputHeld figures w
     output-held g q = rw (ne-eqb w noWire (λ z. h (e ∙ z)), ← e) q
 
--- amid the outputs: the first x are given over the results that were there before
+-- loop invariant, amid the outputs: the first x are given over the results that were there before
 pub record Giving (f figures before results : List ℕ) (at x : ℕ) : Type 0 where
   pub few : x ≤ fileVariables f
   pub inside : at + 2 * fileVariables f ≤ length f

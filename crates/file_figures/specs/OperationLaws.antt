@@ -1,4 +1,4 @@
--- Laws of working out an operation from its one or two wires.
+-- The record of an operation: its one or two wires lie in the file and in the array of figures, and what the code works out is the operation's result of their figures.
 use Prim.Native.Nat.{ℕ, _+_, _*_, _≤_, _<_}
 use mathlib.Core.Path.{_≡_, refl, sym, ap, subst, _∙_}
 use mathlib.Core.List.{List, map}

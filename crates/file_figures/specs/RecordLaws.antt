@@ -1,4 +1,4 @@
--- One record, by its first byte: what its figure needs, and that the code's figure is it.
+-- One record, by its first byte: what its figure needs is there, and what the code works out is its figure.
 use Prim.Native.Nat.{ℕ, _+_, _*_, _%_, _≤_, _<_}
 use mathlib.Core.Path.{_≡_, refl, sym, ap, subst, _∙_}
 use mathlib.Core.Bool.{Bool}
@@ -50,7 +50,11 @@ module _ (f : List ℕ) (v at : ℕ) (k : Workable f v mostWires at) where
 
   pub guard-takes : getD f at 0 ≡ 0x32
       → (getD f (at + 1) 0 ≤ mostGuardWires (versionIn f)) × (at + 2 + 2 * getD f (at + 1) 0 + tableBytes (versionIn f) ≤ length f) × Inside mostWires (wiresAt (getD f (at + 1) 0) f (at + 2))
-  guard-takes h = (rw (wires-length (getD f (at + 1) 0) f (at + 2)) at (subst (Bounded (versionIn f)) (form-guard f at h .0) (k .whole .bounded)), omega (arith, k .whole .inside, form-guard f at h .1), wires-as _ (form-guard f at h .0))
+  guard-takes h = (
+    rw (wires-length (getD f (at + 1) 0) f (at + 2)) at (subst (Bounded (versionIn f)) (form-guard f at h .0) (k .whole .bounded)),
+    omega (arith, k .whole .inside, form-guard f at h .1),
+    wires-as _ (form-guard f at h .0),
+  )
 
   pub operation-takes : OtherByte (getD f at 0)
       → (0x20 ≤ getD f at 0) × (getD f at 0 ≤ 0x27) × (at + (1 + 2 * codeOf (getD f at 0) .arity) ≤ length f)

@@ -1,4 +1,4 @@
--- Laws of working out a choice, a pick's sum and a guard's number, one for each step of the code.
+-- The figures of a choice, a pick and a guard, turn by turn: the value that the condition picks, the sum of the values whose guards are 1, the table's bit at the wires' number.
 use Prim.Native.Nat.{ℕ, zero, suc, _+_, _-_, _*_, _%_, _^_, _≤_, _<_}
 use mathlib.Core.Path.{_≡_, refl, sym, ap, _∙_}
 use mathlib.Core.Bool.{Bool, true, false, cond}
@@ -30,7 +30,7 @@ chosen-first x a b g r e one h = h ∙ rw (eq-eqb _ 1 (sym e ∙ one))
 pub chosen-second : (x a b g r : ℕ) → g ≡ x → (g ≡ 1 → ⊥) → r ≡ b → r ≡ cond (isOne x) a b
 chosen-second x a b g r e none h = h ∙ rw (ne-eqb _ 1 (λ z. none (e ∙ z)))
 
--- amid the pairs of a pick: the pairs from t on are summed
+-- loop invariant, amid the pairs of a pick: the pairs from t on are summed
 pub record Summing (f figures : List ℕ) (at count t sum : ℕ) : Type 0 where
   pub below : t ≤ count
   pub inside : at + 4 * count ≤ length f
@@ -93,7 +93,7 @@ module _ (f figures : List ℕ) (at count t sum : ℕ) (p : Summing f figures at
     pub summing-none : (g : ℕ) → g ≡ held figures (numberAt 2 f (at + 4 * (t - 1))) → (g ≡ 1 → ⊥) → Summing f figures at count (t - 1) sum
     summing-none g e none = summing-next sum 0 (rw (ne-eqb _ 1 (λ z. none (e ∙ z)))) (omega (arith, p .same))
 
--- amid the wires of a guard: j is the number of the wires from t on
+-- loop invariant, amid the wires of a guard: j is the number of the wires from t on
 pub record CountingWires (f figures : List ℕ) (at count t j : ℕ) : Type 0 where
   pub few : count ≤ mostGuardWires two
   pub below : t ≤ count

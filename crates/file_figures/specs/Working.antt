@@ -48,7 +48,7 @@ pub record Workable (f : List ℕ) (v n at : ℕ) : Type 0 where
 unfoldable pub figuresOf : List ℕ → List ℕ → ℕ → List ℕ
 figuresOf f inputs i = run 0 (recordFigure inputs (pickSum (wireKind (fileRecords f)))) (recordsFrom i f firstRecord) []
 
--- amid the records: the first i are worked out over the figures that were there before, and so are their kinds; the next begins at `at`
+-- loop invariant, amid the records: the first i are worked out over the figures that were there before, and so are their kinds; the next begins at `at`
 pub record AmidRecords (f inputs before figures : List ℕ) (bits : List Bool) (at i : ℕ) : Type 0 where
   pub passed : Passed f
   pub given : length inputs ≡ fileVariables f

@@ -1,4 +1,4 @@
--- Laws of working out the records in order, one for each step of the code.
+-- The loop over the records: before record i the arrays hold the figures and kinds of the wires below i, so that it can be worked out; after the last one the figures of all.
 use Prim.Native.Nat.{ℕ, suc, _+_, _≤_, _<_}
 use mathlib.Core.Path.{_≡_, refl, sym, ap, subst, _∙_}
 use mathlib.Core.Bool.{Bool}

@@ -46,7 +46,8 @@ fn operation_figure(file: &[u8], at: usize, figures: &[u32; file::MOST_WIRES]) -
         × (at + (1 + 2 * codeOf (getD (now file) at 0) .arity) ≤ length (now file))
         × Inside mostWires (wiresAt (codeOf (getD (now file) at 0) .arity) (now file) (at + 1))
         ⌝ }
-    ensures { λ r. ⌜ r ≡ resultOn (operationOf (getD (now (file .entry)) at 0)) (map (held (now (figures .entry))) (wiresAt (codeOf (getD (now (file .entry)) at 0) .arity) (now (file .entry)) (at + 1))) ⌝ }
+    ensures { λ r. ⌜ r ≡ resultOn (operationOf (getD (now (file .entry)) at 0))
+        (map (held (now (figures .entry))) (wiresAt (codeOf (getD (now (file .entry)) at 0) .arity) (now (file .entry)) (at + 1))) ⌝ }
 {
     let c = base_codes::code_of(file[at]);
     let form = c.form;
@@ -141,7 +142,8 @@ fn guard_figure(file: &[u8], at: usize, count: u8, figures: &[u32; file::MOST_WI
         × (at + 2 * count + tableBytes (versionIn (now file)) ≤ length (now file))
         × Inside mostWires (wiresAt count (now file) at)
         ⌝ }
-    ensures { λ r. ⌜ r ≡ guardFigure (held (now (figures .entry))) (wiresAt count (now (file .entry)) at) (numberAt (tableBytes (versionIn (now (file .entry)))) (now (file .entry)) (at + 2 * count)) ⌝ }
+    ensures { λ r. ⌜ r ≡ guardFigure (held (now (figures .entry))) (wiresAt count (now (file .entry)) at)
+        (numberAt (tableBytes (versionIn (now (file .entry)))) (now (file .entry)) (at + 2 * count)) ⌝ }
 {
     let j = guard_number(file, at, count, figures);
     let from = at + 2 * base_words::wide8(count);

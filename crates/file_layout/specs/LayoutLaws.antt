@@ -1,4 +1,4 @@
--- Laws of the rows 60 and 61, one for each step of the code.
+-- Rows 60 and 61: the mark byte by byte; how many bytes a record says it has, by its first byte, and whether they are there; the walk over the records, to the outputs and the file's end.
 use Prim.Native.Nat.{ℕ, zero, suc, _+_, _*_, _-_, _≤_, _<_}
 use mathlib.Core.Path.{_≡_, refl, ap, _∙_}
 use mathlib.Core.Bool.{Bool, true, false, _&&_, _||_, cond, and-true}

@@ -1,4 +1,4 @@
--- Laws of a record's first byte, as a decision over it is told it.
+-- A record's first byte: what the last arm of a decision over it knows; a record that lies in the file has that byte there and, where it is a guard, the file's version byte.
 use Prim.Native.Nat.{ℕ, _+_, _≤_, _<_}
 use mathlib.Core.Path.{_≡_}
 use mathlib.Core.List.{List}

@@ -1,4 +1,4 @@
--- Laws of the kinds that a table holds, and of a record's kind from them, by its first byte.
+-- The kind of a record's wire, by its first byte: what the code reads of a table that holds the kinds of earlier wires is that kind, and it reads inside the file and the table.
 use Prim.Native.Nat.{ℕ, suc, _+_, _-_, _*_, _≤_, _<_}
 use mathlib.Core.Path.{_≡_, refl, sym, ap, subst, _∙_}
 use mathlib.Core.Bool.{Bool, true, false}

@@ -1,4 +1,4 @@
--- Row 62 over the whole file, one for each step of the code: record after record, output after output.
+-- Row 62 over the whole file, record after record and output after output: what is left decides, one that does not stand ends it, and the table holds the kinds so far.
 use Prim.Native.Nat.{ℕ, suc, _+_, _-_, _*_, _≤_, _<_}
 use mathlib.Core.Path.{_≡_, refl, sym, ap, subst, _∙_}
 use mathlib.Core.List.{List}
@@ -27,7 +27,7 @@ use Rattle.file_parts.specs.HeldKinds.{isBit, heldKind}
 use Rattle.file_parts.specs.TableLaws.{HoldsKinds, holds-none, holds-more}
 use Rattle.file_wiring.specs.SameLaws.{stands-same, outputs-same}
 
--- amid the outputs: those that are left decide
+-- loop invariant, amid the outputs: those that are left decide
 pub record AmidOutputs (f : List ℕ) (k : ℕ → Kind) (n at v x : ℕ) : Type 0 where
   pub few : x ≤ v
   pub same : outputsStand n k 0 (wiresAt v f at) ≡ outputsStand n k x (wiresAt (v - x) f (at + 2 * x))
@@ -53,7 +53,7 @@ module _ (f : List ℕ) (k : ℕ → Kind) (n at v x : ℕ) (p : AmidOutputs f k
     pub output-more : (b : Bool) → b ≡ outputStands n k x (numberAt 2 f (at + 2 * x)) → b ≡ true → AmidOutputs f k n at v (x + 1)
     output-more b e z = record { few = omega arith; same = p .same ∙ next ∙ rw (sym e ∙ z) }
 
--- amid the records: those that are left decide, and the table holds the kinds of the wires so far
+-- loop invariant, amid the records: those that are left decide, and the table holds the kinds of the wires so far
 pub record AmidRecords (f : List ℕ) (v n : ℕ) (bits : List Bool) (at i : ℕ) : Type 0 where
   pub count : n ≡ wireCount f
   pub head : Headed f

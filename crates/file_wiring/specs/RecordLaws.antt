@@ -117,7 +117,8 @@ module _ (f : List ℕ) (at : ℕ) (whole : WholeAt f at) where
           (late (rw (guards-by N f (at + 2), values-by N f (at + 2), ← first-kind N (at + 2) (pick-takes h .1)) (rw e at q)))
 
       pub guard-in : getD f at 0 ≡ 0x32
-          → (b : Bool) → b ≡ (every (fits i k kind.Bit) (wiresBy 2 (getD f (at + 1) 0) f (at + 2)) && ltb (numberAt (tableBytes (versionIn f)) f (at + 2 + 2 * getD f (at + 1) 0)) (2 ^ 2 ^ getD f (at + 1) 0))
+          → (b : Bool)
+          → b ≡ (every (fits i k kind.Bit) (wiresBy 2 (getD f (at + 1) 0) f (at + 2)) && ltb (numberAt (tableBytes (versionIn f)) f (at + 2 + 2 * getD f (at + 1) 0)) (2 ^ 2 ^ getD f (at + 1) 0))
           → b ≡ stands v k i (recordAt f at)
       guard-in h b q =
           let N = getD f (at + 1) 0 in

@@ -1,4 +1,4 @@
--- Row 62, one for each step of the code: a wire, an output, wires at equal distances.
+-- Row 62 of a wire, of an output and of wires at equal distances: what the code tests, one after another, is what the row tests.
 use Prim.Native.Nat.{ℕ, zero, suc, _+_, _-_, _*_, _^_, _≤_, _<_}
 use mathlib.Core.Path.{_≡_, refl, sym, ap, _∙_}
 use mathlib.Core.List.{List}
@@ -43,7 +43,7 @@ module _ (count : ℕ) (k : ℕ → Kind) (x n w : ℕ) (e : n ≡ w) where
   pub output-wire : (n ≡ noWire → ⊥) → (b : Bool) → b ≡ fits count k (k x) w → b ≡ outputStands count k x w
   output-wire h b q = rw (ne-eqb w noWire (λ z. h (e ∙ z))) q
 
--- wires at equal distances: those that are left decide
+-- loop invariant, amid wires at equal distances: those that are left decide
 pub record AmidWires (f : List ℕ) (t : ℕ → Bool) (step at count here left : ℕ) : Type 0 where
   pub inside : here + step * left + 2 ≤ length f + step
   pub same : every t (wiresBy step count f at) ≡ every t (wiresBy step left f here)

@@ -16,7 +16,7 @@ use Rattle.file.specs.Versions.{Version, one, two, mostGuardWires, tableBytes}
 use Rattle.file.specs.VersionLaws.{table-few}
 use Rattle.file_wiring.specs.Wires.{usedBytes, topByte}
 
--- bytes that are 0, one after another: those that are left decide
+-- loop invariant, amid bytes that are 0, one after another: those that are left decide
 pub record AmidZeros (f : List ℕ) (at count here left : ℕ) : Type 0 where
   pub inside : here + left ≤ length f
   pub same : numberAt count f at ≡ numberAt left f here

@@ -1,4 +1,4 @@
--- Laws of the answer of an accepted plan and of a refused one, of the bytes that it counts, and of writing it into a buffer.
+-- The answer of fusing: a refused plan's, or number 0 with the file's bytes counted. Writing: the file over the buffer's start, or 50 where there is no room; a refusal writes nothing.
 use Prim.Native.Nat.{ℕ, _≤_, _<_}
 use native.Mathlib.Omega.{arith}
 use mathlib.Core.Path.{_≡_, refl, sym, ap, _∙_}

@@ -1,4 +1,4 @@
--- Laws of what holds along all records that are written; so of an accepted plan a bit constant is 0 or 1, a pick has a pair, a guard reads at most as many wires as the written version admits.
+-- What holds along every group's records holds along all; so of an accepted plan a bit constant is 0 or 1, a pick has a pair, a guard reads no more wires than the written version admits.
 use Prim.Native.Nat.{ℕ, _≤_, _<_}
 use native.Mathlib.Nat.{zero-add}
 use native.Mathlib.Omega.{arith}

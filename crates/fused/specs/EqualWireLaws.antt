@@ -1,5 +1,5 @@
--- Document 02, C-18, on an accepted plan: when members have one wire at a place, what stands where a group has no guards and what its wire holds; that a joined
--- gate still comes after the conditions that it rests on; what a group's records come to by its picks.
+-- Laws for document 02, C-18, on an accepted plan: when members have one wire at a place, what stands where a group has no guards and what its wire holds; that a
+-- joined gate still comes after the conditions that it rests on; what a group's records come to by its picks.
 use Prim.Native.Nat.{ℕ, _+_, _*_, _≤_, _<_}
 use mathlib.Core.Path.{_≡_, refl, sym, ap, ap₂, _∙_}
 use mathlib.Core.Bool.{true}
@@ -55,7 +55,10 @@ module _ (s p : List ℕ) where
 
   -- the gates joined with m have one wire at place k exactly when each has m's
   pub one-wire-right : (m k : ℕ) → m < gateCount s → (oneWire (wiresAt s p m k) ≡ true) ↔ ((j : ℕ) → j ∈ joinedWith s p m → wireOf s p (argument s j k) ≡ wireOf s p (argument s m k))
-  one-wire-right m k l = (λ t j i. each t j i ∙ sym (each t m (own m l)), λ h. one-wire (wiresAt s p m k) some (λ w i. gives h w i ∙ sym (gives h (getD (wiresAt s p m k) 0 0) (getD-in (wiresAt s p m k) 0 some))))
+  one-wire-right m k l = (
+    λ t j i. each t j i ∙ sym (each t m (own m l)),
+    λ h. one-wire (wiresAt s p m k) some (λ w i. gives h w i ∙ sym (gives h (getD (wiresAt s p m k) 0 0) (getD-in (wiresAt s p m k) 0 some))),
+  )
     where
       some : 0 < length (wiresAt s p m k)
       some = rw (length-map (joinedWith s p m) (λ j. wireOf s p (argument s j k))) (in-some (joinedWith s p m) m (own m l))

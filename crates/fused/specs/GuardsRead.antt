@@ -1,4 +1,4 @@
--- Document 02, C-18, "If no pick remains, write no guards for the group": every guard of a fused circuit is named by a pick.
+-- Laws for document 02, C-18, "If no pick remains, write no guards for the group": every guard of a fused circuit is named by a pick.
 use Prim.Native.Nat.{ℕ, suc, _+_, _-_, _≤_, _<_}
 use mathlib.Core.Path.{_≡_, sym, ap, _∙_}
 use mathlib.Core.List.{List, [], _∷_, _++_, map, append-assoc, append-nil}
@@ -59,8 +59,10 @@ module _ (s : List ℕ) (C : Gates) (sets : List ℕ) (wire : ℕ → ℕ) where
       let n : ℕ = length before in
       let G : List Record = map (guardOf s C sets wire) ms in
       let P : List Record = map (pickOf n) picks ++ (operation op l ∷ []) in
-      let stands : R ≡ (before ++ G) ++ (pickOf n values ∷ (P ++ after)) = e ∙ ap (λ (x : List Record). before ++ x) (append-assoc G (pickOf n values ∷ P) after) ∙ sym (append-assoc before G (pickOf n values ∷ (P ++ after))) in
-      let there : recordIn R (length (before ++ G)) ≡ pick (pairs n values) = ap (λ (x : List Record). recordIn x (length (before ++ G))) stands ∙ record-behind (before ++ G) (pickOf n values) (P ++ after) in
+      let stands : R ≡ (before ++ G) ++ (pickOf n values ∷ (P ++ after)) =
+      e ∙ ap (λ (x : List Record). before ++ x) (append-assoc G (pickOf n values ∷ P) after) ∙ sym (append-assoc before G (pickOf n values ∷ (P ++ after))) in
+      let there : recordIn R (length (before ++ G)) ≡ pick (pairs n values) =
+      ap (λ (x : List Record). recordIn x (length (before ++ G))) stands ∙ record-behind (before ++ G) (pickOf n values) (P ++ after) in
       along-append (ReadIn R) G (pickOf n values ∷ P) n
       (guards-read R (length (before ++ G)) (pairs n values) there ms n (λ i a b. rw (pairs-guards n values, size) (from-in n (length ms) i a b)))
       (picks-read R n (values ∷ picks) op l (n + length G))

@@ -1,4 +1,4 @@
--- Document 02, C-18, "No pick between equal wires": the four shapes of a joined group, by whether its members have one wire at each of its two argument places;
+-- Laws for document 02, C-18, "No pick between equal wires": the four shapes of a joined group, by whether its members have one wire at each of its two argument places;
 -- every larger group of an accepted plan has one of them; no pick of its circuit is between equal wires.
 use Prim.Native.Nat.{ℕ, suc, _+_, _≤_, _<_}
 use mathlib.Core.Path.{_≡_, refl, sym, ap, _∙_}

@@ -1,4 +1,4 @@
--- Rules that differ only in the order of such variables are answered and written alike (document 02, C-12).
+-- Rules that differ only in the order of variables that are the two arguments of an operation that commutes are answered and written alike (document 02, C-12).
 use Prim.Native.Nat.{ℕ, _<_, _≤_}
 use mathlib.Core.Path.{_≡_, refl, sym, ap, ap₂, subst, _∙_}
 use mathlib.Core.List.{List, [], _∷_, map}

@@ -1,4 +1,4 @@
--- The figures of a group's records: a gate alone, a joined group, a pick by its members' guards.
+-- The figures of a group's records: a gate alone has its gate's; a pick gives the value of the one member whose bit is 1; a joined group its operation's result on what each place gives.
 use Prim.Native.Nat.{ℕ, suc, _+_, _-_, _<_}
 use mathlib.Core.Path.{_≡_, refl, sym, ap, _∙_}
 use mathlib.Core.Bool.{Bool, true, false}

@@ -1,5 +1,4 @@
 -- What is written, group by group: a group's wire is its last record's and stays when others are written, and every record reads only earlier wires.
---
 use Prim.Native.Nat.{ℕ, _+_, _-_, _≤_, _<_}
 use mathlib.Core.Path.{_≡_, refl, sym, ap, _∙_}
 use mathlib.Core.List.{List, [], _∷_, _++_}

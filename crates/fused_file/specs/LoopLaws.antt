@@ -23,7 +23,7 @@ use Rattle.file.specs.Limits.{mostWires}
 
 -- Measuring.
 
--- i groups are measured; w: the wire of each
+-- loop invariant: i groups are measured; w: the wire of each
 pub record Measuring (p quads needs group places ord : List ℕ) (groups : ℕ) (w : List ℕ) (wires bytes cost i : ℕ) : Type 0 where
   pub below : i ≤ groups
   pub measures : Measures p quads needs group places ord groups
@@ -90,7 +90,7 @@ module _ (p quads : List ℕ) (count : ℕ) (needs group places ord : List ℕ) 
       ∙ sym (bytes-append writtenVersion (stage p quads count needs group places ord i .records)
       (turnRecords p quads count needs group places (stage p quads count needs group places ord i) (getD ord i 0)))
 
-  -- i groups are written: n wires, and the wire of each
+  -- loop invariant: i groups are written: n wires, and the wire of each
   pub record PuttingGroups (groups : ℕ) (out out₀ wires : List ℕ) (at n i : ℕ) : Type 0 where
     pub filling : Filling turnPiece out out₀ groups at i
     pub counted : n ≡ length (stage p quads count needs group places ord i .records)

@@ -38,7 +38,8 @@ fn size_group(
     q: GateId,
 ) -> Size
     requires { ⌜ Measurable (now quads) (now plan) (now group) at (q .0) ⌝ }
-    ensures { λ r. ⌜ Measured (now (quads .entry)) (setsIn (now (needs .entry))) (wireIn (now (group .entry)) (now (wires .entry))) (membersOf (now (plan .entry)) at (q .0)) (r .wires) (r .bytes) (r .cost) ⌝ }
+    ensures { λ r. ⌜ Measured (now (quads .entry)) (setsIn (now (needs .entry))) (wireIn (now (group .entry)) (now (wires .entry))) (membersOf (now (plan .entry)) at (q .0))
+        (r .wires) (r .bytes) (r .cost) ⌝ }
 {
     if at == 0 {
         return fused_size::size_alone(quads, q);
@@ -107,9 +108,12 @@ fn put_group(
 ) -> Put
     requires { ⌜ (length (recordsBytes writtenVersion (emitIn (now quads) count (setsIn (now needs)) (wireIn (now group) (now wires)) (first .0) (membersOf (now plan) at (q .0)))) ≤ length (now out))
         × Puttable (now quads) (now plan) (now conditions) (now group) count at (q .0) (first .0) ⌝ }
-    ensures counted { λ r. ⌜ r .bytes ≡ length (recordsBytes writtenVersion (emitIn (now (quads .entry)) count (setsIn (now (needs .entry))) (wireIn (now (group .entry)) (now (wires .entry))) (first .0) (membersOf (now (plan .entry)) at (q .0)))) ⌝ }
-    ensures wired { λ r. ⌜ r .wires ≡ length (emitIn (now (quads .entry)) count (setsIn (now (needs .entry))) (wireIn (now (group .entry)) (now (wires .entry))) (first .0) (membersOf (now (plan .entry)) at (q .0))) ⌝ }
-    ensures written { λ r. ⌜ now (out .exit) ≡ over (recordsBytes writtenVersion (emitIn (now (quads .entry)) count (setsIn (now (needs .entry))) (wireIn (now (group .entry)) (now (wires .entry))) (first .0) (membersOf (now (plan .entry)) at (q .0)))) (now (out .entry)) ⌝ }
+    ensures counted { λ r. ⌜ r .bytes ≡ length (recordsBytes writtenVersion
+        (emitIn (now (quads .entry)) count (setsIn (now (needs .entry))) (wireIn (now (group .entry)) (now (wires .entry))) (first .0) (membersOf (now (plan .entry)) at (q .0)))) ⌝ }
+    ensures wired { λ r. ⌜ r .wires ≡ length (emitIn (now (quads .entry)) count (setsIn (now (needs .entry))) (wireIn (now (group .entry)) (now (wires .entry))) (first .0)
+        (membersOf (now (plan .entry)) at (q .0))) ⌝ }
+    ensures written { λ r. ⌜ now (out .exit) ≡ over (recordsBytes writtenVersion (emitIn (now (quads .entry)) count (setsIn (now (needs .entry)))
+        (wireIn (now (group .entry)) (now (wires .entry))) (first .0) (membersOf (now (plan .entry)) at (q .0)))) (now (out .entry)) ⌝ }
 {
     if at == 0 {
         let bytes = fused_gate::put_alone(out, quads, group, wires, q);
@@ -152,9 +156,12 @@ fn put_records(
 ) -> usize
     requires { ⌜ (length (recordsBytes writtenVersion (stage (now plan) (now quads) count (setsIn (now needs)) (now group) (now places) (now order) groups .records)) ≤ length (now out))
         × (Turnable (now plan) (now quads) count (setsIn (now needs)) (now group) (now places) (now conditions) (now order) groups × (now wires ≡ replicate gateRoom 0)) ⌝ }
-    ensures counted { λ r. ⌜ r ≡ length (recordsBytes writtenVersion (stage (now (plan .entry)) (now (quads .entry)) count (setsIn (now (needs .entry))) (now (group .entry)) (now (places .entry)) (now (order .entry)) groups .records)) ⌝ }
-    ensures written { λ r. ⌜ now (out .exit) ≡ over (recordsBytes writtenVersion (stage (now (plan .entry)) (now (quads .entry)) count (setsIn (now (needs .entry))) (now (group .entry)) (now (places .entry)) (now (order .entry)) groups .records)) (now (out .entry)) ⌝ }
-    ensures wired { λ r. ⌜ now (wires .exit) ≡ stage (now (plan .entry)) (now (quads .entry)) count (setsIn (now (needs .entry))) (now (group .entry)) (now (places .entry)) (now (order .entry)) groups .wires ⌝ }
+    ensures counted { λ r. ⌜ r ≡ length (recordsBytes writtenVersion
+        (stage (now (plan .entry)) (now (quads .entry)) count (setsIn (now (needs .entry))) (now (group .entry)) (now (places .entry)) (now (order .entry)) groups .records)) ⌝ }
+    ensures written { λ r. ⌜ now (out .exit) ≡ over (recordsBytes writtenVersion
+        (stage (now (plan .entry)) (now (quads .entry)) count (setsIn (now (needs .entry))) (now (group .entry)) (now (places .entry)) (now (order .entry)) groups .records)) (now (out .entry)) ⌝ }
+    ensures wired { λ r. ⌜ now (wires .exit) ≡ stage (now (plan .entry)) (now (quads .entry)) count (setsIn (now (needs .entry))) (now (group .entry)) (now (places .entry))
+        (now (order .entry)) groups .wires ⌝ }
 {
     let mut at: usize = 0;
     let mut first = WireId(0);
@@ -210,7 +217,8 @@ fn put_outputs(
     wires: &[u16; GATE_ROOM],
 )
     requires { ⌜ (HasKinds (now rule) × OutputsPlaced (now outputs) (variables (now rule)) (now group)) × (2 * variables (now rule) ≤ length (now out)) ⌝ }
-    ensures { λ r. ⌜ now (out .exit) ≡ over (wiresBytes (map (outputIn (now (rule .entry)) (now (outputs .entry)) (now (group .entry)) (now (wires .entry))) (upto (variables (now (rule .entry)))))) (now (out .entry)) ⌝ }
+    ensures { λ r. ⌜ now (out .exit) ≡ over (wiresBytes (map (outputIn (now (rule .entry)) (now (outputs .entry)) (now (group .entry)) (now (wires .entry)))
+        (upto (variables (now (rule .entry)))))) (now (out .entry)) ⌝ }
 {
     let v = rule[5];
     let mut x: u8 = 0;
@@ -255,7 +263,8 @@ pub fn put_file(
         × (Turnable (now plan) (now quads) count (setsIn (now needs)) (now group) (now places) (now conditions) (now order) groups
         × ((wired ≡ length (stage (now plan) (now quads) count (setsIn (now needs)) (now group) (now places) (now order) groups .records))
         × (HasKinds (now rule) × OutputsPlaced (now outputs) (variables (now rule)) (now group)))) ⌝ }
-    ensures { λ r. ⌜ now (out .exit) ≡ over (fileIn (now (rule .entry)) (now (plan .entry)) (now (quads .entry)) count (setsIn (now (needs .entry))) (now (group .entry)) (now (places .entry)) (now (order .entry)) groups (now (outputs .entry))) (now (out .entry)) ⌝ }
+    ensures { λ r. ⌜ now (out .exit) ≡ over (fileIn (now (rule .entry)) (now (plan .entry)) (now (quads .entry)) count (setsIn (now (needs .entry))) (now (group .entry)) (now (places .entry))
+        (now (order .entry)) groups (now (outputs .entry))) (now (out .entry)) ⌝ }
 {
     put_head(out, rule[5], wired);
     let mut wires = [0u16; GATE_ROOM];

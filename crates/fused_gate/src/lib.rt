@@ -98,7 +98,8 @@ fn put_applied(
     wires: &[u16; GATE_ROOM],
     g: GateId,
 ) -> usize
-    requires { ⌜ (length (recordBytes writtenVersion (aloneIn (now quads) (wireIn (now group) (now wires)) (g .0))) ≤ length (now out)) × (Writable (now quads) (now group) (g .0) × Applies (codeAt (now quads) (g .0))) ⌝ }
+    requires { ⌜ (length (recordBytes writtenVersion (aloneIn (now quads) (wireIn (now group) (now wires)) (g .0))) ≤ length (now out))
+        × (Writable (now quads) (now group) (g .0) × Applies (codeAt (now quads) (g .0))) ⌝ }
     ensures counted { λ r. ⌜ r ≡ length (recordBytes writtenVersion (aloneIn (now (quads .entry)) (wireIn (now (group .entry)) (now (wires .entry))) (g .0))) ⌝ }
     ensures written { λ r. ⌜ now (out .exit) ≡ over (recordBytes writtenVersion (aloneIn (now (quads .entry)) (wireIn (now (group .entry)) (now (wires .entry))) (g .0))) (now (out .entry)) ⌝ }
 {

@@ -34,7 +34,7 @@ module _ (quads : List ℕ) (wire : ℕ → ℕ) (k : ℕ) (p : List ℕ) (at : 
   value-at i g w h e q =
       q ∙ ap (λ (m : ℕ). wire (argumentAt quads m k)) e ∙ sym (map-at (λ m. wire (argumentAt quads m k)) (groupAt p at) i (omega (arith, h, length-group p at)))
 
-  -- the first i members have the wire common, which is the first one's
+  -- loop invariant: the first i members have the wire common, which is the first one's
   pub record Agreeing (common i : ℕ) : Type 0 where
     pub first : common ≡ getD (valuesIn quads wire k (groupAt p at)) 0 0
     pub below : i ≤ getD p at 0

@@ -28,7 +28,8 @@ module _ (conds : List ℕ) (wire : ℕ → ℕ) (s : ℕ) where
   guard-size =
       let W : List ℕ = wiresBytes (map (λ t. wire (getD conds t 0)) (rests mostConditions s)) in
       let e : length (W ++ bytesOf (tableBytes writtenVersion) (table mostConditions s)) ≡ 2 * length (rests mostConditions s) + tableBytes writtenVersion =
-      length-append W (bytesOf (tableBytes writtenVersion) (table mostConditions s)) ∙ rw (rest-wires conds wire (rests mostConditions s), length-bytes (tableBytes writtenVersion) (table mostConditions s)) in
+      length-append W (bytesOf (tableBytes writtenVersion) (table mostConditions s))
+      ∙ rw (rest-wires conds wire (rests mostConditions s), length-bytes (tableBytes writtenVersion) (table mostConditions s)) in
       let z : suc (suc (length (W ++ bytesOf (tableBytes writtenVersion) (table mostConditions s)))) ≡ 2 + tableBytes writtenVersion + 2 * length (rests mostConditions s) = omega (arith, e) in
       z
 

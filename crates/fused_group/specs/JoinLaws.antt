@@ -118,5 +118,5 @@ module _ (quads : List ℕ) (count : ℕ) (sets conds : List ℕ) (wire : ℕ �
       ∙ ap₂ (λ (o : Operation) (gs : List Record). emission.joined n o gs
       (emission.valuesAt [] (gatesIn quads count) sets wire ms 0 ∷ emission.valuesAt [] (gatesIn quads count) sets wire ms 1 ∷ [])) op guards
       ∙ ap₂ (λ (a b : List ℕ). emission.joined n (operationOf (codeAt quads m)) (guardsIn conds wire sets ms) (a ∷ b ∷ [])) first second
-      ∙ joined-decided n (operationOf (codeAt quads m)) (guardsIn conds wire sets ms) (length ms) (length-map ms (λ m. guardIn conds wire (getD sets m 0))) (valuesIn quads wire 0 ms) (valuesIn quads wire 1 ms)
-      (picks .first) (picks .second) (d .at-first) (d .at-second)
+      ∙ joined-decided n (operationOf (codeAt quads m)) (guardsIn conds wire sets ms) (length ms) (length-map ms (λ m. guardIn conds wire (getD sets m 0)))
+      (valuesIn quads wire 0 ms) (valuesIn quads wire 1 ms) (picks .first) (picks .second) (d .at-first) (d .at-second)

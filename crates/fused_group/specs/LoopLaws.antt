@@ -82,7 +82,7 @@ member-argument quads p group k at i g h e l = (omega (arith, member-inside p at
 abbrev pub guardPiece : List ℕ → (ℕ → ℕ) → List ℕ → List ℕ → ℕ → List ℕ
 guardPiece conds wire sets ms i = recordBytes writtenVersion (guardIn conds wire (getD sets (getD ms i 0) 0))
 
--- the guards of i members are written
+-- loop invariant: the guards of i members are written
 pub record GuardFilling (conds : List ℕ) (wire : ℕ → ℕ) (sets p : List ℕ) (place : ℕ) (out out₀ : List ℕ) (at i : ℕ) : Type 0 where
   pub filling : Filling (guardPiece conds wire sets (groupAt p place)) out out₀ (getD p place 0) at i
 
@@ -120,7 +120,7 @@ module _ (conds : List ℕ) (wire : ℕ → ℕ) (sets p : List ℕ) (place : �
 abbrev pub pairPiece : List ℕ → (ℕ → ℕ) → ℕ → ℕ → List ℕ → ℕ → List ℕ
 pairPiece quads wire n k ms i = wiresBytes ((n + i) ∷ wire (argumentAt quads (getD ms i 0) k) ∷ [])
 
--- the pairs of i members are written
+-- loop invariant: the pairs of i members are written
 pub record PairFilling (quads : List ℕ) (wire : ℕ → ℕ) (n k : ℕ) (p : List ℕ) (place : ℕ) (out out₀ : List ℕ) (at i : ℕ) : Type 0 where
   pub filling : Filling (pairPiece quads wire n k (groupAt p place)) out out₀ (getD p place 0) at i
 

@@ -87,8 +87,10 @@ fn put_guards(
 ) -> usize
     requires { ⌜ (length (recordsBytes writtenVersion (guardsIn (now conditions) (wireIn (now group) (now wires)) (setsIn (now needs)) (groupAt (now plan) at))) ≤ length (now out))
         × (Lies (now plan) at × Guarded (now conditions) (now group)) ⌝ }
-    ensures counted { λ r. ⌜ r ≡ length (recordsBytes writtenVersion (guardsIn (now (conditions .entry)) (wireIn (now (group .entry)) (now (wires .entry))) (setsIn (now (needs .entry))) (groupAt (now (plan .entry)) at))) ⌝ }
-    ensures written { λ r. ⌜ now (out .exit) ≡ over (recordsBytes writtenVersion (guardsIn (now (conditions .entry)) (wireIn (now (group .entry)) (now (wires .entry))) (setsIn (now (needs .entry))) (groupAt (now (plan .entry)) at))) (now (out .entry)) ⌝ }
+    ensures counted { λ r. ⌜ r ≡ length (recordsBytes writtenVersion
+        (guardsIn (now (conditions .entry)) (wireIn (now (group .entry)) (now (wires .entry))) (setsIn (now (needs .entry))) (groupAt (now (plan .entry)) at))) ⌝ }
+    ensures written { λ r. ⌜ now (out .exit) ≡ over (recordsBytes writtenVersion
+        (guardsIn (now (conditions .entry)) (wireIn (now (group .entry)) (now (wires .entry))) (setsIn (now (needs .entry))) (groupAt (now (plan .entry)) at))) (now (out .entry)) ⌝ }
 {
     let size = plan[at] as usize;
     let mut n: usize = 0;
@@ -130,7 +132,8 @@ fn put_pairs(
     wires: &[u16; GATE_ROOM],
 )
     requires { ⌜ (4 * getD (now plan) at 0 ≤ length (now out)) × (Paired (now quads) (now plan) (now group) k at × (first .0 ≤ mostWires)) ⌝ }
-    ensures { λ r. ⌜ now (out .exit) ≡ over (wiresBytes (pairWires (pairsIn (now (quads .entry)) (wireIn (now (group .entry)) (now (wires .entry))) (first .0) k (groupAt (now (plan .entry)) at)))) (now (out .entry)) ⌝ }
+    ensures { λ r. ⌜ now (out .exit) ≡ over (wiresBytes (pairWires
+        (pairsIn (now (quads .entry)) (wireIn (now (group .entry)) (now (wires .entry))) (first .0) k (groupAt (now (plan .entry)) at)))) (now (out .entry)) ⌝ }
 {
     let size = plan[at] as usize;
     let mut n: usize = 0;
@@ -158,7 +161,8 @@ fn put_pick(
 ) -> usize
     requires { ⌜ (2 + 4 * getD (now plan) at 0 ≤ length (now out)) × (Paired (now quads) (now plan) (now group) k at × (first .0 ≤ mostWires)) ⌝ }
     ensures counted { λ r. ⌜ r ≡ 2 + 4 * getD (now (plan .entry)) at 0 ⌝ }
-    ensures written { λ r. ⌜ now (out .exit) ≡ over (recordBytes writtenVersion (pick (pairsIn (now (quads .entry)) (wireIn (now (group .entry)) (now (wires .entry))) (first .0) k (groupAt (now (plan .entry)) at)))) (now (out .entry)) ⌝ }
+    ensures written { λ r. ⌜ now (out .exit) ≡ over (recordBytes writtenVersion
+        (pick (pairsIn (now (quads .entry)) (wireIn (now (group .entry)) (now (wires .entry))) (first .0) k (groupAt (now (plan .entry)) at)))) (now (out .entry)) ⌝ }
 {
     fused_gate::put_short(out, PICK, plan[at]);
     put_pairs(&mut out[2..], plan, at, first, quads, k, group, wires);
@@ -258,8 +262,10 @@ fn put_kept(
 ) -> usize
     requires { ⌜ (length (recordsBytes writtenVersion (keptIn (now conditions) (wireIn (now group) (now wires)) (setsIn (now needs)) (groupAt (now plan) at) picks)) ≤ length (now out))
         × (Lies (now plan) at × Guarded (now conditions) (now group)) ⌝ }
-    ensures counted { λ r. ⌜ r ≡ length (recordsBytes writtenVersion (keptIn (now (conditions .entry)) (wireIn (now (group .entry)) (now (wires .entry))) (setsIn (now (needs .entry))) (groupAt (now (plan .entry)) at) picks)) ⌝ }
-    ensures written { λ r. ⌜ now (out .exit) ≡ over (recordsBytes writtenVersion (keptIn (now (conditions .entry)) (wireIn (now (group .entry)) (now (wires .entry))) (setsIn (now (needs .entry))) (groupAt (now (plan .entry)) at) picks)) (now (out .entry)) ⌝ }
+    ensures counted { λ r. ⌜ r ≡ length (recordsBytes writtenVersion
+        (keptIn (now (conditions .entry)) (wireIn (now (group .entry)) (now (wires .entry))) (setsIn (now (needs .entry))) (groupAt (now (plan .entry)) at) picks)) ⌝ }
+    ensures written { λ r. ⌜ now (out .exit) ≡ over (recordsBytes writtenVersion
+        (keptIn (now (conditions .entry)) (wireIn (now (group .entry)) (now (wires .entry))) (setsIn (now (needs .entry))) (groupAt (now (plan .entry)) at) picks)) (now (out .entry)) ⌝ }
 {
     if has_pick(picks) {
         return put_guards(out, plan, at, needs, conditions, group, wires);
@@ -281,8 +287,10 @@ fn put_place(
 ) -> usize
     requires { ⌜ (length (recordsBytes writtenVersion (placeIn (now quads) (wireIn (now group) (now wires)) (first .0) k (groupAt (now plan) at) picked)) ≤ length (now out))
         × (Paired (now quads) (now plan) (now group) k at × (first .0 ≤ mostWires)) ⌝ }
-    ensures counted { λ r. ⌜ r ≡ length (recordsBytes writtenVersion (placeIn (now (quads .entry)) (wireIn (now (group .entry)) (now (wires .entry))) (first .0) k (groupAt (now (plan .entry)) at) picked)) ⌝ }
-    ensures written { λ r. ⌜ now (out .exit) ≡ over (recordsBytes writtenVersion (placeIn (now (quads .entry)) (wireIn (now (group .entry)) (now (wires .entry))) (first .0) k (groupAt (now (plan .entry)) at) picked)) (now (out .entry)) ⌝ }
+    ensures counted { λ r. ⌜ r ≡ length (recordsBytes writtenVersion
+        (placeIn (now (quads .entry)) (wireIn (now (group .entry)) (now (wires .entry))) (first .0) k (groupAt (now (plan .entry)) at) picked)) ⌝ }
+    ensures written { λ r. ⌜ now (out .exit) ≡ over (recordsBytes writtenVersion
+        (placeIn (now (quads .entry)) (wireIn (now (group .entry)) (now (wires .entry))) (first .0) k (groupAt (now (plan .entry)) at) picked)) (now (out .entry)) ⌝ }
 {
     if picked {
         return put_pick(out, plan, at, first, quads, k, group, wires);
@@ -303,8 +311,10 @@ fn put_picks(
 ) -> usize
     requires { ⌜ (length (recordsBytes writtenVersion (picksIn (now quads) (wireIn (now group) (now wires)) (first .0) (groupAt (now plan) at) picks)) ≤ length (now out))
         × (Fusing (now quads) (now plan) (now group) at × (first .0 ≤ mostWires)) ⌝ }
-    ensures counted { λ r. ⌜ r ≡ length (recordsBytes writtenVersion (picksIn (now (quads .entry)) (wireIn (now (group .entry)) (now (wires .entry))) (first .0) (groupAt (now (plan .entry)) at) picks)) ⌝ }
-    ensures written { λ r. ⌜ now (out .exit) ≡ over (recordsBytes writtenVersion (picksIn (now (quads .entry)) (wireIn (now (group .entry)) (now (wires .entry))) (first .0) (groupAt (now (plan .entry)) at) picks)) (now (out .entry)) ⌝ }
+    ensures counted { λ r. ⌜ r ≡ length (recordsBytes writtenVersion
+        (picksIn (now (quads .entry)) (wireIn (now (group .entry)) (now (wires .entry))) (first .0) (groupAt (now (plan .entry)) at) picks)) ⌝ }
+    ensures written { λ r. ⌜ now (out .exit) ≡ over (recordsBytes writtenVersion
+        (picksIn (now (quads .entry)) (wireIn (now (group .entry)) (now (wires .entry))) (first .0) (groupAt (now (plan .entry)) at) picks)) (now (out .entry)) ⌝ }
 {
     let n = put_place(out, plan, at, first, quads, 0, group, wires, picks.first);
     n
@@ -356,8 +366,10 @@ fn put_operation(
 ) -> usize
     requires { ⌜ (length (recordsBytes writtenVersion (operationIn (now quads) (wireIn (now group) (now wires)) (first .0) (groupAt (now plan) at) picks ∷ [])) ≤ length (now out))
         × (Fusing (now quads) (now plan) (now group) at × (first .0 ≤ mostWires)) ⌝ }
-    ensures counted { λ r. ⌜ r ≡ length (recordsBytes writtenVersion (operationIn (now (quads .entry)) (wireIn (now (group .entry)) (now (wires .entry))) (first .0) (groupAt (now (plan .entry)) at) picks ∷ [])) ⌝ }
-    ensures written { λ r. ⌜ now (out .exit) ≡ over (recordsBytes writtenVersion (operationIn (now (quads .entry)) (wireIn (now (group .entry)) (now (wires .entry))) (first .0) (groupAt (now (plan .entry)) at) picks ∷ [])) (now (out .entry)) ⌝ }
+    ensures counted { λ r. ⌜ r ≡ length (recordsBytes writtenVersion
+        (operationIn (now (quads .entry)) (wireIn (now (group .entry)) (now (wires .entry))) (first .0) (groupAt (now (plan .entry)) at) picks ∷ [])) ⌝ }
+    ensures written { λ r. ⌜ now (out .exit) ≡ over (recordsBytes writtenVersion
+        (operationIn (now (quads .entry)) (wireIn (now (group .entry)) (now (wires .entry))) (first .0) (groupAt (now (plan .entry)) at) picks ∷ [])) (now (out .entry)) ⌝ }
 {
     let m = plan_member::member(plan, at, 0);
     let i = m.0 as usize;
@@ -391,8 +403,10 @@ fn put_fused(
 ) -> usize
     requires { ⌜ (length (recordsBytes writtenVersion (fusedIn (now quads) (wireIn (now group) (now wires)) (first .0) (groupAt (now plan) at) picks)) ≤ length (now out))
         × (Fusing (now quads) (now plan) (now group) at × (first .0 ≤ mostWires)) ⌝ }
-    ensures counted { λ r. ⌜ r ≡ length (recordsBytes writtenVersion (fusedIn (now (quads .entry)) (wireIn (now (group .entry)) (now (wires .entry))) (first .0) (groupAt (now (plan .entry)) at) picks)) ⌝ }
-    ensures written { λ r. ⌜ now (out .exit) ≡ over (recordsBytes writtenVersion (fusedIn (now (quads .entry)) (wireIn (now (group .entry)) (now (wires .entry))) (first .0) (groupAt (now (plan .entry)) at) picks)) (now (out .entry)) ⌝ }
+    ensures counted { λ r. ⌜ r ≡ length (recordsBytes writtenVersion
+        (fusedIn (now (quads .entry)) (wireIn (now (group .entry)) (now (wires .entry))) (first .0) (groupAt (now (plan .entry)) at) picks)) ⌝ }
+    ensures written { λ r. ⌜ now (out .exit) ≡ over (recordsBytes writtenVersion
+        (fusedIn (now (quads .entry)) (wireIn (now (group .entry)) (now (wires .entry))) (first .0) (groupAt (now (plan .entry)) at) picks)) (now (out .entry)) ⌝ }
 {
     let n = put_picks(out, plan, at, first, quads, group, wires, picks);
     n + put_operation(&mut out[n..], plan, at, first, quads, group, wires, picks)
@@ -416,8 +430,10 @@ pub fn put_joined(
     requires { ⌜ (length (recordsBytes writtenVersion (emitIn (now quads) count (setsIn (now needs)) (wireIn (now group) (now wires)) (first .0) (groupAt (now plan) at))) ≤ length (now out))
         × (JoinWritable (now quads) (now plan) (now conditions) (now group) count at × (first .0 ≤ mostWires)
         × Decided (now quads) (wireIn (now group) (now wires)) (groupAt (now plan) at) picks) ⌝ }
-    ensures counted { λ r. ⌜ r ≡ length (recordsBytes writtenVersion (emitIn (now (quads .entry)) count (setsIn (now (needs .entry))) (wireIn (now (group .entry)) (now (wires .entry))) (first .0) (groupAt (now (plan .entry)) at))) ⌝ }
-    ensures written { λ r. ⌜ now (out .exit) ≡ over (recordsBytes writtenVersion (emitIn (now (quads .entry)) count (setsIn (now (needs .entry))) (wireIn (now (group .entry)) (now (wires .entry))) (first .0) (groupAt (now (plan .entry)) at))) (now (out .entry)) ⌝ }
+    ensures counted { λ r. ⌜ r ≡ length (recordsBytes writtenVersion
+        (emitIn (now (quads .entry)) count (setsIn (now (needs .entry))) (wireIn (now (group .entry)) (now (wires .entry))) (first .0) (groupAt (now (plan .entry)) at))) ⌝ }
+    ensures written { λ r. ⌜ now (out .exit) ≡ over (recordsBytes writtenVersion
+        (emitIn (now (quads .entry)) count (setsIn (now (needs .entry))) (wireIn (now (group .entry)) (now (wires .entry))) (first .0) (groupAt (now (plan .entry)) at))) (now (out .entry)) ⌝ }
 {
     let n = put_kept(out, plan, at, needs, conditions, group, wires, picks);
     n + put_fused(&mut out[n..], plan, at, first, quads, group, wires, picks)

@@ -36,10 +36,11 @@ guards-long : (conds : List ℕ) (wire : ℕ → ℕ) (sets ms : List ℕ) → l
 guards-long conds wire sets [] = omega arith
 guards-long conds wire sets (m ∷ ms) =
     length-append (recordBytes writtenVersion (guardIn conds wire (getD sets m 0))) (recordsBytes writtenVersion (guardsIn conds wire sets ms))
-    ∙ (let a : length (recordBytes writtenVersion (guardIn conds wire (getD sets m 0))) ≡ 2 + tableBytes writtenVersion + 2 * length (rests mostConditions (getD sets m 0)) = guard-size conds wire (getD sets m 0) in
+    ∙ (let a : length (recordBytes writtenVersion (guardIn conds wire (getD sets m 0))) ≡ 2 + tableBytes writtenVersion + 2 * length (rests mostConditions (getD sets m 0)) =
+    guard-size conds wire (getD sets m 0) in
     let b : length (recordsBytes writtenVersion (guardsIn conds wire sets ms)) ≡ (2 + tableBytes writtenVersion) * length ms + 2 * restedBy sets ms = guards-long conds wire sets ms in
-    let z : length (recordBytes writtenVersion (guardIn conds wire (getD sets m 0))) + length (recordsBytes writtenVersion (guardsIn conds wire sets ms)) ≡ (2 + tableBytes writtenVersion) * suc (length ms) + 2 *
-    (length (rests mostConditions (getD sets m 0)) + restedBy sets ms) = omega (arith, a, b) in
+    let z : length (recordBytes writtenVersion (guardIn conds wire (getD sets m 0))) + length (recordsBytes writtenVersion (guardsIn conds wire sets ms))
+    ≡ (2 + tableBytes writtenVersion) * suc (length ms) + 2 * (length (rests mostConditions (getD sets m 0)) + restedBy sets ms) = omega (arith, a, b) in
     z)
 
 -- The decision made: what the guards and each of the two places come to, and the whole group.

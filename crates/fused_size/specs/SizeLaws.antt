@@ -1,4 +1,4 @@
--- Laws of the size of a group alone, by the code of its gate.
+-- The size of a group alone, by its gate's code: one wire; 7 bytes and cost 3 for a choice, 5 bytes for a word, 2 for a starting value or bit, an operation's by its arguments and cost.
 use Prim.Native.Nat.{ℕ, _+_, _*_, _≤_}
 use mathlib.Core.Path.{_≡_, refl, sym, ap, subst, _∙_}
 use mathlib.Core.List.{List, [], _∷_, append-nil}

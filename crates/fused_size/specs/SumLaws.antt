@@ -17,7 +17,7 @@ rest-sum sets (m ∷ ms) =
     ∙ length-append (rests mostConditions (getD sets m 0)) (pieces (λ i. rests mostConditions (getD sets (getD ms i 0) 0)) (length ms))
     ∙ ap (λ (k : ℕ). length (rests mostConditions (getD sets m 0)) + k) (rest-sum sets ms)
 
--- the sum over the first i members
+-- loop invariant: the sum over the first i members
 pub record Summing (sets ms : List ℕ) (n i : ℕ) : Type 0 where
   pub below : i ≤ length ms
   pub few : n ≤ mostConditions * i

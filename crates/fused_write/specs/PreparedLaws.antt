@@ -1,4 +1,4 @@
--- Preparing the fused circuit and of writing it from the arrays that were lent: the answer, its counts, and the file.
+-- Preparing the fused circuit, and writing it from the arrays that were lent: the answer, its counts, and the file are those of the definitions.
 use Prim.Native.Nat.{ℕ, _+_, _*_, _≤_, _<_}
 use native.Mathlib.Omega.{arith}
 use mathlib.Core.Path.{_≡_, sym, ap, ap₂, _∙_}

@@ -1,5 +1,4 @@
 -- Plans that form the same groups in any order (document 02, C-15): the rows 27 to 30 hold of both or of none, so a plan put in order is answered by them.
---
 use mathlib.Core.Path.{_≡_, refl, sym, ap, _∙_, fun-ext}
 use mathlib.Core.Bool.{Bool, true}
 use mathlib.Core.List.{List, [], _∷_, _++_}

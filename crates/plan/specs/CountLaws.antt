@@ -1,4 +1,4 @@
--- Laws of how many groups there are, and how many the order of writing places.
+-- No group stands twice, and there are at most as many as gates; the order of writing is no longer than that, and as long as their list where it places every group.
 use Prim.Native.Nat.{ℕ, suc, _≤_}
 use mathlib.Core.Path.{_≡_, refl, sym, ap, _∙_}
 use mathlib.Core.Bool.{true, cond}

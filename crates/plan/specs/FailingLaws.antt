@@ -1,4 +1,4 @@
--- Laws of the first failing row of a list of rows, whichever they are.
+-- The first failing row of any list of rows: none fails exactly when each holds; a row is answered exactly when those before it hold and it fails; of two lists the first decides, then the second.
 use mathlib.Core.Path.{_≡_, refl}
 use mathlib.Core.Bool.{Bool, true, false, not}
 use mathlib.Core.List.{List, [], _∷_, _++_, map}

@@ -19,7 +19,7 @@ abbrev pub smallest : List ℕ → ℕ
 smallest [] = 0
 smallest (m ∷ l) = m
 
--- the group of a gate, named by its smallest member; an unlisted gate is a group alone
+-- the group of a gate, named by its smallest member, its representative; an unlisted gate is a group alone
 abbrev pub groupOf : Plan → ℕ → ℕ
 groupOf [] g = g
 groupOf (G ∷ Gs) g = cond (elem g G) (smallest G) (groupOf Gs g)
@@ -48,7 +48,7 @@ Waits C wanted group p q =
     (m : ℕ) × (m ∈ members (length C) group p) × (a : ℕ) × (q ≡ group a)
     × ((a ∈ arguments (gateAt C m)) ⊎ ((2 ≤ length (members (length C) group p)) × RestsOn C wanted m a))
 
--- a chain of one or more steps of a relation
+-- a chain of one or more steps of a relation, its transitive closure; one that returns to its start is a circle, a cycle
 pub data Chain (R : ℕ → ℕ → Type 0) : ℕ → ℕ → Type 0 where
   one : {p q : ℕ} → R p q → Chain R p q
   more : {p q r : ℕ} → R p q → Chain R q r → Chain R p r

@@ -1,4 +1,4 @@
--- The rows 27 to 29: what their tests say of a group's members. Proved over the operation.
+-- The rows 27 to 29: their tests reflect that a group's members are one costly operation, and that no two are needed together. Proved over the operation.
 use mathlib.Core.Path.{_≡_, refl, sym, ap, _∙_}
 use mathlib.Core.Bool.{true, cond, false≢true}
 use mathlib.Core.List.{List, [], _∷_}

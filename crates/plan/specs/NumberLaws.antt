@@ -1,4 +1,4 @@
--- Laws of the members of a group of a plan, read one by one.
+-- A group in the bytes of a plan: it has as many members as its size byte says, and member i is the i-th number of two bytes behind that byte.
 use Prim.Native.Nat.{ℕ, zero, suc, _+_, _*_, _<_}
 use mathlib.Core.Path.{_≡_, ap, _∙_}
 use mathlib.Core.List.{List}

@@ -1,4 +1,5 @@
 -- Document 01, "The fused circuit file": "Order: again and again take the first group, by smallest member, not yet written and waiting for no unwritten group."
+-- This is Kahn's topological sort that takes, of all ready groups, the one with the smallest member; a wait is an edge, and a circle (row 30) a cycle.
 use Prim.Native.Nat.{ℕ, zero, suc}
 use mathlib.Core.List.{List, [], _∷_}
 use mathlib.Core.Option.{Option, none, some}
@@ -15,7 +16,7 @@ allIn (q ∷ l) done = cond (elem q done) (allIn l done) false
 
 -- over any table of waits; done: the groups written, the last first
 module _ (waits : ℕ → List ℕ) where
-  -- not yet written and waiting for no unwritten group
+  -- not yet written and waiting for no unwritten group: in-degree 0 of what is left
   abbrev pub ready : List ℕ → ℕ → Bool
   ready done p = cond (elem p done) false (allIn (waits p) done)
 

@@ -1,4 +1,4 @@
--- The place of a gate's group in the plan: what stands there.
+-- The place of a gate's group in the plan: a gate without one is a group alone; at that of any other stands its group, of two or more members.
 use Prim.Native.Nat.{ℕ, zero, suc, _≤_, _<_}
 use native.Mathlib.Omega.{arith}
 use mathlib.Core.Path.{_≡_, refl, sym, ap, _∙_}

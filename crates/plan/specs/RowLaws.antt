@@ -1,4 +1,4 @@
--- The rows 20 to 29 and 32: what each test says. Facts alike for all costly operations are proved over the operation.
+-- The rows 20 to 29 and 32: their tests reflect what the rows say of a plan's groups. Facts alike for all costly operations are proved over the operation.
 use mathlib.Core.Path.{_≡_, refl}
 use mathlib.Core.Bool.{Bool, true, false, not, false≢true}
 use mathlib.Core.List.{List, [], _∷_}

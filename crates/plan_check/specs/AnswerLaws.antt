@@ -1,4 +1,4 @@
--- Laws of the answer of a plan's check, row by row as the code finds it.
+-- What the check of a plan answers, as the code finds it: the rule's refusal, then the first failing row of 20 to 26, of 32 and 27 to 29, then 30; where none fails, the rule's answer.
 use Prim.Native.Nat.{ℕ, _≤_}
 use mathlib.Core.Path.{_≡_, refl, sym, ap, subst, _∙_}
 use mathlib.Core.List.{List, _++_}

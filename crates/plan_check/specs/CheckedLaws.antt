@@ -1,4 +1,4 @@
--- What the check of a plan hands up: nothing of a refused plan; of an accepted one each gate's group, its place, the order.
+-- What the check of a plan hands up, read back: of a refused plan nothing; of an accepted one each gate's group and its place, and the group of each turn.
 use Prim.Native.Nat.{ℕ, _<_}
 use mathlib.Core.Path.{_≡_, ap, _∙_}
 use mathlib.Core.List.{List, [], map}

@@ -1,4 +1,4 @@
--- What the check of a plan hands up: nothing of a refused plan, the tables and the order of an accepted one.
+-- What the check of a refused plan hands up: the circuit, and no groups. The tables of a plan that is laid out name groups by their smallest members, and tell which are joined.
 use Prim.Native.Nat.{ℕ, _-_, _≤_, _<_}
 use native.Mathlib.Omega.{arith}
 use mathlib.Core.Path.{_≡_, refl, sym, ap, _∙_}

@@ -1,4 +1,4 @@
--- The check of a plan that is laid out: its tables can be ordered, and what is handed up of an accepted plan.
+-- The check of a plan that is laid out: its tables can be ordered; where a circle remains no groups are handed up, else the tables and the order.
 use Prim.Native.Nat.{ℕ, _<_}
 use mathlib.Core.Path.{_≡_, sym, ap, subst⁻¹, _∙_}
 use mathlib.Core.List.{List, map, reverse}

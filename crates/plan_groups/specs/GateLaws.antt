@@ -1,4 +1,4 @@
--- The rows 27 and 28: what a gate's code says of them.
+-- The rows 27 and 28, told from a gate's code: whether it is costly, and which operation it is.
 use Prim.Native.Nat.{ℕ, _≤_, _<_}
 use mathlib.Core.Path.{_≡_, refl, sym, ap, _∙_}
 use mathlib.Core.List.{List, [], _∷_}

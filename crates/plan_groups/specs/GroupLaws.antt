@@ -16,7 +16,7 @@ use Rattle.plan_groups.specs.Walks.{Readable, Lie, Ahead, ReadableGroup}
 pub pred : (n : ℕ) → suc n - 1 ≡ n
 pred n = omega arith
 
--- 23: what is left of the groups decides
+-- loop invariant, for 23: what is left of the groups decides
 pub record Ending (p : List ℕ) (left at : ℕ) : Type 0 where
   pub short : length p ≤ mostPlanBytes
   pub inside : at ≤ length p

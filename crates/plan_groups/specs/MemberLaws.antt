@@ -30,7 +30,7 @@ members-all p at =
     let q : at + 1 + 2 * 0 ≡ at + 1 = omega arith in
     ap (λ (n : ℕ). numbersAt n p (at + 1 + 2 * 0)) e ∙ ap (λ (j : ℕ). numbersAt (getD p at 0) p j) q
 
--- where a walk over the members of a fitting group stands
+-- loop invariant: where a walk over the members of a fitting group stands
 pub record Walk (n : ℕ) (p : List ℕ) (at k : ℕ) : Type 0 where
   pub fits : ReadableGroup n p at
   pub low : k ≤ getD p at 0

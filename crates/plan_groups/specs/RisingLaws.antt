@@ -14,7 +14,7 @@ use Rattle.plan_groups.specs.Walks.{Readable, Ahead}
 use Rattle.plan_groups.specs.GroupLaws.{pred, ahead-start, ahead-fits, ahead-step}
 use Rattle.plan_groups.specs.WalkLaws.{first-smallest}
 
--- the group at the place was reached, `last` is its smallest member: what comes after it decides
+-- loop invariant: the group at the place was reached, `last` is its smallest member: what comes after it decides
 pub record RisingGroups (n : ℕ) (p : List ℕ) (left at last : ℕ) : Type 0 where
   pub some : 0 < left
   pub ahead : Ahead n p left at

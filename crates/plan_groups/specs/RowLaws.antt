@@ -1,4 +1,4 @@
--- Laws of the rows 20 to 29 and 32 one after the other, and what they establish.
+-- Rows 20 to 29 and 32: the code's tests are the rows' tests, and the first that fails is answered; where none of 20 to 26 does, the plan's groups can be read.
 use Prim.Native.Nat.{ℕ, _+_, _≤_, _<_}
 use mathlib.Core.Path.{_≡_, refl, sym, ap, _∙_}
 use mathlib.Core.List.{List, [], _∷_}

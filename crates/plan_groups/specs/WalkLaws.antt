@@ -22,7 +22,7 @@ use Rattle.plan_groups.specs.MemberLaws.{members-step, members-end, memb
 use Rattle.plan_groups.specs.GateLaws.{members-test}
 use Rattle.plan_groups.specs.TestLaws.{rising-right, parted-is}
 
--- 25: of n gates, the next number is at least `least`
+-- loop invariant, for 25: of n gates, the next number is at least `least`
 pub record Climbing (n : ℕ) (p : List ℕ) (at least k : ℕ) : Type 0 where
   pub lies : (after p at ≤ length p) × (length p ≤ mostPlanBytes)
   pub low : k ≤ getD p at 0
@@ -55,7 +55,7 @@ first-smallest n p at g f q = q ∙ sym (ap smallest (sym (members-all p at) ∙
 pub first-member : (n : ℕ) (p : List ℕ) (at g : ℕ) → ReadableGroup n p at → g ≡ getD (groupAt p at) 0 0 → g < n
 first-member n p at g f q = walk-member n p at 0 g (walk-start n p at f) (omega (arith, f .joins)) q
 
--- 27 and 28: each member's test by the first member
+-- loop invariant, for 27 and 28: each member's test by the first member
 pub record Holding (quads : List ℕ) (row n : ℕ) (p : List ℕ) (at first k : ℕ) : Type 0 where
   pub walk : Walk n p at k
   pub inside : first < n
@@ -94,7 +94,7 @@ pub holding-end : (quads : List ℕ) (row n : ℕ) (p : List ℕ) (at first k : 
 holding-end quads row n p at first k w h = sym
     (w .same ∙ ap (every (λ g. memberTest row (gateAt (gatesIn quads n) first) (gateAt (gatesIn quads n) g))) (members-end p at k h))
 
--- 29: the settings seen so far
+-- loop invariant, for 29: the settings seen so far
 pub record Parting (sets : List ℕ) (n : ℕ) (p : List ℕ) (at seen k : ℕ) : Type 0 where
   pub walk : Walk n p at k
   pub same : parted sets (groupAt p at) ≡ partedFrom sets seen (membersFrom p at k)

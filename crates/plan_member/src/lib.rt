@@ -1,4 +1,4 @@
-// Document 01, "The plan file and its check": reading a member of a group in a plan's bytes. The definitions and theorems of the plan's check are in specs/.
+// Document 01, "The plan file and its check": reading a member of a group in a plan's bytes. The definitions and theorems of the plan's check are in `plan`.
 use circuit::GateId;
 ghost use mathlib.Core.Path.{_≡_};
 ghost use Prim.Native.Nat.{_≤_, _<_};

@@ -1,4 +1,4 @@
--- Examples of the lines, from the definitions.
+-- Examples of the lines that a program prints for an answer, computed from the definitions.
 use mathlib.Core.Path.{_≡_, refl}
 use mathlib.Core.List.{[], _∷_, _++_}
 use Rattle.base.specs.Answers.{success, refusal}

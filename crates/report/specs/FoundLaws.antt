@@ -19,7 +19,8 @@ use Rattle.base.specs.ByteLaws.{bytes-drop, bytes-behind}
 use Rattle.base.specs.declared.Answer.{Answer}
 use Rattle.report.specs.declared.Sums.{Sums}
 use Rattle.report.specs.Batch.{batchMark, headBytes, entriesCounted, partSize, hasPart, partOf, pastPart, hasEntry, entrySize, pastEntry, noSums, plus, totalOf, reportOf}
-use Rattle.report.specs.Packed.{Entry, Fits, AllFit, partBytes, entryBytes, headOf, batchOf, answerTo, linesOf, accepts, refuses, among, costOf, totalIn, NoEntry, Found, whole, left, missing, short, other, printedFor}
+use Rattle.report.specs.Packed.{Entry, Fits, AllFit, partBytes, entryBytes, headOf, batchOf, answerTo, linesOf, accepts, refuses}
+use Rattle.report.specs.Packed.{among, costOf, totalIn, NoEntry, Found, whole, left, missing, short, other, printedFor}
 use Rattle.report.specs.PartLaws.{part-fits, entry-parts, past-both}
 use Rattle.report.specs.BoundLaws.{plus-accepted, plus-refused}
 use Rattle.report.specs.PackedLaws.{entry-there, entry-cut, sumsFrom, whole-batch, bytes-left, entries-missing, head-cut, head-other}

@@ -1,4 +1,4 @@
--- Laws for the code of a run of steps: what it has done so far, and one step more.
+-- A run of steps: what it took and printed so far is what the definition's run does; a step that takes bytes brings it nearer, one that takes none ends it.
 use mathlib.Core.List.{List, [], _∷_, _++_, append-nil}
 use mathlib.Core.Logic.{inl, inr, ⊎-elim}
 use mathlib.Core.Path.{_≡_, refl, sym, ap, _∙_}
@@ -19,7 +19,7 @@ use Rattle.report.specs.StepLaws.{step-orderly}
 use Rattle.report.specs.FeedLaws.{drain-no-room, drain-last, drain-on}
 use Rattle.report_batch.specs.TakenLaws.{rest-lent}
 
--- the steps taken so far: where they lead, what they took of s and printed to d
+-- loop invariant, the steps taken so far: where they lead, what they took of s and printed to d
 pub record Draining (p : Progress) (s d : List ℕ) (reached : Progress) (bytes printed : ℕ) (e : List ℕ) : Type 0 where
   pub fuel : ℕ
   pub text : List ℕ

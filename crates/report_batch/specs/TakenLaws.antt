@@ -1,4 +1,4 @@
--- Laws for the code of a step: its tests, the parts that it lends, and what it then promises.
+-- A step: the code's tests tell whether a part or an entry is whole, the parts that it lends are the entry's rule and plan, and what it did is what the definition's step does.
 use mathlib.Core.Bool.{true, false, cond, _&&_}
 use mathlib.Core.List.{List, [], _∷_, _++_}
 use mathlib.Core.Path.{_≡_, refl, sym, ap, _∙_}

@@ -1,4 +1,4 @@
--- Laws of reading statements and blocks, one for each step of the code.
+-- Reading statements and blocks, as steps: an assignment's expression decides it; an if is 8 where it is nested too deep, else its bit and its two blocks decide; a block goes on up to 00.
 use Prim.Native.Nat.{ℕ, _+_, _-_, _<_, _≤_}
 use mathlib.Core.Path.{_≡_, refl, sym, ap, _∙_}
 use mathlib.Core.List.{List}

@@ -1,4 +1,4 @@
--- Laws of kind bytes.
+-- Kind bytes: 00 says a word and 01 a bit, of result variables; 02 and 03 say the same of working ones.
 use Prim.Native.Nat.{ℕ, _+_, _%_}
 use mathlib.Core.Path.{_≡_, refl}
 use mathlib.Core.Bool.{true, false}

@@ -1,4 +1,4 @@
--- Laws of reading a header and a whole rule, one for each step of the code.
+-- Reading a header and a whole rule, as steps: size, mark, V, kind bytes, block, end, and the first that fails decides; what the bytes of a header that was read are.
 use Prim.Native.Nat.{ℕ, zero, suc, _+_, _-_, _<_, _≤_}
 use native.Mathlib.Nat.{add-zero}
 use native.Mathlib.Omega.{arith}

@@ -1,4 +1,4 @@
--- Laws of a direct run's answer and results, by the rule's answer, then by the row of the inputs.
+-- A direct run is refused as the rule is, or by the row of the inputs, and then nothing is written; else the answer is the rule's, and the results begin with what the run writes.
 use Prim.Native.Nat.{ℕ}
 use mathlib.Core.Path.{_≡_, sym, ap, _∙_}
 use mathlib.Core.List.{List}

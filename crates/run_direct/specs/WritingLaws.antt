@@ -20,7 +20,7 @@ use Rattle.circuit.specs.WrittenLaws.{writes-map}
 abbrev pub written : List ℕ → List ℕ → ℕ → ℕ
 written s figures x = writtenFor s x (getD figures x 0)
 
--- amid the variables: what the first x have is written over the results that were there before
+-- loop invariant, amid the variables: what the first x have is written over the results that were there before
 pub record Writing (s figures before results : List ℕ) (x : ℕ) : Type 0 where
   pub low : x ≤ variables s
   pub few : variables s ≤ mostVariables

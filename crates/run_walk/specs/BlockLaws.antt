@@ -1,4 +1,4 @@
--- Laws of running statements and blocks in a direct run, one for each step of the code.
+-- Running statements and blocks over the rule's bytes: what comes next was read too, and the figures after an assignment, a skip, an if, a block are the direct run's.
 use Prim.Native.Nat.{ℕ, _+_, _-_, _<_}
 use mathlib.Core.Path.{_≡_, refl, sym, ap, subst, _∙_}
 use mathlib.Core.List.{List}

@@ -1,4 +1,4 @@
--- Laws of working out an expression in a direct run, one for each step of the code.
+-- Working out an expression over the rule's bytes, by its form: its arguments were read too, and its figure and its end are the direct run's and reading's.
 use Prim.Native.Nat.{ℕ, _+_, _-_, _<_}
 use mathlib.Core.Path.{_≡_, sym, ap, subst, subst⁻¹, _∙_}
 use mathlib.Core.List.{List}

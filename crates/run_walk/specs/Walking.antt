@@ -32,7 +32,7 @@ pub record Passed {A : Type 0} (m : Parsed A) (next : ℕ) : Type 0 where
   pub what : A
   pub read : m ≡ parsed what next
 
--- amid a block: what is left of it at `here`, run on the figures g, is what the whole of it from `at` gives on f
+-- loop invariant, amid a block: what is left of it at `here`, run on the figures g, is what the whole of it from `at` gives on f
 pub record AmidBlock (s : List ℕ) (nest at : ℕ) (f : List ℕ) (here : ℕ) (g : List ℕ) : Type 0 where
   pub whole : Block
   pub rest : Block

@@ -26,7 +26,9 @@ whole-requires c κs =
 
 returns-2 : tie.Need-returns-2
 returns-2 c =
-    whole-answer (now (c .before .before .before .before .before .before .before .before .before .before .args .rule)) _ (c .before .before .before .before .before .before .before .before .read-rule .ensures) (c .before .before .before .before .before .before .if1 .left) _ _ _ (c .before .before .before .make-rule .ensures) _ (c .whole .ensures .0)
+    whole-answer (now (c .before .before .before .before .before .before .before .before .before .before .args .rule)) _
+    (c .before .before .before .before .before .before .before .before .read-rule .ensures) (c .before .before .before .before .before .before .if1 .left) _ _ _
+    (c .before .before .before .make-rule .ensures) _ (c .whole .ensures .0)
 
 pub read-rule-spec : {M : Type 1} → statement M
 read-rule-spec =

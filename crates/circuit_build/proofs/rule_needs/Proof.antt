@@ -22,7 +22,8 @@ returns : tie.Need-returns
 returns c =
     let d = c .before .before .before .before .before .before .before in
     let w = c .before .before .before .before .list-wanted in
-    part-needs (now (d .args .rule)) (now (d .args .outputs)) (w .last .1 .1 .0) _ (gatesIn (now (d .args .quads)) (d .args .count)) (w .result) (mostGates - d .args .count) (w .ensures .0) (c .find-needed .ensures)
+    part-needs (now (d .args .rule)) (now (d .args .outputs)) (w .last .1 .1 .0) _ (gatesIn (now (d .args .quads)) (d .args .count)) (w .result) (mostGates - d .args .count) (w .ensures .0)
+    (c .find-needed .ensures)
 
 pub rule-needs-spec : {M : Type 1} → statement M
 rule-needs-spec =

@@ -98,8 +98,11 @@ as-read t c f q = statement-read-as _ _ _ _ (c .code-of .ensures) (c .before .be
 
 make-block-loop-again : (t : ℕ) → make-block-lts.Need-loop-again (make-block-claims t) (make-block-at t) make-block.Post make-block-Inv-loop make-block-μ-loop
 make-block-loop-again t c =
-    let (made, small) = c .before .before .make-statement .ensures in
-    (walked-more _ _ _ _ _ _ _ _ _ _ _ (c .before .before .before .before .before .before .before .loop .inv .0) (c .before .before .before .before .before .if1 .left) _ _ _ _ _ (forward-read _ (statement-forward _ _ _) (made .read)) made, small)
+    let (made, small) = c .before .before .make-statement .ensures in (
+      walked-more _ _ _ _ _ _ _ _ _ _ _ (c .before .before .before .before .before .before .before .loop .inv .0) (c .before .before .before .before .before .if1 .left) _ _ _ _ _
+          (forward-read _ (statement-forward _ _ _) (made .read)) made,
+      small,
+    )
 
 make-branch-make-block-requires : (t : ℕ) → make-branch-lts.Need-make-block-requires (make-branch-claims t) (make-branch-at t) make-branch.Post
 make-branch-make-block-requires t c κs =

@@ -24,10 +24,18 @@ argument-requires c κs = (
 
 mul-conditions : tie.Need-mul-conditions Inv-loop μ-loop
 mul-conditions c =
-    record { fits = omega (arith, survey-inside _ _ _ _ _ _ (c .before .before .before .before .before .loop .inv) (c .before .before .before .before .loop-test .taken) _ (c .before .before .if1 .taken) (c .before .argument .ensures)) }
+    record {
+      fits = omega (
+        arith,
+        survey-inside _ _ _ _ _ _ (c .before .before .before .before .before .loop .inv) (c .before .before .before .before .loop-test .taken) _
+            (c .before .before .if1 .taken) (c .before .argument .ensures),
+      );
+    }
 
 element-copy-out-conditions : tie.Need-element-copy-out-conditions Inv-loop μ-loop
-element-copy-out-conditions c = survey-inside _ _ _ _ _ _ (c .before .before .before .before .before .loop .inv) (c .before .before .before .before .loop-test .taken) _ (c .before .before .if1 .taken) (c .before .argument .ensures)
+element-copy-out-conditions c =
+    survey-inside _ _ _ _ _ _ (c .before .before .before .before .before .loop .inv) (c .before .before .before .before .loop-test .taken) _ (c .before .before .if1 .taken)
+    (c .before .argument .ensures)
 
 sub-conditions : tie.Need-sub-conditions Inv-loop μ-loop
 sub-conditions c = survey-bit _ _ _ _ _ _ (c .before .before .before .before .before .before .loop .inv) (c .before .before .before .before .before .loop-test .taken) _
@@ -37,16 +45,25 @@ add-conditions c = record { fits = omega (arith, survey-few _ _ _ _ _ _ (c .befo
 
 mul-ranks : tie.Need-mul-ranks Inv-loop μ-loop
 mul-ranks c =
-    record { fits = omega (arith, survey-inside _ _ _ _ _ _ (c .before .before .before .before .before .before .loop .inv) (c .before .before .before .before .before .loop-test .taken) _ (c .before .before .before .if1 .taken) (c .before .before .argument .ensures)) }
+    record {
+      fits = omega (
+        arith,
+        survey-inside _ _ _ _ _ _ (c .before .before .before .before .before .before .loop .inv) (c .before .before .before .before .before .loop-test .taken) _
+            (c .before .before .before .if1 .taken) (c .before .before .argument .ensures),
+      );
+    }
 
 element-write-ranks : tie.Need-element-write-ranks Inv-loop μ-loop
-element-write-ranks c = survey-inside _ _ _ _ _ _ (c .before .before .before .before .before .before .loop .inv) (c .before .before .before .before .before .loop-test .taken) _ (c .before .before .before .if1 .taken) (c .before .before .argument .ensures)
+element-write-ranks c =
+    survey-inside _ _ _ _ _ _ (c .before .before .before .before .before .before .loop .inv) (c .before .before .before .before .before .loop-test .taken) _
+    (c .before .before .before .if1 .taken) (c .before .before .argument .ensures)
 
 listed-cost-requires : tie.Need-listed-cost-requires Inv-loop μ-loop
 listed-cost-requires c κs = c .before .before .before .before .before .cost-table .ensures
 
 add-cost : tie.Need-add-cost Inv-loop μ-loop
-add-cost c = record { fits = omega (arith, survey-room _ _ _ _ _ _ (c .before .before .before .before .before .loop .inv) (c .before .before .before .before .loop-test .taken) _ (c .listed-cost .ensures)) }
+add-cost c =
+    record { fits = omega (arith, survey-room _ _ _ _ _ _ (c .before .before .before .before .before .loop .inv) (c .before .before .before .before .loop-test .taken) _ (c .listed-cost .ensures)) }
 
 loop-again : tie.Need-loop-again Inv-loop μ-loop
 loop-again c =

@@ -34,7 +34,8 @@ shared-slice-read-start-kind c = input-byte _ _ _ _ (c .before .before .before .
 
 returns-2 : tie.Need-returns-2 Inv-loop μ-loop
 returns-2 c =
-    input-refused _ _ _ _ (c .before .before .before .before .before .before .before .loop .inv) (c .before .before .before .before .before .before .loop-test .taken) (c .before .before .before .before .before .before .before .before .if1 .left) (c .before .before .before .before .if2 .taken) _
+    input-refused _ _ _ _ (c .before .before .before .before .before .before .before .loop .inv) (c .before .before .before .before .before .before .loop-test .taken)
+    (c .before .before .before .before .before .before .before .before .if1 .left) (c .before .before .before .before .if2 .taken) _
     (c .before .same-kind .ensures ∙ ap (λ (k : Kind). sameKind k Bit) (c .before .before .start-kind .ensures)) (c .if3 .taken) _
 
 loop-again : tie.Need-loop-again Inv-loop μ-loop

@@ -27,7 +27,8 @@ run-file-requires c κs =
 
 returns-3 : tie.Need-returns-3
 returns-3 c =
-    run-done _ _ (c .before .before .before .before .before .before .before .before .read .ensures) _ _ (c .before .before .before .before .before .before .if1 .left) _ (c .before .before .before .before .before .inputs-refusal .ensures)
+    run-done _ _ (c .before .before .before .before .before .before .before .before .read .ensures) _ _ (c .before .before .before .before .before .before .if1 .left) _
+    (c .before .before .before .before .before .inputs-refusal .ensures)
     (c .before .before .before .before .if2 .left) _ (c .before .before .run-file .ensures)
 
 pub run-spec : {M : Type 1} → statement M

@@ -5,7 +5,8 @@ use denote.Ref.{now}
 use borrow.Author.Needs.{needs}
 use Rattle.file_parts.specs.HeldKinds.{heldKind}
 use Rattle.file_parts.specs.FirstByteLaws.{first-inside}
-use Rattle.file_wiring.specs.RecordLaws.{input-takes, choice-takes, pick-takes, guard-takes, operation-takes, input-in, input-late, early, word-in, bit-in, choice-in, pick-in, guard-in, operation-in, other}
+use Rattle.file_wiring.specs.RecordLaws.{input-takes, choice-takes, pick-takes, guard-takes, operation-takes, input-in, input-late, early}
+use Rattle.file_wiring.specs.RecordLaws.{word-in, bit-in, choice-in, pick-in, guard-in, operation-in, other}
 use Rattle.file_wiring.proofs.record_stands.Statement.{statement}
 use Rattle.file_wiring.proofs.record_stands.Tie as tie
 

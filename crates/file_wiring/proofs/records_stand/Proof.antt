@@ -19,15 +19,22 @@ cast-i : tie.Need-cast-t9 Inv-loop μ-loop
 cast-i c = record { fits = omega (arith, record-below _ _ _ _ _ _ (c .before .loop .inv) (c .loop-test .taken)) }
 
 record-stands-requires : tie.Need-record-stands-requires Inv-loop μ-loop
-record-stands-requires c κs =
-    (c .before .before .loop .inv .head .short, record-whole _ _ _ _ _ _ (c .before .before .loop .inv) (c .before .loop-test .taken), omega (arith, record-below _ _ _ _ _ _ (c .before .before .loop .inv) (c .before .loop-test .taken)))
+record-stands-requires c κs = (
+  c .before .before .loop .inv .head .short,
+  record-whole _ _ _ _ _ _ (c .before .before .loop .inv) (c .before .loop-test .taken),
+  omega
+      (arith, record-below _ _ _ _ _ _ (c .before .before .loop .inv) (c .before .loop-test .taken)),
+)
 
 returns : tie.Need-returns Inv-loop μ-loop
 returns c = record-fails _ _ _ _ _ _ (c .before .before .before .before .loop .inv) (c .before .before .before .loop-test .taken) _ (c .before .record-stands .ensures) (not-true _ (c .if1 .taken))
 
 record-is-bit-requires : tie.Need-record-is-bit-requires Inv-loop μ-loop
-record-is-bit-requires c κs =
-    (record-whole _ _ _ _ _ _ (c .before .before .before .before .before .loop .inv) (c .before .before .before .before .loop-test .taken), record-reads _ _ _ _ _ _ (c .before .before .before .before .before .loop .inv) (c .before .before .before .before .loop-test .taken) _ (c .before .before .record-stands .ensures) (not-false _ (c .before .if1 .left)))
+record-is-bit-requires c κs = (
+  record-whole _ _ _ _ _ _ (c .before .before .before .before .before .loop .inv) (c .before .before .before .before .loop-test .taken),
+  record-reads _ _ _ _ _ _
+      (c .before .before .before .before .before .loop .inv) (c .before .before .before .before .loop-test .taken) _ (c .before .before .record-stands .ensures) (not-false _ (c .before .if1 .left)),
+)
 
 element-write-bits : tie.Need-element-write-bits Inv-loop μ-loop
 element-write-bits c = record-below _ _ _ _ _ _ (c .before .before .before .before .before .before .loop .inv) (c .before .before .before .before .before .loop-test .taken)
@@ -42,7 +49,8 @@ add-at c =
 
 loop-again : tie.Need-loop-again Inv-loop μ-loop
 loop-again c =
-    record-more _ _ _ _ _ _ (c .before .before .before .before .before .before .before .loop .inv) (c .before .before .before .before .before .before .loop-test .taken) _ (c .before .before .before .before .record-stands .ensures) (not-false _ (c .before .before .before .if1 .left)) _ (c .before .record-is-bit .ensures) _
+    record-more _ _ _ _ _ _ (c .before .before .before .before .before .before .before .loop .inv) (c .before .before .before .before .before .before .loop-test .taken) _
+    (c .before .before .before .before .record-stands .ensures) (not-false _ (c .before .before .before .if1 .left)) _ (c .before .record-is-bit .ensures) _
     (c .record-size .ensures)
 
 returns-2 : tie.Need-returns-2 Inv-loop μ-loop

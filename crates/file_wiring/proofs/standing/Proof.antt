@@ -17,17 +17,26 @@ returns c = few-wires _ _ _ (c .before .before .before .wide8 .ensures .0) (c .b
 
 records-stand-requires : tie.Need-records-stand-requires
 records-stand-requires c κs =
-    let head = headed-right _ .0 (c .before .before .before .before .before .before .before .pre .0) in
-    ((head, laid-right _ head .0 (c .before .before .before .before .before .before .before .pre .1)), c .before .before .before .before .wide8 .ensures .0, c .before .before .wide16 .ensures .0 ∙ c .before .before .before .read16 .ensures, refl)
+    let head = headed-right _ .0 (c .before .before .before .before .before .before .before .pre .0) in (
+      (head, laid-right _ head .0 (c .before .before .before .before .before .before .before .pre .1)),
+      c .before .before .before .before .wide8 .ensures .0,
+      c .before .before .wide16 .ensures .0 ∙ c .before .before .before .read16 .ensures,
+      refl,
+    )
 
 returns-2 : tie.Need-returns-2
-returns-2 c = no-record _ _ _ (c .before .before .before .before .before .before .wide8 .ensures .0) (c .before .before .before .before .wide16 .ensures .0 ∙ c .before .before .before .before .before .read16 .ensures) (c .before .before .before .if1 .left) _ (c .before .records-stand .ensures .0) (c .if2 .taken)
+returns-2 c =
+    no-record _ _ _ (c .before .before .before .before .before .before .wide8 .ensures .0)
+    (c .before .before .before .before .wide16 .ensures .0 ∙ c .before .before .before .before .before .read16 .ensures) (c .before .before .before .if1 .left) _
+    (c .before .records-stand .ensures .0) (c .if2 .taken)
 
 outputs-stand-requires : tie.Need-outputs-stand-requires
 outputs-stand-requires c κs =
     let d = c .before .before .before .before .before .before .before .before .before .before in
     let head = headed-right _ .0 (d .pre .0) in (
-      outputs-whole _ _ _ (c .before .before .before .before .before .before .before .wide8 .ensures .0) (c .before .before .before .before .before .wide16 .ensures .0 ∙ c .before .before .before .before .before .before .read16 .ensures) (c .before .before .before .before .if1 .left) _ (c .before .before .records-stand .ensures .0) (c .before .if2 .left) (laid-right _ head .0 (d .pre .1)),
+      outputs-whole _ _ _ (c .before .before .before .before .before .before .before .wide8 .ensures .0)
+          (c .before .before .before .before .before .wide16 .ensures .0 ∙ c .before .before .before .before .before .before .read16 .ensures) (c .before .before .before .before .if1 .left) _
+          (c .before .before .records-stand .ensures .0) (c .before .if2 .left) (laid-right _ head .0 (d .pre .1)),
       c .before .before .before .before .if1 .left,
       omega (arith, head .wires, c .before .before .before .before .before .wide16 .ensures .0, c .before .before .before .before .before .before .read16 .ensures),
     )
@@ -35,7 +44,9 @@ outputs-stand-requires c κs =
 returns-3 : tie.Need-returns-3
 returns-3 c =
     let some = c .before .before .if2 .left in
-    outputs-decide _ _ _ (c .before .before .before .before .before .before .before .before .wide8 .ensures .0) (c .before .before .before .before .before .before .wide16 .ensures .0 ∙ c .before .before .before .before .before .before .before .read16 .ensures) (c .before .before .before .before .before .if1 .left) _ (c .before .before .before .records-stand .ensures .0) some _
+    outputs-decide _ _ _ (c .before .before .before .before .before .before .before .before .wide8 .ensures .0)
+    (c .before .before .before .before .before .before .wide16 .ensures .0 ∙ c .before .before .before .before .before .before .before .read16 .ensures)
+    (c .before .before .before .before .before .if1 .left) _ (c .before .before .before .records-stand .ensures .0) some _
     (c .before .before .before .records-stand .ensures .1 (omega (arith, some))) _ (c .outputs-stand .ensures)
 
 pub standing-spec : {M : Type 1} → statement M

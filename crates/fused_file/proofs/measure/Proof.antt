@@ -28,42 +28,65 @@ element-copy-out-wide16 : tie.Need-element-copy-out-wide16 Inv-loop μ-loop
 element-copy-out-wide16 c = measuring-inside _ _ _ _ _ _ _ _ _ _ _ _ _ (c .before .before .before .loop .inv) (c .before .before .loop-test .taken) (c .wide16 .ensures .0)
 
 size-group-requires : tie.Need-size-group-requires Inv-loop μ-loop
-size-group-requires c κs = measuring-group _ _ _ _ _ _ _ _ _ _ _ _ _ (c .before .before .before .before .before .before .loop .inv) (c .before .before .before .before .before .loop-test .taken) (c .before .before .before .wide16 .ensures .0) _ (c .before .wide162 .ensures .0)
+size-group-requires c κs =
+    measuring-group _ _ _ _ _ _ _ _ _ _ _ _ _ (c .before .before .before .before .before .before .loop .inv) (c .before .before .before .before .before .loop-test .taken)
+    (c .before .before .before .wide16 .ensures .0) _ (c .before .wide162 .ensures .0)
 
 add-total : tie.Need-add-total Inv-loop μ-loop
 add-total c =
-    let z = measuring-small _ _ _ _ _ _ _ _ _ _ _ _ _ (c .before .before .before .before .before .before .before .before .loop .inv) (c .before .before .before .before .before .before .before .loop-test .taken) (c .before .before .before .before .before .wide16 .ensures .0) _ (c .before .before .before .wide162 .ensures .0) _ _ _ (c .before .size-group .ensures) in
+    let z = measuring-small _ _ _ _ _ _ _ _ _ _ _ _ _ (c .before .before .before .before .before .before .before .before .loop .inv)
+    (c .before .before .before .before .before .before .before .loop-test .taken) (c .before .before .before .before .before .wide16 .ensures .0) _
+    (c .before .before .before .wide162 .ensures .0) _ _ _ (c .before .size-group .ensures) in
     record { fits = omega (arith, z .1) }
 
 add-bytes : tie.Need-add-bytes Inv-loop μ-loop
 add-bytes c =
-    let z = measuring-small _ _ _ _ _ _ _ _ _ _ _ _ _ (c .before .before .before .before .before .before .before .before .before .loop .inv) (c .before .before .before .before .before .before .before .before .loop-test .taken) (c .before .before .before .before .before .before .wide16 .ensures .0) _ (c .before .before .before .before .wide162 .ensures .0) _ _ _ (c .before .before .size-group .ensures) in
+    let z = measuring-small _ _ _ _ _ _ _ _ _ _ _ _ _ (c .before .before .before .before .before .before .before .before .before .loop .inv)
+    (c .before .before .before .before .before .before .before .before .loop-test .taken) (c .before .before .before .before .before .before .wide16 .ensures .0) _
+    (c .before .before .before .before .wide162 .ensures .0) _ _ _ (c .before .before .size-group .ensures) in
     record { fits = omega (arith, z .2) }
 
 add-cost : tie.Need-add-cost Inv-loop μ-loop
 add-cost c =
-    let z = measuring-small _ _ _ _ _ _ _ _ _ _ _ _ _ (c .before .before .before .before .before .before .before .before .before .before .loop .inv) (c .before .before .before .before .before .before .before .before .before .loop-test .taken) (c .before .before .before .before .before .before .before .wide16 .ensures .0) _ (c .before .before .before .before .before .wide162 .ensures .0) _ _ _ (c .before .before .before .size-group .ensures) in
+    let z = measuring-small _ _ _ _ _ _ _ _ _ _ _ _ _ (c .before .before .before .before .before .before .before .before .before .before .loop .inv)
+    (c .before .before .before .before .before .before .before .before .before .loop-test .taken) (c .before .before .before .before .before .before .before .wide16 .ensures .0) _
+    (c .before .before .before .before .before .wide162 .ensures .0) _ _ _ (c .before .before .before .size-group .ensures) in
     record { fits = omega (arith, z .3) }
 
 sub-wires : tie.Need-sub-wires Inv-loop μ-loop
 sub-wires c =
-    let z = measuring-small _ _ _ _ _ _ _ _ _ _ _ _ _ (c .before .before .before .before .before .before .before .before .before .before .loop .inv) (c .before .before .before .before .before .before .before .before .before .loop-test .taken) (c .before .before .before .before .before .before .before .wide16 .ensures .0) _ (c .before .before .before .before .before .wide162 .ensures .0) _ _ _ (c .before .before .before .size-group .ensures) in
+    let z = measuring-small _ _ _ _ _ _ _ _ _ _ _ _ _ (c .before .before .before .before .before .before .before .before .before .before .loop .inv)
+    (c .before .before .before .before .before .before .before .before .before .loop-test .taken) (c .before .before .before .before .before .before .before .wide16 .ensures .0) _
+    (c .before .before .before .before .before .wide162 .ensures .0) _ _ _ (c .before .before .before .size-group .ensures) in
     z .0
 
 cast-wires : tie.Need-cast-wires Inv-loop μ-loop
 cast-wires c =
-    let z = measuring-small _ _ _ _ _ _ _ _ _ _ _ _ _ (c .before .before .before .before .before .before .before .before .before .before .loop .inv) (c .before .before .before .before .before .before .before .before .before .loop-test .taken) (c .before .before .before .before .before .before .before .wide16 .ensures .0) _ (c .before .before .before .before .before .wide162 .ensures .0) _ _ _ (c .before .before .before .size-group .ensures) in
+    let z = measuring-small _ _ _ _ _ _ _ _ _ _ _ _ _ (c .before .before .before .before .before .before .before .before .before .before .loop .inv)
+    (c .before .before .before .before .before .before .before .before .before .loop-test .taken) (c .before .before .before .before .before .before .before .wide16 .ensures .0) _
+    (c .before .before .before .before .before .wide162 .ensures .0) _ _ _ (c .before .before .before .size-group .ensures) in
     record { fits = omega (arith, z .1) }
 
 mul-wires : tie.Need-mul-wires Inv-loop μ-loop
-mul-wires c = record { fits = omega (arith, measuring-inside _ _ _ _ _ _ _ _ _ _ _ _ _ (c .before .before .before .before .before .before .before .before .before .before .loop .inv) (c .before .before .before .before .before .before .before .before .before .loop-test .taken) (c .before .before .before .before .before .before .before .wide16 .ensures .0)) }
+mul-wires c =
+    record {
+      fits = omega (
+        arith,
+        measuring-inside _ _ _ _ _ _ _ _ _ _ _ _ _ (c .before .before .before .before .before .before .before .before .before .before .loop .inv)
+            (c .before .before .before .before .before .before .before .before .before .loop-test .taken) (c .before .before .before .before .before .before .before .wide16 .ensures .0),
+      );
+    }
 
 array-write-wires : tie.Need-array-write-wires Inv-loop μ-loop
-array-write-wires c = measuring-inside _ _ _ _ _ _ _ _ _ _ _ _ _ (c .before .before .before .before .before .before .before .before .before .before .loop .inv) (c .before .before .before .before .before .before .before .before .before .loop-test .taken) (c .before .before .before .before .before .before .before .wide16 .ensures .0)
+array-write-wires c =
+    measuring-inside _ _ _ _ _ _ _ _ _ _ _ _ _ (c .before .before .before .before .before .before .before .before .before .before .loop .inv)
+    (c .before .before .before .before .before .before .before .before .before .loop-test .taken) (c .before .before .before .before .before .before .before .wide16 .ensures .0)
 
 loop-again : tie.Need-loop-again Inv-loop μ-loop
 loop-again c =
-    measuring-step _ _ _ _ _ _ _ _ _ _ _ _ _ (c .before .before .before .before .before .before .before .before .before .before .loop .inv) (c .before .before .before .before .before .before .before .before .before .loop-test .taken) (c .before .before .before .before .before .before .before .wide16 .ensures .0) _ (c .before .before .before .before .before .wide162 .ensures .0) _ _ _ (c .before .before .before .size-group .ensures)
+    measuring-step _ _ _ _ _ _ _ _ _ _ _ _ _ (c .before .before .before .before .before .before .before .before .before .before .loop .inv)
+    (c .before .before .before .before .before .before .before .before .before .loop-test .taken) (c .before .before .before .before .before .before .before .wide16 .ensures .0) _
+    (c .before .before .before .before .before .wide162 .ensures .0) _ _ _ (c .before .before .before .size-group .ensures)
 
 returns : tie.Need-returns Inv-loop μ-loop
 returns c = measuring-end _ _ _ _ _ _ _ _ _ _ _ _ (c .before .loop .inv) (c .loop-test .left)

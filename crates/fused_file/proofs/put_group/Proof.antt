@@ -21,7 +21,8 @@ put-alone-requires c κs =
 returns : tie.Need-returns
 returns c =
     let a = c .before .before .before .before .before .before .before .args in
-    alone-put (a .plan .now) (a .quads .now) (a .count) (setsIn (a .needs .now)) (wireIn (a .group .now) (a .wires .now)) (a .at) (a .q .0) (a .first .0) (c .before .before .before .before .if1 .taken) _ _ _ (c .before .before .put-alone .ensures .0) (c .before .before .put-alone .ensures .1)
+    alone-put (a .plan .now) (a .quads .now) (a .count) (setsIn (a .needs .now)) (wireIn (a .group .now) (a .wires .now)) (a .at) (a .q .0) (a .first .0)
+    (c .before .before .before .before .if1 .taken) _ _ _ (c .before .before .put-alone .ensures .0) (c .before .before .put-alone .ensures .1)
 
 picks-of-requires : tie.Need-picks-of-requires
 picks-of-requires c κs = c .before .before .before .pre .1 .joins (c .if1 .left) .joinable
@@ -29,8 +30,15 @@ picks-of-requires c κs = c .before .before .before .pre .1 .joins (c .if1 .left
 put-joined-requires : tie.Need-put-joined-requires
 put-joined-requires c κs =
     let a = c .before .before .before .before .before .args in
-    let n = c .before .before .if1 .left in
-    (joined-room (a .plan .now) (a .quads .now) (a .count) (setsIn (a .needs .now)) (wireIn (a .group .now) (a .wires .now)) (a .at) (a .q .0) (a .first .0) n _ (c .before .before .before .before .before .pre .0), (c .before .before .before .before .before .pre .1 .joins n, c .before .before .before .before .before .pre .1 .narrow, c .before .picks-of .ensures))
+    let n = c .before .before .if1 .left in (
+      joined-room (a .plan .now) (a .quads .now) (a .count) (setsIn (a .needs .now)) (wireIn (a .group .now) (a .wires .now)) (a .at) (a .q .0) (a .first .0) n _
+          (c .before .before .before .before .before .pre .0),
+      (
+        c .before .before .before .before .before .pre .1 .joins n,
+        c .before .before .before .before .before .pre .1 .narrow,
+        c .before .picks-of .ensures,
+      ),
+    )
 
 records-in-requires : tie.Need-records-in-requires
 records-in-requires c κs =
@@ -41,9 +49,12 @@ returns-2 : tie.Need-returns-2
 returns-2 c =
     let a = c .before .before .before .before .before .before .before .before .before .args in
     let n = c .before .before .before .before .before .before .if1 .left in
-    joined-put (a .plan .now) (a .quads .now) (a .count) (setsIn (a .needs .now)) (wireIn (a .group .now) (a .wires .now)) (a .at) (a .q .0) (a .first .0) n _ _ _ _ (c .before .before .before .put-joined .ensures .0)
-    (c .records-in .ensures ∙ sym (emit-count (a .quads .now) (a .count) (setsIn (a .needs .now)) (a .conditions .now) (a .group .now) (wireIn (a .group .now) (a .wires .now)) (a .first .0) (a .plan .now) (a .at) (c .before .before .before .before .before .picks-of .result)
-    (c .before .before .before .before .before .before .before .before .before .pre .1 .joins n) (c .before .before .before .before .before .picks-of .ensures))) (c .before .before .before .put-joined .ensures .1)
+    joined-put (a .plan .now) (a .quads .now) (a .count) (setsIn (a .needs .now)) (wireIn (a .group .now) (a .wires .now)) (a .at) (a .q .0) (a .first .0) n _ _ _ _
+    (c .before .before .before .put-joined .ensures .0)
+    (c .records-in .ensures ∙ sym (emit-count (a .quads .now) (a .count) (setsIn (a .needs .now)) (a .conditions .now) (a .group .now) (wireIn (a .group .now) (a .wires .now)) (a .first .0)
+    (a .plan .now) (a .at) (c .before .before .before .before .before .picks-of .result)
+    (c .before .before .before .before .before .before .before .before .before .pre .1 .joins n) (c .before .before .before .before .before .picks-of .ensures)))
+    (c .before .before .before .put-joined .ensures .1)
 
 pub put-group-spec : {M : Type 1} → statement M
 put-group-spec =

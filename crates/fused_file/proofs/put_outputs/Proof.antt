@@ -32,25 +32,34 @@ output-of-requires c κs =
 sub-put16 : tie.Need-sub-put16 Inv-loop μ-loop
 sub-put16 c =
     let a = c .before .before .before .before .before .before .before .args in
-    omega (arith, outputs-fits (outputIn (a .rule .now) (a .outputs .now) (a .group .now) (a .wires .now)) _ _ _ _ (c .before .before .before .loop .inv) (c .before .before .loop-test .taken) _ (c .wide8 .ensures .0))
+    omega (
+      arith,
+      outputs-fits (outputIn (a .rule .now) (a .outputs .now) (a .group .now) (a .wires .now)) _ _ _ _ (c .before .before .before .loop .inv)
+          (c .before .before .loop-test .taken) _ (c .wide8 .ensures .0),
+    )
 
 part-put16-start : tie.Need-part-put16-start Inv-loop μ-loop
 part-put16-start c =
     let a = c .before .before .before .before .before .before .before .args in
-    let z : 2 * c .wide8 .result ≤ length (c .before .before .before .loop .out) = omega
-    (arith, outputs-fits (outputIn (a .rule .now) (a .outputs .now) (a .group .now) (a .wires .now)) _ _ _ _ (c .before .before .before .loop .inv) (c .before .before .loop-test .taken) _ (c .wide8 .ensures .0)) in
+    let z : 2 * c .wide8 .result ≤ length (c .before .before .before .loop .out) = omega (
+      arith,
+      outputs-fits (outputIn (a .rule .now) (a .outputs .now) (a .group .now) (a .wires .now)) _ _ _ _ (c .before .before .before .loop .inv) (c .before .before .loop-test .taken) _
+          (c .wide8 .ensures .0),
+    ) in
     search needs
 
 put16-requires : tie.Need-put16-requires Inv-loop μ-loop
 put16-requires c κs =
     let a = c .before .before .before .before .before .before .before .before .args in
-    outputs-room (outputIn (a .rule .now) (a .outputs .now) (a .group .now) (a .wires .now)) _ _ _ _ (c .before .before .before .before .loop .inv) (c .before .before .before .loop-test .taken) _ (c .before .wide8 .ensures .0)
+    outputs-room (outputIn (a .rule .now) (a .outputs .now) (a .group .now) (a .wires .now)) _ _ _ _ (c .before .before .before .before .loop .inv)
+    (c .before .before .before .loop-test .taken) _ (c .before .wide8 .ensures .0)
 
 loop-again : tie.Need-loop-again Inv-loop μ-loop
 loop-again c =
     let c4 = c .before .before .before .before in
     let a = c4 .before .before .before .before .before .before .before .args in
-    outputs-step (outputIn (a .rule .now) (a .outputs .now) (a .group .now) (a .wires .now)) _ _ _ _ (c4 .before .before .before .loop .inv) (c4 .before .before .loop-test .taken) _ (c4 .wide8 .ensures .0) _ _
+    outputs-step (outputIn (a .rule .now) (a .outputs .now) (a .group .now) (a .wires .now)) _ _ _ _ (c4 .before .before .before .loop .inv) (c4 .before .before .loop-test .taken) _
+    (c4 .wide8 .ensures .0) _ _
     (c4 .before .output-of .ensures) (c .before .before .put16 .ensures)
 
 same-length : tie.Need-same-length Inv-loop μ-loop

@@ -59,31 +59,65 @@ put-group-requires c κs =
 
 add-at : tie.Need-add-at Inv-loop μ-loop
 add-at c =
-    let f = putting-fits _ _ _ _ _ _ _ _ _ _ _ _ _ _ (c .before .before .before .before .before .before .before .before .before .before .before .loop .inv) (c .before .before .before .before .before .before .before .before .before .before .loop-test .taken) _ _ (c .before .before .before .before .before .before .before .before .wide16 .ensures .0) (c .before .before .before .before .before .before .wide162 .ensures .0) in
-    let z : c .before .before .before .before .before .before .before .before .before .before .before .loop .at + c .before .before .before .put-group .result .bytes ≤ length (c .before .before .before .before .before .before .before .before .before .before .before .before .before .before .args .out .now) = omega (arith, c .before .before .before .put-group .ensures .0, f .0, f .1) in
+    let f = putting-fits _ _ _ _ _ _ _ _ _ _ _ _ _ _ (c .before .before .before .before .before .before .before .before .before .before .before .loop .inv)
+    (c .before .before .before .before .before .before .before .before .before .before .loop-test .taken) _ _
+    (c .before .before .before .before .before .before .before .before .wide16 .ensures .0) (c .before .before .before .before .before .before .wide162 .ensures .0) in
+    let z : c .before .before .before .before .before .before .before .before .before .before .before .loop .at + c .before .before .before .put-group .result .bytes ≤ length
+    (c .before .before .before .before .before .before .before .before .before .before .before .before .before .before .args .out .now) = omega
+    (arith, c .before .before .before .put-group .ensures .0, f .0, f .1) in
     search needs
 
 add-wires : tie.Need-add-wires Inv-loop μ-loop
 add-wires c =
-    let f = turn-fits _ _ _ _ _ _ _ _ _ (c .before .before .before .before .before .before .before .before .before .before .before .before .before .before .before .before .pre .1 .0) _ _ _ (c .before .before .before .before .before .before .before .before .before .before .before .before .loop-test .taken) (c .before .before .before .before .before .before .before .before .before .before .wide16 .ensures .0) (c .before .before .before .before .before .before .before .before .wide162 .ensures .0) _ _ _
-    (c .before .before .before .before .before .before .before .before .before .before .before .before .before .loop .inv .counted) (c .before .before .before .before .before .before .before .before .before .before .before .before .before .loop .inv .wired) (c .before .before .before .before .before .put-group .ensures .1 .0) in
+    let f = turn-fits _ _ _ _ _ _ _ _ _ (c .before .before .before .before .before .before .before .before .before .before .before .before .before .before .before .before .pre .1 .0) _ _ _
+    (c .before .before .before .before .before .before .before .before .before .before .before .before .loop-test .taken)
+    (c .before .before .before .before .before .before .before .before .before .before .wide16 .ensures .0)
+    (c .before .before .before .before .before .before .before .before .wide162 .ensures .0) _ _ _
+    (c .before .before .before .before .before .before .before .before .before .before .before .before .before .loop .inv .counted)
+    (c .before .before .before .before .before .before .before .before .before .before .before .before .before .loop .inv .wired)
+    (c .before .before .before .before .before .put-group .ensures .1 .0) in
     record { fits = omega (arith, f .1) }
 
 sub-wires : tie.Need-sub-wires Inv-loop μ-loop
 sub-wires c =
-    let f = turn-fits _ _ _ _ _ _ _ _ _ (c .before .before .before .before .before .before .before .before .before .before .before .before .before .before .before .before .before .pre .1 .0) _ _ _ (c .before .before .before .before .before .before .before .before .before .before .before .before .before .loop-test .taken) (c .before .before .before .before .before .before .before .before .before .before .before .wide16 .ensures .0) (c .before .before .before .before .before .before .before .before .before .wide162 .ensures .0) _ _ _
-    (c .before .before .before .before .before .before .before .before .before .before .before .before .before .before .loop .inv .counted) (c .before .before .before .before .before .before .before .before .before .before .before .before .before .before .loop .inv .wired) (c .before .before .before .before .before .before .put-group .ensures .1 .0) in
+    let f = turn-fits _ _ _ _ _ _ _ _ _
+    (c .before .before .before .before .before .before .before .before .before .before .before .before .before .before .before .before .before .pre .1 .0) _ _ _
+    (c .before .before .before .before .before .before .before .before .before .before .before .before .before .loop-test .taken)
+    (c .before .before .before .before .before .before .before .before .before .before .before .wide16 .ensures .0)
+    (c .before .before .before .before .before .before .before .before .before .wide162 .ensures .0) _ _ _
+    (c .before .before .before .before .before .before .before .before .before .before .before .before .before .before .loop .inv .counted)
+    (c .before .before .before .before .before .before .before .before .before .before .before .before .before .before .loop .inv .wired)
+    (c .before .before .before .before .before .before .put-group .ensures .1 .0) in
     omega (arith, f .0)
 
 mul-wires : tie.Need-mul-wires Inv-loop μ-loop
-mul-wires c = record { fits = omega (arith, c .before .before .before .before .before .before .before .before .before .before .before .before .before .before .before .before .before .pre .1 .0 .inside _ (c .before .before .before .before .before .before .before .before .before .before .before .before .before .loop-test .taken), c .before .before .before .before .before .before .before .before .before .before .before .wide16 .ensures .0) }
+mul-wires c =
+    record {
+      fits = omega (
+        arith,
+        c .before .before .before .before .before .before .before .before .before .before .before .before .before .before .before .before .before .pre .1 .0 .inside _
+            (c .before .before .before .before .before .before .before .before .before .before .before .before .before .loop-test .taken),
+        c .before .before .before .before .before .before .before .before .before .before .before .wide16 .ensures .0,
+      );
+    }
 
 element-write-wires : tie.Need-element-write-wires Inv-loop μ-loop
-element-write-wires c = omega (arith, c .before .before .before .before .before .before .before .before .before .before .before .before .before .before .before .before .before .pre .1 .0 .inside _ (c .before .before .before .before .before .before .before .before .before .before .before .before .before .loop-test .taken), c .before .before .before .before .before .before .before .before .before .before .before .wide16 .ensures .0)
+element-write-wires c =
+    omega (
+      arith,
+      c .before .before .before .before .before .before .before .before .before .before .before .before .before .before .before .before .before .pre .1 .0 .inside _
+          (c .before .before .before .before .before .before .before .before .before .before .before .before .before .loop-test .taken),
+      c .before .before .before .before .before .before .before .before .before .before .before .wide16 .ensures .0,
+    )
 
 loop-again : tie.Need-loop-again Inv-loop μ-loop
 loop-again c =
-    putting-step _ _ _ _ _ _ _ _ _ _ _ _ _ _ (c .before .before .before .before .before .before .before .before .before .before .before .before .before .before .loop .inv) (c .before .before .before .before .before .before .before .before .before .before .before .before .before .loop-test .taken) _ _ (c .before .before .before .before .before .before .before .before .before .before .before .wide16 .ensures .0) (c .before .before .before .before .before .before .before .before .before .wide162 .ensures .0) _ (c .before .before .before .before .before .before .before .before .before .before .before .before .before .before .before .before .before .pre .1 .0) _ _ _ (c .before .before .before .before .before .before .put-group .ensures .0) (c .before .before .before .before .before .before .put-group .ensures .1 .0)
+    putting-step _ _ _ _ _ _ _ _ _ _ _ _ _ _ (c .before .before .before .before .before .before .before .before .before .before .before .before .before .before .loop .inv)
+    (c .before .before .before .before .before .before .before .before .before .before .before .before .before .loop-test .taken) _ _
+    (c .before .before .before .before .before .before .before .before .before .before .before .wide16 .ensures .0)
+    (c .before .before .before .before .before .before .before .before .before .wide162 .ensures .0) _
+    (c .before .before .before .before .before .before .before .before .before .before .before .before .before .before .before .before .before .pre .1 .0) _ _ _
+    (c .before .before .before .before .before .before .put-group .ensures .0) (c .before .before .before .before .before .before .put-group .ensures .1 .0)
     (c .before .before .before .before .before .before .put-group .ensures .1 .1)
 
 same-length : tie.Need-same-length Inv-loop μ-loop

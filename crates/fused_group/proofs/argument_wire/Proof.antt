@@ -11,7 +11,8 @@ wire-at-requires c κs = member-argument _ _ _ _ _ _ _ (c .before .before .befor
 returns-2 : tie.Need-returns-2
 returns-2 c =
     let a = c .before .before .before .before .before .args in
-    rw (c .before .before .before .if1 .left) (value-at (a .quads .now) (wireIn (a .group .now) (a .wires .now)) (a .k) (a .plan .now) (a .at) 0 _ _ (c .before .before .before .before .before .pre .1) (c .before .before .member .ensures) (c .wire-at .ensures))
+    rw (c .before .before .before .if1 .left) (value-at (a .quads .now) (wireIn (a .group .now) (a .wires .now)) (a .k) (a .plan .now) (a .at) 0 _ _
+    (c .before .before .before .before .before .pre .1) (c .before .before .member .ensures) (c .wire-at .ensures))
 
 pub argument-wire-spec : {M : Type 1} → statement M
 argument-wire-spec =

@@ -26,7 +26,8 @@ argument-requires c κs =
 
 wire-of-requires : tie.Need-wire-of-requires Inv-loop μ-loop
 wire-of-requires c κs =
-    rw (c .argument .ensures) (member-argument _ _ _ _ _ _ _ (c .before .before .before .before .before .pre .0) (c .before .before .member .ensures) (c .before .before .before .before .before .pre .1) .1)
+    rw (c .argument .ensures) (member-argument _ _ _ _ _ _ _ (c .before .before .before .before .before .pre .0) (c .before .before .member .ensures)
+    (c .before .before .before .before .before .pre .1) .1)
 
 loop-holds : tie.Need-loop-holds Inv-loop μ-loop
 loop-holds c =
@@ -37,23 +38,37 @@ member-requires-2 c κs = (c .before .before .before .before .before .before .be
 
 argument-requires-2 : tie.Need-argument-requires-2 Inv-loop μ-loop
 argument-requires-2 c κs =
-    let r = member-argument _ _ _ _ _ _ _ (c .before .before .before .before .before .before .before .before .before .before .pre .0) (c .before .member2 .ensures) (c .before .before .loop-test .taken) in
+    let r = member-argument _ _ _ _ _ _ _ (c .before .before .before .before .before .before .before .before .before .before .pre .0) (c .before .member2 .ensures)
+    (c .before .before .loop-test .taken) in
     (r .0, r .1 .0)
 
 wire-of-requires-2 : tie.Need-wire-of-requires-2 Inv-loop μ-loop
 wire-of-requires-2 c κs =
-    rw (c .argument2 .ensures) (member-argument _ _ _ _ _ _ _ (c .before .before .before .before .before .before .before .before .before .before .before .pre .0) (c .before .before .member2 .ensures) (c .before .before .before .loop-test .taken) .1)
+    rw (c .argument2 .ensures) (member-argument _ _ _ _ _ _ _ (c .before .before .before .before .before .before .before .before .before .before .before .pre .0)
+    (c .before .before .member2 .ensures) (c .before .before .before .loop-test .taken) .1)
 
 returns : tie.Need-returns Inv-loop μ-loop
 returns c =
-    agreeing-fails _ _ _ _ _ _ _ (c .before .before .before .before .before .before .before .before .loop .inv) _ _ (c .before .before .before .before .before .before .before .loop-test .taken) (c .before .before .before .before .before .before .member2 .ensures) (rw (c .before .before .before .before .argument2 .ensures) at (c .before .before .before .wire-of2 .ensures)) (c .if1 .taken)
+    agreeing-fails _ _ _ _ _ _ _ (c .before .before .before .before .before .before .before .before .loop .inv) _ _
+    (c .before .before .before .before .before .before .before .loop-test .taken) (c .before .before .before .before .before .before .member2 .ensures)
+    (rw (c .before .before .before .before .argument2 .ensures) at (c .before .before .before .wire-of2 .ensures)) (c .if1 .taken)
 
 add-i : tie.Need-add-i Inv-loop μ-loop
-add-i c = record { fits = omega (arith, c .before .before .before .before .before .before .before .loop-test .taken, c .before .before .before .before .before .before .before .before .before .before .before .before .before .shared-slice-known2 .given (c .before .before .before .before .before .before .before .before .before .before .before .before .before .before .before .args .at)) }
+add-i c =
+    record {
+      fits = omega (
+        arith,
+        c .before .before .before .before .before .before .before .loop-test .taken,
+        c .before .before .before .before .before .before .before .before .before .before .before .before .before .shared-slice-known2 .given
+            (c .before .before .before .before .before .before .before .before .before .before .before .before .before .before .before .args .at),
+      );
+    }
 
 loop-again : tie.Need-loop-again Inv-loop μ-loop
 loop-again c =
-    agreeing-step _ _ _ _ _ _ _ (c .before .before .before .before .before .before .before .before .loop .inv) _ _ (c .before .before .before .before .before .before .before .loop-test .taken) (c .before .before .before .before .before .before .member2 .ensures) (rw (c .before .before .before .before .argument2 .ensures) at (c .before .before .before .wire-of2 .ensures)) (c .if1 .left)
+    agreeing-step _ _ _ _ _ _ _ (c .before .before .before .before .before .before .before .before .loop .inv) _ _
+    (c .before .before .before .before .before .before .before .loop-test .taken) (c .before .before .before .before .before .before .member2 .ensures)
+    (rw (c .before .before .before .before .argument2 .ensures) at (c .before .before .before .wire-of2 .ensures)) (c .if1 .left)
 
 returns-2 : tie.Need-returns-2 Inv-loop μ-loop
 returns-2 c = agreeing-end _ _ _ _ _ _ _ (c .before .loop .inv) (c .before .before .before .before .before .before .before .before .pre .1) (c .loop-test .left)

@@ -28,22 +28,28 @@ part-put-operation-start c =
     let a = c .before .before .before .before .before .before .args in
     let A = picksIn (a .quads .now) (wireIn (a .group .now) (a .wires .now)) (a .first .0) (groupAt (a .plan .now) (a .at)) (a .picks) in
     let B = operationIn (a .quads .now) (wireIn (a .group .now) (a .wires .now)) (a .first .0) (groupAt (a .plan .now) (a .at)) (a .picks) ∷ [] in
-    let z : c .before .before .put-picks .result ≤ length (c .before .before .put-picks .last .0) = behind-fits A B (a .out .now) (c .before .before .before .before .before .before .pre .0) _ _ (c .before .before .put-picks .ensures .0) (c .before .before .put-picks .ensures .1) in
+    let z : c .before .before .put-picks .result ≤ length (c .before .before .put-picks .last .0) = behind-fits A B (a .out .now)
+    (c .before .before .before .before .before .before .pre .0) _ _ (c .before .before .put-picks .ensures .0) (c .before .before .put-picks .ensures .1) in
     search needs
 
 put-operation-requires : tie.Need-put-operation-requires
 put-operation-requires c κs =
     let a = c .before .before .before .before .before .before .before .args in
     let A = picksIn (a .quads .now) (wireIn (a .group .now) (a .wires .now)) (a .first .0) (groupAt (a .plan .now) (a .at)) (a .picks) in
-    let B = operationIn (a .quads .now) (wireIn (a .group .now) (a .wires .now)) (a .first .0) (groupAt (a .plan .now) (a .at)) (a .picks) ∷ [] in
-    (behind-room A B (a .out .now) (c .before .before .before .before .before .before .before .pre .0) _ _ (c .before .before .before .put-picks .ensures .0) (c .before .before .before .put-picks .ensures .1), c .before .before .before .before .before .before .before .pre .1)
+    let B = operationIn (a .quads .now) (wireIn (a .group .now) (a .wires .now)) (a .first .0) (groupAt (a .plan .now) (a .at)) (a .picks) ∷ [] in (
+      behind-room A B (a .out .now) (c .before .before .before .before .before .before .before .pre .0) _ _ (c .before .before .before .put-picks .ensures .0)
+          (c .before .before .before .put-picks .ensures .1),
+      c .before .before .before .before .before .before .before .pre .1,
+    )
 
 add-result : tie.Need-add-result
 add-result c =
     let a = c .before .before .before .before .before .before .before .before .before .before .args in
     let A = picksIn (a .quads .now) (wireIn (a .group .now) (a .wires .now)) (a .first .0) (groupAt (a .plan .now) (a .at)) (a .picks) in
     let B = operationIn (a .quads .now) (wireIn (a .group .now) (a .wires .now)) (a .first .0) (groupAt (a .plan .now) (a .at)) (a .picks) ∷ [] in
-    let z : c .before .before .before .before .before .before .put-picks .result + c .before .before .put-operation .result ≤ length (a .out .now) = behind-all A B (a .out .now) (c .before .before .before .before .before .before .before .before .before .before .pre .0) _ _ (c .before .before .before .before .before .before .put-picks .ensures .0) (c .before .before .before .before .before .before .put-picks .ensures .1) _ (c .before .before .put-operation .ensures .0) in
+    let z : c .before .before .before .before .before .before .put-picks .result + c .before .before .put-operation .result ≤ length (a .out .now) = behind-all A B (a .out .now)
+    (c .before .before .before .before .before .before .before .before .before .before .pre .0) _ _ (c .before .before .before .before .before .before .put-picks .ensures .0)
+    (c .before .before .before .before .before .before .put-picks .ensures .1) _ (c .before .before .put-operation .ensures .0) in
     search needs
 
 returns : tie.Need-returns
@@ -51,7 +57,9 @@ returns c =
     let a = c .before .before .before .before .before .before .before .before .before .before .args in
     let A = picksIn (a .quads .now) (wireIn (a .group .now) (a .wires .now)) (a .first .0) (groupAt (a .plan .now) (a .at)) (a .picks) in
     let B = operationIn (a .quads .now) (wireIn (a .group .now) (a .wires .now)) (a .first .0) (groupAt (a .plan .now) (a .at)) (a .picks) ∷ [] in
-    behind-put A B (a .out .now) (c .before .before .before .before .before .before .before .before .before .before .pre .0) _ _ (c .before .before .before .before .before .before .put-picks .ensures .0) (c .before .before .before .before .before .before .put-picks .ensures .1) _ (c .before .before .put-operation .ensures .0) _ (c .before .before .put-operation .ensures .1)
+    behind-put A B (a .out .now) (c .before .before .before .before .before .before .before .before .before .before .pre .0) _ _
+    (c .before .before .before .before .before .before .put-picks .ensures .0) (c .before .before .before .before .before .before .put-picks .ensures .1) _
+    (c .before .before .put-operation .ensures .0) _ (c .before .before .put-operation .ensures .1)
 
 pub put-fused-spec : {M : Type 1} → statement M
 put-fused-spec =

@@ -29,7 +29,10 @@ sub-put-bytes c = let a = c .before .before .before .before .before .before .bef
     let f = guard-fits (a .conditions .now) (wireIn (a .group .now) (a .wires .now)) (setOf (a .s)) _ _ _ _
     (c .before .before .before .before .before .before .before .before .rested .ensures .0)
     (c .before .before .before .before .before .before .before .before .before .before .pre .0)
-    (c .before .before .before .before .before .before .put-short .ensures) (rw (rested-are (setOf (a .s)) (c .before .before .before .before .before .before .before .before .rested .result) (c .before .before .before .before .before .before .before .before .rested .ensures .0) (c .before .before .before .before .before .before .before .before .rested .ensures .1 .0)) at (c .before .before .put-rested .ensures)) in
+    (c .before .before .before .before .before .before .put-short .ensures)
+    (rw (rested-are (setOf (a .s)) (c .before .before .before .before .before .before .before .before .rested .result)
+    (c .before .before .before .before .before .before .before .before .rested .ensures .0) (c .before .before .before .before .before .before .before .before .rested .ensures .1 .0)) at
+    (c .before .before .put-rested .ensures)) in
     omega (arith, f)
 
 part-put-bytes-start : tie.Need-part-put-bytes-start
@@ -38,7 +41,10 @@ part-put-bytes-start c = let a = c .before .before .before .before .before .befo
     let f = guard-fits (a .conditions .now) (wireIn (a .group .now) (a .wires .now)) (setOf (a .s)) _ _ _ _
     (c .before .before .before .before .before .before .before .before .rested .ensures .0)
     (c .before .before .before .before .before .before .before .before .before .before .pre .0)
-    (c .before .before .before .before .before .before .put-short .ensures) (rw (rested-are (setOf (a .s)) (c .before .before .before .before .before .before .before .before .rested .result) (c .before .before .before .before .before .before .before .before .rested .ensures .0) (c .before .before .before .before .before .before .before .before .rested .ensures .1 .0)) at (c .before .before .put-rested .ensures)) in
+    (c .before .before .before .before .before .before .put-short .ensures)
+    (rw (rested-are (setOf (a .s)) (c .before .before .before .before .before .before .before .before .rested .result)
+    (c .before .before .before .before .before .before .before .before .rested .ensures .0) (c .before .before .before .before .before .before .before .before .rested .ensures .1 .0)) at
+    (c .before .before .put-rested .ensures)) in
     let z : 2 + 2 * c .before .before .before .before .before .before .before .before .rested .result .count ≤ length
     (putMid 2 (length e - 2) e (c .before .before .put-rested .last .0)) = omega (arith, f) in
     search needs
@@ -51,7 +57,10 @@ put-bytes-requires c κs = let a = c .before .before .before .before .before .be
     guard-last (a .conditions .now) (wireIn (a .group .now) (a .wires .now)) (setOf (a .s)) _ _ _ _
     (c .before .before .before .before .before .before .before .before .before .before .rested .ensures .0)
     (c .before .before .before .before .before .before .before .before .before .before .before .before .pre .0)
-    (c .before .before .before .before .before .before .before .before .put-short .ensures) (rw (rested-are (setOf (a .s)) (c .before .before .before .before .before .before .before .before .before .before .rested .result) (c .before .before .before .before .before .before .before .before .before .before .rested .ensures .0) (c .before .before .before .before .before .before .before .before .before .before .rested .ensures .1 .0)) at (c .before .before .before .before .put-rested .ensures))
+    (c .before .before .before .before .before .before .before .before .put-short .ensures)
+    (rw (rested-are (setOf (a .s)) (c .before .before .before .before .before .before .before .before .before .before .rested .result)
+    (c .before .before .before .before .before .before .before .before .before .before .rested .ensures .0)
+    (c .before .before .before .before .before .before .before .before .before .before .rested .ensures .1 .0)) at (c .before .before .before .before .put-rested .ensures))
 
 returns : tie.Need-returns
 returns c = let a = c .before .before .before .before .before .before .before .before .before .before .before .before .before .before .before .args in
@@ -60,7 +69,10 @@ returns c = let a = c .before .before .before .before .before .before .before .b
     (c .before .before .before .table .ensures)
     (c .before .before .before .before .before .before .before .before .before .before .before .before .before .before .before .pre .0)
     (c .before .before .before .before .before .before .before .before .before .before .before .put-short .ensures)
-    (rw (rested-are (setOf (a .s)) (c .before .before .before .before .before .before .before .before .before .before .before .before .before .rested .result) (c .before .before .before .before .before .before .before .before .before .before .before .before .before .rested .ensures .0) (c .before .before .before .before .before .before .before .before .before .before .before .before .before .rested .ensures .1 .0)) at (c .before .before .before .before .before .before .before .put-rested .ensures)) (c .before .before .put-bytes .ensures)
+    (rw (rested-are (setOf (a .s)) (c .before .before .before .before .before .before .before .before .before .before .before .before .before .rested .result)
+    (c .before .before .before .before .before .before .before .before .before .before .before .before .before .rested .ensures .0)
+    (c .before .before .before .before .before .before .before .before .before .before .before .before .before .rested .ensures .1 .0)) at
+    (c .before .before .before .before .before .before .before .put-rested .ensures)) (c .before .before .put-bytes .ensures)
 
 pub put-guard-spec : {M : Type 1} → statement M
 put-guard-spec =

@@ -35,23 +35,35 @@ part-put-guard-start c =
     search needs
 
 load-requires : tie.Need-load-requires Inv-loop μ-loop
-load-requires c κs = omega (arith, member-inside _ _ _ _ (c .before .before .before .before .before .before .before .before .before .pre .1 .0) (c .before .before .before .member .ensures) (c .before .before .before .before .loop-test .taken), c .before .before .before .before .before .before .before .before .before .good)
+load-requires c κs =
+    omega (
+      arith,
+      member-inside _ _ _ _ (c .before .before .before .before .before .before .before .before .before .pre .1 .0) (c .before .before .before .member .ensures)
+          (c .before .before .before .before .loop-test .taken),
+      c .before .before .before .before .before .before .before .before .before .good,
+    )
 
 put-guard-requires : tie.Need-put-guard-requires Inv-loop μ-loop
 put-guard-requires c κs = (
-  rw (c .load .ensures) (guards-room _ _ _ _ _ _ _ _ _ _ (c .before .before .before .before .before .before .loop .inv) (c .before .before .before .before .before .loop-test .taken) (c .before .before .before .before .member .ensures)),
+  rw (c .load .ensures)
+      (guards-room _ _ _ _ _ _ _ _ _ _ (c .before .before .before .before .before .before .loop .inv) (c .before .before .before .before .before .loop-test .taken)
+      (c .before .before .before .before .member .ensures)),
   c .before .before .before .before .before .before .before .before .before .before .pre .1 .1,
 )
 
 add-n : tie.Need-add-n Inv-loop μ-loop
 add-n c =
-    let f = guards-fits _ _ _ _ _ _ _ _ _ _ (c .before .before .before .before .before .before .before .before .before .loop .inv) (c .before .before .before .before .before .before .before .before .loop-test .taken) (c .before .before .before .before .before .before .before .member .ensures) in
-    let z : c .before .before .before .before .before .before .before .before .before .loop .n + c .before .before .put-guard .result ≤ length (c .before .before .before .before .before .before .before .before .before .before .before .before .before .args .out .now) = omega
+    let f = guards-fits _ _ _ _ _ _ _ _ _ _ (c .before .before .before .before .before .before .before .before .before .loop .inv)
+    (c .before .before .before .before .before .before .before .before .loop-test .taken) (c .before .before .before .before .before .before .before .member .ensures) in
+    let z : c .before .before .before .before .before .before .before .before .before .loop .n + c .before .before .put-guard .result ≤ length
+    (c .before .before .before .before .before .before .before .before .before .before .before .before .before .args .out .now) = omega
     (arith, rw (c .before .before .before .load .ensures) at (c .before .before .put-guard .ensures .0), f .0, f .1) in
     search needs
 
 loop-again : tie.Need-loop-again Inv-loop μ-loop
-loop-again c = guards-step _ _ _ _ _ _ _ _ _ _ (c .before .before .before .before .before .before .before .before .before .loop .inv) (c .before .before .before .before .before .before .before .before .loop-test .taken) (c .before .before .before .before .before .before .before .member .ensures) _ _
+loop-again c =
+    guards-step _ _ _ _ _ _ _ _ _ _ (c .before .before .before .before .before .before .before .before .before .loop .inv)
+    (c .before .before .before .before .before .before .before .before .loop-test .taken) (c .before .before .before .before .before .before .before .member .ensures) _ _
     (rw (c .before .before .before .load .ensures) at (c .before .before .put-guard .ensures .0)) (rw (c .before .before .before .load .ensures) at (c .before .before .put-guard .ensures .1))
 
 same-length : tie.Need-same-length Inv-loop μ-loop

@@ -27,22 +27,31 @@ part-put-place-start c =
     let a = c .before .before .before .before .before .before .args in
     let A = placeIn (a .quads .now) (wireIn (a .group .now) (a .wires .now)) (a .first .0) 0 (groupAt (a .plan .now) (a .at)) (a .picks .first) in
     let B = placeIn (a .quads .now) (wireIn (a .group .now) (a .wires .now)) (a .first .0) 1 (groupAt (a .plan .now) (a .at)) (a .picks .second) in
-    let z : c .before .before .put-place .result ≤ length (c .before .before .put-place .last .0) = behind-fits A B (a .out .now) (c .before .before .before .before .before .before .pre .0) _ _ (c .before .before .put-place .ensures .0) (c .before .before .put-place .ensures .1) in
+    let z : c .before .before .put-place .result ≤ length (c .before .before .put-place .last .0) = behind-fits A B (a .out .now)
+    (c .before .before .before .before .before .before .pre .0) _ _ (c .before .before .put-place .ensures .0) (c .before .before .put-place .ensures .1) in
     search needs
 
 put-place-requires-2 : tie.Need-put-place-requires-2
 put-place-requires-2 c κs =
     let a = c .before .before .before .before .before .before .before .args in
     let A = placeIn (a .quads .now) (wireIn (a .group .now) (a .wires .now)) (a .first .0) 0 (groupAt (a .plan .now) (a .at)) (a .picks .first) in
-    let B = placeIn (a .quads .now) (wireIn (a .group .now) (a .wires .now)) (a .first .0) 1 (groupAt (a .plan .now) (a .at)) (a .picks .second) in
-    (behind-room A B (a .out .now) (c .before .before .before .before .before .before .before .pre .0) _ _ (c .before .before .before .put-place .ensures .0) (c .before .before .before .put-place .ensures .1), (c .before .before .before .before .before .before .before .pre .1 .0 .one-paired, c .before .before .before .before .before .before .before .pre .1 .1))
+    let B = placeIn (a .quads .now) (wireIn (a .group .now) (a .wires .now)) (a .first .0) 1 (groupAt (a .plan .now) (a .at)) (a .picks .second) in (
+      behind-room A B (a .out .now) (c .before .before .before .before .before .before .before .pre .0) _ _ (c .before .before .before .put-place .ensures .0)
+          (c .before .before .before .put-place .ensures .1),
+      (
+        c .before .before .before .before .before .before .before .pre .1 .0 .one-paired,
+        c .before .before .before .before .before .before .before .pre .1 .1,
+      ),
+    )
 
 add-result : tie.Need-add-result
 add-result c =
     let a = c .before .before .before .before .before .before .before .before .before .before .args in
     let A = placeIn (a .quads .now) (wireIn (a .group .now) (a .wires .now)) (a .first .0) 0 (groupAt (a .plan .now) (a .at)) (a .picks .first) in
     let B = placeIn (a .quads .now) (wireIn (a .group .now) (a .wires .now)) (a .first .0) 1 (groupAt (a .plan .now) (a .at)) (a .picks .second) in
-    let z : c .before .before .before .before .before .before .put-place .result + c .before .before .put-place2 .result ≤ length (a .out .now) = behind-all A B (a .out .now) (c .before .before .before .before .before .before .before .before .before .before .pre .0) _ _ (c .before .before .before .before .before .before .put-place .ensures .0) (c .before .before .before .before .before .before .put-place .ensures .1) _ (c .before .before .put-place2 .ensures .0) in
+    let z : c .before .before .before .before .before .before .put-place .result + c .before .before .put-place2 .result ≤ length (a .out .now) = behind-all A B (a .out .now)
+    (c .before .before .before .before .before .before .before .before .before .before .pre .0) _ _ (c .before .before .before .before .before .before .put-place .ensures .0)
+    (c .before .before .before .before .before .before .put-place .ensures .1) _ (c .before .before .put-place2 .ensures .0) in
     search needs
 
 returns : tie.Need-returns
@@ -50,7 +59,9 @@ returns c =
     let a = c .before .before .before .before .before .before .before .before .before .before .args in
     let A = placeIn (a .quads .now) (wireIn (a .group .now) (a .wires .now)) (a .first .0) 0 (groupAt (a .plan .now) (a .at)) (a .picks .first) in
     let B = placeIn (a .quads .now) (wireIn (a .group .now) (a .wires .now)) (a .first .0) 1 (groupAt (a .plan .now) (a .at)) (a .picks .second) in
-    behind-put A B (a .out .now) (c .before .before .before .before .before .before .before .before .before .before .pre .0) _ _ (c .before .before .before .before .before .before .put-place .ensures .0) (c .before .before .before .before .before .before .put-place .ensures .1) _ (c .before .before .put-place2 .ensures .0) _ (c .before .before .put-place2 .ensures .1)
+    behind-put A B (a .out .now) (c .before .before .before .before .before .before .before .before .before .before .pre .0) _ _
+    (c .before .before .before .before .before .before .put-place .ensures .0) (c .before .before .before .before .before .before .put-place .ensures .1) _
+    (c .before .before .put-place2 .ensures .0) _ (c .before .before .put-place2 .ensures .1)
 
 pub put-picks-spec : {M : Type 1} → statement M
 put-picks-spec =

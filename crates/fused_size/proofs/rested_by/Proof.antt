@@ -27,7 +27,12 @@ member-requires : tie.Need-member-requires Inv-loop μ-loop
 member-requires c κs = (c .before .before .before .before .pre .within, c .loop-test .taken)
 
 load-requires : tie.Need-load-requires Inv-loop μ-loop
-load-requires c κs = omega (arith, member-inside _ _ _ _ (c .before .before .before .before .before .before .before .pre) (c .before .before .member .ensures) (c .before .before .before .loop-test .taken), c .before .before .before .before .before .before .before .good)
+load-requires c κs =
+    omega (
+      arith,
+      member-inside _ _ _ _ (c .before .before .before .before .before .before .before .pre) (c .before .before .member .ensures) (c .before .before .before .loop-test .taken),
+      c .before .before .before .before .before .before .before .good,
+    )
 
 add-n : tie.Need-add-n Inv-loop μ-loop
 add-n c = record {
@@ -43,7 +48,12 @@ add-n c = record {
 
 loop-again : tie.Need-loop-again Inv-loop μ-loop
 loop-again c = summing-step _ _ _ _ _ _ (c .before .before .before .before .before .before .before .loop .inv)
-    (omega (arith, length-group (c .before .before .before .before .before .before .before .before .before .before .args .plan .now) (c .before .before .before .before .before .before .before .before .before .before .args .at), c .before .before .before .before .before .before .loop-test .taken))
+    (omega (
+      arith,
+      length-group (c .before .before .before .before .before .before .before .before .before .before .args .plan .now)
+          (c .before .before .before .before .before .before .before .before .before .before .args .at),
+      c .before .before .before .before .before .before .loop-test .taken,
+    ))
     (c .before .before .before .before .before .member .ensures) (rw (c .before .before .load .ensures) at (c .before .rested .ensures .0))
 
 returns : tie.Need-returns Inv-loop μ-loop

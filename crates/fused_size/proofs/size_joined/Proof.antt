@@ -17,54 +17,87 @@ element-copy-out-code-of : tie.Need-element-copy-out-code-of
 element-copy-out-code-of c = omega (arith, joined-first _ _ _ _ _ (c .before .before .before .before .before .before .before .before .before .pre) (c .before .member .ensures) .0)
 
 cast-code-of : tie.Need-cast-code-of
-cast-code-of c = record { fits = omega (arith, joined-first _ _ _ _ _ (c .before .before .before .before .before .before .before .before .before .before .pre) (c .before .before .member .ensures) .1) }
+cast-code-of c =
+    record { fits = omega (arith, joined-first _ _ _ _ _ (c .before .before .before .before .before .before .before .before .before .before .pre) (c .before .before .member .ensures) .1) }
 
 add-t19 : tie.Need-add-t19
 add-t19 c =
     let start = c .before .before .before .before .before .before .before .before .before .before .before .before .before .before in
-    let z = joined-small (setsIn (start .args .needs .now)) (start .args .plan .now) (start .args .at) (c .before .before .before .before .before .before .before .before .before .before .before .before .picks-of .result) _ _ _ _ _ _ (omega (arith, c .before .before .before .before .before .before .before .before .before .shared-slice-known2 .given (start .args .at)))
-    (c .before .before .before .before .before .before .before .before .before .before .size-kept .ensures) (c .before .before .before .before .before .before .before .before .size-place .ensures) (c .before .before .before .before .before .before .before .size-place2 .ensures) .0 in
+    let z = joined-small (setsIn (start .args .needs .now)) (start .args .plan .now) (start .args .at)
+    (c .before .before .before .before .before .before .before .before .before .before .before .before .picks-of .result) _ _ _ _ _ _
+    (omega (arith, c .before .before .before .before .before .before .before .before .before .shared-slice-known2 .given (start .args .at)))
+    (c .before .before .before .before .before .before .before .before .before .before .size-kept .ensures)
+    (c .before .before .before .before .before .before .before .before .size-place .ensures) (c .before .before .before .before .before .before .before .size-place2 .ensures) .0 in
     record { fits = omega (arith, z) }
 
 add-t23 : tie.Need-add-t23
 add-t23 c =
     let start = c .before .before .before .before .before .before .before .before .before .before .before .before .before .before .before in
-    let z = joined-small (setsIn (start .args .needs .now)) (start .args .plan .now) (start .args .at) (c .before .before .before .before .before .before .before .before .before .before .before .before .before .picks-of .result) _ _ _ _ _ _ (omega (arith, c .before .before .before .before .before .before .before .before .before .before .shared-slice-known2 .given (start .args .at)))
-    (c .before .before .before .before .before .before .before .before .before .before .before .size-kept .ensures) (c .before .before .before .before .before .before .before .before .before .size-place .ensures) (c .before .before .before .before .before .before .before .before .size-place2 .ensures) .0 in
+    let z = joined-small (setsIn (start .args .needs .now)) (start .args .plan .now) (start .args .at)
+    (c .before .before .before .before .before .before .before .before .before .before .before .before .before .picks-of .result) _ _ _ _ _ _
+    (omega (arith, c .before .before .before .before .before .before .before .before .before .before .shared-slice-known2 .given (start .args .at)))
+    (c .before .before .before .before .before .before .before .before .before .before .before .size-kept .ensures)
+    (c .before .before .before .before .before .before .before .before .before .size-place .ensures) (c .before .before .before .before .before .before .before .before .size-place2 .ensures) .0 in
     record { fits = omega (arith, z) }
 
 add-t24 : tie.Need-add-t24
 add-t24 c =
     let start = c .before .before .before .before .before .before .before .before .before .before .before .before .before .before .before in
-    let z = joined-small (setsIn (start .args .needs .now)) (start .args .plan .now) (start .args .at) (c .before .before .before .before .before .before .before .before .before .before .before .before .before .picks-of .result) _ _ _ _ _ _ (omega (arith, c .before .before .before .before .before .before .before .before .before .before .shared-slice-known2 .given (start .args .at)))
-    (c .before .before .before .before .before .before .before .before .before .before .before .size-kept .ensures) (c .before .before .before .before .before .before .before .before .before .size-place .ensures) (c .before .before .before .before .before .before .before .before .size-place2 .ensures) .0 in
+    let z = joined-small (setsIn (start .args .needs .now)) (start .args .plan .now) (start .args .at)
+    (c .before .before .before .before .before .before .before .before .before .before .before .before .before .picks-of .result) _ _ _ _ _ _
+    (omega (arith, c .before .before .before .before .before .before .before .before .before .before .shared-slice-known2 .given (start .args .at)))
+    (c .before .before .before .before .before .before .before .before .before .before .before .size-kept .ensures)
+    (c .before .before .before .before .before .before .before .before .before .size-place .ensures) (c .before .before .before .before .before .before .before .before .size-place2 .ensures) .0 in
     record { fits = omega (arith, z) }
 
 add-t25 : tie.Need-add-t25
 add-t25 c =
     let start = c .before .before .before .before .before .before .before .before .before .before .before .before .before .before .before .before .before in
-    let z = joined-small (setsIn (start .args .needs .now)) (start .args .plan .now) (start .args .at) (c .before .before .before .before .before .before .before .before .before .before .before .before .before .before .before .picks-of .result) _ _ _ _ _ _ (omega (arith, c .before .before .before .before .before .before .before .before .before .before .before .before .shared-slice-known2 .given (start .args .at)))
-    (c .before .before .before .before .before .before .before .before .before .before .before .before .before .size-kept .ensures) (c .before .before .before .before .before .before .before .before .before .before .before .size-place .ensures) (c .before .before .before .before .before .before .before .before .before .before .size-place2 .ensures) .1 in
+    let z = joined-small (setsIn (start .args .needs .now)) (start .args .plan .now) (start .args .at)
+    (c .before .before .before .before .before .before .before .before .before .before .before .before .before .before .before .picks-of .result) _ _ _ _ _ _
+    (omega (arith, c .before .before .before .before .before .before .before .before .before .before .before .before .shared-slice-known2 .given (start .args .at)))
+    (c .before .before .before .before .before .before .before .before .before .before .before .before .before .size-kept .ensures)
+    (c .before .before .before .before .before .before .before .before .before .before .before .size-place .ensures)
+    (c .before .before .before .before .before .before .before .before .before .before .size-place2 .ensures) .1 in
     record { fits = omega (arith, z) }
 
 add-t26 : tie.Need-add-t26
 add-t26 c =
     let start = c .before .before .before .before .before .before .before .before .before .before .before .before .before .before .before .before .before .before in
-    let z = joined-small (setsIn (start .args .needs .now)) (start .args .plan .now) (start .args .at) (c .before .before .before .before .before .before .before .before .before .before .before .before .before .before .before .before .picks-of .result) _ _ _ _ _ _ (omega (arith, c .before .before .before .before .before .before .before .before .before .before .before .before .before .shared-slice-known2 .given (start .args .at)))
-    (c .before .before .before .before .before .before .before .before .before .before .before .before .before .before .size-kept .ensures) (c .before .before .before .before .before .before .before .before .before .before .before .before .size-place .ensures) (c .before .before .before .before .before .before .before .before .before .before .before .size-place2 .ensures) .1 in
+    let z = joined-small (setsIn (start .args .needs .now)) (start .args .plan .now) (start .args .at)
+    (c .before .before .before .before .before .before .before .before .before .before .before .before .before .before .before .before .picks-of .result) _ _ _ _ _ _
+    (omega (arith, c .before .before .before .before .before .before .before .before .before .before .before .before .before .shared-slice-known2 .given (start .args .at)))
+    (c .before .before .before .before .before .before .before .before .before .before .before .before .before .before .size-kept .ensures)
+    (c .before .before .before .before .before .before .before .before .before .before .before .before .size-place .ensures)
+    (c .before .before .before .before .before .before .before .before .before .before .before .size-place2 .ensures) .1 in
     record { fits = omega (arith, z) }
 
 add-t28 : tie.Need-add-t28
 add-t28 c =
     let start = c .before .before .before .before .before .before .before .before .before .before .before .before .before .before .before .before .before .before .before in
-    let z : c .before .before .before .before .before .before .before .before .before .before .before .before .before .before .before .size-kept .result .cost + c .before .before .before .before .before .before .before .before .before .before .before .before .before .size-place .result .cost + c .before .before .before .before .before .before .before .before .before .before .before .before .size-place2 .result .cost < 65536 = joined-small (setsIn (start .args .needs .now)) (start .args .plan .now) (start .args .at) (c .before .before .before .before .before .before .before .before .before .before .before .before .before .before .before .before .before .picks-of .result) _ _ _ _ _ _ (omega (arith, c .before .before .before .before .before .before .before .before .before .before .before .before .before .before .shared-slice-known2 .given (start .args .at)))
-    (c .before .before .before .before .before .before .before .before .before .before .before .before .before .before .before .size-kept .ensures) (c .before .before .before .before .before .before .before .before .before .before .before .before .before .size-place .ensures) (c .before .before .before .before .before .before .before .before .before .before .before .before .size-place2 .ensures) .1 in
+    let z : c .before .before .before .before .before .before .before .before .before .before .before .before .before .before .before .size-kept .result .cost
+    + c .before .before .before .before .before .before .before .before .before .before .before .before .before .size-place .result .cost
+    + c .before .before .before .before .before .before .before .before .before .before .before .before .size-place2 .result .cost < 65536 = joined-small (setsIn (start .args .needs .now))
+    (start .args .plan .now) (start .args .at)
+    (c .before .before .before .before .before .before .before .before .before .before .before .before .before .before .before .before .before .picks-of .result) _ _ _ _ _ _
+    (omega (arith, c .before .before .before .before .before .before .before .before .before .before .before .before .before .before .shared-slice-known2 .given (start .args .at)))
+    (c .before .before .before .before .before .before .before .before .before .before .before .before .before .before .before .size-kept .ensures)
+    (c .before .before .before .before .before .before .before .before .before .before .before .before .before .size-place .ensures)
+    (c .before .before .before .before .before .before .before .before .before .before .before .before .size-place2 .ensures) .1 in
     search needs
 
 returns : tie.Need-returns
 returns c =
-    joined-sized _ _ _ _ _ _ _ (c .before .before .before .before .before .before .before .before .before .before .before .before .before .before .before .before .before .picks-of .result) _ _ _ _ _ _ _ _ (c .before .before .before .before .before .before .before .before .before .before .before .before .before .before .before .before .before .before .before .pre) (c .before .before .before .before .before .before .before .before .before .before .before .before .before .before .before .before .before .picks-of .ensures) (c .before .before .before .before .before .before .before .before .before .before .before .member .ensures) (c .before .before .before .before .before .before .before .before .code-of .ensures)
-    (c .before .before .before .before .before .before .before .wide16 .ensures .0 ∙ c .before .before .before .before .before .before .before .before .before .before .before .before .before .before .before .before .records-in .ensures) (c .before .before .before .before .before .before .before .before .before .before .before .before .before .before .before .size-kept .ensures) (c .before .before .before .before .before .before .before .before .before .before .before .before .before .size-place .ensures) (c .before .before .before .before .before .before .before .before .before .before .before .before .size-place2 .ensures)
+    joined-sized _ _ _ _ _ _ _
+    (c .before .before .before .before .before .before .before .before .before .before .before .before .before .before .before .before .before .picks-of .result) _ _ _ _ _ _ _ _
+    (c .before .before .before .before .before .before .before .before .before .before .before .before .before .before .before .before .before .before .before .pre)
+    (c .before .before .before .before .before .before .before .before .before .before .before .before .before .before .before .before .before .picks-of .ensures)
+    (c .before .before .before .before .before .before .before .before .before .before .before .member .ensures) (c .before .before .before .before .before .before .before .before .code-of .ensures)
+    (c .before .before .before .before .before .before .before .wide16 .ensures .0
+    ∙ c .before .before .before .before .before .before .before .before .before .before .before .before .before .before .before .before .records-in .ensures)
+    (c .before .before .before .before .before .before .before .before .before .before .before .before .before .before .before .size-kept .ensures)
+    (c .before .before .before .before .before .before .before .before .before .before .before .before .before .size-place .ensures)
+    (c .before .before .before .before .before .before .before .before .before .before .before .before .size-place2 .ensures)
 
 pub size-joined-spec : {M : Type 1} → statement M
 size-joined-spec =

@@ -9,10 +9,30 @@ mul-t10 : tie.Need-mul-t10
 mul-t10 c = record { fits = omega (arith, c .before .shared-slice-known2 .given (c .before .before .before .before .before .args .at)) }
 
 mul-t11 : tie.Need-mul-t11
-mul-t11 c = record { fits = omega (arith, c .rested-by .ensures, rested-few (setsIn (c .before .before .before .before .before .args .needs .now)) (c .before .before .before .before .before .args .plan .now) (c .before .before .before .before .before .args .at), c .before .shared-slice-known2 .given (c .before .before .before .before .before .args .at)) }
+mul-t11 c =
+    record {
+      fits = omega (
+        arith,
+        c .rested-by .ensures,
+        rested-few (setsIn (c .before .before .before .before .before .args .needs .now))
+            (c .before .before .before .before .before .args .plan .now) (c .before .before .before .before .before .args .at),
+        c .before .shared-slice-known2 .given
+            (c .before .before .before .before .before .args .at),
+      );
+    }
 
 add-t12 : tie.Need-add-t12
-add-t12 c = record { fits = omega (arith, c .rested-by .ensures, rested-few (setsIn (c .before .before .before .before .before .args .needs .now)) (c .before .before .before .before .before .args .plan .now) (c .before .before .before .before .before .args .at), c .before .shared-slice-known2 .given (c .before .before .before .before .before .args .at)) }
+add-t12 c =
+    record {
+      fits = omega (
+        arith,
+        c .rested-by .ensures,
+        rested-few (setsIn (c .before .before .before .before .before .args .needs .now))
+            (c .before .before .before .before .before .args .plan .now) (c .before .before .before .before .before .args .at),
+        c .before .shared-slice-known2 .given
+            (c .before .before .before .before .before .args .at),
+      );
+    }
 
 returns : tie.Need-returns
 returns c =

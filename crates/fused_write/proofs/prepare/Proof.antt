@@ -12,7 +12,9 @@ returns : tie.Need-returns
 returns c = let k = c .before .before .before .check .ensures in record { answered = refused-prepared _ _ _ (k .0) (c .if1 .taken); handed = k .1 }
 
 shared-slice-read-v : tie.Need-shared-slice-read-v
-shared-slice-read-v c = let x = c .before in rule-long _ (x .before .before .before .before .before .before .before .before .before .before .before .before .before .args .plan .now) (check-taken _ _ _ (x .before .before .before .check .ensures .0) (x .if1 .left))
+shared-slice-read-v c =
+    let x = c .before in rule-long _ (x .before .before .before .before .before .before .before .before .before .before .before .before .before .args .plan .now)
+    (check-taken _ _ _ (x .before .before .before .check .ensures .0) (x .if1 .left))
 
 measure-requires : tie.Need-measure-requires
 measure-requires c κs =
@@ -34,14 +36,23 @@ add-bytes c =
     omega (
       arith,
       bytes-few _ _ t _ _ _ _ _ _ _ _ (k .1) _ g _ _ _
-          (c .before .measure .ensures _ _ (arrays-turnable _ _ t _ _ _ _ _ _ _ _ (k .1) _ g (λ i _. omega (arith, x .before .before .before .before .before .before .before .before .before .before .before .before .shared-slice-known .given i)))),
+          (c .before .measure .ensures _ _ (arrays-turnable _ _ t _ _ _ _ _ _ _ _ (k .1) _ g
+          (λ i _. omega (arith, x .before .before .before .before .before .before .before .before .before .before .before .before .shared-slice-known .given i)))),
     )
 
 cast-bytes : tie.Need-cast-bytes
-cast-bytes c = omega (arith, c .before .before .before .before .before .before .before .before .before .before .before .before .before .before .before .before .before .before .before .before .shared-slice-known .given 5)
+cast-bytes c =
+    omega (
+      arith,
+      c .before .before .before .before .before .before .before .before .before .before .before .before .before .before .before .before .before .before .before .before .shared-slice-known .given 5,
+    )
 
 mul-bytes : tie.Need-mul-bytes
-mul-bytes c = omega (arith, c .before .before .before .before .before .before .before .before .before .before .before .before .before .before .before .before .before .before .before .before .shared-slice-known .given 5)
+mul-bytes c =
+    omega (
+      arith,
+      c .before .before .before .before .before .before .before .before .before .before .before .before .before .before .before .before .before .before .before .before .shared-slice-known .given 5,
+    )
 
 add-bytes-2 : tie.Need-add-bytes-2
 add-bytes-2 c =
@@ -52,7 +63,8 @@ add-bytes-2 c =
     omega (
       arith,
       bytes-few _ _ t _ _ _ _ _ _ _ _ (k .1) _ g _ _ _
-          (c .before .measure .ensures _ _ (arrays-turnable _ _ t _ _ _ _ _ _ _ _ (k .1) _ g (λ i _. omega (arith, x .before .before .before .before .before .before .before .before .before .before .before .before .shared-slice-known .given i)))),
+          (c .before .measure .ensures _ _ (arrays-turnable _ _ t _ _ _ _ _ _ _ _ (k .1) _ g
+          (λ i _. omega (arith, x .before .before .before .before .before .before .before .before .before .before .before .before .shared-slice-known .given i)))),
       x .before .before .before .before .before .before .before .before .before .before .before .before .shared-slice-known .given 5,
     )
 
@@ -62,7 +74,8 @@ returns-2 c =
     let k = x .before .before .before .check .ensures in
     let t = check-taken _ _ _ (k .0) (x .if1 .left) in
     let g = check-gates _ _ _ (k .0) (x .if1 .left) in
-    let m = c .before .before .measure .ensures _ _ (arrays-turnable _ _ t _ _ _ _ _ _ _ _ (k .1) _ g (λ i _. omega (arith, x .before .before .before .before .before .before .before .before .before .before .before .before .shared-slice-known .given i))) in
+    let m = c .before .before .measure .ensures _ _ (arrays-turnable _ _ t _ _ _ _ _ _ _ _ (k .1) _ g
+    (λ i _. omega (arith, x .before .before .before .before .before .before .before .before .before .before .before .before .shared-slice-known .given i))) in
     record { answered = c .counted .ensures ∙ counts-are _ _ t _ _ _ _ _ _ _ _ (k .1) _ g _ _ _ m _ (check-before _ _ _ (k .0) (x .if1 .left)); handed = k .1 }
 
 pub prepare-spec : {M : Type 1} → statement M

@@ -18,11 +18,16 @@ returns-2 c =
     (c .refused .ensures ∙ w .0, w .1)
 
 put-requires : tie.Need-put-requires
-put-requires c κs =
-    ((c .before .before .before .before .before .before .before .before .before .before .if1 .left, c .before .before .before .before .before .before .before .before .if2 .left), c .before .before .before .before .before .before .before .before .before .before .before .before .before .prepare .ensures)
+put-requires c κs = (
+  (c .before .before .before .before .before .before .before .before .before .before .if1 .left, c .before .before .before .before .before .before .before .before .if2 .left),
+  c .before .before .before .before .before .before .before .before .before .before .before .before .before .prepare .ensures,
+)
 
 returns-3 : tie.Need-returns-3
-returns-3 c = file-writes _ _ _ (c .before .before .before .before .before .before .before .before .before .before .before .before .before .before .before .before .prepare .ensures .answered) _ (c .before .before .before .before .before .before .before .before .before .before .before .before .before .if1 .left) (c .before .before .before .before .before .before .before .before .before .before .before .if2 .left) _ (c .before .before .put .ensures)
+returns-3 c =
+    file-writes _ _ _ (c .before .before .before .before .before .before .before .before .before .before .before .before .before .before .before .before .prepare .ensures .answered) _
+    (c .before .before .before .before .before .before .before .before .before .before .before .before .before .if1 .left)
+    (c .before .before .before .before .before .before .before .before .before .before .before .if2 .left) _ (c .before .before .put .ensures)
 
 pub write-spec : {M : Type 1} → statement M
 write-spec =

@@ -32,7 +32,8 @@ returns-2 c =
 check-groups-requires : tie.Need-check-groups-requires
 check-groups-requires c κs =
     let y = c .before .before in
-    layout-readable _ _ (gates-room _ (y .before .before .before .before .before .before .before .before .before .before .before .before .before .args .plan .now) _ _ _ _ _ (y .before .before .before .before .before .before .build .ensures) (y .before .before .before .before .if1 .left))
+    layout-readable _ _ (gates-room _ (y .before .before .before .before .before .before .before .before .before .before .before .before .before .args .plan .now) _ _ _ _ _
+    (y .before .before .before .before .before .before .build .ensures) (y .before .before .before .before .if1 .left))
     (sym (y .before .group-gates .ensures .0) ∙ y .if2 .left)
 
 returns-3 : tie.Need-returns-3
@@ -43,14 +44,16 @@ returns-3 c =
     let b = y .before .before .before .before .before .before .build .ensures in
     let u = c .ungrouped .ensures in
     row-handed _ (s .args .plan .now) _ _ _ _ (b .1) _ _ _ (u .1 .0, (u .1 .1, s .pre .1 .1 .1)) _ (u .0 .1) _
-    (join-refused _ _ _ _ _ _ _ b (y .before .before .before .before .if1 .left) _ (y .before .group-gates .ensures .0) (y .if2 .left) _ (z .before .check-groups .ensures) (z .if3 .taken)) (z .if3 .taken)
+    (join-refused _ _ _ _ _ _ _ b (y .before .before .before .before .if1 .left) _ (y .before .group-gates .ensures .0) (y .if2 .left) _ (z .before .check-groups .ensures) (z .if3 .taken))
+    (z .if3 .taken)
     _ (u .0 .0)
 
 order-groups-requires : tie.Need-order-groups-requires
 order-groups-requires c κs =
     let y = c .before .before .before .before .before .before .before .before .before .before in
     let g = y .before .group-gates .ensures in (
-      tables-orderable _ _ _ _ _ _ _ (y .before .before .before .before .before .before .build .ensures) (y .before .before .before .before .if1 .left) _ (g .0) (y .if2 .left) _ _ (g .1 .0 (y .if2 .left)) (g .1 .1 .0 (y .if2 .left)),
+      tables-orderable _ _ _ _ _ _ _ (y .before .before .before .before .before .before .build .ensures) (y .before .before .before .before .if1 .left) _ (g .0) (y .if2 .left) _ _
+          (g .1 .0 (y .if2 .left)) (g .1 .1 .0 (y .if2 .left)),
       ap length (y .before .before .before .before .before .before .before .before .before .before .before .before .before .pre .1 .1 .1),
     )
 
@@ -60,8 +63,10 @@ returns-4 c =
     let y = z .before .before .before .before in
     let g = y .before .group-gates .ensures in
     let u = c .ungrouped2 .ensures in
-    circle-handed _ _ _ _ _ _ _ (y .before .before .before .before .before .before .build .ensures) (y .before .before .before .before .if1 .left) _ (g .0) (y .if2 .left) _ _ (g .1 .0 (y .if2 .left)) (g .1 .1 .0 (y .if2 .left))
-    _ (z .before .check-groups .ensures) (z .if3 .left) _ (c .before .before .before .before .before .enum-told .given .1) (c .before .before .before .before .before .before .before .order-groups .ensures .0) _ (c .before .before .before .refusal-row .ensures)
+    circle-handed _ _ _ _ _ _ _ (y .before .before .before .before .before .before .build .ensures) (y .before .before .before .before .if1 .left) _ (g .0) (y .if2 .left) _ _
+    (g .1 .0 (y .if2 .left)) (g .1 .1 .0 (y .if2 .left))
+    _ (z .before .check-groups .ensures) (z .if3 .left) _ (c .before .before .before .before .before .enum-told .given .1)
+    (c .before .before .before .before .before .before .before .order-groups .ensures .0) _ (c .before .before .before .refusal-row .ensures)
     _ _ _ (u .1 .0, (u .1 .1, refl)) _ _ (u .0)
 
 returns-5 : tie.Need-returns-5
@@ -69,8 +74,10 @@ returns-5 c =
     let z = c .before .before .before .before .before .before .before .before .before .before in
     let y = z .before .before .before .before in
     let g = y .before .group-gates .ensures in
-    taken-handed _ _ _ _ _ _ _ (y .before .before .before .before .before .before .build .ensures) (y .before .before .before .before .if1 .left) _ (g .0) (y .if2 .left) _ _ (g .1 .0 (y .if2 .left)) (g .1 .1 .0 (y .if2 .left))
-    _ (z .before .check-groups .ensures) (z .if3 .left) _ (sym (c .before .placed .given .1) ∙ c .before .before .before .order-groups .ensures .0) _ _ (y .before .before .before .before .before .before .before .before .before .before .before .before .before .pre .1 .1 .1) (c .before .before .before .order-groups .ensures .1)
+    taken-handed _ _ _ _ _ _ _ (y .before .before .before .before .before .before .build .ensures) (y .before .before .before .before .if1 .left) _ (g .0) (y .if2 .left) _ _
+    (g .1 .0 (y .if2 .left)) (g .1 .1 .0 (y .if2 .left))
+    _ (z .before .check-groups .ensures) (z .if3 .left) _ (sym (c .before .placed .given .1) ∙ c .before .before .before .order-groups .ensures .0) _ _
+    (y .before .before .before .before .before .before .before .before .before .before .before .before .before .pre .1 .1 .1) (c .before .before .before .order-groups .ensures .1)
 
 pub check-spec : {M : Type 1} → statement M
 check-spec =

@@ -38,8 +38,10 @@ returns-2 : tie.Need-returns-2
 returns-2 c =
     let y = c .before .before .before in
     let s = now (y .before .before .before .args .s) in
-    let (t, e) = size-some s _ (y .before .part-size .ensures .0) (y .if1 .left) in
-    (rw (plan-missing s t (size-none (pastPart s) _ (behind s _ _ e (c .before .part-size2 .ensures .0)) (c .if2 .taken))) refl, (omega arith, λ z. omega (arith, room-rest s (y .before .part-size .result), e, c .before .part-size2 .ensures .1 .1 (c .if2 .taken), y .before .part-size .ensures .1 .0)))
+    let (t, e) = size-some s _ (y .before .part-size .ensures .0) (y .if1 .left) in (
+      rw (plan-missing s t (size-none (pastPart s) _ (behind s _ _ e (c .before .part-size2 .ensures .0)) (c .if2 .taken))) refl,
+      (omega arith, λ z. omega (arith, room-rest s (y .before .part-size .result), e, c .before .part-size2 .ensures .1 .1 (c .if2 .taken), y .before .part-size .ensures .1 .0)),
+    )
 
 add-result : tie.Need-add-result
 add-result c = record { fits = omega (arith, c .before .part-size2 .ensures .1 .0, c .before .before .before .before .part-size .ensures .1 .0) }

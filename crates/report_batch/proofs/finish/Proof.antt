@@ -7,7 +7,8 @@ use Rattle.report_batch.proofs.finish.Tie as tie
 
 returns : tie.Need-returns
 returns c =
-    last-line (c .before .before .before .before .before .before .before .before .before .args .progress) _ _ _ _ (ap ending (c .before .before .before .before .before .before .progress .given .1) ∙ total-last _ _ (c .before .before .before .before .if1 .taken))
+    last-line (c .before .before .before .before .before .before .before .before .before .args .progress) _ _ _ _
+    (ap ending (c .before .before .before .before .before .before .progress .given .1) ∙ total-last _ _ (c .before .before .before .before .if1 .taken))
     (c .before .before .write-total .ensures)
 
 returns-2 : tie.Need-returns-2
@@ -15,7 +16,8 @@ returns-2 c = rw (c .before .before .before .before .before .enum-told .given .1
 
 returns-3 : tie.Need-returns-3
 returns-3 c =
-    last-line (c .before .before .before .before .before .before .before .before .before .before .args .progress) _ _ _ _ (ap ending (c .before .before .before .before .before .before .before .progress .given .1) ∙ missing-last _ _ (c .before .before .before .before .before .if1 .left))
+    last-line (c .before .before .before .before .before .before .before .before .before .before .args .progress) _ _ _ _
+    (ap ending (c .before .before .before .before .before .before .before .progress .given .1) ∙ missing-last _ _ (c .before .before .before .before .before .if1 .left))
     (rw (c .before .before .before .before .refused2 .ensures) at (c .before .before .write-line2 .ensures))
 
 returns-4 : tie.Need-returns-4

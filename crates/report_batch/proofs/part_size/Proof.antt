@@ -13,8 +13,10 @@ returns c = (rw (unmeasured _ (c .if1 .taken)) refl, (omega arith, λ z. omega (
 
 returns-2 : tie.Need-returns-2
 returns-2 c =
-    let s = now (c .before .before .before .before .before .args .s) in
-    (rw (cut-short s (c .before .before .before .if1 .left) (omega (arith, c .if2 .taken, c .before .wide16 .ensures .0, c .before .before .read16 .ensures))) refl, (omega arith, λ z. omega (arith, c .if2 .taken, c .before .wide16 .ensures .1)))
+    let s = now (c .before .before .before .before .before .args .s) in (
+      rw (cut-short s (c .before .before .before .if1 .left) (omega (arith, c .if2 .taken, c .before .wide16 .ensures .0, c .before .before .read16 .ensures))) refl,
+      (omega arith, λ z. omega (arith, c .if2 .taken, c .before .wide16 .ensures .1)),
+    )
 
 returns-3 : tie.Need-returns-3
 returns-3 c =

@@ -3,7 +3,8 @@ use Prim.Native.Nat.{_-_}
 use native.Mathlib.Omega.{arith}
 use lib.ListN.{length}
 use Rattle.base.specs.BufferLaws.{room-rest}
-use Rattle.report_batch.specs.DrainLaws.{Draining, drain-start, drain-length, drain-room, drain-full, drain-more, drain-took, drain-less, drain-rests, rest-nears, rest-length, rest-few, full-few}
+use Rattle.report_batch.specs.DrainLaws.{Draining, drain-start, drain-length, drain-room, drain-full, drain-more, drain-took}
+use Rattle.report_batch.specs.DrainLaws.{drain-less, drain-rests, rest-nears, rest-length, rest-few, full-few}
 use Rattle.report_batch.proofs.take_entries.Statement.{statement}
 use Rattle.report_batch.proofs.take_entries.Tie as tie
 
@@ -39,14 +40,26 @@ add-bytes c =
     let i = c .before .before .before .before .before .before .before .before .before .loop .inv in
     let done = c .before .before .before .before .before .step .ensures in
     let line = c .before .before .before .before .before .before .before .before .loop-test .left in
-    record { fits = omega (arith, drain-took _ _ _ _ _ _ _ i _ _ (done .0) (done .1 .0 .0) (done .1 .0 .1) line .0, c .before .before .before .before .before .before .before .before .before .before .before .before .good) }
+    record {
+      fits = omega (
+        arith,
+        drain-took _ _ _ _ _ _ _ i _ _ (done .0) (done .1 .0 .0) (done .1 .0 .1) line .0,
+        c .before .before .before .before .before .before .before .before .before .before .before .before .good,
+      );
+    }
 
 add-printed : tie.Need-add-printed Inv-loop μ-loop
 add-printed c =
     let i = c .before .before .before .before .before .before .before .before .before .before .loop .inv in
     let done = c .before .before .before .before .before .before .step .ensures in
     let line = c .before .before .before .before .before .before .before .before .before .loop-test .left in
-    record { fits = omega (arith, drain-took _ _ _ _ _ _ _ i _ _ (done .0) (done .1 .0 .0) (done .1 .0 .1) line .1, c .before .before .before .before .before .before .before .before .before .before .before .before .before .good) }
+    record {
+      fits = omega (
+        arith,
+        drain-took _ _ _ _ _ _ _ i _ _ (done .0) (done .1 .0 .0) (done .1 .0 .1) line .1,
+        c .before .before .before .before .before .before .before .before .before .before .before .before .before .good,
+      );
+    }
 
 loop-less : tie.Need-loop-less Inv-loop μ-loop
 loop-less c =

@@ -30,13 +30,15 @@ add-requires c κs =
     (one-sized _ _ (d .pre .0 .0) (d .pre .0 .1), subst Costs (sym (c .before .before .before .before .answer-entry .ensures)) (entry-costs _))
 
 -- the fields of an answer are numbers of 64 bits, and one of 8, so its line has room
-room : (c : tie.After-add) → length (lineOf (c .before .before .before .before .before .answer-entry .result)) ≤ length (now (c .before .before .before .before .before .before .before .before .before .before .args .out))
+room : (c : tie.After-add) → length (lineOf (c .before .before .before .before .before .answer-entry .result))
+    ≤ length (now (c .before .before .before .before .before .before .before .before .before .before .args .out))
 room c =
     let g = c .before .before .before .before .before .answer-entry .ok in
     omega (
       arith,
       c .before .before .before .before .before .before .before .before .before .before .pre .1,
-      length-lineOf (c .before .before .before .before .before .answer-entry .result) (omega (arith, g), (omega (arith, g), tt)) (omega (arith, g), (omega (arith, g), (omega (arith, g), (omega (arith, g), tt)))),
+      length-lineOf (c .before .before .before .before .before .answer-entry .result) (omega (arith, g), (omega (arith, g), tt))
+          (omega (arith, g), (omega (arith, g), (omega (arith, g), (omega (arith, g), tt)))),
     )
 
 returns-2 : tie.Need-returns-2
@@ -44,8 +46,13 @@ returns-2 c =
     let d = c .before .before .before .before .before .before .before .before .before .before in
     let y = c .before .before .before .before .before .before in
     let (whole, size) = whole-some _ _ (y .before .entry-size .ensures .0) (y .if1 .left) in (
-      entry-does _ _ _ _ _ _ _ (d .pre .0 .1) whole size (c .before .before .before .before .before .answer-entry .ensures) _ _ (c .add .ensures) (room c) (c .before .before .before .write-line .ensures),
-      (entry-kept _ _ _ _ _ _ (c .before .before .before .write-line .result) (d .pre .0 .1) whole size (c .before .before .before .before .before .answer-entry .ensures) (d .pre .0 .0) (c .add .ensures) (y .before .entry-size .ensures .1 .0), λ z. absurd (y .if1 .left z)),
+      entry-does _ _ _ _ _ _ _ (d .pre .0 .1) whole size (c .before .before .before .before .before .answer-entry .ensures) _ _ (c .add .ensures) (room c)
+          (c .before .before .before .write-line .ensures),
+      (
+        entry-kept _ _ _ _ _ _ (c .before .before .before .write-line .result) (d .pre .0 .1) whole size (c .before .before .before .before .before .answer-entry .ensures) (d .pre .0 .0)
+            (c .add .ensures) (y .before .entry-size .ensures .1 .0),
+        λ z. absurd (y .if1 .left z),
+      ),
     )
 
 pub take-entry-spec : {M : Type 1} → statement M

@@ -26,7 +26,8 @@ put-words-requires-2 c κs =
 returns-2 : tie.Need-returns-2
 returns-2 c =
     let b = c .before .before .before .before .before .before in
-    rw (line-placed (b .before .before .before .before .before .before .args .answer) (b .before .before .before .if1 .left) (b .if2 .taken)) (rw (b .before .before .wide8 .ensures .0) at (c .before .before .put-words2 .ensures))
+    rw (line-placed (b .before .before .before .before .before .before .args .answer) (b .before .before .before .if1 .left) (b .if2 .taken))
+    (rw (b .before .before .wide8 .ensures .0) at (c .before .before .put-words2 .ensures))
 
 put-words-requires-3 : tie.Need-put-words-requires-3
 put-words-requires-3 c κs =

@@ -30,11 +30,20 @@ add-at : tie.Need-add-at Inv-loop μ-loop
 add-at c =
     let l = c .before .before .before .before .before .before .loop .inv in
     let t = c .before .before .before .before .before .loop-test .taken in
-    record { fits = omega (arith, numbered-fits _ _ _ _ _ l t, numbered-length _ _ _ _ _ l t, c .before .before .put-spaced .ensures .0, c .before .before .before .before .before .before .before .before .before .good) }
+    record {
+      fits = omega (
+        arith,
+        numbered-fits _ _ _ _ _ l t,
+        numbered-length _ _ _ _ _ l t,
+        c .before .before .put-spaced .ensures .0,
+        c .before .before .before .before .before .before .before .before .before .good,
+      );
+    }
 
 loop-again : tie.Need-loop-again Inv-loop μ-loop
 loop-again c =
-    numbered-step _ _ _ _ _ (c .before .before .before .before .before .before .loop .inv) (c .before .before .before .before .before .loop-test .taken) _ _ (c .before .before .put-spaced .ensures .0) (c .before .before .put-spaced .ensures .1)
+    numbered-step _ _ _ _ _ (c .before .before .before .before .before .before .loop .inv) (c .before .before .before .before .before .loop-test .taken) _ _
+    (c .before .before .put-spaced .ensures .0) (c .before .before .put-spaced .ensures .1)
 
 same-length : tie.Need-same-length Inv-loop μ-loop
 same-length c = numbered-same _ _ _ _ _ (c .before .loop .inv) (c .loop-test .left)

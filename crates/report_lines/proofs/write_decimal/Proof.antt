@@ -15,7 +15,8 @@ part-put-whole-end c =
 
 returns : tie.Need-returns
 returns c =
-    rw (text-held _ _ _ _ (c .before .before .before .before .before .before .before .put-decimal .ensures .0) (c .before .before .before .before .before .before .before .put-decimal .ensures .1)) at (c .before .before .put-whole .ensures)
+    rw (text-held _ _ _ _ (c .before .before .before .before .before .before .before .put-decimal .ensures .0)
+    (c .before .before .before .before .before .before .before .put-decimal .ensures .1)) at (c .before .before .put-whole .ensures)
 
 pub write-decimal-spec : {M : Type 1} → statement M
 write-decimal-spec =

@@ -23,7 +23,8 @@ part-put-whole-end c = omega (arith, short (c .before .before .before .before .b
 
 returns : tie.Need-returns
 returns c =
-    rw (text-held _ _ _ _ (c .before .before .before .before .before .before .before .put-answer .ensures .0) (c .before .before .before .before .before .before .before .put-answer .ensures .1)) at (c .before .before .put-whole .ensures)
+    rw (text-held _ _ _ _ (c .before .before .before .before .before .before .before .put-answer .ensures .0)
+    (c .before .before .before .before .before .before .before .put-answer .ensures .1)) at (c .before .before .put-whole .ensures)
 
 pub write-line-spec : {M : Type 1} → statement M
 write-line-spec =

@@ -84,16 +84,20 @@ read-expr-returns-4 : (t : ℕ) → read-expr-lts.Need-returns-4 (read-expr-clai
 read-expr-returns-4 t c =
     let j = c .before .before .before .before .before in
     let a = j .before .before .before .before .before .before .before .before .before .before .before .args in
-    expr-one (a .deep) (now (a .s)) (a .want) (a .at) (j .before .before .before .before .before .before .before .code-of .result) (j .before .before .before .before .before .before .before .before .before .if1 .left) (j .before .before .before .before .before .before .before .code-of .ensures)
-    (j .before .before .before .before .before .enum-told4 .given .0 .0) (j .before .before .before .before .before .enum-told4 .given .1) (sym (j .before .before .before .before .same-kind .ensures) ∙ not-false _ (j .before .before .before .if2 .left)) (j .before .before .if3 .left)
+    expr-one (a .deep) (now (a .s)) (a .want) (a .at) (j .before .before .before .before .before .before .before .code-of .result)
+    (j .before .before .before .before .before .before .before .before .before .if1 .left) (j .before .before .before .before .before .before .before .code-of .ensures)
+    (j .before .before .before .before .before .enum-told4 .given .0 .0) (j .before .before .before .before .before .enum-told4 .given .1)
+    (sym (j .before .before .before .before .same-kind .ensures) ∙ not-false _ (j .before .before .before .if2 .left)) (j .before .before .if3 .left)
     (sym (c .before .before .before .first .given .1) ∙ first-read t j) (c .if5 .taken)
 
 read-expr-returns-5 : (t : ℕ) → read-expr-lts.Need-returns-5 (read-expr-claims t) (read-expr-at t) read-expr.Post
 read-expr-returns-5 t c =
     let j = c .before .before .before .before .before .before .before in
     let a = j .before .before .before .before .before .before .before .before .before .before .before .args in
-    expr-two (a .deep) (now (a .s)) (a .want) (a .at) (j .before .before .before .before .before .before .before .code-of .result) (j .before .before .before .before .before .before .before .before .before .if1 .left) (j .before .before .before .before .before .before .before .code-of .ensures)
-    (j .before .before .before .before .before .enum-told4 .given .0 .0) (j .before .before .before .before .before .enum-told4 .given .1) (sym (j .before .before .before .before .same-kind .ensures) ∙ not-false _ (j .before .before .before .if2 .left)) (j .before .before .if3 .left)
+    expr-two (a .deep) (now (a .s)) (a .want) (a .at) (j .before .before .before .before .before .before .before .code-of .result)
+    (j .before .before .before .before .before .before .before .before .before .if1 .left) (j .before .before .before .before .before .before .before .code-of .ensures)
+    (j .before .before .before .before .before .enum-told4 .given .0 .0) (j .before .before .before .before .before .enum-told4 .given .1)
+    (sym (j .before .before .before .before .same-kind .ensures) ∙ not-false _ (j .before .before .before .if2 .left)) (j .before .before .if3 .left)
     (sym (c .before .before .before .before .before .first .given .1) ∙ first-read t j) (c .before .before .if5 .left) (c .before .is-variable2 .ensures (c .if6 .taken) .1)
 
 read-expr-returns-6 : (t : ℕ) → read-expr-lts.Need-returns-6 (read-expr-claims t) (read-expr-at t) read-expr.Post
@@ -121,16 +125,20 @@ read-expr-returns-9 : (t : ℕ) → read-expr-lts.Need-returns-9 (read-expr-clai
 read-expr-returns-9 t c =
     let j = c .before .before .before .before .before .before .before .before in
     let a = j .before .before .before .before .before .before .before .before .before .before .before .args in
-    expr-two (a .deep) (now (a .s)) (a .want) (a .at) (j .before .before .before .before .before .before .before .code-of .result) (j .before .before .before .before .before .before .before .before .before .if1 .left) (j .before .before .before .before .before .before .before .code-of .ensures)
-    (j .before .before .before .before .before .enum-told4 .given .0 .0) (j .before .before .before .before .before .enum-told4 .given .1) (sym (j .before .before .before .before .same-kind .ensures) ∙ not-false _ (j .before .before .before .if2 .left)) (j .before .before .if3 .left)
+    expr-two (a .deep) (now (a .s)) (a .want) (a .at) (j .before .before .before .before .before .before .before .code-of .result)
+    (j .before .before .before .before .before .before .before .before .before .if1 .left) (j .before .before .before .before .before .before .before .code-of .ensures)
+    (j .before .before .before .before .before .enum-told4 .given .0 .0) (j .before .before .before .before .before .enum-told4 .given .1)
+    (sym (j .before .before .before .before .same-kind .ensures) ∙ not-false _ (j .before .before .before .if2 .left)) (j .before .before .if3 .left)
     (sym (c .before .before .before .before .before .before .first .given .1) ∙ first-read t j) (c .before .before .before .if5 .left) (c .read-expr2 .ensures)
 
 read-expr-returns-10 : (t : ℕ) → read-expr-lts.Need-returns-10 (read-expr-claims t) (read-expr-at t) read-expr.Post
 read-expr-returns-10 t c =
     let j = c .before .before .before in
     let a = j .before .before .before .before .before .before .before .before .before .before .before .args in
-    expr-refused (a .deep) (now (a .s)) (a .want) (a .at) (j .before .before .before .before .before .before .before .code-of .result) (j .before .before .before .before .before .before .before .before .before .if1 .left) (j .before .before .before .before .before .before .before .code-of .ensures)
-    (j .before .before .before .before .before .enum-told4 .given .0 .0) (j .before .before .before .before .before .enum-told4 .given .1) (sym (j .before .before .before .before .same-kind .ensures) ∙ not-false _ (j .before .before .before .if2 .left)) (j .before .before .if3 .left)
+    expr-refused (a .deep) (now (a .s)) (a .want) (a .at) (j .before .before .before .before .before .before .before .code-of .result)
+    (j .before .before .before .before .before .before .before .before .before .if1 .left) (j .before .before .before .before .before .before .before .code-of .ensures)
+    (j .before .before .before .before .before .enum-told4 .given .0 .0) (j .before .before .before .before .before .enum-told4 .given .1)
+    (sym (j .before .before .before .before .same-kind .ensures) ∙ not-false _ (j .before .before .before .if2 .left)) (j .before .before .if3 .left)
     (sym (c .before .first2 .given .1) ∙ first-read t j)
 
 read-expr-returns-11 : (t : ℕ) → read-expr-lts.Need-returns-11 (read-expr-claims t) (read-expr-at t) read-expr.Post

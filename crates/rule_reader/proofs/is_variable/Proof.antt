@@ -38,7 +38,13 @@ returns-5 c e =
     let b = second-there _ _ _ (d .pre) l in (
       b,
       sym (ap stepOf (expr-variable (a .deep) (now (a .s)) (a .want) (a .at) (first-there _ _ _ (d .pre) l) (c .before .before .before .before .before .if3 .left))
-          ∙ rw (some-left _ (c .before .before .before .before .before .before .before .before .if1 .left), lt-ltb _ _ b, lt-ltb _ _ (c .before .before .if4 .left), ← c .before .kind-at .ensures, sym (c .same-kind .ensures) ∙ e)),
+          ∙ rw (
+            some-left _ (c .before .before .before .before .before .before .before .before .if1 .left),
+            lt-ltb _ _ b,
+            lt-ltb _ _ (c .before .before .if4 .left),
+            ← c .before .kind-at .ensures,
+            sym (c .same-kind .ensures) ∙ e,
+          )),
     )
 
 pub is-variable-spec : {M : Type 1} → statement M

@@ -17,14 +17,25 @@ inputs-refusal-requires c κs = kinds-there _ _ _ (c .before .before .before .pr
 
 returns-2 : tie.Need-returns-2
 returns-2 c =
-    inputs-refused _ _ _ (c .before .before .before .before .before .before .prepare .ensures .answered) (c .before .before .before .if1 .left) _ _ _ _ (c .before .before .inputs-refusal .ensures) (c .before .if2 .taken) (c .refused .ensures)
+    inputs-refused _ _ _ (c .before .before .before .before .before .before .prepare .ensures .answered) (c .before .before .before .if1 .left) _ _ _ _
+    (c .before .before .inputs-refusal .ensures) (c .before .if2 .taken) (c .refused .ensures)
 
 run-prepared-requires : tie.Need-run-prepared-requires
-run-prepared-requires c κs = ((c .before .before .before .before .before .before .before .before .before .before .if1 .left, sym (c .before .before .before .before .before .before .before .before .before .inputs-refusal .ensures) ∙ c .before .before .before .before .before .before .before .before .if2 .left), c .before .before .before .before .before .before .before .before .before .before .before .before .before .prepare .ensures)
+run-prepared-requires c κs = (
+  (
+    c .before .before .before .before .before .before .before .before .before .before .if1 .left,
+    sym
+        (c .before .before .before .before .before .before .before .before .before .inputs-refusal .ensures) ∙ c .before .before .before .before .before .before .before .before .if2 .left,
+  ),
+  c .before .before .before .before .before .before .before .before .before .before .before .before .before .prepare .ensures,
+)
 
 returns-3 : tie.Need-returns-3
 returns-3 c =
-    run-done _ _ _ (c .before .before .before .before .before .before .before .before .before .before .before .before .before .before .before .before .prepare .ensures .answered) (c .before .before .before .before .before .before .before .before .before .before .before .before .before .if1 .left) _ _ _ (c .before .before .before .before .before .before .before .before .before .before .before .before .inputs-refusal .ensures) (c .before .before .before .before .before .before .before .before .before .before .before .if2 .left) _ (c .before .before .run-prepared .ensures)
+    run-done _ _ _ (c .before .before .before .before .before .before .before .before .before .before .before .before .before .before .before .before .prepare .ensures .answered)
+    (c .before .before .before .before .before .before .before .before .before .before .before .before .before .if1 .left) _ _ _
+    (c .before .before .before .before .before .before .before .before .before .before .before .before .inputs-refusal .ensures)
+    (c .before .before .before .before .before .before .before .before .before .before .before .if2 .left) _ (c .before .before .run-prepared .ensures)
 
 pub run-spec : {M : Type 1} → statement M
 run-spec =

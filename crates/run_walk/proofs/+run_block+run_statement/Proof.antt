@@ -11,7 +11,8 @@ use Rattle.rule.specs.ExpressionLaws.{expr-forward}
 use Rattle.rule.specs.Blocks.{branchWith, statementForm, readBlock}
 use Rattle.rule.specs.FuelLaws.{block-forward, statement-forward}
 use Rattle.run_walk.specs.Walking.{AmidBlock}
-use Rattle.run_walk.specs.BlockLaws.{statement-taken, statement-ran, skip-ran, branch-level, test-taken, first-taken, second-taken, branch-yes, branch-no, amid-start, amid-inside, amid-end, amid-taken, amid-more}
+use Rattle.run_walk.specs.BlockLaws.{statement-taken, statement-ran, skip-ran, branch-level, test-taken, first-taken, second-taken}
+use Rattle.run_walk.specs.BlockLaws.{branch-yes, branch-no, amid-start, amid-inside, amid-end, amid-taken, amid-more}
 use borrow.Author.Needs.{needs}
 use Prim.Native.Nat.{ℕ, _+_, _-_, _*_, _<_, _≤_}
 use borrow.Fn.Kinds.{In}
