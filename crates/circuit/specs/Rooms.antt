@@ -1,4 +1,4 @@
--- Inner: how many places the lent arrays have, all in this place. They are no limits: a rule is refused by those of Limits.
+-- Document 01, "The plain circuit": the places of lent arrays, all in this file. They are no limits: a rule is refused by those of Limits.
 use Prim.Native.Nat.{ℕ, _*_}
 
 -- one for each gate
