@@ -1,4 +1,4 @@
--- Laws of the search for the highest number of a word.
+-- The highest bit of a word that is not 0: halving it until nothing is left counts up to it.
 use Prim.Native.Nat.{ℕ, suc, _+_, _-_, _/_, _%_, _^_, _≤_, _<_}
 use mathlib.Core.Path.{_≡_, ap, _∙_}
 use mathlib.Core.Bool.{true}

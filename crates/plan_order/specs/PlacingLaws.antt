@@ -1,4 +1,4 @@
--- Laws of the loop that writes the groups in order, the next ready one at each turn.
+-- The loop that writes the groups in order: each turn writes the first ready group, a circle leaves one unwritten, and at the end all are.
 use Prim.Native.Nat.{ℕ, suc, _+_, _-_, _≤_, _<_}
 use mathlib.Core.Path.{_≡_, refl, sym, ap, _∙_}
 use mathlib.Core.Bool.{true, false, cond, true≢false}

@@ -137,9 +137,11 @@ fn order_in(
     waits: &mut [u64],
     order: &mut [u16; GATE_ROOM],
 ) -> Order
-    requires { ⌜ Orderable (now quads) count (now conditions) (now group) (now places) × ((length (now order) ≡ gateRoom) × ((now waits ≡ replicate (length (now waits)) 0) × (4 * count ≤ length (now waits)))) ⌝ }
+    requires { ⌜ Orderable (now quads) count (now conditions) (now group) (now places)
+        × ((length (now order) ≡ gateRoom) × ((now waits ≡ replicate (length (now waits)) 0) × (4 * count ≤ length (now waits)))) ⌝ }
     ensures answer { λ r. ⌜ r ≡ orderOf (gatesIn (now (quads .entry)) count) (setsIn (now (needs .entry))) (λ x. getD (now (group .entry)) x 0) ⌝ }
-    ensures written { λ r. ⌜ now (order .exit) ≡ over (reverse (plan.order (gatesIn (now (quads .entry)) count) (setsIn (now (needs .entry))) (λ x. getD (now (group .entry)) x 0))) (now (order .entry)) ⌝ }
+    ensures written { λ r. ⌜ now (order .exit)
+        ≡ over (reverse (plan.order (gatesIn (now (quads .entry)) count) (setsIn (now (needs .entry))) (λ x. getD (now (group .entry)) x 0))) (now (order .entry)) ⌝ }
 {
     plan_waits::find_waits(quads, count, needs, conditions, group, places, waits);
     let mut left = [0u64; base::SET_WORDS];
@@ -182,7 +184,8 @@ pub fn order_groups(
 ) -> Order
     requires { ⌜ Orderable (now quads) count (now conditions) (now group) (now places) × (length (now order) ≡ gateRoom) ⌝ }
     ensures answer { λ r. ⌜ r ≡ orderOf (gatesIn (now (quads .entry)) count) (setsIn (now (needs .entry))) (λ x. getD (now (group .entry)) x 0) ⌝ }
-    ensures written { λ r. ⌜ now (order .exit) ≡ over (reverse (plan.order (gatesIn (now (quads .entry)) count) (setsIn (now (needs .entry))) (λ x. getD (now (group .entry)) x 0))) (now (order .entry)) ⌝ }
+    ensures written { λ r. ⌜ now (order .exit)
+        ≡ over (reverse (plan.order (gatesIn (now (quads .entry)) count) (setsIn (now (needs .entry))) (λ x. getD (now (group .entry)) x 0))) (now (order .entry)) ⌝ }
 {
     if count <= FEW {
         let mut few = [0u64; FEW_WORDS];

@@ -1,4 +1,4 @@
--- Laws of the pass over the gates that fills the table of waits, gate by gate.
+-- The pass over the gates that fills the table of waits: after i gates it holds what the groups wait for by the arguments and conditions of these.
 use Prim.Native.Nat.{ℕ, _+_, _*_, _≤_, _<_}
 use mathlib.Core.Path.{_≡_, refl, sym, ap, _∙_}
 use mathlib.Core.Bool.{true, cond}

@@ -1,4 +1,4 @@
--- Laws of the pass over the gates that finds the set of groups left at first, and their count.
+-- The pass over the gates that finds the groups left at first: a gate whose group has its own number is in the set, and each is counted once.
 use Prim.Native.Nat.{ℕ, _+_, _≤_, _<_}
 use mathlib.Core.Path.{_≡_, refl, _∙_}
 use mathlib.Core.List.{List}

@@ -26,17 +26,34 @@ member-requires c κs =
 
 load-requires : tie.Need-load-requires Inv-loop μ-loop
 load-requires c κs =
-    omega (arith, walk-byte _ _ _ _ _ (c .before .before .before .before .loop .inv .walk) (omega (arith, c .before .before .before .loop-test .taken, c .before .before .before .before .before .before .size-at .ensures)) (c .before .before .member .ensures), c .before .before .before .before .before .before .before .before .good)
+    omega (
+      arith,
+      walk-byte _ _ _ _ _ (c .before .before .before .before .loop .inv .walk) (omega (
+        arith,
+        c .before .before .before .loop-test .taken,
+        c .before .before .before .before .before .before .size-at .ensures,
+      )) (c .before .before .member .ensures),
+      c .before .before .before .before .before .before .before .before .good,
+    )
 
 returns : tie.Need-returns Inv-loop μ-loop
 returns c =
-    parting-fails _ _ _ _ _ _ _ _ (c .before .before .before .before .before .before .before .loop .inv) (omega (arith, c .before .before .before .before .before .before .loop-test .taken, c .before .before .before .before .before .before .before .before .before .size-at .ensures))
+    parting-fails _ _ _ _ _ _ _ _ (c .before .before .before .before .before .before .before .loop .inv) (omega (
+      arith,
+      c .before .before .before .before .before .before .loop-test .taken,
+      c .before .before .before .before .before .before .before .before .before .size-at .ensures,
+    ))
     (c .before .before .before .before .before .member .ensures) (rw (c .before .before .load .ensures) at (c .before .excludes .ensures)) (not-true _ (c .if1 .taken))
 
 loop-again : tie.Need-loop-again Inv-loop μ-loop
 loop-again c =
-    parting-step _ _ _ _ _ _ _ _ (c .before .before .before .before .before .before .before .before .loop .inv) (omega (arith, c .before .before .before .before .before .before .before .loop-test .taken, c .before .before .before .before .before .before .before .before .before .before .size-at .ensures)) (c .before .before .before .before .before .before .member .ensures)
-    (rw (c .before .before .before .load .ensures) at (c .before .before .excludes .ensures)) _ (not-false _ (c .before .if1 .left)) (rw (c .before .before .before .load .ensures) at (c .union .ensures))
+    parting-step _ _ _ _ _ _ _ _ (c .before .before .before .before .before .before .before .before .loop .inv) (omega (
+      arith,
+      c .before .before .before .before .before .before .before .loop-test .taken,
+      c .before .before .before .before .before .before .before .before .before .before .size-at .ensures,
+    )) (c .before .before .before .before .before .before .member .ensures)
+    (rw (c .before .before .before .load .ensures) at (c .before .before .excludes .ensures)) _ (not-false _ (c .before .if1 .left)) (rw
+    (c .before .before .before .load .ensures) at (c .union .ensures))
 
 returns-2 : tie.Need-returns-2 Inv-loop μ-loop
 returns-2 c = parting-end _ _ _ _ _ _ (c .before .loop .inv) (omega (arith, c .loop-test .left, c .before .before .before .size-at .ensures))

@@ -90,8 +90,14 @@ loop-again : tie.Need-loop-again Inv-loop μ-loop
 loop-again c =
     let i = c .before .before .before .before .before .before .before .before .before .before .before .before .before .before .before .loop .inv in
     let e = c .before .before .before .before .before .before .before .before .p .given .1 in
-    let n = c .before .before .before .before .before .before .before .before .before .before .next-ready .ensures in
-    (i .0, (_, placing-on _ _ _ _ _ _ _ _ _ _ _ (i .1 .1) _ (sym e ∙ n .0) _ _ _ _ _ _ e (n .1) (omega (arith, c .if1 .taken)) (omega (arith, c .if1 .taken)) refl (c .before .before .before .strike .ensures) (same-else _ 255 _ _ refl)))
+    let n = c .before .before .before .before .before .before .before .before .before .before .next-ready .ensures in (
+      i .0,
+      (
+        _,
+        placing-on _ _ _ _ _ _ _ _ _ _ _ (i .1 .1) _ (sym e ∙ n .0) _ _ _ _ _ _ e (n .1) (omega (arith, c .if1 .taken)) (omega (arith, c .if1 .taken)) refl
+            (c .before .before .before .strike .ensures) (same-else _ 255 _ _ refl),
+      ),
+    )
 
 add-from : tie.Need-add-from Inv-loop μ-loop
 add-from c =
@@ -104,17 +110,25 @@ loop-again-2 : tie.Need-loop-again-2 Inv-loop μ-loop
 loop-again-2 c =
     let i = c .before .before .before .before .before .before .before .before .before .before .before .before .before .before .before .before .loop .inv in
     let e = c .before .before .before .before .before .before .before .before .before .p .given .1 in
-    let n = c .before .before .before .before .before .before .before .before .before .before .before .next-ready .ensures in
-    (i .0, (_, placing-on _ _ _ _ _ _ _ _ _ _ _ (i .1 .1) _ (sym e ∙ n .0) _ _ _ _ _ _ e (n .1) (omega (arith, c .before .if1 .left)) (omega (arith, c .before .if1 .left)) refl (c .before .before .before .before .strike .ensures) (same-all _ _)))
+    let n = c .before .before .before .before .before .before .before .before .before .before .before .next-ready .ensures in (
+      i .0,
+      (
+        _,
+        placing-on _ _ _ _ _ _ _ _ _ _ _ (i .1 .1) _ (sym e ∙ n .0) _ _ _ _ _ _ e (n .1) (omega (arith, c .before .if1 .left)) (omega (arith, c .before .if1 .left)) refl
+            (c .before .before .before .before .strike .ensures) (same-all _ _),
+      ),
+    )
 
 returns : tie.Need-returns Inv-loop μ-loop
 returns c =
     let i = c .before .before .before .before .before .before .before .loop .inv in
     let group = c .before .before .before .before .before .before .before .before .before .before .before .before .before .before .before .before .args .group .now in
-    ordering-circle _ _ _ group _ _ _ _ _ _ _ _ (i .1 .1) _ (i .0) (sym (c .enum-told .given .1) ∙ c .before .before .next-ready .ensures .0) (c .before .before .before .before .before .before .loop-test .taken)
+    ordering-circle _ _ _ group _ _ _ _ _ _ _ _ (i .1 .1) _ (i .0) (sym (c .enum-told .given .1) ∙ c .before .before .next-ready .ensures .0)
+    (c .before .before .before .before .before .before .loop-test .taken)
 
 returns-2 : tie.Need-returns-2 Inv-loop μ-loop
-returns-2 c = let i = c .before .loop .inv in ordering-end _ _ _ (c .before .before .before .before .before .before .before .before .before .before .args .group .now) _ _ _ _ _ _ _ _ (i .1 .1) _ (i .0) (c .loop-test .left)
+returns-2 c = let i = c .before .loop .inv in ordering-end _ _ _
+    (c .before .before .before .before .before .before .before .before .before .before .args .group .now) _ _ _ _ _ _ _ _ (i .1 .1) _ (i .0) (c .loop-test .left)
 
 pub order-in-spec : {M : Type 1} → statement M
 order-in-spec =

@@ -6,7 +6,8 @@ use Prim.Native.Nat.{_-_}
 use lib.ListN.{length}
 use Rattle.base.specs.SetsHeld.{setOf, setsIn}
 use Rattle.base.specs.SettingListsLaws.{rested-are, rested-lists}
-use Rattle.plan_waits.specs.GatherLaws.{GatheringWaits, gathering-start, gathering-group, gathering-size, gathering-arguments, gathering-conditions, gathering-alone, gathering-joined, gathering-end}
+use Rattle.plan_waits.specs.GatherLaws.{GatheringWaits, gathering-start, gathering-group, gathering-size}
+use Rattle.plan_waits.specs.GatherLaws.{gathering-arguments, gathering-conditions, gathering-alone, gathering-joined, gathering-end}
 use Rattle.plan_waits.proofs.find_waits.Statement.{statement}
 use Rattle.plan_waits.proofs.find_waits.Tie as tie
 
@@ -43,15 +44,29 @@ element-copy-out-if1 c = omega
     (arith, c .before .before .before .before .before .before .loop .inv .orderable .room, c .before .before .before .before .before .loop-test .taken)
 
 load-requires : tie.Need-load-requires Inv-loop μ-loop
-load-requires c κs = omega (arith, c .before .before .before .before .before .before .before .before .before .loop .inv .orderable .room, c .before .before .before .before .before .before .before .before .loop-test .taken, c .before .before .before .before .before .before .before .before .before .before .before .good)
+load-requires c κs = omega (
+  arith,
+  c .before .before .before .before .before .before .before .before .before .loop .inv .orderable .room,
+  c .before .before .before .before .before .before .before .before .loop-test .taken,
+  c .before .before .before .before .before .before .before .before .before .before .before .good,
+)
 
 wait-conditions-requires : tie.Need-wait-conditions-requires Inv-loop μ-loop
 wait-conditions-requires c κs =
     let i = c .before .before .before .before .before .before .before .before .before .before .before .before .loop .inv in
     let t = c .before .before .before .before .before .before .before .before .before .before .before .loop-test .taken in
     let e = c .before .rested .ensures in (
-      omega (arith, c .before .before .before .before .before .before .before .before .before .before .group-of .ensures, gathering-group _ _ _ _ _ _ _ _ _ i t .1, gathering-size _ _ _ _ _ _ _ _ _ i t _ _ _ (c .before .before .before .before .before .before .before .before .wait-arguments .ensures)),
-      (rested-lists _ _ (e .0) (e .1 .0), rw (rested-are (setOf (c .before .before .load .result)) (c .before .rested .result) (e .0) (e .1 .0)) (gathering-conditions _ _ _ _ _ _ _ _ _ i t _ (c .before .before .load .ensures))),
+      omega (
+        arith,
+        c .before .before .before .before .before .before .before .before .before .before .group-of .ensures,
+        gathering-group _ _ _ _ _ _ _ _ _ i t .1,
+        gathering-size _ _ _ _ _ _ _ _ _ i t _ _ _ (c .before .before .before .before .before .before .before .before .wait-arguments .ensures),
+      ),
+      (
+        rested-lists _ _ (e .0) (e .1 .0),
+        rw (rested-are (setOf (c .before .before .load .result)) (c .before .rested .result) (e .0) (e .1 .0))
+            (gathering-conditions _ _ _ _ _ _ _ _ _ i t _ (c .before .before .load .ensures)),
+      ),
     )
 
 loop-again : tie.Need-loop-again Inv-loop μ-loop
@@ -63,7 +78,8 @@ loop-again c =
     let i = c8 .loop .inv in
     let t = c7 .loop-test .taken in
     ⊎-elim
-    (λ w. gathering-joined _ _ _ _ _ _ _ _ _ i t _ _ _ _ (c6 .group-of .ensures) (w .0 .taken) (w .2 .ensures) (c4 .wait-arguments .ensures) (w .8 ∙ rw (rested-are (setOf (w .2 .result)) (w .3 .result) (w .3 .ensures .0) (w .3 .ensures .1 .0)) at (w .5 .ensures)))
+    (λ w. gathering-joined _ _ _ _ _ _ _ _ _ i t _ _ _ _ (c6 .group-of .ensures) (w .0 .taken) (w .2 .ensures) (c4 .wait-arguments .ensures) (w .8 ∙ rw (rested-are (setOf
+    (w .2 .result)) (w .3 .result) (w .3 .ensures .0) (w .3 .ensures .1 .0)) at (w .5 .ensures)))
     (λ w. gathering-alone _ _ _ _ _ _ _ _ _ i t _ _ (c6 .group-of .ensures) (w .0 .left) (w .1 ∙ c4 .wait-arguments .ensures))
     (c .if1 .came)
 

@@ -44,7 +44,8 @@ loop-again : tie.Need-loop-again Inv-loop μ-loop
 loop-again c =
     let d = c .before .before .before .before .before .before .before .before .before .before in
     let g = listed-gate (d .args .conditions .now) _ (d .pre .1 .0) _ (c .before .before .before .before .before .before .before .loop-test .taken) in
-    putting-step _ _ _ _ _ _ _ _ _ (c .before .before .before .before .before .before .before .before .loop .inv) (g .0) (g .1) (c .before .before .before .group-of .ensures) (c .before .before .wait-for .ensures)
+    putting-step _ _ _ _ _ _ _ _ _ (c .before .before .before .before .before .before .before .before .loop .inv) (g .0) (g .1) (c .before .before .before .group-of .ensures)
+    (c .before .before .wait-for .ensures)
 
 same-length : tie.Need-same-length Inv-loop μ-loop
 same-length c = c .before .loop .inv .size
