@@ -313,10 +313,10 @@ fn stored_files() {
     limits::batch_cases()
         .iter()
         .for_each(|case| case.put(&mut stream));
-    assert!(stream == stored("batch_cases/stdin"));
+    assert!(stream == stored("conform_batches/stdin"));
     let mut reports = Vec::new();
     answer_all(&stream[..], &mut reports).expect("nothing fails in memory");
-    assert!(reports == stored("batch_cases/stdout"));
+    assert!(reports == stored("conform_batches/stdout"));
     let batch = limits::month();
     assert!(batch == stored("month/stdin"));
     assert!(report(&batch) == stored("month/stdout"));

@@ -1,5 +1,5 @@
 //! `batches SEED BATCHES`: gives random batches (C-16), cut at every byte, as one stream of cases to the proved program
-//! `batch_cases`, and some whole to the proved program `month` in many small writes, and compares every byte of every
+//! `conform_batches`, and some whole to the proved program `month` in many small writes, and compares every byte of every
 //! report with the plain implementation's. Prints how many cases there were, how their reports ended and how many differ;
 //! the first differing one in full, its case going to `target/differing.bat`. The exit status is 0 when none differs. The
 //! programs' paths are the environment's BATCH_CASES and MONTH.
@@ -38,7 +38,7 @@ fn all(seed: u64, batches: u64) -> io::Result<u64> {
     let streamed = streamed(seed, batches)?;
     let refused = streamed.cases - streamed.totals;
     println!(
-        "batch_cases: {} cases of {batches} batches; {} reports end in a total, {refused} in 75",
+        "conform_batches: {} cases of {batches} batches; {} reports end in a total, {refused} in 75",
         streamed.cases, streamed.totals
     );
     let whole = whole(seed, batches.div_ceil(4))?;
