@@ -2,7 +2,7 @@
 //! `conform_batches`, and some whole to the proved program `month` in many small writes, and compares every byte of every
 //! report with the plain implementation's. Prints how many cases there were, how their reports ended and how many differ;
 //! the first differing one in full, its case going to `target/differing.bat`. The exit status is 0 when none differs. The
-//! programs' paths are the environment's BATCH_CASES and MONTH.
+//! programs' paths are the environment's CONFORM_BATCHES and MONTH.
 
 use compare::batch::report;
 use compare::batch_cases::Case;
@@ -69,7 +69,7 @@ fn start(variable: &str) -> io::Result<Child> {
 
 /// The random cases, by one process. The cases are made twice, so that none need be kept.
 fn streamed(seed: u64, batches: u64) -> io::Result<Tally> {
-    let mut program = start("BATCH_CASES")?;
+    let mut program = start("CONFORM_BATCHES")?;
     let stream = program.stdin.take().expect("piped");
     let reports = program.stdout.take().expect("piped");
     // Whoever stops reading ends its reports too, and that is found.
