@@ -16,5 +16,6 @@ pub mod month;
 pub mod plan;
 pub mod rule;
 pub mod run;
+pub mod stored;
 pub mod stream;
 pub mod write;

@@ -1,7 +1,7 @@
 //! Fixed cases at the limits of document 01, of C-11, C-13, C-15, C-17 and C-18: its examples, every refusal, every limit, for every
 //! operation. Rules, plans and circuits are put together from their parts. The number that a case must come to is
 //! written beside it, from the document, and looked at when the case is added; only the cases of
-//! `reading` and the empty plans of refused rules have none.
+//! `reading` and the empty plans of refused rules have none. Some of them are stored: see `stored`.
 
 mod arguments;
 mod batches;
@@ -16,6 +16,7 @@ mod groups;
 mod guards;
 mod large;
 mod layout;
+mod more;
 mod order;
 pub mod parts;
 mod reading;
@@ -33,29 +34,84 @@ use crate::plan::accept_both;
 use crate::stream::{Case, CHECK, DIRECT, FUSED, PLAIN, READ, WRITE};
 use crate::write::fuse_with;
 use std::collections::HashSet;
+use std::panic::Location;
 
-/// The fixed cases of operations 01 to 06, each once, in the order of the stored stream.
+/// A fixed case, and what made it.
+#[derive(Clone)]
+pub struct Made {
+    pub case: Case,
+    /// The name of its family in its section.
+    pub family: &'static str,
+    pub sort: Sort,
+}
+
+/// Cases of one sort come from one line of `limits`, and where they are changes of one byte, from one byte.
+#[derive(Clone, Copy, Debug, PartialEq, Eq, Hash)]
+pub struct Sort {
+    from: &'static Location<'static>,
+    pub byte: Option<usize>,
+}
+
+/// The family of those that came before with another room.
+pub const MOVED: &str = "moved";
+
+/// All fixed cases, section by section: those of document 01 and of each request that has some.
+pub fn sections() -> Vec<(&'static str, Vec<Made>)> {
+    vec![
+        ("01", of_rules()),
+        ("C11", of_circuits()),
+        ("C13", of_working()),
+        ("C15", of_ordered()),
+        ("C17", of_eight()),
+        ("C18", of_equal()),
+        ("more", of_more()),
+    ]
+}
+
+fn alone(made: Vec<Made>) -> Vec<Case> {
+    made.into_iter().map(|made| made.case).collect()
+}
+
+/// The fixed cases of operations 01 to 06, each once.
 pub fn cases() -> Vec<Case> {
+    alone(of_rules())
+}
+
+fn of_rules() -> Vec<Made> {
     each_once(rules().cases)
 }
 
 fn rules() -> List {
     let mut list = List::of(Words::BEFORE_EIGHT);
-    list.cases = reading::cases();
+    list.family = "reading";
+    reading::cases().into_iter().for_each(|case| list.put(case));
+    list.family = "examples";
     examples::add(&mut list);
+    list.family = "layout";
     layout::add(&mut list);
+    list.family = "rows";
     rows::add(&mut list);
+    list.family = "circles";
     circles::add(&mut list);
+    list.family = "guards";
     guards::add(&mut list);
+    list.family = "large";
     large::add(&mut list);
+    list.family = "order";
     order::add(&mut list);
+    list.family = "arguments";
     arguments::add(&mut list);
+    list.family = "empty";
     empty::add(&mut list);
     list
 }
 
-/// The fixed cases of operations 07 to 09, each once. They come after all that was stored before them.
+/// The fixed cases of operations 07 to 09, each once.
 pub fn circuit_cases() -> Vec<Case> {
+    alone(of_circuits())
+}
+
+fn of_circuits() -> Vec<Made> {
     each_once(circuits().cases)
 }
 
@@ -65,8 +121,12 @@ fn circuits() -> List {
     list
 }
 
-/// The fixed cases of C-13, over all operations, each once. They come after all that was stored before them.
+/// The fixed cases of C-13, over all operations, each once.
 pub fn working_cases() -> Vec<Case> {
+    alone(of_working())
+}
+
+fn of_working() -> Vec<Made> {
     each_once(working().cases)
 }
 
@@ -77,8 +137,12 @@ fn working() -> List {
 }
 
 /// The fixed cases of C-15, and those of before whose groups stood in another order once more with them in order; each
-/// once, and none that was there before. They come after all that was stored before them.
+/// once, and none that was there before.
 pub fn ordered_cases() -> Vec<Case> {
+    alone(of_ordered())
+}
+
+fn of_ordered() -> Vec<Made> {
     let mut list = ordered();
     let [mut rules, mut working] = [rules(), working()];
     list.cases.append(&mut rules.in_order);
@@ -93,8 +157,12 @@ fn ordered() -> List {
 }
 
 /// The fixed cases of C-17, over all operations, and those of writing of before once more with rooms for files of version 2;
-/// each once, and none that was there before. They come after all that was stored before them.
+/// each once, and none that was there before.
 pub fn eight_cases() -> Vec<Case> {
+    alone(of_eight())
+}
+
+fn of_eight() -> Vec<Made> {
     let mut before = before_eight();
     let list = eight(&mut before);
     behind(&before, list.cases)
@@ -107,29 +175,46 @@ fn before_eight() -> [List; 4] {
 fn eight(before: &mut [List]) -> List {
     let mut list = List::of(Words::BEFORE_EQUAL);
     eight::add(&mut list);
-    for moved in before.iter_mut().flat_map(|list| list.moved.drain(..)) {
-        list.add(moved.0, moved.1);
+    list.family = MOVED;
+    for (moved, wanted) in before.iter_mut().flat_map(|list| list.moved.drain(..)) {
+        list.add_from(moved, wanted);
     }
     list
 }
 
 /// The fixed cases of C-18, over all operations, and those of writing of before once more with rooms for files without picks
-/// between equal wires; each once, and none that was there before. They come after all that was stored before them.
+/// between equal wires; each once, and none that was there before.
 pub fn equal_cases() -> Vec<Case> {
+    alone(of_equal())
+}
+
+fn of_equal() -> Vec<Made> {
     let mut before = before_eight().to_vec();
     let mut eight = eight(&mut before);
     let mut list = List::of(Words::ALL);
     equal::add(&mut list);
-    for moved in eight.moved.drain(..) {
-        list.add(moved.0, moved.1);
+    list.family = MOVED;
+    for (moved, wanted) in eight.moved.drain(..) {
+        list.add_from(moved, wanted);
     }
     equal::add_behind(&mut list);
     before.push(eight);
     behind(&before, list.cases)
 }
 
+/// Those that wrong builds asked for, over all operations, each once.
+pub fn more_cases() -> Vec<Case> {
+    alone(of_more())
+}
+
+fn of_more() -> Vec<Made> {
+    let mut list = List::of(Words::ALL);
+    more::add(&mut list);
+    each_once(list.cases)
+}
+
 /// The cases that are none of those before, each once.
-fn behind(before: &[List], mut cases: Vec<Case>) -> Vec<Case> {
+fn behind(before: &[List], mut cases: Vec<Made>) -> Vec<Made> {
     let before = before.iter().flat_map(|list| list.cases.clone());
     let mut all = each_once(before.collect());
     let count = all.len();
@@ -147,11 +232,11 @@ pub fn month() -> Vec<u8> {
     batches::month()
 }
 
-fn each_once(mut cases: Vec<Case>) -> Vec<Case> {
+fn each_once(mut cases: Vec<Made>) -> Vec<Made> {
     let mut seen = HashSet::new();
-    cases.retain(|case| {
+    cases.retain(|made| {
         let mut bytes = Vec::new();
-        case.put(&mut bytes);
+        made.case.put(&mut bytes);
         seen.insert(bytes)
     });
     cases
@@ -184,21 +269,27 @@ fn inputs_of(kinds: &[Kind], turn: usize) -> Vec<u32> {
 
 #[derive(Clone)]
 struct List {
-    cases: Vec<Case>,
+    cases: Vec<Made>,
+    /// The family of the cases that are added.
+    family: &'static str,
+    /// The byte that the cases that are added change.
+    byte: Option<usize>,
     /// Whether the cases are those of before C-17, or of before C-18.
     words: Words,
     /// Whether the cases that are added have the groups of their plan in another order.
     turned: bool,
     /// Those cases with the groups in order.
-    in_order: Vec<Case>,
+    in_order: Vec<Made>,
     /// Cases of writing with the room that C-17, or C-18 for its cases, moves them to, and their numbers.
-    moved: Vec<(Case, u8)>,
+    moved: Vec<(Made, u8)>,
 }
 
 impl List {
     fn of(words: Words) -> List {
         List {
             cases: Vec::new(),
+            family: "",
+            byte: None,
             words,
             turned: false,
             in_order: Vec::new(),
@@ -206,13 +297,40 @@ impl List {
         }
     }
 
+    /// A case with what makes it: the line that calls, through all functions that are marked so.
+    #[track_caller]
+    fn made(&self, case: Case) -> Made {
+        let from = Location::caller();
+        let byte = self.byte;
+        Made {
+            case,
+            family: self.family,
+            sort: Sort { from, byte },
+        }
+    }
+
+    /// Adds a case that no number stands beside.
+    #[track_caller]
+    fn put(&mut self, case: Case) {
+        let made = self.made(case);
+        self.cases.push(made);
+    }
+
     #[track_caller]
     fn add(&mut self, case: Case, wanted: u8) {
-        let wanted = self.as_it_stands(&case, wanted);
-        let (answer, _) = case.work().expect("an operation that is built");
-        let operation = case.operation;
+        let made = self.made(case);
+        self.add_from(made, wanted);
+    }
+
+    /// Adds a case of this family that another line made.
+    #[track_caller]
+    fn add_from(&mut self, made: Made, wanted: u8) {
+        let wanted = self.as_it_stands(&made, wanted);
+        let (answer, _) = made.case.work().expect("an operation that is built");
+        let operation = made.case.operation;
         assert_eq!(answer.number, wanted, "operation {operation:02X}");
-        self.cases.push(case);
+        let family = self.family;
+        self.cases.push(Made { family, ..made });
     }
 
     #[track_caller]

@@ -333,23 +333,23 @@ fn falls(record: &Record) -> bool {
     matches!(record, Record::Operation(code, wires) if turns(*code) && wires[0] > wires[1])
 }
 
-/// The cases of rules among those of seeds 1 and 4, as they are stored: before C-15, and with it.
-fn stored_cases() -> Vec<Case> {
+/// The cases of rules among those of seeds 1 and 4, as they were before C-15, and with it.
+fn random_cases() -> Vec<Case> {
     let (mut one, mut four) = (Random::new(1), Random::new(4));
     let operations: Vec<u8> = (1..=LAST).collect();
     let ordered = |_| cases::case(&mut four, &operations, Words::BEFORE_EIGHT);
-    let mut stored: Vec<Case> = (0..2000).map(ordered).collect();
-    stored.retain(|case| case.operation <= PLAIN);
-    stored.extend((0..2000).map(|_| cases::rule_case(&mut one, Words::NONE)));
-    stored
+    let mut made: Vec<Case> = (0..2000).map(ordered).collect();
+    made.retain(|case| case.operation <= PLAIN);
+    made.extend((0..2000).map(|_| cases::rule_case(&mut one, Words::NONE)));
+    made
 }
 
-/// How many of the stored random cases hold what C-12 decides.
+/// How many of these random cases hold what C-12 decides.
 #[test]
 fn turned_gates_are_often_made() {
     let [mut accepted, mut pairs, mut some, mut joined, mut falling] = [0; 5];
     let (mut gates, mut gates_turned) = (0, 0);
-    for case in stored_cases() {
+    for case in random_cases() {
         let Ok(Accepted { rule, circuit }) = accept(&case.first) else {
             continue;
         };

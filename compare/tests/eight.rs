@@ -285,10 +285,10 @@ fn random_cases(seed: u64, words: Words) -> impl Iterator<Item = Case> {
     std::iter::repeat_with(move || cases::case(&mut random, &operations, words))
 }
 
-/// What C-15 stored is made as it was then; `tests/ordered_cases.rs` and `tests/working.rs` have what was stored before it,
+/// What C-15 brought is made as it was then; `tests/ordered_cases.rs` and `tests/working.rs` have what was before it,
 /// `tests/equal.rs` what was after it.
 #[test]
-fn stored_cases_stay() {
+fn cases_stay() {
     let random = random_cases(4, Words::BEFORE_EIGHT).take(2000);
     assert_eq!(mark_of(random), 0x3D20_AF0D_4EF8_54C3);
     assert_eq!(
@@ -297,7 +297,7 @@ fn stored_cases_stay() {
     );
 }
 
-/// The 2,000 cases of seed 5, as they are stored: how many have what C-17 brings.
+/// The first 2,000 cases of seed 5: how many have what C-17 brings.
 #[test]
 fn many_conditions_are_often_made() {
     let [mut accepted, mut more, mut eight, mut wide] = [0; 4];

@@ -173,9 +173,9 @@ fn random_cases(seed: u64, words: Words) -> impl Iterator<Item = Case> {
     std::iter::repeat_with(move || cases::case(&mut random, &operations, words))
 }
 
-/// What C-17 stored is made as it was then; `tests/eight.rs` has what was stored before it.
+/// What C-17 brought is made as it was then; `tests/eight.rs` has what was before it.
 #[test]
-fn stored_cases_stay() {
+fn cases_stay() {
     let random = random_cases(5, Words::BEFORE_EQUAL).take(2000);
     assert_eq!(mark_of(random), 0xD89E_1E4F_91EF_0151);
     assert_eq!(
@@ -205,7 +205,7 @@ fn longest_chain(fused: &Fused, plan: &Plan) -> usize {
     most
 }
 
-/// The 2,000 cases of seed 6, as they are stored: how many have what C-18 brings.
+/// The first 2,000 cases of seed 6: how many have what C-18 brings.
 #[test]
 fn equal_wires_are_often_made() {
     let [mut joins, mut shorter, mut without, mut one, mut chains] = [0; 5];

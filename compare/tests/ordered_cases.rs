@@ -1,4 +1,4 @@
-//! What C-15 stores: the cases of before stay as they were, and the new ones have what they are made for.
+//! The cases of C-15: those of before stay as they were, and the new ones have what they are made for.
 
 use compare::generate::group_order::{in_order, GroupOrder};
 use compare::generate::words::Words;
@@ -27,9 +27,9 @@ fn random_cases(seed: u64, order: GroupOrder) -> impl Iterator<Item = Case> {
     std::iter::repeat_with(move || cases::case(&mut random, &operations, words))
 }
 
-/// What C-13 stored is made as it was then; `tests/working.rs` has what was stored before it.
+/// What C-13 brought is made as it was then; `tests/working.rs` has what was before it.
 #[test]
-fn stored_cases_stay() {
+fn cases_stay() {
     let random = random_cases(3, GroupOrder::Any).take(2000);
     assert_eq!(mark_of(random), 0x0C75_5BEF_8BA0_B50A);
     assert_eq!(
@@ -38,7 +38,7 @@ fn stored_cases_stay() {
     );
 }
 
-/// The 2,000 cases of seed 4, as they are stored, by their number with groups in order and as they stand: most are in
+/// The first 2,000 cases of seed 4 by their number with groups in order and as they stand: most are in
 /// order, and 32 is met together with every row from 26 on.
 #[test]
 fn groups_in_order_are_often_made() {

@@ -365,9 +365,9 @@ fn random_cases(seed: u64, operations: &[u8], kinds: Kinds) -> impl Iterator<Ite
     std::iter::repeat_with(move || cases::case(&mut random, operations, words))
 }
 
-/// What was stored before C-13 is made as it was then.
+/// What was before C-13 is made as it was then.
 #[test]
-fn stored_cases_stay() {
+fn cases_stay() {
     let rules = random_cases(1, &[1, 2, 3, 4, 5, 6], Kinds::Results).take(2000);
     assert_eq!(mark_of(rules), 0xE372_6B4B_B5AD_86C9);
     let files = random_cases(2, &[7, 8, 9], Kinds::Results).take(1000);
@@ -386,7 +386,7 @@ fn outputs_of(file: &[u8]) -> Vec<&[u8]> {
     file[start..].chunks(2).collect()
 }
 
-/// The 2,000 cases of seed 3, as they are stored: how many have working variables.
+/// The first 2,000 cases of seed 3: how many have working variables.
 #[test]
 fn working_variables_are_often_made() {
     let operations: Vec<u8> = (1..=LAST).collect();

@@ -1,7 +1,8 @@
-//! `make_limits [circuits | working | ordered | eight | equal]`: writes a conformance stream of fixed cases to stdout, those of
+//! `make_limits [circuits | working | ordered | eight | equal | more]`: writes a conformance stream of fixed cases to stdout, those of
 //! operations 01 to 06 at the limits of document 01 or, if named, those of circuit files (07 to 09, C-11), those of working
 //! variables (01 to 09, C-13), those of the order of groups (nearly all 03 to 05, C-15), those of eight conditions (01 to 09,
-//! C-17) or those of equal wires (01 to 09, C-18), and how many came to each number, by operation, to stderr.
+//! C-17), those of equal wires (01 to 09, C-18) or those that wrong builds asked for (01 to 09), and how many came to each number,
+//! by operation, to stderr. Some of them are stored: see `cases`.
 
 use compare::counts::Counts;
 use compare::limits;
@@ -17,8 +18,9 @@ fn main() -> io::Result<()> {
         ["ordered"] => limits::ordered_cases(),
         ["eight"] => limits::eight_cases(),
         ["equal"] => limits::equal_cases(),
+        ["more"] => limits::more_cases(),
         _ => {
-            eprintln!("make_limits [circuits | working | ordered | eight | equal]");
+            eprintln!("make_limits [circuits | working | ordered | eight | equal | more]");
             std::process::exit(2);
         }
     };

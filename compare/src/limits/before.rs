@@ -5,7 +5,7 @@
 //! is enough since C-18 where members have equal wires. Such a case comes once more with the room moved, behind the fixed
 //! cases of the request that moved it, so that nothing goes untried.
 
-use super::{file_with, List};
+use super::{file_with, List, Made};
 use crate::generate::conditions::Conditions;
 use crate::generate::words::Words;
 use crate::law::*;
@@ -17,13 +17,14 @@ const MORE_A_GUARD: usize = VERSION_2.table_bytes() - VERSION_1.table_bytes();
 
 impl List {
     /// The number of a case today, from that of then.
-    pub(super) fn today(&mut self, case: &Case, wanted: u8) -> u8 {
-        let wanted = self.since_eight(case, wanted);
-        self.since_equal(case, wanted)
+    pub(super) fn today(&mut self, made: &Made, wanted: u8) -> u8 {
+        let wanted = self.since_eight(made, wanted);
+        self.since_equal(made, wanted)
     }
 
     /// The number of a case since C-17, from that of before.
-    fn since_eight(&mut self, case: &Case, wanted: u8) -> u8 {
+    fn since_eight(&mut self, made: &Made, wanted: u8) -> u8 {
+        let case = &made.case;
         if self.words.conditions == Conditions::Eight
             || case.operation != WRITE
             || !matches!(wanted, 0 | 50)
@@ -39,9 +40,7 @@ impl List {
             _ => more > 0 && room + 1 == length,
         };
         if moved {
-            let room = (room + more) as u16;
-            let case = case.clone();
-            self.moved.push((Case { room, ..case }, wanted));
+            self.moved.push((with_room(made, room + more), wanted));
             return 50;
         }
         wanted
@@ -49,7 +48,8 @@ impl List {
 
     /// The number of a case since C-18, from that of before. Cases of before C-17 have come again with their room moved, and it is
     /// those that are moved once more.
-    fn since_equal(&mut self, case: &Case, wanted: u8) -> u8 {
+    fn since_equal(&mut self, made: &Made, wanted: u8) -> u8 {
+        let case = &made.case;
         if self.words.picks == PICKS || case.operation != WRITE || !matches!(wanted, 0 | 50) {
             return wanted;
         }
@@ -59,9 +59,8 @@ impl List {
         let of_eight = self.words.conditions == Conditions::Eight;
         // Those that are enough now, and those that were just enough.
         if of_eight && is < was && (is..=was).contains(&room) {
-            let room = room.saturating_sub(was - is) as u16;
-            let case = case.clone();
-            self.moved.push((Case { room, ..case }, wanted));
+            let room = room.saturating_sub(was - is);
+            self.moved.push((with_room(made, room), wanted));
         }
         if room >= is {
             0
@@ -77,6 +76,16 @@ impl List {
         self.direct(rule, &[1, 6, 7], 3, 40);
         self.with_plan(rule, plan, 22);
         self.shown(rule, 0);
+    }
+}
+
+/// The same case with another room.
+fn with_room(made: &Made, room: usize) -> Made {
+    let room = room as u16;
+    let case = made.case.clone();
+    Made {
+        case: Case { room, ..case },
+        ..*made
     }
 }
 

@@ -15,8 +15,11 @@ use crate::stream::{Case, READ_CIRCUIT, RECORD, RUN_CIRCUIT};
 use crate::write::{Fused, Record, Wire};
 
 pub fn add(list: &mut List) {
+    list.family = "ours";
     ours::add(list);
+    list.family = "sums";
     sums::add(list);
+    list.family = "faults";
     faults::add(list);
 }
 

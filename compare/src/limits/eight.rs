@@ -16,12 +16,19 @@ use crate::law::*;
 use crate::stream::{Case, DIRECT, FUSED};
 
 pub fn add(list: &mut List) {
+    list.family = "rules";
     rules::add(list);
+    list.family = "guards";
     guards::add(list);
+    list.family = "longest";
     longest::add(list);
+    list.family = "versions";
     versions::add(list);
+    list.family = "tables";
     tables::add(list);
+    list.family = "files";
     files::add(list);
+    list.family = "kept";
     kept::add(list);
 }
 

@@ -10,7 +10,11 @@ use std::collections::HashSet;
 /// refused when the cases were first stored.
 pub fn add(list: &mut List) {
     let mut seen = HashSet::new();
-    let rules: Vec<Vec<u8>> = list.cases.iter().map(|case| case.first.clone()).collect();
+    let rules: Vec<Vec<u8>> = list
+        .cases
+        .iter()
+        .map(|made| made.case.first.clone())
+        .collect();
     for rule in rules {
         if !seen.insert(rule.clone()) {
             continue;

@@ -22,20 +22,31 @@ use crate::rule::Block;
 use crate::stream::{Case, FUSED, WRITE};
 
 pub fn add(list: &mut List) {
+    list.family = "document";
     document::add(list);
+    list.family = "places";
     places::add(list);
+    list.family = "gates";
     gates::add(list);
+    list.family = "chains";
     chains::add(list);
+    list.family = "late";
     late::add(list);
+    list.family = "unneeded";
     unneeded::add(list);
+    list.family = "conditions";
     conditions::add(list);
+    list.family = "longest";
     longest::add(list);
+    list.family = "kept";
     kept::add(list);
 }
 
 /// Those that were found after the others were stored; they come behind all of them.
 pub fn add_behind(list: &mut List) {
+    list.family = "odd";
     odd::add(list);
+    list.family = "read";
     read::add(list);
 }
 

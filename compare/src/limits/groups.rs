@@ -11,11 +11,13 @@ use crate::circuit::read_rule;
 use crate::law::*;
 
 pub fn add(list: &mut List) {
+    list.family = "groups";
     few(list);
     shapes(list);
     one_exchange(list);
     each_costly(list);
     largest(list);
+    list.family = "beside";
     beside::add(list);
 }
 

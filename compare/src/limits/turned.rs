@@ -1,7 +1,7 @@
 //! Cases that were stored before C-15 with the groups of their plan in another order. They keep their bytes and are
 //! refused by 32; the same cases with the groups in order are kept beside them, so that nothing goes untried.
 
-use super::List;
+use super::{List, Made};
 use crate::generate::group_order::in_order;
 use crate::stream::{Case, CHECK, FUSED, WRITE};
 
@@ -24,13 +24,17 @@ impl List {
 
     /// The number of a case as it stands, from the one that is written beside it.
     #[track_caller]
-    pub(super) fn as_it_stands(&mut self, case: &Case, wanted: u8) -> u8 {
-        if !self.turned || !matches!(case.operation, CHECK | WRITE | FUSED) {
-            return self.today(case, wanted);
+    pub(super) fn as_it_stands(&mut self, made: &Made, wanted: u8) -> u8 {
+        if !self.turned || !matches!(made.case.operation, CHECK | WRITE | FUSED) {
+            return self.today(made, wanted);
         }
-        let in_order = put_in_order(case);
+        let in_order = Made {
+            case: put_in_order(&made.case),
+            family: "in_order",
+            ..*made
+        };
         let wanted = self.today(&in_order, wanted);
-        let (answer, _) = in_order.work().expect("an operation that is built");
+        let (answer, _) = in_order.case.work().expect("an operation that is built");
         assert_eq!(answer.number, wanted, "with its groups in order");
         self.in_order.push(in_order);
         32

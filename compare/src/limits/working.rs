@@ -14,9 +14,13 @@ use crate::rule::{bytes_of, read};
 use crate::stream::{results_text, Case, DIRECT, FUSED, UNTOUCHED_RESULT};
 
 pub fn add(list: &mut List) {
+    list.family = "kinds";
     kinds::add(list);
+    list.family = "rules";
     rules::add(list);
+    list.family = "plans";
     plans::add(list);
+    list.family = "files";
     files::add(list);
 }
 

@@ -106,6 +106,7 @@ fn on_fixed_cases() {
     limits::ordered_cases().iter().for_each(assert_same);
     limits::eight_cases().iter().for_each(assert_same);
     limits::equal_cases().iter().for_each(assert_same);
+    limits::more_cases().iter().for_each(assert_same);
 }
 
 #[test]

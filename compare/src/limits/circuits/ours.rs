@@ -101,6 +101,7 @@ fn cuts(list: &mut List) {
 fn every_byte(list: &mut List) {
     let file = list.file(&R1, &P1);
     for place in 0..file.len() {
+        list.byte = Some(place);
         for byte in 0..=u8::MAX {
             let mut changed = file.clone();
             changed[place] = byte;
@@ -108,11 +109,12 @@ fn every_byte(list: &mut List) {
                 let case = run_case(&changed, &[1, 6, 7], 3);
                 match wanted_of_example_3(place, byte) {
                     Some(wanted) => list.add(case, wanted),
-                    None => list.cases.push(case),
+                    None => list.put(case),
                 }
             }
         }
     }
+    list.byte = None;
 }
 
 // Example 3's wires by kind: 0 a bit, 1 and 2 words, 3 and 4 guards, 5 and 6 picks of words, 7 their product, 8 a

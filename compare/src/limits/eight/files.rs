@@ -45,6 +45,7 @@ fn before(place: usize) -> usize {
 fn changed(list: &mut List) {
     let file = list.file(&R1, &P1);
     for place in 0..file.len() {
+        list.byte = Some(place);
         let turned = (0..8).map(|bit| file[place] ^ 1 << bit);
         for byte in turned.chain([0x00, 0x01, 0x02, 0x03, 0xFF]) {
             let mut changed = file.clone();
@@ -60,10 +61,11 @@ fn changed(list: &mut List) {
             };
             match wanted {
                 Some(wanted) => list.add(case, wanted),
-                None => list.cases.push(case),
+                None => list.put(case),
             }
         }
     }
+    list.byte = None;
 }
 
 /// Eight bits and 326 guards of 50 bytes, one of 44: 16,384 bytes.

@@ -13,5 +13,7 @@ pub fn add(list: &mut List) {
     lines(STREAM, |line| printed.push(line.to_string()));
     let kept: Vec<&str> = LINES.lines().collect();
     assert_eq!(printed, kept, "what was printed before C-17");
-    list.cases.extend(cases(STREAM).expect("whole cases"));
+    for case in cases(STREAM).expect("whole cases") {
+        list.put(case);
+    }
 }
