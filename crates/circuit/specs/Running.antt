@@ -42,7 +42,7 @@ unfoldable pub runRule : List ℕ → List ℕ → List ℕ
 runRule s inputs = runRead (readRule s) inputs
 
 -- Document 02, C-13: what a run writes for variable x, whose figure at its end is n. "a direct run keeps working figures to its end but writes 0 for them"
-abbrev pub writtenFor : List ℕ → ℕ → ℕ → ℕ
+unfoldable pub writtenFor : List ℕ → ℕ → ℕ → ℕ
 writtenFor s x n = cond (workingAt s x) 0 n
 
 -- the V numbers that it writes

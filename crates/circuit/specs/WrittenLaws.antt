@@ -11,16 +11,25 @@ use Rattle.base.specs.MemberLaws.{from-below}
 use Rattle.rule.specs.Header.{variables, workingAt}
 use Rattle.circuit.specs.Running.{runRule, writtenFor, runWrites}
 
+-- a result variable's figure is written, a working one's is 0
+pub written-result : (s : List ℕ) (x n : ℕ) → workingAt s x ≡ false → writtenFor s x n ≡ n
+unfolding writtenFor
+written-result s x n f = rw f
+
+pub written-working : (s : List ℕ) (x n : ℕ) → workingAt s x ≡ true → writtenFor s x n ≡ 0
+unfolding writtenFor
+written-working s x n t = rw t
+
 module _ (s inputs : List ℕ) (x : ℕ) (l : x < variables s) where
   written-at : getD (runWrites s inputs) x 0 ≡ writtenFor s x (getD (runRule s inputs) x 0)
   unfolding runWrites
   written-at = getD-upto (λ y. writtenFor s y (getD (runRule s inputs) y 0)) 0 (variables s) x l
 
   pub writes-result : workingAt s x ≡ false → getD (runWrites s inputs) x 0 ≡ getD (runRule s inputs) x 0
-  writes-result f = written-at ∙ rw f
+  writes-result f = written-at ∙ written-result s x _ f
 
   pub writes-working : workingAt s x ≡ true → getD (runWrites s inputs) x 0 ≡ 0
-  writes-working t = written-at ∙ rw t
+  writes-working t = written-at ∙ written-working s x _ t
 
 -- a figure for each variable
 pub writes-count : (s inputs : List ℕ) → length (runWrites s inputs) ≡ variables s

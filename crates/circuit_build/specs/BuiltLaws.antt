@@ -48,6 +48,7 @@ accepted-builds s h l = rw (eq-eqb (ruleAnswer s .number) 0 h)
 pub built-nothing : (s : List ℕ) (a : Answer) (quads needs outputs conds : List ℕ) → a ≡ ruleAnswer s → (a .number ≡ 0 → ⊥)
     → (quads ≡ replicate 1024 0) × ((needs ≡ replicate 256 0) × ((outputs ≡ replicate 32 0) × (conds ≡ replicate mostConditions 0)))
     → (a ≡ ruleAnswer s) × ((quads ≡ builtQuads s) × ((needs ≡ builtNeeds s) × ((outputs ≡ builtOutputs s) × (conds ≡ builtConditions s))))
+unfolding builtConditions builtNeeds builtOutputs builtQuads
 built-nothing s a quads needs outputs conds e h r =
     let n = refused-shows s (λ z. h (ap (λ (b : Answer). b .number) e ∙ z)) in
     (e, (r .0 ∙ rw n, (r .1 .0 ∙ rw n, (r .1 .1 .0 ∙ rw n, r .1 .1 .1 ∙ rw n))))
@@ -87,6 +88,7 @@ module _ (s quads present ranks : List ℕ) (count : ℕ) (ready : MadeWhole s q
 
   -- what is wanted of the outputs, as they lie in the array, is what the rule wants
   wanted : wantedAmong s present ≡ wantedOf s
+  unfolding wantedOf
   wanted =
       map-same (λ x. getD present x 0) (λ x. getD (outputsOf s) x 0) (resultVariables s)
       (λ x _. ap (λ (l : List ℕ). getD l x 0) (made .outputs (acc .gates)) ∙ padded-at mostVariables (outputsOf s) x)
@@ -115,18 +117,22 @@ module _ (s quads present ranks : List ℕ) (count : ℕ) (ready : MadeWhole s q
   accepted-is = accepted-builds s (ap (λ (b : Answer). b .number) (acc .answer))
 
   pub ready-quads : quads ≡ builtQuads s
+  unfolding builtQuads
   ready-quads = made .lie (acc .gates) ∙ ap (padded (4 * mostGates)) (sym (accepted-is (quadsOf s (gatesOf s))))
 
   pub ready-outputs : present ≡ builtOutputs s
+  unfolding builtOutputs
   ready-outputs = made .outputs (acc .gates) ∙ ap (padded mostVariables) (sym (accepted-is (outputsOf s)))
 
   pub ready-conditions : (shown : List ℕ) → shown ≡ over (markedIn ranks count) (replicate mostConditions 0) → shown ≡ builtConditions s
+  unfolding builtConditions
   ready-conditions shown e =
       e ∙ ap (λ (l : List ℕ). over l (replicate mostConditions 0)) same-conditions
       ∙ over-zeros (conditions (gatesOf s)) mostConditions ∙ ap (padded mostConditions) (sym (accepted-is (conditions (gatesOf s))))
 
   pub ready-needs : (needs : List ℕ) → needs ≡ preconditionSets mostConditions (gatesIn quads count) (wantedAmong s present) ++ replicate (mostGates - count) 0
       → needs ≡ builtNeeds s
+  unfolding builtNeeds
   ready-needs needs e =
       let r = is-read (readRule s) (acc .read) in
       let sets : preconditionSets mostConditions (gatesIn quads count) (wantedAmong s present) ≡ rulePreconditions s

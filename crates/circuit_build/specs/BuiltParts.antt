@@ -1,10 +1,11 @@
 -- What is built of an accepted rule, part by part: its gates, their preconditions, its conditions and its outputs.
 use Prim.Native.Nat.{ℕ, _-_, _*_, _<_, _≤_}
+use native.Mathlib.Omega.{arith}
 use mathlib.Core.Path.{_≡_, ap, _∙_}
 use mathlib.Core.List.{List}
 use lib.ListN.{length, getD, take, replicate}
 use lib.Seq.{take-at}
-use Rattle.base.specs.BufferLaws.{padded-at}
+use Rattle.base.specs.BufferLaws.{padded-at, padded-length}
 use Rattle.base.specs.MemberLaws.{getD-in}
 use Rattle.base.specs.ParsingLaws.{is-read}
 use Rattle.base.specs.declared.Answer.{Answer}
@@ -48,27 +49,32 @@ module _ (s : List ℕ) (h : ruleAnswer s .number ≡ 0) where
   built-room = acc .gates
 
   -- its gates
-  pub built-gates : gatesIn (builtQuads s) (gateCount s) ≡ gatesOf s
-  built-gates =
-      let r = is-read (readRule s) (acc .read) in
+  pub built-quads : take (4 * gateCount s) (builtQuads s) ≡ quadsOf s (gatesOf s)
+  unfolding builtQuads
+  built-quads =
       let l = quadsOf s (gatesOf s) in
-      rule-held s (r .0) (r .1) (r .2) (builtQuads s)
-      (ap (λ (k : List ℕ). take (4 * gateCount s) (padded 1024 k)) (accepted-builds s h l)
-      ∙ take-at l (replicate (1024 - length l) 0) (4 * gateCount s) (quads-length s (gatesOf s)))
+      ap (λ (k : List ℕ). take (4 * gateCount s) (padded (4 * mostGates) k)) (accepted-builds s h l)
+      ∙ take-at l (replicate (4 * mostGates - length l) 0) (4 * gateCount s) (quads-length s (gatesOf s))
+
+  pub built-gates : gatesIn (builtQuads s) (gateCount s) ≡ gatesOf s
+  built-gates = let r = is-read (readRule s) (acc .read) in rule-held s (r .0) (r .1) (r .2) (builtQuads s) built-quads
 
   pub built-earlier : Earlier (gatesOf s)
   built-earlier = sound .earlier
 
   -- gate g's precondition
   pub built-need : (g : ℕ) → getD (builtNeeds s) g 0 ≡ getD (rulePreconditions s) g 0
+  unfolding builtNeeds
   built-need g = part-at mostGates (rulePreconditions s) g
 
   -- condition t's gate
   pub built-condition : (t : ℕ) → getD (builtConditions s) t 0 ≡ getD (conditions (gatesOf s)) t 0
+  unfolding builtConditions
   built-condition t = part-at mostConditions (conditions (gatesOf s)) t
 
   -- variable x's last gate
   pub built-output : (x : ℕ) → getD (builtOutputs s) x 0 ≡ getD (outputsOf s) x 0
+  unfolding builtOutputs
   built-output x = part-at mostVariables (outputsOf s) x
 
   pub built-outputs-length : length (outputsOf s) ≡ variables s
@@ -82,3 +88,8 @@ module _ (s : List ℕ) (h : ruleAnswer s .number ≡ 0) where
 
   pub built-variables : variables s ≤ mostVariables
   built-variables = rule-read s (acc .read) .header .few
+
+  pub built-outputs-held : length (builtOutputs s) ≡ mostVariables
+  unfolding builtOutputs
+  built-outputs-held =
+      padded-length mostVariables (ifAccepted s (outputsOf s)) (rw (accepted-builds s h (outputsOf s)) (omega (arith, built-outputs-length, built-variables)))

@@ -17,17 +17,17 @@ unfoldable pub ifAccepted : List ℕ → List ℕ → List ℕ
 ifAccepted s l = cond (eqb (ruleAnswer s .number) 0) l []
 
 -- each gate's code and arguments, four numbers a gate
-abbrev pub builtQuads : List ℕ → List ℕ
+unfoldable pub builtQuads : List ℕ → List ℕ
 builtQuads s = padded (4 * mostGates) (ifAccepted s (quadsOf s (gatesOf s)))
 
 -- each gate's precondition
-abbrev pub builtNeeds : List ℕ → List ℕ
+unfoldable pub builtNeeds : List ℕ → List ℕ
 builtNeeds s = padded mostGates (ifAccepted s (rulePreconditions s))
 
 -- every variable's last gate
-abbrev pub builtOutputs : List ℕ → List ℕ
+unfoldable pub builtOutputs : List ℕ → List ℕ
 builtOutputs s = padded mostVariables (ifAccepted s (outputsOf s))
 
 -- condition t is element t
-abbrev pub builtConditions : List ℕ → List ℕ
+unfoldable pub builtConditions : List ℕ → List ℕ
 builtConditions s = padded mostConditions (ifAccepted s (conditions (gatesOf s)))

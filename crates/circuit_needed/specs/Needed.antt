@@ -28,7 +28,7 @@ abbrev pub wantedAmong : List ℕ → List ℕ → List ℕ
 wantedAmong s outputs = map (λ x. getD outputs x 0) (resultVariables s)
 
 -- what a rule wants from the start, the roots of liveness. Document 02, C-13: "Only the other variables' last gates are needed from the start", not the working ones'
-abbrev pub wantedOf : List ℕ → List ℕ
+unfoldable pub wantedOf : List ℕ → List ℕ
 wantedOf s = wantedAmong s (outputsOf s)
 
 -- two gates exclude each other, are mutually exclusive, if no setting needs both

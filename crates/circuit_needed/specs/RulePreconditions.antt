@@ -36,6 +36,7 @@ module _ (s : List ℕ) (b : Block) (n : ℕ) (read : readRule s ≡ parsed b n)
 
   -- what is wanted from the start is a gate
   pub wanted-inside : (g : ℕ) → g ∈ wantedOf s → g < length (gatesOf s)
+  unfolding wantedOf
   wanted-inside g m = plain-sound s b n read .inside g (wanted-output s (outputsOf s) (plain-sound s b n read .count) g m)
 
   -- and each gate's set is final when the pass reaches it
@@ -46,10 +47,12 @@ module _ (s : List ℕ) (b : Block) (n : ℕ) (read : readRule s ≡ parsed b n)
   module _ (few : length (conditions (gatesOf s)) ≤ mostConditions) where
     pub rule-precondition : (g j : ℕ) → j < 2 ^ mostConditions
         → (has (getD (rulePreconditions s) g 0) j ≡ true) ↔ Needed (gatesOf s) (wantedOf s) (settingOf (conditions (gatesOf s)) j) g
+    unfolding wantedOf
     rule-precondition = precondition-right (gatesOf s) (wantedOf s) rule-earlier wanted-inside mostConditions few
 
     pub rule-exclude : (g h : ℕ)
         → (excludes (getD (rulePreconditions s) g 0) (getD (rulePreconditions s) h 0) ≡ true) ↔ Exclude (gatesOf s) (wantedOf s) g h
+    unfolding wantedOf
     rule-exclude = exclude-right (gatesOf s) (wantedOf s) rule-earlier wanted-inside mostConditions few
 
 -- the same of any rule that is read

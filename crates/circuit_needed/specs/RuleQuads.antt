@@ -37,4 +37,5 @@ module _ (s : List ℕ) (b : Block) (n : ℕ) (read : readRule s ≡ parsed b n)
 
   -- what find_needed gives
   pub quads-preconditions : (l : List ℕ) → l ≡ wantedOf s → preconditionSets mostConditions (gatesIn quads (gateCount s)) l ≡ rulePreconditions s
+  unfolding wantedOf
   quads-preconditions l e = ap (λ (C : Gates). preconditionSets mostConditions C l) same ∙ ap (preconditionSets mostConditions (gatesOf s)) e

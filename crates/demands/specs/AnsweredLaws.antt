@@ -41,7 +41,7 @@ use Rattle.plan.specs.Rows.{isCostly, rows, planRow, planAnswer}
 use Rattle.plan.specs.GroupLaws.{groupOf-named}
 use Rattle.plan.specs.WaitLaws.{placed-right}
 use Rattle.plan.specs.RowLaws.{each-right, ends-right, joins-right, apart-right}
-use Rattle.plan.specs.MemberLaws.{costly-gate, costly-right, parted-right}
+use Rattle.plan.specs.MemberLaws.{costly-gate, gate-costly, costly-right, parted-right}
 use Rattle.plan.specs.AcceptedLaws.{rising-exist, order-right, row-first, answer-rule, answer-row, answer-accepted, answer-number}
 use Rattle.fused.specs.FusedCircuit.{fusedFile}
 use Rattle.fused.specs.Answers.{fusedAnswer, writeAnswer}
@@ -101,7 +101,7 @@ sized a b n = (λ t. let (lo, hi) = both (leb a n) _ t in (leb-true _ _ lo, leb-
 all-costly : (C : Gates) (G : List ℕ) → (every (λ g. isCostly (gateAt C g)) G ≡ true) ↔ AllCostly C G
 all-costly C G = (
   λ h g m. costly-gate (gateAt C g) (every-right (λ i. isCostly (gateAt C i)) G .0 h g m),
-  λ h. every-right (λ i. isCostly (gateAt C i)) G .1 (λ g m. let (op, c, l, e) = h g m in ap isCostly e ∙ c),
+  λ h. every-right (λ i. isCostly (gateAt C i)) G .1 (λ g m. let (op, c, l, e) = h g m in ap isCostly e ∙ gate-costly op l ∙ c),
 )
 
 module _ (s p : List ℕ) (z : ruleAnswer s .number ≡ 0) where

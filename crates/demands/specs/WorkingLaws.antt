@@ -24,7 +24,7 @@ use Rattle.circuit.specs.PlainCircuit.{Making, plainOf, plainCircuit, gatesOf, 
 use Rattle.circuit.specs.StartLaws.{read-plain}
 use Rattle.circuit_needed.specs.Needed.{Needed, wantedOf}
 use Rattle.circuit_needed.specs.NeededLaws.{none-needed, more-wanted}
-use Rattle.circuit_needed.specs.WantedLaws.{result-wanted, wanted-result, all-working}
+use Rattle.circuit_needed.specs.WantedLaws.{result-wanted, wanted-own, all-working}
 use Rattle.circuit.specs.Whole.{wholeWithin, ruleAnswer}
 use Rattle.circuit.specs.WholeLaws.{answer-whole}
 use Rattle.plan.specs.Rows.{planAnswer}
@@ -44,7 +44,7 @@ use Rattle.fused.specs.FusedFigures.{reads-earlier, result-earlier, output-earl
 
 -- what is wanted from the start
 pub wanted-are : (s : List ℕ) (g : ℕ) → (g ∈ wantedOf s) ↔ ((x : ℕ) × (x < variables s) × (workingAt s x ≡ false) × (g ≡ getD (outputsOf s) x 0))
-wanted-are s g = (wanted-result s (outputsOf s) g, λ r. subst⁻¹ (λ (h : ℕ). h ∈ wantedOf s) (r .3) (result-wanted s (r .0) (r .1) (r .2)))
+wanted-are s g = (wanted-own s g, λ r. subst⁻¹ (λ (h : ℕ). h ∈ wantedOf s) (r .3) (result-wanted s (r .0) (r .1) (r .2)))
 
 pub nothing-needed : (s : List ℕ) → ((x : ℕ) → x < variables s → workingAt s x ≡ true) → (σ : Setting) (g : ℕ) → Needed (gatesOf s) (wantedOf s) σ g → ⊥
 nothing-needed s h σ g n = none-needed (gatesOf s) σ g (subst (λ (w : List ℕ). Needed (gatesOf s) w σ g) (all-working s h) n)
@@ -77,7 +77,7 @@ module _ (kinds other : List ℕ) (o : OnlyWorking kinds other) (b : Block) (w :
     where
       among : (h : ℕ) → h ∈ wantedOf t → h ∈ wantedOf s
       among h m =
-          let (x, l, f, e) = wanted-result t (outputsOf t) h m in
+          let (x, l, f, e) = wanted-own t h m in
           let k : x < length kinds = omega (arith, l, o .many) in
           let works : workingAt s x ≡ false = split (workingOf (getD kinds x 0)) (λ y. absurd (contrary x k y f)) (λ n. rule-working kinds b x k ∙ n) in
           subst⁻¹ (λ (h : ℕ). h ∈ wantedOf s) (e ∙ ap (λ (m : Making). getD (m .present) x 0) (sym same-plain)) (result-wanted s x k works)

@@ -27,7 +27,7 @@ use Rattle.circuit.specs.Whole.{wholeWithin, ruleAnswer}
 use Rattle.plan.specs.PlanFile.{groupsIn}
 use Rattle.plan.specs.Groups.{groups, restsOf, waitsFor}
 use Rattle.plan.specs.Order.{order}
-use Rattle.plan.specs.Rows.{planRow, planAnswer}
+use Rattle.plan.specs.Rows.{planRow, planAnswer, isCostly, placed}
 use Rattle.plan.specs.Examples.{p1}
 use Rattle.file.specs.Records.{recordsCost}
 use Rattle.file.specs.Records as records
@@ -37,6 +37,7 @@ use Rattle.fused.specs.Answers.{fusedCounts, writeAnswer}
 use Rattle.file.specs.Examples.{file3}
 use Rattle.fused.specs.Examples.{example-3}
 use Rattle.fused.specs.OnlyOrderLaws.{same-file}
+use Rattle.circuit_needed.specs.Needed.{wantedOf}
 
 -- R1 with the product of its first block the other way round: v2 × v1
 abbrev pub r1-turned : List ℕ
@@ -72,7 +73,7 @@ pub ordered-accepted : map (λ s. writeAnswer s no-groups 25) (from-two 0x21 0x0
 unfolding number kindOf workingOf operationOf codeOf readMark readCount readKinds readHeader readVariable readWord readBit operationWith exprWith readExpr readAssign branchWith
     statementWith blockWith blockFuel readBlock readRule applyGate makeExpr assignsIn assigns choices makeStatement makeBlock plainCircuit conditions collect numbers
     preconditions preconditionSets costs wholeWithin ruleAnswer restsOn rests groupsIn groups restsOf waitsFor order planRow planAnswer bytesOf spread tableOver table
-    oneWire joined written fused fusedFile recordsCost fusedCounts writeAnswer
+    oneWire joined written fused fusedFile recordsCost fusedCounts writeAnswer wantedOf isCostly placed
 ordered-accepted = refl
 
 pub difference-ordered : fusedFile (from-two 0x21 0x00 0 1) no-groups ≡ fusedFile (from-two 0x21 0x00 1 0) no-groups → ⊥
@@ -108,7 +109,7 @@ pub late-accepted : writeAnswer late late-plan 145 ≡ success 11 13 145 79 70
 unfolding number kindOf workingOf operationOf codeOf readMark readCount readKinds readHeader readVariable readWord readBit operationWith exprWith readExpr readAssign branchWith
     statementWith blockWith blockFuel readBlock readRule applyGate makeExpr assignsIn assigns choices makeStatement makeBlock plainCircuit conditions collect numbers
     preconditions preconditionSets costs wholeWithin ruleAnswer restsOn rests groupsIn groups restsOf waitsFor order planRow planAnswer bytesOf spread tableOver table
-    oneWire joined written fused fusedFile recordsCost fusedCounts writeAnswer
+    oneWire joined written fused fusedFile recordsCost fusedCounts writeAnswer wantedOf isCostly placed
 late-accepted = refl
 
 -- gate 5 takes gate 3 first, and its record gate 3's wire, which is 8, before gate 4's, which is 3
@@ -121,5 +122,5 @@ late-gate = refl
 pub late-record : getD (recordsOf late late-plan) 9 (records.word 0) ≡ records.operation Sum (8 ∷ 3 ∷ [])
 unfolding number kindOf workingOf operationOf codeOf readMark readCount readKinds readHeader readVariable readWord readBit operationWith exprWith readExpr readAssign branchWith
     statementWith blockWith blockFuel readBlock readRule applyGate makeExpr assignsIn assigns choices makeStatement makeBlock plainCircuit conditions collect numbers
-    preconditions preconditionSets restsOn rests groupsIn groups restsOf waitsFor order bytesOf spread tableOver table oneWire joined written fused fusedFile
+    preconditions preconditionSets restsOn rests groupsIn groups restsOf waitsFor order bytesOf spread tableOver table oneWire joined written fused fusedFile wantedOf isCostly placed
 late-record = refl

@@ -22,7 +22,7 @@ use Rattle.circuit.specs.Whole.{wholeWithin, ruleAnswer}
 use Rattle.plan.specs.PlanFile.{groupsIn}
 use Rattle.plan.specs.Groups.{groups, restsOf, waitsFor}
 use Rattle.plan.specs.Order.{order}
-use Rattle.plan.specs.Rows.{planRow, planAnswer}
+use Rattle.plan.specs.Rows.{planRow, planAnswer, isCostly, placed as all-placed}
 use Rattle.plan.specs.Examples.{p1}
 use Rattle.file.specs.Records.{recordsCost}
 use Rattle.fused.specs.Emission.{oneWire, joined}
@@ -31,7 +31,8 @@ use Rattle.fused.specs.Answers.{fusedCounts, fusedAnswer}
 use Rattle.report.specs.Line.{digits, decimal, spaced, line, accepted, refused, placed, lineOf}
 use Rattle.report.specs.Total.{total, spacedLess, totalLine}
 use Rattle.report.specs.Batch.{headed, hasPart, hasEntry, entryAnswer, plus, reportFrom, reportOf}
-use Rattle.report.specs.Packed.{Entry, batchOf}
+use Rattle.report.specs.Packed.{Entry, batchOf, entryBytes}
+use Rattle.circuit_needed.specs.Needed.{wantedOf}
 
 -- "a 9-byte plan of no groups" for R1's six gates
 abbrev pub no-groups : List ℕ
@@ -58,7 +59,7 @@ unfolding number kindOf workingOf operationOf codeOf readMark readCount readKind
     statementWith blockWith blockFuel readBlock readRule applyGate makeExpr assignsIn assigns choices makeStatement makeBlock plainCircuit conditions collect numbers
     preconditions preconditionSets costs wholeWithin ruleAnswer restsOn rests groupsIn groups restsOf waitsFor order planRow planAnswer bytesOf spread tableOver table
     oneWire joined written fused fusedFile recordsCost fusedCounts fusedAnswer digits decimal spaced line placed lineOf spacedLess totalLine flatMap headed hasPart hasEntry entryAnswer plus
-    reportFrom reportOf
+    reportFrom reportOf wantedOf isCostly batchOf entryBytes all-placed
 saved-nine = refl
 
 -- the folder examples/dearer-plan: two ands, which the plan joins; the picks for them cost more than an and
@@ -76,7 +77,7 @@ unfolding number kindOf workingOf operationOf codeOf readMark readCount readKind
     statementWith blockWith blockFuel readBlock readRule applyGate makeExpr assignsIn assigns choices makeStatement makeBlock plainCircuit conditions collect numbers
     preconditions preconditionSets costs wholeWithin ruleAnswer restsOn rests groupsIn groups restsOf waitsFor order planRow planAnswer bytesOf spread tableOver table
     oneWire joined written fused fusedFile recordsCost fusedCounts fusedAnswer digits decimal spaced line placed lineOf spacedLess totalLine flatMap headed hasPart hasEntry entryAnswer plus
-    reportFrom reportOf
+    reportFrom reportOf wantedOf isCostly batchOf entryBytes all-placed
 lost-nine = refl
 
 -- one byte more, one byte less, and one byte less than its first entry
@@ -86,14 +87,14 @@ unfolding number kindOf workingOf operationOf codeOf readMark readCount readKind
     statementWith blockWith blockFuel readBlock readRule applyGate makeExpr assignsIn assigns choices makeStatement makeBlock plainCircuit conditions collect numbers
     preconditions preconditionSets costs wholeWithin ruleAnswer restsOn rests groupsIn groups restsOf waitsFor order planRow planAnswer bytesOf spread tableOver table
     oneWire joined written fused fusedFile recordsCost fusedCounts fusedAnswer digits decimal spaced line placed lineOf spacedLess totalLine flatMap headed hasPart hasEntry entryAnswer plus
-    reportFrom reportOf
+    reportFrom reportOf wantedOf isCostly batchOf entryBytes all-placed
 not-whole = refl
 
 -- a batch that counts no entry is whole; one that ends before its header, and one of another version, are not
 pub no-entry : reportOf (batchOf []) ≡ total ++ (32 ∷ 48 ∷ 32 ∷ 48 ∷ 32 ∷ 48 ∷ 32 ∷ 48 ∷ 32 ∷ 48 ∷ 10 ∷ [])
-unfolding number bytesOf flatMap headed digits decimal spaced spacedLess totalLine reportFrom reportOf
+unfolding number bytesOf flatMap headed digits decimal spaced spacedLess totalLine reportFrom reportOf wantedOf isCostly batchOf entryBytes all-placed
 no-entry = refl
 
 pub no-batch : map reportOf (take 6 (batchOf []) ∷ (0x42 ∷ 0x41 ∷ 0x54 ∷ 0x00 ∷ 0x02 ∷ 0x00 ∷ 0x00 ∷ []) ∷ []) ≡ refused-75 ∷ refused-75 ∷ []
-unfolding number bytesOf flatMap headed digits decimal spaced line placed lineOf reportFrom reportOf
+unfolding number bytesOf flatMap headed digits decimal spaced line placed lineOf reportFrom reportOf wantedOf isCostly batchOf entryBytes all-placed
 no-batch = refl

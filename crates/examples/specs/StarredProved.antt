@@ -15,7 +15,7 @@ use Rattle.rule.specs.Expressions.{readVariable, readWord, readBit, operationWi
 use Rattle.rule.specs.Blocks.{readAssign, branchWith, statementWith, blockWith, blockFuel, readBlock}
 use Rattle.rule.specs.Rule.{readRule}
 use Rattle.rule.specs.Examples.{r1}
-use Rattle.circuit.specs.Running.{figureOf, runStatement, runBlock, runRule, runWrites}
+use Rattle.circuit.specs.Running.{figureOf, runStatement, runBlock, runRule, runWrites, writtenFor}
 use Rattle.circuit.specs.Gates.{costs, conditions}
 use Rattle.circuit.specs.PlainCircuit.{applyGate, makeExpr, assignsIn, assigns, choices, makeStatement, makeBlock, plainCircuit}
 use Rattle.circuit.specs.Examples.{r2, r7, example-2}
@@ -24,7 +24,7 @@ use Rattle.circuit.specs.Whole.{wholeWithin, ruleAnswer}
 use Rattle.plan.specs.PlanFile.{groupsIn}
 use Rattle.plan.specs.Groups.{groups, restsOf, waitsFor}
 use Rattle.plan.specs.Order.{order}
-use Rattle.plan.specs.Rows.{planRow, planAnswer}
+use Rattle.plan.specs.Rows.{planRow, planAnswer, isCostly, placed}
 use Rattle.plan.specs.Examples.{p1, example-5}
 use Rattle.file.specs.Examples.{file3}
 use Rattle.fused.specs.Examples.{example-3, example-3-answer, example-3-short}
@@ -32,12 +32,15 @@ use Rattle.run.specs.Inputs.{inputRow}
 use Rattle.run.specs.Direct.{runAnswer, runResults}
 use Rattle.examples.specs.Starred.{Starred, bothGroup}
 use Rattle.examples.specs.MeaningLaws.{precondition, unneeded, rests-on, waits-for, written-whole, written-short}
+use Rattle.circuit_needed.specs.Needed.{wantedOf}
+use Rattle.file.specs.FileFigures.{outputFigure}
+use Rattle.file.specs.WireFigures.{pickSum}
 
 pub starred : Starred
 unfolding number bytesOf kindOf workingOf operationOf codeOf resultOf readMark readCount readKinds readHeader readVariable readWord readBit operationWith exprWith readExpr
     readAssign branchWith statementWith blockWith blockFuel readBlock readRule figureOf runStatement runBlock runRule runWrites applyGate makeExpr assignsIn assigns choices
     makeStatement makeBlock plainCircuit costs conditions collect numbers preconditions preconditionSets wholeWithin ruleAnswer restsOn rests groupsIn groups restsOf
-    waitsFor order planRow planAnswer over someAbove inputsRow inputRow runAnswer runResults
+    waitsFor order planRow planAnswer over someAbove inputsRow inputRow runAnswer runResults wantedOf isCostly placed writtenFor outputFigure pickSum
 starred =
     record {
       example-1 = (

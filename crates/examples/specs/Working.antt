@@ -20,7 +20,7 @@ use Rattle.rule.specs.Header.{kindOf, workingOf, readCount, readKinds, readHead
 use Rattle.rule.specs.Expressions.{readVariable, readWord, readBit, operationWith, exprWith, readExpr}
 use Rattle.rule.specs.Blocks.{readAssign, branchWith, statementWith, blockWith, blockFuel, readBlock}
 use Rattle.rule.specs.Rule.{readRule}
-use Rattle.circuit.specs.Running.{figureOf, runStatement, runBlock, runRule, runWrites}
+use Rattle.circuit.specs.Running.{figureOf, runStatement, runBlock, runRule, runWrites, writtenFor}
 use Rattle.circuit.specs.Gates.{conditions, costs}
 use Rattle.circuit.specs.PlainCircuit.{applyGate, makeExpr, assignsIn, assigns, choices, makeStatement, makeBlock, plainCircuit}
 use Rattle.circuit_needed.specs.Pass.{preconditions, preconditionSets, rulePreconditions}
@@ -28,13 +28,16 @@ use Rattle.circuit.specs.Whole.{wholeWithin, ruleAnswer}
 use Rattle.plan.specs.PlanFile.{groupsIn}
 use Rattle.plan.specs.Groups.{groups, restsOf, waitsFor}
 use Rattle.plan.specs.Order.{order}
-use Rattle.plan.specs.Rows.{planRow, planAnswer}
+use Rattle.plan.specs.Rows.{planRow, planAnswer, isCostly, placed}
 use Rattle.file.specs.Records.{recordsCost}
 use Rattle.fused.specs.Emission.{oneWire, joined}
 use Rattle.fused.specs.FusedCircuit.{written, fused, fusedFile}
 use Rattle.fused.specs.Answers.{fusedCounts, writeAnswer}
 use Rattle.run.specs.Inputs.{inputRow}
 use Rattle.run.specs.Direct.{runAnswer, runResults}
+use Rattle.circuit_needed.specs.Needed.{wantedOf}
+use Rattle.file.specs.FileFigures.{outputFigure}
+use Rattle.file.specs.WireFigures.{pickSum}
 
 -- what the four kind bytes say: 00 word, 01 bit, 02 working word, 03 working bit
 pub kinds-are : (map kindOf (0x00 ∷ 0x01 ∷ 0x02 ∷ 0x03 ∷ []) ≡ Word ∷ Bit ∷ Word ∷ Bit ∷ [])
@@ -62,7 +65,7 @@ pub needed-then : map (λ k. map (λ g. getD (rulePreconditions (scraps k)) g 0)
     ∷ (0xAAAAAAAAAAAAAAAAAAAAAAAAAAAAAAAAAAAAAAAAAAAAAAAAAAAAAAAAAAAAAAAA ∷ 0x5555555555555555555555555555555555555555555555555555555555555555 ∷ []) ∷ []
 unfolding number kindOf workingOf operationOf codeOf readMark readCount readKinds readHeader readVariable readWord readBit operationWith exprWith readExpr readAssign branchWith
     statementWith blockWith blockFuel readBlock readRule applyGate makeExpr assignsIn assigns choices makeStatement makeBlock plainCircuit conditions collect numbers
-    preconditions preconditionSets
+    preconditions preconditionSets wantedOf isCostly placed
 needed-then = refl
 
 -- so the plan is refused 29, and accepted: it saves 9 of 33
@@ -70,7 +73,7 @@ pub plan-then : map (λ k. writeAnswer (scraps k) products 152) (0x00 ∷ 0x02 �
 unfolding number kindOf workingOf operationOf codeOf readMark readCount readKinds readHeader readVariable readWord readBit operationWith exprWith readExpr readAssign branchWith
     statementWith blockWith blockFuel readBlock readRule applyGate makeExpr assignsIn assigns choices makeStatement makeBlock plainCircuit conditions collect numbers
     preconditions preconditionSets costs wholeWithin ruleAnswer restsOn rests groupsIn groups restsOf waitsFor order planRow planAnswer bytesOf spread tableOver table
-    oneWire joined written fused fusedFile recordsCost fusedCounts writeAnswer
+    oneWire joined written fused fusedFile recordsCost fusedCounts writeAnswer wantedOf isCostly placed
 plan-then = refl
 
 -- a direct run writes 0 for them
@@ -78,7 +81,7 @@ pub run-then : map (λ k. runResults (ruleAnswer (scraps k)) (scraps k) (1 ∷ 3
     ≡ (1 ∷ 3 ∷ 5 ∷ 7 ∷ 15 ∷ 21 ∷ 15 ∷ 8 ∷ []) ∷ (1 ∷ 3 ∷ 5 ∷ 7 ∷ 0 ∷ 0 ∷ 15 ∷ 8 ∷ []) ∷ []
 unfolding over number kindOf workingOf operationOf codeOf resultOf readMark readCount readKinds readHeader readVariable readWord readBit operationWith exprWith readExpr
     readAssign branchWith statementWith blockWith blockFuel readBlock readRule figureOf runStatement runBlock runRule runWrites applyGate makeExpr assignsIn assigns
-    choices makeStatement makeBlock plainCircuit costs conditions collect wholeWithin ruleAnswer someAbove inputsRow inputRow runAnswer runResults
+    choices makeStatement makeBlock plainCircuit costs conditions collect wholeWithin ruleAnswer someAbove inputsRow inputRow runAnswer runResults wantedOf isCostly placed writtenFor outputFigure pickSum
 run-then = refl
 
 -- A plan that was accepted need not be where more works. Three words, v1 of kind k, and a bit: v1 := v1 × v1 (gate 4); v3 := v1 < v0 (5); v2 := v0 × v0 (6); v2 := v0;
@@ -100,7 +103,7 @@ two-pairs = 0x50 ∷ 0x4C ∷ 0x4E ∷ 0x00 ∷ 0x01 ∷ 0x00 ∷ 0x0B ∷ 0x00 
 pub more-waits : map (λ k. planAnswer (square k) two-pairs) (0x00 ∷ 0x02 ∷ []) ≡ success 11 0 0 113 0 ∷ refusal 30 0 ∷ []
 unfolding number kindOf workingOf operationOf codeOf readMark readCount readKinds readHeader readVariable readWord readBit operationWith exprWith readExpr readAssign branchWith
     statementWith blockWith blockFuel readBlock readRule applyGate makeExpr assignsIn assigns choices makeStatement makeBlock plainCircuit conditions collect numbers
-    preconditions preconditionSets costs wholeWithin ruleAnswer restsOn rests groupsIn groups restsOf waitsFor order planRow planAnswer
+    preconditions preconditionSets costs wholeWithin ruleAnswer restsOn rests groupsIn groups restsOf waitsFor order planRow planAnswer wantedOf isCostly placed
 more-waits = refl
 
 -- one variable, a working bit: taken with 0 and with 1, 41 with 2; 04 is no kind

@@ -12,8 +12,8 @@ use Rattle.file.specs.Versions.{Version, one, two}
 use Rattle.file.specs.Records.{input, guard}
 use Rattle.file.specs.CircuitFile.{fileBytes}
 use Rattle.file.specs.WireKinds.{wireKind}
-use Rattle.file.specs.WireFigures.{wireFigure}
-use Rattle.file.specs.FileFigures.{recordAt, sizeAt, fileRecords, fileOutputs, fileFigures}
+use Rattle.file.specs.WireFigures.{wireFigure, pickSum}
+use Rattle.file.specs.FileFigures.{recordAt, sizeAt, fileRecords, fileOutputs, fileFigures, outputFigure}
 use Rattle.file.specs.CircuitRows.{headed, wholeAt, laid, stands, standing, circuitRow}
 
 -- the file of R1 with P1, a record a line, a guard's table on two lines of its own; document 02, C-18: "R1 with P1 (example 3)
@@ -45,7 +45,7 @@ unfolding number bytesOf operationOf codeOf recordAt sizeAt fileRecords fileOutp
 example-3-row = refl
 
 pub example-3-run : map (λ x. fileFigures file3 (x ∷ 6 ∷ 7 ∷ [])) (0 ∷ 1 ∷ []) ≡ (0 ∷ 49 ∷ 7 ∷ []) ∷ (1 ∷ 42 ∷ 7 ∷ []) ∷ []
-unfolding number bytesOf operationOf codeOf resultOf recordAt sizeAt fileRecords fileOutputs wireKind wireFigure fileFigures
+unfolding number bytesOf operationOf codeOf resultOf recordAt sizeAt fileRecords fileOutputs wireKind wireFigure fileFigures outputFigure pickSum
 example-3-run = refl
 
 -- the file of R1 with P1 as it was written before C-18, with a pick for each argument place: document 02, C-17: "example 3 becomes 124 bytes"
@@ -74,7 +74,7 @@ unfolding number bytesOf operationOf codeOf recordAt sizeAt fileRecords fileOutp
 example-3-picks = (refl, refl)
 
 pub example-3-picks-run : map (λ x. fileFigures file3AllPicks (x ∷ 6 ∷ 7 ∷ [])) (0 ∷ 1 ∷ []) ≡ (0 ∷ 49 ∷ 7 ∷ []) ∷ (1 ∷ 42 ∷ 7 ∷ []) ∷ []
-unfolding number bytesOf operationOf codeOf resultOf recordAt sizeAt fileRecords fileOutputs wireKind wireFigure fileFigures
+unfolding number bytesOf operationOf codeOf resultOf recordAt sizeAt fileRecords fileOutputs wireKind wireFigure fileFigures outputFigure pickSum
 example-3-picks-run = refl
 
 -- that circuit in version 00 01, as it was written before C-17: 76 bytes
@@ -95,7 +95,7 @@ file3InOne =
 
 -- its figures, from its bytes
 pub example-3-one-run : map (λ x. fileFigures file3InOne (x ∷ 6 ∷ 7 ∷ [])) (0 ∷ 1 ∷ []) ≡ (0 ∷ 49 ∷ 7 ∷ []) ∷ (1 ∷ 42 ∷ 7 ∷ []) ∷ []
-unfolding number bytesOf operationOf codeOf resultOf recordAt sizeAt fileRecords fileOutputs wireKind wireFigure fileFigures
+unfolding number bytesOf operationOf codeOf resultOf recordAt sizeAt fileRecords fileOutputs wireKind wireFigure fileFigures outputFigure pickSum
 example-3-one-run = refl
 
 -- no row refuses it
@@ -127,7 +127,7 @@ sums-row = refl
 -- "the sum of their values modulo 4,294,967,296, or modulo 2 for bits": 1 and 1 are 0, 6 and 7 are 13, 4,294,967,295 and 7 are 6; with no guard at 1 it is 0
 pub sums-run : map (λ x. fileFigures fileOfSums x) ((0 ∷ 6 ∷ 7 ∷ []) ∷ (1 ∷ 6 ∷ 7 ∷ []) ∷ (1 ∷ 4294967295 ∷ 7 ∷ []) ∷ [])
     ≡ (0 ∷ 0 ∷ 7 ∷ []) ∷ (0 ∷ 13 ∷ 7 ∷ []) ∷ (0 ∷ 6 ∷ 7 ∷ []) ∷ []
-unfolding number bytesOf operationOf codeOf resultOf recordAt sizeAt fileRecords fileOutputs wireKind wireFigure fileFigures
+unfolding number bytesOf operationOf codeOf resultOf recordAt sizeAt fileRecords fileOutputs wireKind wireFigure fileFigures outputFigure pickSum
 sums-run = refl
 
 -- Document 02, C-13: "a working variable's output is FF FF, which names no wire". A file made by hand, a record a line: a bit and two words, of which only the last has an output wire.
@@ -148,7 +148,7 @@ scraps-row = refl
 
 -- "and running writes 0 for it"
 pub scraps-run : map (λ x. fileFigures fileOfScraps x) ((1 ∷ 6 ∷ 7 ∷ []) ∷ (0 ∷ 6 ∷ 7 ∷ []) ∷ []) ≡ (0 ∷ 0 ∷ 6 ∷ []) ∷ (0 ∷ 0 ∷ 7 ∷ []) ∷ []
-unfolding number bytesOf operationOf codeOf resultOf recordAt sizeAt fileRecords fileOutputs wireKind wireFigure fileFigures
+unfolding number bytesOf operationOf codeOf resultOf recordAt sizeAt fileRecords fileOutputs wireKind wireFigure fileFigures outputFigure
 scraps-run = refl
 
 -- FF FE is no such number: with it in the place of the first output, row 62 refuses the file
@@ -179,5 +179,5 @@ tables-row = refl
 
 -- eight wires at 1 are setting 255, "lowest setting in the lowest bit"
 pub guards-run : map (λ t. fileFigures (fileOfGuard two 8 (2 ^ t)) (1 ∷ [])) (254 ∷ 255 ∷ []) ≡ (0 ∷ []) ∷ (1 ∷ []) ∷ []
-unfolding number bytesOf operationOf codeOf resultOf recordAt sizeAt fileRecords fileOutputs wireKind wireFigure fileFigures
+unfolding number bytesOf operationOf codeOf resultOf recordAt sizeAt fileRecords fileOutputs wireKind wireFigure fileFigures outputFigure
 guards-run = refl

@@ -57,6 +57,7 @@ module _ (k : ℕ → Kind) (W : ℕ → ℕ) where
 
   -- with at most one guard at 1 a pick gives that value
   pub sum-value : (l : List Pair) → guardsAtOne W l ≤ 1 → RecordFits k (pick l) → ((w : ℕ) → w ∈ valuesOf l → Fits (k w) (W w)) → pickSum k W l ≡ pickFigure W l
+  unfolding pickSum
   sum-value l one (_, a) f =
       let j = recordKind k (pick l) in
       ap (λ (n : ℕ). n % figuresIn j) (sum-pick W l one) ∙ pick-whole j l a f
@@ -64,6 +65,7 @@ module _ (k : ℕ → Kind) (W : ℕ → ℕ) where
   -- a record's figure is of its kind, if those that it reads are of theirs
   record-fits : (ver : Version) (inputs : List ℕ) (r : Record) → RecordFits k r → Bounded ver r → ReadsBack ver r → ((j : Kind) (x : ℕ) → r ≡ input j x → Fits j (getD inputs x 0))
       → ((a : ℕ) → a ∈ reads r → Fits (k a) (W a)) → Fits (recordKind k r) (recordFigure inputs (pickSum k) W r)
+  unfolding pickSum
   record-fits ver inputs (input j x) h b n i f = i j x refl
   record-fits ver inputs (word c) h b n i f = n
   record-fits ver inputs (bit c) h b n i f = b

@@ -69,7 +69,7 @@ unfoldable pub fileOutputs : List ℕ → List ℕ
 fileOutputs f = wiresAt (fileVariables f) f (placeAfter (wireCount f) f firstRecord)
 
 -- "A variable's figure is that of its output wire". Document 02, C-13: where that is FF FF, "running writes 0 for it"
-abbrev pub outputFigure : List ℕ → List Record → ℕ → ℕ
+unfoldable pub outputFigure : List ℕ → List Record → ℕ → ℕ
 outputFigure inputs R w = cond (eqb w noWire) 0 (wireFigure inputs R w)
 
 -- what running the file writes, for every variable

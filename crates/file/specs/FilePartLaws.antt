@@ -82,5 +82,5 @@ figures-count f inputs = length-map (fileOutputs f) _ ∙ wires-length (fileVari
 pub figures-of : (f inputs : List ℕ)
     → fileFigures f inputs
     ≡ map (λ w. cond (eqb w noWire) 0 (getD (run 0 (recordFigure inputs (pickSum (wireKind (fileRecords f)))) (recordsFrom (wireCount f) f firstRecord) []) w 0)) (fileOutputs f)
-unfolding fileFigures wireFigure fileRecords
+unfolding fileFigures wireFigure fileRecords outputFigure pickSum
 figures-of f inputs = refl

@@ -2,6 +2,7 @@
 -- it is still read, and running it writes 0 for that variable and for every other what it wrote.
 use Prim.Native.Nat.{ℕ, zero, suc, _<_}
 use native.Mathlib.Omega.{arith}
+use borrow.Author.Tests.{ne-eqb}
 use mathlib.Core.Path.{_≡_, refl, sym, ap, _∙_}
 use mathlib.Core.List.{List, [], _∷_, map}
 use mathlib.Core.Logic.{_⊎_, inl, inr}
@@ -12,6 +13,7 @@ use Rattle.base.specs.TestLaws.{same?}
 use Rattle.file.specs.Records.{Record}
 use Rattle.file.specs.Versions.{Version}
 use Rattle.file.specs.WireKinds.{wireKind}
+use Rattle.file.specs.WireFigures.{wireFigure}
 use Rattle.file.specs.CircuitFile.{fileBytes, noWire}
 use Rattle.file.specs.FileFigures.{outputFigure, fileFigures}
 use Rattle.file.specs.FitRecords.{FileFits}
@@ -19,6 +21,15 @@ use Rattle.file.specs.FileLaws.{file-figures}
 use Rattle.file.specs.SizeLaws.{file-size}
 use Rattle.file.specs.StandLaws.{Out}
 use Rattle.file.specs.WellFormed.{WellFormed}
+
+-- what an output gives: 0 where it is no wire, else its wire's figure
+pub none-figure : (inputs : List ℕ) (R : List Record) → outputFigure inputs R noWire ≡ 0
+unfolding outputFigure
+none-figure inputs R = refl
+
+pub some-figure : (inputs : List ℕ) (R : List Record) (w : ℕ) → (w ≡ noWire → ⊥) → outputFigure inputs R w ≡ wireFigure inputs R w
+unfolding outputFigure
+some-figure inputs R w n = rw (ne-eqb w noWire n)
 
 module _ (ver : Version) (v : ℕ) (R : List Record) (outputs : List ℕ) (x : ℕ) where
   abbrev less : List ℕ
@@ -60,6 +71,7 @@ module _ (ver : Version) (v : ℕ) (R : List Record) (outputs : List ℕ) (x : �
 
   pub figures-less : FileFits ver v R outputs → (inputs : List ℕ)
       → fileFigures (fileBytes ver v R (set outputs x noWire)) inputs ≡ set (fileFigures (fileBytes ver v R outputs) inputs) x 0
+  unfolding outputFigure
   figures-less f inputs =
       file-figures ver v R less (fits-less f) inputs ∙ none outputs x
       ∙ ap (λ (l : List ℕ). set l x 0) (sym (file-figures ver v R outputs f inputs))

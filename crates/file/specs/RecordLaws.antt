@@ -31,6 +31,7 @@ sum-same v w [] h = refl
 sum-same v w (p ∷ l) h = rw (h (p .guarding) (inl refl), h (p .value) (inr (inl refl)), sum-same v w l (λ a m. h a (inr (inr m))))
 
 pub picks-same : (k : ℕ → Kind) → ReadsPairs (pickSum k)
+unfolding pickSum
 picks-same k v w l h = ap (λ (n : ℕ). n % figuresIn (recordKind k (pick l))) (sum-same v w l h)
 
 -- a record's figure reads only the wires that the record names

@@ -21,7 +21,7 @@ sumFigure W [] = 0
 sumFigure W (p ∷ l) = cond (isOne (W (p .guarding))) (W (p .value)) 0 + sumFigure W l
 
 -- what a pick gives: that sum, modulo by the kind of its values; k: the kinds of the wires
-abbrev pub pickSum : (ℕ → Kind) → (ℕ → ℕ) → List Pair → ℕ
+unfoldable pub pickSum : (ℕ → Kind) → (ℕ → ℕ) → List Pair → ℕ
 pickSum k W l = sumFigure W l % figuresIn (recordKind k (pick l))
 
 -- the figure of wire i

@@ -70,6 +70,7 @@ figure-by f inputs figures at told n r e q = q ∙ ap (recordFigure inputs (pick
 
 -- a pick that is told its record's kind gives what it gives by the kinds of the wires
 pub pick-told : (inputs : List ℕ) (k : ℕ → Kind) (W : ℕ → ℕ) (r : Record) → recordFigure inputs (pickBy (isBit (recordKind k r))) W r ≡ recordFigure inputs (pickSum k) W r
+unfolding pickSum
 pick-told inputs k W (input j x) = refl
 pick-told inputs k W (word n) = refl
 pick-told inputs k W (bit b) = refl

@@ -55,6 +55,7 @@ module _ (s p : List ℕ) where
 
   -- the gates joined with m have one wire at place k exactly when each has m's
   pub one-wire-right : (m k : ℕ) → m < gateCount s → (oneWire (wiresAt s p m k) ≡ true) ↔ ((j : ℕ) → j ∈ joinedWith s p m → wireOf s p (argument s j k) ≡ wireOf s p (argument s m k))
+  unfolding argument
   one-wire-right m k l = (
     λ t j i. each t j i ∙ sym (each t m (own m l)),
     λ h. one-wire (wiresAt s p m k) some (λ w i. gives h w i ∙ sym (gives h (getD (wiresAt s p m k) 0 0) (getD-in (wiresAt s p m k) 0 some))),
@@ -74,9 +75,11 @@ module _ (s p : List ℕ) where
       -- a group without a pick is its operation on the wires that all members have
       module _ (first : oneWire (wiresAt s p m 0) ≡ true) (second : oneWire (wiresAt s p m 1) ≡ true) where
         wire-of : (k : ℕ) → oneWire (wiresAt s p m k) ≡ true → getD (wiresAt s p m k) 0 0 ≡ wireOf s p (argument s m k)
+        unfolding argument
         wire-of k t = sym (one-wire-each (wiresAt s p m k) t (wireOf s p (argument s m k)) (in-map (λ j. wireOf s p (argument s j k)) m (joinedWith s p m) (own m l)))
 
         reads : getD (wiresAt s p m 0) 0 0 ∷ getD (wiresAt s p m 1) 0 0 ∷ [] ≡ map (wireOf s p) (arguments (gateAt (gatesOf s) m))
+        unfolding argument
         reads =
             ap₂ (λ (a b : ℕ). a ∷ b ∷ []) (wire-of 0 first) (wire-of 1 second)
             ∙ ap (map (wireOf s p)) (two-of (arguments (gateAt (gatesOf s) m)) (planned-two s p h (groupOf (groupsIn p) m) two m (own m l)))

@@ -8,7 +8,6 @@ use mathlib.Core.Bool.{true, false}
 use mathlib.Core.Logic.{_⊎_, inl, inr}
 use native.Mathlib.Omega.{arith}
 use lib.ListN.{length, getD}
-use borrow.Author.Tests.{ne-eqb}
 use Rattle.base.specs.Inputs.{FiguresFit}
 use Rattle.base.specs.Lists.{_∈_, upto}
 use Rattle.base.specs.MemberLaws.{map-in, from-below}
@@ -19,6 +18,7 @@ use Rattle.file.specs.Records.{ReadsEarlier}
 use Rattle.file.specs.WireFigures.{wireFigure}
 use Rattle.file.specs.CircuitFile.{noWire}
 use Rattle.file.specs.FileFigures.{outputFigure, fileFigures}
+use Rattle.file.specs.NoWireLaws.{none-figure, some-figure}
 use Rattle.base.specs.Results.{isOne}
 use Rattle.rule.specs.Header.{variables, kindAt, workingAt}
 use Rattle.circuit.specs.Running.{runRule, writtenFor, runWrites}
@@ -26,7 +26,7 @@ use Rattle.circuit.specs.Gates.{figureAt}
 use Rattle.circuit.specs.PlainCircuit.{gatesOf, outputsOf}
 use Rattle.circuit.specs.StartLaws.{read-run}
 use Rattle.circuit.specs.OutputLaws.{output-figure}
-use Rattle.circuit.specs.WrittenLaws.{writes-result, writes-map}
+use Rattle.circuit.specs.WrittenLaws.{written-result, written-working, writes-result, writes-map}
 use Rattle.circuit_needed.specs.Needed.{Needed, wantedOf, from-start}
 use Rattle.circuit_needed.specs.NeededLaws.{needed-inside}
 use Rattle.circuit_needed.specs.WantedLaws.{result-wanted}
@@ -61,7 +61,7 @@ output-earlier s p h w m =
 
 -- whatever the inputs, a working variable's output gives 0
 pub working-figure : (s p inputs : List ℕ) (x : ℕ) → workingAt s x ≡ true → outputFigure inputs (recordsOf s p) (outputWire s p x) ≡ 0
-working-figure s p inputs x t = rw t
+working-figure s p inputs x t = ap (outputFigure inputs (recordsOf s p)) (working-wire s p x t) ∙ none-figure inputs (recordsOf s p)
 
 -- on inputs that fit their variables' kinds
 module _ (s p : List ℕ) (bytes : Bytes s) (h : planAnswer s p .number ≡ 0) (inputs : List ℕ) (fit : FiguresFit (variables s) (kindAt s) inputs) where
@@ -86,14 +86,15 @@ module _ (s p : List ℕ) (bytes : Bytes s) (h : planAnswer s p .number ≡ 0) (
     result-figure x v t =
         let r = planned-read s p h in
         let some : outputWire s p x ≡ noWire → ⊥ = λ e. omega (arith, e, result-earlier s p h x v t, wires-bound s p h) in
-        rw (ne-eqb _ _ some, result-wire s p x t)
+        some-figure inputs (recordsOf s p) (outputWire s p x) some
+        ∙ rw (result-wire s p x t)
         (needed-figure (getD (outputsOf s) x 0) (from-start (result-wanted s x v t))
         ∙ output-figure s (r .0) (r .1) (r .2) inputs l x v
         ∙ ap (λ (f : List ℕ). getD f x 0) (sym (read-run s (r .0) (r .1) (r .2) inputs)))
 
     -- every output gives what the direct run writes
     output-written : (x : ℕ) → x < variables s → outputFigure inputs (recordsOf s p) (outputWire s p x) ≡ writtenFor s x (getD (runRule s inputs) x 0)
-    output-written x v = split (workingAt s x) (λ t. working-figure s p inputs x t ∙ rw t) (λ t. result-figure x v t ∙ rw t)
+    output-written x v = split (workingAt s x) (λ t. working-figure s p inputs x t ∙ sym (written-working s x _ t)) (λ t. result-figure x v t ∙ sym (written-result s x _ t))
 
     -- so the file's own bytes, worked out record by record, give what a direct run writes
     pub file-run : fileFigures (fusedFile s p) inputs ≡ runWrites s inputs

@@ -14,7 +14,7 @@ use Rattle.fused.specs.Emission.{gateOperation, picked, joined, guardOf,
 use Rattle.fused.specs.FusedCircuit.{wireOf}
 
 -- argument k of gate m of a rule
-abbrev pub argument : List ℕ → ℕ → ℕ → ℕ
+unfoldable pub argument : List ℕ → ℕ → ℕ → ℕ
 argument s m k = getD (arguments (gateAt (gatesOf s) m)) k 0
 
 -- the members of gate m's group, m among them

@@ -21,6 +21,7 @@ use Rattle.circuit.specs.OnlyOrderLaws.{same-variables, same-kind, same-working
 use Rattle.circuit.specs.Limits.{mostGates, mostConditions}
 use Rattle.circuit.specs.EachGateLaws.{StartGate, Starting, rule-starting}
 use Rattle.circuit_needed.specs.Needed.{wantedOf}
+use Rattle.circuit_needed.specs.WantedLaws.{wanted-same}
 use Rattle.circuit_needed.specs.Pass.{preconditionSets, rulePreconditions}
 use Rattle.circuit.specs.Whole.{ruleAnswer}
 use Rattle.circuit.specs.WholeLaws.{whole-success, answer-whole, accepted}
@@ -69,7 +70,7 @@ module _ (s t : List ℕ) (o : OnlyOrder s t) where
       ∙ ap (λ (v : ℕ). keep (λ x. not (workingAt t x)) (upto v)) (same-variables s t o)
 
   same-wanted : wantedOf s ≡ wantedOf t
-  same-wanted = ap₂ (λ (m : Making) (l : List ℕ). map (λ x. getD (m .present) x 0) l) (same-plain s t o) same-results
+  same-wanted = wanted-same s t (ap (λ (m : Making). m .present) (same-plain s t o)) same-results
 
   same-sets : rulePreconditions s ≡ rulePreconditions t
   same-sets = ap₂ (preconditionSets mostConditions) same-gates same-wanted

@@ -4,20 +4,16 @@ use mathlib.Core.Path.{_≡_, sym, ap, _∙_}
 use mathlib.Core.List.{List}
 use mathlib.Core.Logic.{_⊎_, inl, inr}
 use lib.ListN.{length, getD, take}
-use lib.Seq.{take-at}
 use Rattle.base.specs.Lists.{_∈_}
 use Rattle.base.specs.TestLaws.{same?}
 use Rattle.circuit.specs.Gates.{Gate}
-use Rattle.circuit.specs.Limits.{mostGates}
 use Rattle.circuit.specs.PlainCircuit.{gatesOf, gateCount}
 use Rattle.circuit.specs.Quads.{quadsOf}
 use Rattle.circuit_needed.specs.Held.{Shaped}
-use Rattle.circuit.specs.QuadLaws.{quads-length}
 use Rattle.circuit_needed.specs.ShapedLaws.{rule-shaped}
 use Rattle.circuit.specs.Whole.{ruleAnswer}
 use Rattle.circuit_needed.specs.Built.{builtQuads}
-use Rattle.base.specs.Buffers.{padded}
-use Rattle.circuit_build.specs.BuiltLaws.{accepted-builds}
+use Rattle.circuit_build.specs.BuiltParts.{built-quads}
 use Rattle.plan.specs.PlanFile.{groupsIn}
 use Rattle.plan.specs.Groups.{groupOf, members}
 use Rattle.plan.specs.Rows.{planAnswer}
@@ -43,9 +39,7 @@ module _ (s p : List ℕ) (h : planAnswer s p .number ≡ 0) where
 
   -- the quads begin with the rule's
   pub quads-held : take (4 * length (gatesOf s)) (builtQuads s) ≡ quadsOf s (gatesOf s)
-  quads-held =
-      ap (λ (l : List ℕ). take (4 * length (gatesOf s)) (padded (4 * mostGates) l)) (accepted-builds s rule-taken (quadsOf s (gatesOf s)))
-      ∙ take-at (quadsOf s (gatesOf s)) _ (4 * length (gatesOf s)) (quads-length s (gatesOf s))
+  quads-held = built-quads s rule-taken
 
   -- the members of a group, as the arrays give them
   pub members-are : (q : ℕ) → q < gateCount s → groupOf (groupsIn p) q ≡ q

@@ -6,19 +6,15 @@ use mathlib.Core.List.{List, map}
 use lib.ListN.{length, getD}
 use borrow.Author.Tests.{eq-eqb}
 use Rattle.base.specs.Lists.{upto}
-use Rattle.base.specs.BufferLaws.{padded-length}
 use Rattle.base.specs.Numbers.{Bytes}
 use Rattle.base.specs.Answers.{success}
 use Rattle.base.specs.declared.Answer.{Answer}
 use Rattle.rule.specs.Header.{variables, HasKinds}
-use Rattle.rule.specs.Limits.{mostVariables}
 use Rattle.rule.specs.FirstStatement.{rule-read}
-use Rattle.circuit.specs.PlainCircuit.{outputsOf, gateCount, costBefore}
+use Rattle.circuit.specs.PlainCircuit.{gateCount, costBefore}
 use Rattle.circuit.specs.Limits.{mostGates}
 use Rattle.circuit.specs.WholeLaws.{accepted}
-use Rattle.circuit_needed.specs.Built.{ifAccepted}
-use Rattle.circuit_build.specs.BuiltLaws.{accepted-builds}
-use Rattle.circuit_build.specs.BuiltParts.{built-output-inside, built-outputs-length, built-room, built-variables}
+use Rattle.circuit_build.specs.BuiltParts.{built-output-inside, built-outputs-held, built-room, built-variables}
 use Rattle.plan.specs.Rows.{planAnswer}
 use Rattle.plan.specs.AcceptedLaws.{answer-accepted, plan-accepted, row-right}
 use Rattle.plan_check.specs.Checked.{writingOrder}
@@ -111,11 +107,7 @@ module _ (s p : List ℕ) (taken : planAnswer s p .number ≡ 0) (quads needs ou
   file-is = ap₂ (fileBytes writtenVersion (variables s)) records-are outputs-are
 
   outputs-held : length outputs ≡ 32
-  outputs-held =
-      let e = accepted-builds s (rule-taken s p taken) (outputsOf s) in
-      let few : length (ifAccepted s (outputsOf s)) ≤ mostVariables = rw e
-      (omega (arith, built-outputs-length s (rule-taken s p taken), built-variables s (rule-taken s p taken))) in
-      ap length (k .outputs-are) ∙ padded-length mostVariables (ifAccepted s (outputsOf s)) few
+  outputs-held = ap length (k .outputs-are) ∙ built-outputs-held s (rule-taken s p taken)
 
   outputs-placed : OutputsPlaced outputs (variables s) group
   outputs-placed = record {

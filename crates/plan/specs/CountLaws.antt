@@ -64,6 +64,7 @@ module _ (C : Gates) (sets : List ℕ) (group : ℕ → ℕ) where
 
   -- an order that places every group has as many
   pub placed-count : placed C sets group ≡ true → length (order C sets group) ≡ length (groups (length C) group)
+  unfolding placed
   placed-count t =
       omega (
         arith,

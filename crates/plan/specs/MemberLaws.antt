@@ -23,11 +23,17 @@ use Rattle.plan.specs.Accepted.{OneCostly, NoTwoNeeded}
 
 -- a costly gate is a costly operation
 pub costly-gate : (k : Gate) → isCostly k ≡ true → (op : Operation) × (costly op ≡ true) × (l : List ℕ) × (k ≡ operation op l)
+unfolding isCostly
 costly-gate (start x) h = absurd (false≢true h)
 costly-gate (word n) h = absurd (false≢true h)
 costly-gate (bit b) h = absurd (false≢true h)
 costly-gate (operation op l) h = (op, h, l, refl)
 costly-gate (choice c a b) h = absurd (false≢true h)
+
+-- and an operation's gate is as costly as the operation
+pub gate-costly : (op : Operation) (l : List ℕ) → isCostly (operation op l) ≡ costly op
+unfolding isCostly
+gate-costly op l = refl
 
 -- an operation is known by its byte
 byte-one : (a b : Operation) → byteOf a ≡ byteOf b → a ≡ b
@@ -58,6 +64,7 @@ module _ (C : Gates) where
       each g (inr k) = as-first g k (costs g (inr k))
 
   one-costly-27 : (G : List ℕ) → OneCostly C G → every (λ g. isCostly (gateAt C g)) G ≡ true
+  unfolding isCostly
   one-costly-27 G (op, c, f) = every-right (λ g. isCostly (gateAt C g)) G .1 (λ g m. ap isCostly (f g m .1) ∙ c)
 
   one-costly-28 : (G : List ℕ) → OneCostly C G → alike C G ≡ true
@@ -69,6 +76,7 @@ module _ (C : Gates) where
   -- 27 and 28 of every group: its members are one costly operation
   pub costly-right : (Gs : Plan) → EachGroup (λ G. 2 ≤ length G) Gs
       → ((everyGroup (every (λ g. isCostly (gateAt C g))) Gs ≡ true) × (everyGroup (alike C) Gs ≡ true)) ↔ EachGroup (OneCostly C) Gs
+  unfolding isCostly
   costly-right Gs s = (λ h. to Gs s (h .0) (h .1), λ o. (back-27 Gs o, back-28 Gs o))
     where
       to : (Gs : Plan) → EachGroup (λ G. 2 ≤ length G) Gs → everyGroup (every (λ g. isCostly (gateAt C g))) Gs ≡ true → everyGroup (alike C) Gs ≡ true → EachGroup

@@ -46,7 +46,7 @@ abbrev pub groupsRise : Plan → Bool
 groupsRise Gs = rises (map smallest Gs)
 
 -- 27: a costly operation
-abbrev pub isCostly : Gate → Bool
+unfoldable pub isCostly : Gate → Bool
 isCostly (start x) = false
 isCostly (word n) = false
 isCostly (bit b) = false
@@ -70,7 +70,7 @@ abbrev pub parted : List ℕ → List ℕ → Bool
 parted sets G = every (λ m. every (λ k. cond (eqb m k) true (excludes (getD sets m 0) (getD sets k 0))) G) G
 
 -- 30: the order of writing places every group
-abbrev pub placed : Gates → List ℕ → (ℕ → ℕ) → Bool
+unfoldable pub placed : Gates → List ℕ → (ℕ → ℕ) → Bool
 placed C sets group = allIn (groups (length C) group) (order C sets group)
 
 -- a row: its number, and the fact whose failing it refuses

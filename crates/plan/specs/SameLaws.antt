@@ -70,6 +70,7 @@ module _ (C : Gates) (earlier : Earlier C) (sets : List ℕ) (f h : ℕ → ℕ)
       ∙ ap (λ (gs : List ℕ). schedule (waitsFor C sets h) gs (length gs) []) (groups-same (length C) f h e)
 
   pub placed-same : placed C sets f ≡ placed C sets h
+  unfolding placed
   placed-same = ap₂ allIn (groups-same (length C) f h e) order-same
 
 -- Two lists of sets that read alike: an array padded with zeros reads as the list.
@@ -96,6 +97,7 @@ module _ (C : Gates) (sets tabs : List ℕ) (e : (m : ℕ) → getD sets m 0 ≡
   order-sets-same = schedule-same (waitsFor C sets group) (waitsFor C tabs group) waits-sets-same (groups (length C) group) (length (groups (length C) group)) []
 
   pub placed-sets-same : placed C sets group ≡ placed C tabs group
+  unfolding placed
   placed-sets-same = ap (allIn (groups (length C) group)) order-sets-same
 
 -- The rows over the same sets.

@@ -87,6 +87,7 @@ module _ (C : Gates) (wanted : List ℕ) (earlier : Earlier C) (inside : (g : �
 
   -- 30
   pub placed-right : Named group → (placed C (preconditionSets mostConditions C wanted) group ≡ true) ↔ NoCircle C wanted group
+  unfolding placed
   placed-right named = (
     λ t. order-places named .0 (allIn-each (groups (length C) group) (order C sets group) t),
     λ free. allIn-back (groups (length C) group) (order C sets group) (order-places named .1 free),
@@ -94,7 +95,7 @@ module _ (C : Gates) (wanted : List ℕ) (earlier : Earlier C) (inside : (g : �
 
   -- so where 30 is answered there is such a group
   pub circle-found : Named group → placed C (preconditionSets mostConditions C wanted) group ≡ false → (p : ℕ) × Chain (Waits C wanted group) p p
-  unfolding order
+  unfolding order placed
   circle-found named t = let (q, m, f) = missing gs (order C sets group) t in go q f (all q m)
     where
       gs : List ℕ

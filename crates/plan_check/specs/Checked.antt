@@ -24,13 +24,13 @@ abbrev pub writingOrder : List ℕ → List ℕ → List ℕ
 writingOrder s p = reverse (order (gatesOf s) (rulePreconditions s) (groupOf (groupsIn p)))
 
 -- each gate's group, by its smallest member
-abbrev pub checkedGroups : List ℕ → List ℕ → List ℕ
+unfoldable pub checkedGroups : List ℕ → List ℕ → List ℕ
 checkedGroups s p = padded mostGates (ifChecked s p (map (groupOf (groupsIn p)) (upto (gateCount s))))
 
 -- the place in the plan of each gate's group, 0 for a group alone
-abbrev pub checkedPlaces : List ℕ → List ℕ → List ℕ
+unfoldable pub checkedPlaces : List ℕ → List ℕ → List ℕ
 checkedPlaces s p = padded mostGates (ifChecked s p (map (placeOf p) (upto (gateCount s))))
 
 -- the order of writing
-abbrev pub checkedOrder : List ℕ → List ℕ → List ℕ
+unfoldable pub checkedOrder : List ℕ → List ℕ → List ℕ
 checkedOrder s p = padded mostGates (ifChecked s p (writingOrder s p))

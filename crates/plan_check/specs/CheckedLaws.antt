@@ -33,11 +33,14 @@ module _ (s p : List ℕ) (h : planAnswer s p .number ≡ 0) where
 
   -- each gate's group, and its place in the plan
   pub group-is : (g : ℕ) → g < gateCount s → getD (checkedGroups s p) g 0 ≡ groupOf (groupsIn p) g
+  unfolding checkedGroups
   group-is g l = gate-at (groupOf (groupsIn p)) g l
 
   pub place-is : (g : ℕ) → g < gateCount s → getD (checkedPlaces s p) g 0 ≡ placeOf p g
+  unfolding checkedPlaces
   place-is g l = gate-at (placeOf p) g l
 
   -- the group of turn i
   pub turn-is : (i : ℕ) → getD (checkedOrder s p) i 0 ≡ getD (writingOrder s p) i 0
+  unfolding checkedOrder
   turn-is i = part-at (writingOrder s p) i

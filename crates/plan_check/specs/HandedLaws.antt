@@ -32,6 +32,7 @@ use Rattle.plan_groups.specs.TableLaws.{group-at, place-at}
 use Rattle.plan_groups.specs.RowLaws.{layout-readable}
 use Rattle.plan_check.specs.CheckedLaws.{refused-lists}
 use Rattle.plan_check.specs.Handed.{Handed}
+use Rattle.plan_check.specs.Checked.{checkedGroups, checkedOrder, checkedPlaces}
 
 -- a refused plan hands up the circuit, and no groups
 module _ (s p quads needs outputs conds : List ℕ)
@@ -39,6 +40,7 @@ module _ (s p quads needs outputs conds : List ℕ)
     (clear : (group ≡ replicate 256 0) × ((places ≡ replicate 256 0) × (order ≡ replicate 256 0))) (groups : ℕ) (zero : groups ≡ 0) where
   pub refused-handed : (a : Answer) → a ≡ planAnswer s p → (a .number ≡ 0 → ⊥)
       → (a ≡ planAnswer s p) × Handed s p quads needs outputs conds group places order groups
+  unfolding checkedGroups checkedOrder checkedPlaces
   refused-handed a e h =
       let n : planAnswer s p .number ≡ 0 → ⊥ = λ z. h (ap (λ (b : Answer). b .number) e ∙ z) in
       let none = refused-lists s p n in (

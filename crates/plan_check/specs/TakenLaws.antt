@@ -107,16 +107,17 @@ module _ (s p : List ℕ) (a : Answer) (quads needs outputs conds : List ℕ) (s
     accepted = ap (λ (a : Answer). a .number) (sym taken-answer) ∙ zero
 
     taken-group : group ≡ checkedGroups s p
-    unfolding groupTable
+    unfolding groupTable checkedGroups
     taken-group =
         g ∙ ap (λ (m : ℕ). padded mostGates (map (groupOf (groupsIn p)) (upto m))) (gates-are s p a quads needs outputs conds sh zero) ∙ ap (padded mostGates) (sym (accepted-lists s p accepted _))
 
     taken-joined : places ≡ checkedPlaces s p
-    unfolding placeTable
+    unfolding placeTable checkedPlaces
     taken-joined =
         j ∙ ap (λ (m : ℕ). padded mostGates (map (placeOf p) (upto m))) (gates-are s p a quads needs outputs conds sh zero) ∙ ap (padded mostGates) (sym (accepted-lists s p accepted _))
 
     taken-order : found ≡ checkedOrder s p
+    unfolding checkedOrder
     taken-order =
         o ∙ ap (over (reverse (order (gatesIn quads n) needs tabled))) clear ∙ over-zeros (reverse (order (gatesIn quads n) needs tabled)) mostGates
         ∙ ap (λ (l : List ℕ). padded mostGates (reverse l)) order-is ∙ ap (padded mostGates) (sym (accepted-lists s p accepted _))

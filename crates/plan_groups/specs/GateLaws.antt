@@ -28,6 +28,7 @@ by-cost : (quads : List ℕ) (i : ℕ) (k : Gate) → gateIn quads i ≡ k → (
 by-cost quads i k e n c = ap isCostly e ∙ c ∙ ap (λ (g : Gate). ltb 0 (costOf g)) (sym e) ∙ ap (ltb 0) (cost-in quads i n)
 
 pub costly-code : (quads : List ℕ) (i : ℕ) → isCostly (gateIn quads i) ≡ ltb 0 (codeOf (codeAt quads i) .cost)
+unfolding isCostly
 costly-code quads i = split (eqb (codeAt quads i) choiceCode) (λ t. chosen (eqb-true _ _ t)) (λ t. other (eqb-false _ _ t) (kind-in quads i))
   where
     chosen : codeAt quads i ≡ choiceCode → isCostly (gateIn quads i) ≡ ltb 0 (codeOf (codeAt quads i) .cost)

@@ -17,6 +17,7 @@ use Rattle.plan_order.specs.Search.{nextReady}
 use Rattle.plan_order.specs.declared.Next.the-variants as next
 use Rattle.plan_order.specs.declared.Order.the-variants.{Placed, Circle}
 use Rattle.plan_order.specs.PlacingLaws.{Placing, placing-start, placing-circle, placing-end}
+use Rattle.plan.specs.Rows.{placed}
 
 -- the loop's record for the gates of the quads
 abbrev pub PlacingIn : List ℕ → ℕ → List ℕ → List ℕ → List ℕ → List ℕ → List ℕ → List ℕ → List ℕ → ℕ → ℕ → List ℕ → Type 0
@@ -57,13 +58,13 @@ module _ (quads : List ℕ) (count : ℕ) (needs group : List ℕ) where
 
     pub ordering-circle : next.Circle ≡ nextReady waits left first count → k < n
         → (Circle ≡ orderOf C needs g) × (new ≡ over (reverse (order C needs g)) order₀)
-    unfolding orderOf
+    unfolding orderOf placed
     ordering-circle e l =
         let r = placing-circle (waitsFor C needs g) g count waits order₀ new left held k first done s e (rw many at l) in
         (rw (gates-length quads count, order-is, r .0, r .1), kept (r .0))
 
     pub ordering-end : n ≤ k → (Placed k ≡ orderOf C needs g) × (new ≡ over (reverse (order C needs g)) order₀)
-    unfolding orderOf
+    unfolding orderOf placed
     ordering-end l =
         let r = placing-end (waitsFor C needs g) g count waits order₀ new left held k first done s (rw many at l) in
         (rw (gates-length quads count, order-is, r .0, r .1 .0, r .1 .1), kept (r .0))

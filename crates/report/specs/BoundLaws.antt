@@ -40,6 +40,7 @@ entry-costs s = costs-bound (partOf s) (partOf (pastPart s))
 -- all the accepted ones of a list
 module _ (cost : Answer → ℕ) (small : (e : Entry) → answerTo e .number ≡ 0 → cost (answerTo e) ≤ mostCost) where
   costs-small : (es : List Entry) → costOf cost (among accepts (map answerTo es)) ≤ mostCost * length es
+  unfolding accepts among costOf
   costs-small [] = omega arith
   costs-small (e ∷ es) =
       split (accepts (answerTo e))

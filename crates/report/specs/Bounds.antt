@@ -39,7 +39,7 @@ abbrev pub mostHeld : ℕ
 mostHeld = mostPart + mostPart
 
 -- all the bytes that a report can still take, and one more for the head and for each entry: so a program that reads on comes to an end
-abbrev pub mostWanted : Progress → ℕ
+unfoldable pub mostWanted : Progress → ℕ
 mostWanted Head = headBytes + 1 + mostEntries * (mostHeld + 1)
 mostWanted (Entries n t) = n * (mostHeld + 1)
 mostWanted Stopped = 0

@@ -11,7 +11,7 @@ use borrow.Author.Tests.{eq-eqb, ne-eqb, eqb-true, eqb-false, le-leb, lt-leb}
 use Rattle.base.specs.TestLaws.{split}
 use Rattle.report.specs.declared.Progress.the-variants.{Stopped}
 use Rattle.report.specs.Batch.{reportOf}
-use Rattle.report.specs.Steps.{Stepped, quiet, headStep, step, Reader, reader, next, mostLine, drain, drained, emptied, emptiedTimes, feed, feedAll, start, fed}
+use Rattle.report.specs.Steps.{Stepped, quiet, headStep, step, Reader, reader, next, mostLine, drain, drained, emptied, emptiedTimes, feed, feedAll, start, fed, ending}
 use Rattle.report.specs.StepLaws.{report, step-tells, step-moves, step-orderly, rest-tells, toDo, few-to-do}
 
 -- the steps at once, by cases
@@ -133,6 +133,7 @@ module _ (room : ℕ) (enough : mostLine ≤ room) where
 
   -- in any pieces
   pub fed-report : (pieces : List (List ℕ)) → fed room pieces ≡ reportOf (flatten pieces)
+  unfolding fed
   fed-report pieces =
       let r = feedAll room start pieces in
       ap (λ (t : List ℕ). r .printed ++ t) (sym (rest-tells (r .progress) (r .held) (fed-rest pieces)) ∙ ap (report (r .progress)) (sym (append-nil (r .held))))
@@ -141,5 +142,6 @@ module _ (room : ℕ) (enough : mostLine ≤ room) where
 -- once a report has stopped, nothing that comes changes it
 pub fed-stopped : (room : ℕ) (pieces : List (List ℕ)) → feedAll room start pieces .progress ≡ Stopped → (x : List ℕ)
     → reportOf (flatten pieces ++ x) ≡ fed room pieces
+unfolding ending fed
 fed-stopped room pieces h x =
     sym (all-same room start pieces x) ∙ rw h refl

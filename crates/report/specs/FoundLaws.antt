@@ -52,6 +52,7 @@ module _ (s : List ℕ) (b : Bytes s) (h : hasEntry s ≡ true) where
       (part-small s b r, part-small (pastPart s) (bytes-drop s (partSize s) b) p)
 
   pub entry-back : s ≡ entryBytes (entryOf s) ++ pastEntry s
+  unfolding entryBytes
   entry-back =
       let (r, p) = entry-parts s h in
       part-back s b r
@@ -102,6 +103,7 @@ head-back b bytes h m =
 
 -- a head that counts n entries, and the entries behind it
 counted-found : (n : ℕ) (s : List ℕ) → n < 65536 → Leading n s → Found (headOf n ++ s)
+unfolding batchOf
 counted-found n s small found =
     ⊎-elim
     (λ e. subst Found (ap (λ (x : List ℕ). headOf n ++ x) (sym (found .are)))
@@ -142,6 +144,7 @@ pub record Summed (t u : Sums) (l : List Answer) : Type 0 where
 
 -- one answer more
 one-more : (t u : Sums) (a : Answer) (l : List Answer) → Summed (plus t a) u l → Summed t u (a ∷ l)
+unfolding accepts among costOf
 one-more t u a l s =
     split (accepts a)
     (λ z.
@@ -162,6 +165,7 @@ one-more t u a l s =
     })
 
 pub sums-are : (es : List Entry) (t : Sums) → Summed t (sumsFrom t es) (map answerTo es)
+unfolding among costOf
 sums-are [] t = record { accepted-is = sym (add-zero _); refused-is = sym (add-zero _); before-is = sym (add-zero _); after-is = sym (add-zero _) }
 sums-are (e ∷ es) t = one-more t (sumsFrom t (e ∷ es)) (answerTo e) (map answerTo es) (sums-are es (plus t (answerTo e)))
 
@@ -175,6 +179,7 @@ pub whole-report : (es : List Entry) → AllFit es → length es < 65536 → rep
 whole-report es f h = whole-batch es f h ∙ ap (λ (x : List ℕ). linesOf es ++ x) (total-is es)
 
 pub found-report : (b : List ℕ) → Bytes b → (f : Found b) → reportOf b ≡ printedFor f
+unfolding linesOf printedFor
 found-report b bytes (whole es f h) = whole-report es f h
 found-report b bytes (left es f h c x) = bytes-left es f h c x
 found-report b bytes (missing es f n h x none) =

@@ -28,35 +28,35 @@ AllFit (e ∷ es) = Fits e × AllFit es
 abbrev pub partBytes : List ℕ → List ℕ
 partBytes b = bytesOf 2 (length b) ++ b
 
-abbrev pub entryBytes : Entry → List ℕ
+unfoldable pub entryBytes : Entry → List ℕ
 entryBytes e = partBytes (e .rule) ++ partBytes (e .plan)
 
 -- "42 41 54 ("BAT"), 00 01, a two-byte count, and for each entry" its bytes
 abbrev pub headOf : ℕ → List ℕ
 headOf n = batchMark ++ bytesOf 2 n
 
-abbrev pub batchOf : List Entry → List ℕ
+unfoldable pub batchOf : List Entry → List ℕ
 batchOf es = headOf (length es) ++ flatMap entryBytes es
 
 -- what the tool answers for each entry, and "document 01's line for each entry"
 abbrev pub answerTo : Entry → Answer
 answerTo e = fusedAnswer (e .rule) (e .plan)
 
-abbrev pub linesOf : List Entry → List ℕ
+unfoldable pub linesOf : List Entry → List ℕ
 linesOf es = flatMap (λ e. lineOf (answerTo e)) es
 
 -- the answers that accept, those that refuse, and a cost of all of these
-abbrev pub accepts : Answer → Bool
+unfoldable pub accepts : Answer → Bool
 accepts a = eqb (a .number) 0
 
 abbrev pub refuses : Answer → Bool
 refuses a = not (accepts a)
 
-abbrev pub among : (Answer → Bool) → List Answer → List Answer
+unfoldable pub among : (Answer → Bool) → List Answer → List Answer
 among test [] = []
 among test (a ∷ l) = cond (test a) (a ∷ among test l) (among test l)
 
-abbrev pub costOf : (Answer → ℕ) → List Answer → ℕ
+unfoldable pub costOf : (Answer → ℕ) → List Answer → ℕ
 costOf cost [] = 0
 costOf cost (a ∷ l) = cost a + costOf cost l
 
@@ -81,7 +81,7 @@ pub data Found : List ℕ → Type 0 where
   other : (b : List ℕ) → (take 5 b ≡ batchMark → ⊥) → Found b
 
 -- what is printed of them
-abbrev pub printedFor : {b : List ℕ} → Found b → List ℕ
+unfoldable pub printedFor : {b : List ℕ} → Found b → List ℕ
 printedFor (whole es f n) = linesOf es ++ totalIn es
 printedFor (left es f n b x) = linesOf es ++ refused75
 printedFor (missing es f n h x none) = linesOf es ++ refused75

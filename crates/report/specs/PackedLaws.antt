@@ -51,6 +51,7 @@ module _ (b x : List ℕ) (h : length b < 65536) where
 -- so is an entry
 module _ (e : Entry) (x : List ℕ) (h : Fits e) where
   two : entryBytes e ++ x ≡ partBytes (e .rule) ++ (partBytes (e .plan) ++ x)
+  unfolding entryBytes
   two = append-assoc (partBytes (e .rule)) (partBytes (e .plan)) x
 
   rest : pastPart (entryBytes e ++ x) ≡ partBytes (e .plan) ++ x
@@ -72,6 +73,7 @@ module _ (e : Entry) (x : List ℕ) (h : Fits e) where
   entry-past = past-both (entryBytes e ++ x) ∙ ap pastPart rest ∙ part-past (e .plan) x (h .1)
 
   pub entry-size : entrySize (entryBytes e ++ x) ≡ length (entryBytes e)
+  unfolding entryBytes
   entry-size =
       let r = ap (λ (s : List ℕ). numberAt 2 s 0) two ∙ number-is (e .rule) (partBytes (e .plan) ++ x) (h .0) in
       let p = ap (λ (s : List ℕ). numberAt 2 s 0) rest ∙ number-is (e .plan) x (h .1) in
@@ -116,7 +118,7 @@ entry-line e n t x h = rw (entry-there e x h, answer-found e x h, entry-past e x
 
 pub entries-lines : (es : List Entry) (n : ℕ) (t : Sums) (x : List ℕ) → AllFit es
     → reportFrom (length es + n) t (flatMap entryBytes es ++ x) ≡ linesOf es ++ reportFrom n (sumsFrom t es) x
-unfolding flatMap
+unfolding flatMap entryBytes linesOf
 entries-lines [] n t x f = ap (λ (k : ℕ). reportFrom k t x) (zero-add n)
 entries-lines (e ∷ es) n t x f =
     ap (λ (k : ℕ). reportFrom k t ((entryBytes e ++ flatMap entryBytes es) ++ x)) (suc-add (length es) n)
@@ -137,7 +139,7 @@ head-report n x h =
 -- The report of a batch of entries: whole, with bytes left, or ending within an entry.
 module _ (es : List Entry) (f : AllFit es) where
   pub whole-batch : length es < 65536 → reportOf (batchOf es) ≡ linesOf es ++ totalOf (sumsFrom noSums es)
-  unfolding reportFrom
+  unfolding reportFrom batchOf
   whole-batch h =
       head-report (length es) (flatMap entryBytes es) h
       ∙ ap (reportFrom (length es) noSums) (sym (append-nil (flatMap entryBytes es)))
@@ -145,7 +147,7 @@ module _ (es : List Entry) (f : AllFit es) where
       ∙ entries-lines es 0 noSums [] f
 
   pub bytes-left : length es < 65536 → (b : ℕ) (x : List ℕ) → reportOf (batchOf es ++ (b ∷ x)) ≡ linesOf es ++ refused75
-  unfolding reportFrom
+  unfolding reportFrom batchOf
   bytes-left h b x =
       ap reportOf (append-assoc (headOf (length es)) (flatMap entryBytes es) (b ∷ x))
       ∙ head-report (length es) (flatMap entryBytes es ++ (b ∷ x)) h

@@ -130,7 +130,7 @@ head-rests s e =
     (λ h. rw h)
 
 entries-rest : (n : ℕ) (t : Sums) (s : List ℕ) → entryStep n t s ≡ quiet (Entries n t) 0 → reportFrom n t s ≡ ending (Entries n t)
-unfolding entryStep reportFrom
+unfolding entryStep reportFrom ending
 entries-rest zero t [] e = refl
 entries-rest zero t (b ∷ s) e = let z : live Stopped ≡ live (Entries 0 t) = ap (λ (st : Stepped). live (st .progress)) e in absurd (omega arith)
 entries-rest (suc n) t s e =
@@ -139,6 +139,7 @@ entries-rest (suc n) t s e =
     (λ h. rw h)
 
 pub rest-tells : (p : Progress) (s : List ℕ) → step p s ≡ quiet p 0 → report p s ≡ ending p
+unfolding ending
 rest-tells Head s e = head-rests s e
 rest-tells (Entries n t) s e = entries-rest n t s e
 rest-tells Stopped s e = refl

@@ -50,7 +50,7 @@ hasStopped (Entries n t) = false
 hasStopped Stopped = true
 
 -- the last line, when no byte is to come and no step is left
-abbrev pub ending : Progress → List ℕ
+unfoldable pub ending : Progress → List ℕ
 ending Head = refused75
 ending (Entries zero t) = totalOf t
 ending (Entries (suc n) t) = refused75
@@ -106,5 +106,5 @@ abbrev pub start : Reader
 start = reader Head [] []
 
 -- what is printed of a batch that comes in these pieces
-abbrev pub fed : ℕ → List (List ℕ) → List ℕ
+unfoldable pub fed : ℕ → List (List ℕ) → List ℕ
 fed room pieces = let r = feedAll room start pieces in r .printed ++ ending (r .progress)

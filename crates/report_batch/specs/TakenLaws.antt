@@ -23,7 +23,7 @@ use Rattle.report.specs.declared.Progress.the-variants.{Entries, Stopped}
 use Rattle.report.specs.declared.Taken.{Taken}
 use Rattle.report.specs.Batch.{partSize, hasPart, partOf, pastPart, hasEntry, entryAnswer, entrySize, plus, refused75, totalOf}
 use Rattle.report.specs.Steps.{Stepped, quiet, entryStep, ending}
-use Rattle.report.specs.Bounds.{Sized, Within, Nears, mostHeld}
+use Rattle.report.specs.Bounds.{Sized, Within, Nears, mostHeld, mostWanted}
 use Rattle.report.specs.Promised.{took, Quiet, Does}
 use Rattle.report.specs.PartLaws.{entry-parts, entry-fits}
 use Rattle.report.specs.StepLaws.{entry-past, entry-none}
@@ -90,6 +90,7 @@ pub same-nears : (p : Progress) (r : Taken) → r ≡ took p 0 → Nears p r
 same-nears p r f = rw f (omega arith, λ z. absurd (z refl))
 
 pub stop-nears : (p : Progress) (r : Taken) → r ≡ took Stopped 0 → Nears p r
+unfolding mostWanted
 stop-nears p r f = rw f (omega arith, λ z. absurd (z refl))
 
 pub quiet-does : (st : Stepped) (r : Taken) (d : List ℕ) → Quiet st r → Does st r d d
@@ -101,10 +102,12 @@ pub last-line : (p : Progress) (text d e : List ℕ) (n : ℕ) → ending p ≡ 
 last-line p text d e n h w = rw h w
 
 pub total-last : (n : ℕ) (t : Sums) → n ≡ 0 → ending (Entries n t) ≡ totalOf t
+unfolding ending
 total-last zero t h = refl
 total-last (suc n) t h = absurd (omega arith)
 
 pub missing-last : (n : ℕ) (t : Sums) → (n ≡ 0 → ⊥) → ending (Entries n t) ≡ refused75
+unfolding ending
 missing-last zero t h = absurd (h refl)
 missing-last (suc n) t h = refl
 
@@ -156,6 +159,7 @@ module _ (n : ℕ) (t u : Sums) (s : List ℕ) (a : Answer) (k printed : ℕ) (s
 
   pub entry-kept : Sized n t → u ≡ plus t a → k ≤ mostHeld
       → Within (Entries (n - 1) u) × Nears (Entries n t) (record { progress = Entries (n - 1) u; bytes = k; printed = printed })
+  unfolding mostWanted
   entry-kept w summed small = (
     rw (summed, answered) (plus-sized (n - 1) t (entryAnswer s) (omega (arith, w .0), w .1, w .2) (entry-costs s)),
     (omega arith, λ z. omega arith),

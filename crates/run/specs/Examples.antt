@@ -14,7 +14,7 @@ use Rattle.rule.specs.Expressions.{readVariable, readWord, readBit, operationWi
 use Rattle.rule.specs.Blocks.{readAssign, branchWith, statementWith, blockWith, blockFuel, readBlock}
 use Rattle.rule.specs.Rule.{readRule}
 use Rattle.rule.specs.Examples.{r1}
-use Rattle.circuit.specs.Running.{figureOf, runStatement, runBlock, runRule, runWrites}
+use Rattle.circuit.specs.Running.{figureOf, runStatement, runBlock, runRule, runWrites, writtenFor}
 use Rattle.circuit.specs.Gates.{costs, conditions}
 use Rattle.circuit.specs.PlainCircuit.{applyGate, makeExpr, assignsIn, assigns, choices, makeStatement, makeBlock, plainCircuit}
 use Rattle.circuit.specs.Whole.{wholeWithin, ruleAnswer}
@@ -37,7 +37,7 @@ example-2-rows = refl
 -- the places of the results, one more than are needed
 example-2-run : runResults (ruleAnswer r1) r1 (1 ∷ 6 ∷ 7 ∷ []) (9 ∷ 9 ∷ 9 ∷ 9 ∷ []) ∷ runResults (ruleAnswer r1) r1 (2 ∷ 6 ∷ 7 ∷ []) (9 ∷ 9 ∷ 9 ∷ 9 ∷ []) ∷ []
     ≡ (1 ∷ 42 ∷ 7 ∷ 9 ∷ []) ∷ (9 ∷ 9 ∷ 9 ∷ 9 ∷ []) ∷ []
-unfolding over number kindOf workingOf operationOf codeOf resultOf readMark readCount readKinds readHeader readVariable readWord readBit operationWith exprWith readExpr readAssign
+unfolding over number kindOf workingOf operationOf codeOf resultOf readMark readCount readKinds readHeader readVariable readWord readBit operationWith exprWith readExpr readAssign writtenFor
     branchWith statementWith blockWith blockFuel readBlock readRule figureOf runStatement runBlock someAbove inputsRow inputRow runRule runWrites runAnswer runResults applyGate makeExpr
     assignsIn assigns choices makeStatement makeBlock plainCircuit costs conditions wholeWithin ruleAnswer
 example-2-run = refl

@@ -14,7 +14,7 @@ use Rattle.base.specs.BufferLaws.{over-nil, over-snoc, length-over}
 use Rattle.rule.specs.Limits.{mostVariables}
 use Rattle.rule.specs.Header.{variables, workingAt, HasKinds}
 use Rattle.circuit.specs.Running.{runRule, writtenFor, runWrites}
-use Rattle.circuit.specs.WrittenLaws.{writes-map}
+use Rattle.circuit.specs.WrittenLaws.{written-result, written-working, writes-map}
 
 -- what is written for variable x, whose figure stands at its place
 abbrev pub written : List ℕ → List ℕ → ℕ → ℕ
@@ -63,10 +63,10 @@ module _ (s figures before results : List ℕ) (x : ℕ) (p : Writing s figures 
   -- 0 for a working one, else its figure
   module _ (h : x < variables s) (i n : ℕ) (q : i ≡ x) (b : Bool) (e : b ≡ workingAt s x) where
     pub writing-working : b ≡ true → n ≡ 0 → Writing s figures before (set results i n) (x + 1)
-    writing-working t z = writing-more h i n q (rw (sym e ∙ t) z)
+    writing-working t z = writing-more h i n q (z ∙ sym (written-working s x _ (sym e ∙ t)))
 
     pub writing-result : b ≡ false → n ≡ getD figures i 0 → Writing s figures before (set results i n) (x + 1)
-    writing-result f g = writing-more h i n q (rw (sym e ∙ f, ← q) g)
+    writing-result f g = writing-more h i n q (g ∙ ap (λ (k : ℕ). getD figures k 0) q ∙ sym (written-result s x _ (sym e ∙ f)))
 
 -- of figures that begin with those at the run's end
 pub run-written : (s inputs figures : List ℕ) → take (variables s) figures ≡ runRule s inputs → map (written s figures) (upto (variables s)) ≡ runWrites s inputs

@@ -12,6 +12,7 @@ returns c =
     (c .before .before .write-total .ensures)
 
 returns-2 : tie.Need-returns-2
+unfolding ending
 returns-2 c = rw (c .before .before .before .before .before .enum-told .given .1) (rw (c .before .before .before .before .refused .ensures) at (c .before .before .write-line .ensures))
 
 returns-3 : tie.Need-returns-3
@@ -21,6 +22,7 @@ returns-3 c =
     (rw (c .before .before .before .before .refused2 .ensures) at (c .before .before .write-line2 .ensures))
 
 returns-4 : tie.Need-returns-4
+unfolding ending
 returns-4 c = rw (c .before .before .before .before .before .enum-told2 .given .1) (rw (c .before .before .before .before .refused3 .ensures) at (c .before .before .write-line3 .ensures))
 
 pub finish-spec : {M : Type 1} → statement M

@@ -13,6 +13,7 @@ use Rattle.report.specs.StepLaws.{head-short, head-wrong, head-past}
 use Rattle.report_batch.specs.TakenLaws.{quiet-took, same-nears, stop-nears}
 use Rattle.report_batch.proofs.take_head.Statement.{statement}
 use Rattle.report_batch.proofs.take_head.Tie as tie
+use Rattle.report.specs.Bounds.{mostWanted}
 
 returns : tie.Need-returns
 returns c = (
@@ -28,6 +29,7 @@ returns-2 c = (
 )
 
 returns-3 : tie.Need-returns-3
+unfolding mostWanted
 returns-3 c =
     let y = c .before .before .before in
     let s = now (y .before .before .before .before .args .s) in
