@@ -16,7 +16,8 @@ use Rattle.report.specs.TotalLaws as totals
 use Rattle.report.specs.declared.Progress.the-variants.{Stopped}
 use Rattle.report.specs.Batch.{reportOf}
 use Rattle.report.specs.Packed.{Entry, Fits, AllFit, entryBytes, batchOf, answerTo, linesOf, accepts, among, costOf, totalIn, NoEntry, Found, printedFor}
-use Rattle.report.specs.Steps.{mostLine, feedAll, start, fed}
+use Rattle.report.specs.Steps.{feedAll, start, fed}
+use Rattle.report.specs.Limits.{mostLine}
 use Rattle.report.specs.FoundLaws as found
 use Rattle.report.specs.FeedLaws as feeding
 use Rattle.report.specs.HeldLaws as held

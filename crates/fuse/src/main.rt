@@ -9,7 +9,7 @@ ghost use Rattle.io.specs.Counts.{Counts};
 ghost use Rattle.base.specs.Buffers.{over};
 ghost use Rattle.fused.specs.Answers.{writeAnswer, writtenOver};
 ghost use Rattle.report.specs.Line.{lineOf};
-ghost use Rattle.report.specs.Steps.{mostLine};
+ghost use Rattle.report.specs.Limits.{mostLine};
 
 // One byte more than the limit of each file is read, so that a longer one is seen.
 const RULE_ROOM: usize = rule::MOST_RULE_BYTES + 1;

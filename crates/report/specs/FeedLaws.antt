@@ -11,7 +11,8 @@ use borrow.Author.Tests.{eq-eqb, ne-eqb, eqb-true, eqb-false, le-leb, lt-leb}
 use Rattle.base.specs.TestLaws.{split}
 use Rattle.report.specs.declared.Progress.the-variants.{Stopped}
 use Rattle.report.specs.Batch.{reportOf}
-use Rattle.report.specs.Steps.{Stepped, quiet, headStep, step, Reader, reader, next, mostLine, drain, drained, emptied, emptiedTimes, feed, feedAll, start, fed, ending}
+use Rattle.report.specs.Steps.{Stepped, quiet, headStep, step, Reader, reader, next, drain, drained, emptied, emptiedTimes, feed, feedAll, start, fed, ending}
+use Rattle.report.specs.Limits.{mostLine}
 use Rattle.report.specs.StepLaws.{report, step-tells, step-moves, step-orderly, rest-tells, toDo, few-to-do}
 
 -- the steps at once, by cases

@@ -17,7 +17,8 @@ use Rattle.report.specs.declared.Sums.{Sums}
 use Rattle.report.specs.declared.Progress.{Progress}
 use Rattle.report.specs.declared.Progress.the-variants.{Head, Entries, Stopped}
 use Rattle.report.specs.Batch.{batchMark, headBytes, partSize, hasPart, pastPart, hasEntry, entrySize}
-use Rattle.report.specs.Steps.{Stepped, quiet, headStep, entryStep, step, Reader, reader, next, mostLine, drain, emptied, emptiedTimes, feed, feedAll, start}
+use Rattle.report.specs.Steps.{Stepped, quiet, headStep, entryStep, step, Reader, reader, next, drain, emptied, emptiedTimes, feed, feedAll, start}
+use Rattle.report.specs.Limits.{mostLine}
 use Rattle.report.specs.Bounds.{mostPart, mostHeld}
 use Rattle.report.specs.PartLaws.{part-whole, part-fits}
 use Rattle.report.specs.StepLaws.{head-wrong, head-past}

@@ -1,3 +1,4 @@
+pub mod Limits
 pub mod Line
 pub mod Total
 pub mod DecimalLaws

@@ -12,6 +12,7 @@ use Rattle.base.specs.Buffers.{over}
 use Rattle.base.specs.declared.Answer.{Answer}
 use Rattle.report.specs.Line.{decimal, spaced, line, accepted, refused, placed, lineOf, putOver, putCount}
 use Rattle.report.specs.DecimalLaws.{length-decimal}
+use Rattle.report.specs.Limits.{mostLine}
 
 -- the three cases
 pub line-accepted : (a : Answer) → a .number ≡ 0 → lineOf a ≡ line accepted (a .gates ∷ a .wires ∷ a .before ∷ a .after ∷ [])
@@ -47,7 +48,7 @@ length-numbers (n ∷ l) h =
     rw (length-append (spaced n) (flat spaced l)) (omega (arith, length-spaced n, length-decimal n (h .0), length-numbers l (h .1)))
 
 -- the longest line: `accepted` and four numbers of 20 digits
-pub length-lineOf : (a : Answer) → Small (a .number ∷ a .place ∷ []) → Small (a .gates ∷ a .wires ∷ a .before ∷ a .after ∷ []) → length (lineOf a) ≤ 93
+pub length-lineOf : (a : Answer) → Small (a .number ∷ a .place ∷ []) → Small (a .gates ∷ a .wires ∷ a .before ∷ a .after ∷ []) → length (lineOf a) ≤ mostLine
 length-lineOf a few counts =
     split (eqb (a .number) 0)
     (λ e. rw (line-accepted a (eqb-true (a .number) 0 e))

@@ -10,6 +10,7 @@ use Rattle.report.specs.declared.Sums.{Sums}
 use Rattle.report.specs.declared.Progress.{Progress}
 use Rattle.report.specs.declared.Progress.the-variants.{Head, Entries, Stopped}
 use Rattle.report.specs.Batch.{batchMark, headBytes, entriesCounted, hasEntry, entrySize, entryAnswer, noSums, plus, refused75, totalOf}
+use Rattle.report.specs.Limits.{mostLine}
 
 -- what a step leaves: how far the report is, how many of the bytes at hand it took, and what it printed
 pub record Stepped : Type 0 where
@@ -68,10 +69,6 @@ reader p s text = record { progress = p; held = s; printed = text }
 -- one step more
 abbrev pub next : Reader → Reader
 next r = let st = step (r .progress) (r .held) in reader (st .progress) (drop (st .taken) (r .held)) (r .printed ++ st .text)
-
--- no line of an entry has more bytes
-abbrev pub mostLine : ℕ
-mostLine = 93
 
 -- the steps that are taken at once into a buffer of so many bytes: as long as it has room for a line, until one takes no byte; at most n
 unfoldable pub drain : ℕ → ℕ → Reader → Reader

@@ -16,6 +16,7 @@ use Rattle.report.specs.Total.{total, spacedLess, totalLine}
 use Rattle.report.specs.DecimalLaws.{length-decimal}
 use Rattle.report.specs.LineLaws.{Small, length-spaced, length-numbers}
 use Rattle.report.specs.PutLaws.{ended}
+use Rattle.report.specs.Limits.{mostTotal}
 
 -- the two cases of before less after
 pub less-positive : (before after : ℕ) → after ≤ before → spacedLess before after ≡ spaced (before - after)
@@ -65,7 +66,7 @@ module _ (accepted refused before after : ℕ) where
       ∙ ap (λ (k : ℕ). k + 1) (length-append (counts accepted refused before after) (spacedLess before after))
 
   -- the longest: five numbers of 20 digits and a sign
-  pub length-totalLine : Small (accepted ∷ refused ∷ before ∷ after ∷ []) → length (totalLine accepted refused before after) ≤ 112
+  pub length-totalLine : Small (accepted ∷ refused ∷ before ∷ after ∷ []) → length (totalLine accepted refused before after) ≤ mostTotal
   length-totalLine h =
       omega (
         arith,

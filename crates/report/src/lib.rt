@@ -1,9 +1,8 @@
 // Definitions and laws of what is printed (specs/): the line of an answer, the batch and its report. How far a report is, which the code keeps, is here.
 
-// No line has more bytes: `accepted`, four numbers of 20 digits behind spaces, a line feed.
+// How long a printed line can be, as specs/Limits.antt has it: the line of an answer, and the last line of a report.
 pub const MOST_LINE: usize = 93;
 
-// No total is longer: `total`, five numbers of 20 digits behind spaces, a sign, a line feed.
 pub const MOST_TOTAL: usize = 112;
 
 // The entries accepted and refused so far, and the accepted ones' cost before and after.

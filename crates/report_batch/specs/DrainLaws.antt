@@ -12,7 +12,8 @@ use Rattle.base.specs.Buffers.{over}
 use Rattle.base.specs.BufferLaws.{over-nil, length-over, room-rest, over-rest}
 use Rattle.report.specs.declared.Progress.{Progress}
 use Rattle.report.specs.declared.Taken.{Taken}
-use Rattle.report.specs.Steps.{Stepped, step, Reader, reader, mostLine, next, drain, drained}
+use Rattle.report.specs.Steps.{Stepped, step, Reader, reader, next, drain, drained}
+use Rattle.report.specs.Limits.{mostLine}
 use Rattle.report.specs.Bounds.{Within, Nears, Few}
 use Rattle.report.specs.Promised.{Does, Drains}
 use Rattle.report.specs.StepLaws.{step-orderly}

@@ -7,9 +7,10 @@ use Rattle.report.specs.LineLaws.{length-lineOf}
 use Rattle.report.specs.PutLaws.{text-held}
 use Rattle.report_lines.proofs.write_line.Statement.{statement}
 use Rattle.report_lines.proofs.write_line.Tie as tie
+use Rattle.report.specs.Limits.{mostLine}
 
 -- the fields of an answer are numbers of 64 bits, and one of 8
-short : (d : tie.Start) → length (lineOf (d .args .answer)) ≤ 93
+short : (d : tie.Start) → length (lineOf (d .args .answer)) ≤ mostLine
 short d =
     let g = d .good .0 in
     length-lineOf (d .args .answer) (omega (arith, g), (omega (arith, g), tt))

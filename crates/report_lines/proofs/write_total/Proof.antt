@@ -7,9 +7,10 @@ use Rattle.report.specs.TotalLaws.{length-totalLine}
 use Rattle.report.specs.PutLaws.{text-held}
 use Rattle.report_lines.proofs.write_total.Statement.{statement}
 use Rattle.report_lines.proofs.write_total.Tie as tie
+use Rattle.report.specs.Limits.{mostTotal}
 
 -- the four numbers are of 64 bits
-short : (d : tie.Start) → length (totalLine (d .args .accepted) (d .args .refused) (d .args .before) (d .args .after)) ≤ 112
+short : (d : tie.Start) → length (totalLine (d .args .accepted) (d .args .refused) (d .args .before) (d .args .after)) ≤ mostTotal
 short d =
     length-totalLine (d .args .accepted) (d .args .refused) (d .args .before) (d .args .after)
     (d .fits .accepted .fits, (d .fits .refused .fits, (d .fits .before .fits, (d .fits .after .fits, tt))))
