@@ -73,7 +73,7 @@ pub ordered-accepted : map (λ s. writeAnswer s no-groups 25) (from-two 0x21 0x0
 unfolding number kindOf workingOf operationOf codeOf readMark readCount readKinds readHeader readVariable readWord readBit operationWith exprWith readExpr readAssign branchWith
     statementWith blockWith blockFuel readBlock readRule applyGate makeExpr assignsIn assigns choices makeStatement makeBlock plainCircuit conditions collect numbers
     preconditions preconditionSets costs wholeWithin ruleAnswer restsOn rests groupsIn groups restsOf waitsFor order planRow planAnswer bytesOf spread tableOver table
-    oneWire joined written fused fusedFile recordsCost fusedCounts writeAnswer wantedOf isCostly placed
+    oneWire joined written fused fusedFile recordsCost fusedCounts writeAnswer placed
 ordered-accepted = refl
 
 pub difference-ordered : fusedFile (from-two 0x21 0x00 0 1) no-groups ≡ fusedFile (from-two 0x21 0x00 1 0) no-groups → ⊥
@@ -109,7 +109,7 @@ pub late-accepted : writeAnswer late late-plan 145 ≡ success 11 13 145 79 70
 unfolding number kindOf workingOf operationOf codeOf readMark readCount readKinds readHeader readVariable readWord readBit operationWith exprWith readExpr readAssign branchWith
     statementWith blockWith blockFuel readBlock readRule applyGate makeExpr assignsIn assigns choices makeStatement makeBlock plainCircuit conditions collect numbers
     preconditions preconditionSets costs wholeWithin ruleAnswer restsOn rests groupsIn groups restsOf waitsFor order planRow planAnswer bytesOf spread tableOver table
-    oneWire joined written fused fusedFile recordsCost fusedCounts writeAnswer wantedOf isCostly placed
+    oneWire joined written fused fusedFile recordsCost fusedCounts writeAnswer placed isCostly wantedOf
 late-accepted = refl
 
 -- gate 5 takes gate 3 first, and its record gate 3's wire, which is 8, before gate 4's, which is 3
@@ -122,5 +122,5 @@ late-gate = refl
 pub late-record : getD (recordsOf late late-plan) 9 (records.word 0) ≡ records.operation Sum (8 ∷ 3 ∷ [])
 unfolding number kindOf workingOf operationOf codeOf readMark readCount readKinds readHeader readVariable readWord readBit operationWith exprWith readExpr readAssign branchWith
     statementWith blockWith blockFuel readBlock readRule applyGate makeExpr assignsIn assigns choices makeStatement makeBlock plainCircuit conditions collect numbers
-    preconditions preconditionSets restsOn rests groupsIn groups restsOf waitsFor order bytesOf spread tableOver table oneWire joined written fused fusedFile wantedOf isCostly placed
+    preconditions preconditionSets restsOn rests groupsIn groups restsOf waitsFor order bytesOf spread tableOver table oneWire joined written fused fusedFile wantedOf
 late-record = refl

@@ -59,7 +59,7 @@ unfolding number kindOf workingOf operationOf codeOf readMark readCount readKind
     statementWith blockWith blockFuel readBlock readRule applyGate makeExpr assignsIn assigns choices makeStatement makeBlock plainCircuit conditions collect numbers
     preconditions preconditionSets costs wholeWithin ruleAnswer restsOn rests groupsIn groups restsOf waitsFor order planRow planAnswer bytesOf spread tableOver table
     oneWire joined written fused fusedFile recordsCost fusedCounts fusedAnswer digits decimal spaced line placed lineOf spacedLess totalLine flatMap headed hasPart hasEntry entryAnswer plus
-    reportFrom reportOf wantedOf isCostly batchOf entryBytes all-placed
+    reportFrom reportOf all-placed isCostly wantedOf entryBytes batchOf
 saved-nine = refl
 
 -- the folder examples/dearer-plan: two ands, which the plan joins; the picks for them cost more than an and
@@ -77,7 +77,7 @@ unfolding number kindOf workingOf operationOf codeOf readMark readCount readKind
     statementWith blockWith blockFuel readBlock readRule applyGate makeExpr assignsIn assigns choices makeStatement makeBlock plainCircuit conditions collect numbers
     preconditions preconditionSets costs wholeWithin ruleAnswer restsOn rests groupsIn groups restsOf waitsFor order planRow planAnswer bytesOf spread tableOver table
     oneWire joined written fused fusedFile recordsCost fusedCounts fusedAnswer digits decimal spaced line placed lineOf spacedLess totalLine flatMap headed hasPart hasEntry entryAnswer plus
-    reportFrom reportOf wantedOf isCostly batchOf entryBytes all-placed
+    reportFrom reportOf all-placed isCostly wantedOf entryBytes batchOf
 lost-nine = refl
 
 -- one byte more, one byte less, and one byte less than its first entry
@@ -87,14 +87,14 @@ unfolding number kindOf workingOf operationOf codeOf readMark readCount readKind
     statementWith blockWith blockFuel readBlock readRule applyGate makeExpr assignsIn assigns choices makeStatement makeBlock plainCircuit conditions collect numbers
     preconditions preconditionSets costs wholeWithin ruleAnswer restsOn rests groupsIn groups restsOf waitsFor order planRow planAnswer bytesOf spread tableOver table
     oneWire joined written fused fusedFile recordsCost fusedCounts fusedAnswer digits decimal spaced line placed lineOf spacedLess totalLine flatMap headed hasPart hasEntry entryAnswer plus
-    reportFrom reportOf wantedOf isCostly batchOf entryBytes all-placed
+    reportFrom reportOf all-placed isCostly wantedOf entryBytes batchOf
 not-whole = refl
 
 -- a batch that counts no entry is whole; one that ends before its header, and one of another version, are not
 pub no-entry : reportOf (batchOf []) ≡ total ++ (32 ∷ 48 ∷ 32 ∷ 48 ∷ 32 ∷ 48 ∷ 32 ∷ 48 ∷ 32 ∷ 48 ∷ 10 ∷ [])
-unfolding number bytesOf flatMap headed digits decimal spaced spacedLess totalLine reportFrom reportOf wantedOf isCostly batchOf entryBytes all-placed
+unfolding number bytesOf flatMap headed digits decimal spaced spacedLess totalLine reportFrom reportOf batchOf
 no-entry = refl
 
 pub no-batch : map reportOf (take 6 (batchOf []) ∷ (0x42 ∷ 0x41 ∷ 0x54 ∷ 0x00 ∷ 0x02 ∷ 0x00 ∷ 0x00 ∷ []) ∷ []) ≡ refused-75 ∷ refused-75 ∷ []
-unfolding number bytesOf flatMap headed digits decimal spaced line placed lineOf reportFrom reportOf wantedOf isCostly batchOf entryBytes all-placed
+unfolding number bytesOf flatMap headed digits decimal spaced line placed lineOf reportFrom reportOf batchOf
 no-batch = refl

@@ -51,7 +51,7 @@ pub no-pick-file : fusedFile r1-equal p1 ≡
     ∷ []
 unfolding number kindOf workingOf operationOf codeOf readMark readCount readKinds readHeader readVariable readWord readBit operationWith exprWith readExpr readAssign branchWith
     statementWith blockWith blockFuel readBlock readRule applyGate makeExpr assignsIn assigns choices makeStatement makeBlock plainCircuit conditions collect numbers
-    preconditions preconditionSets restsOn rests groupsIn groups restsOf waitsFor order bytesOf spread tableOver table oneWire joined written fused fusedFile wantedOf isCostly placed
+    preconditions preconditionSets restsOn rests groupsIn groups restsOf waitsFor order bytesOf spread tableOver table oneWire joined written fused fusedFile wantedOf
 no-pick-file = refl
 
 -- a pick at neither place, at the first (R1 itself), at the second
@@ -59,7 +59,7 @@ pub picks-counted : map (λ s. writeAnswer s p1 114) (r1-equal ∷ r1 ∷ r1-fir
 unfolding number kindOf workingOf operationOf codeOf readMark readCount readKinds readHeader readVariable readWord readBit operationWith exprWith readExpr readAssign branchWith
     statementWith blockWith blockFuel readBlock readRule applyGate makeExpr assignsIn assigns choices makeStatement makeBlock plainCircuit conditions collect numbers
     preconditions preconditionSets costs wholeWithin ruleAnswer restsOn rests groupsIn groups restsOf waitsFor order planRow planAnswer bytesOf spread tableOver table
-    oneWire joined written fused fusedFile recordsCost fusedCounts writeAnswer wantedOf isCostly placed
+    oneWire joined written fused fusedFile recordsCost fusedCounts writeAnswer placed isCostly wantedOf
 picks-counted = refl
 
 -- "the same wire of the fused circuit": v1 := (v1 × v2) × v2 in both blocks, gates 3 and 4, 5 and 6. Gates 4 and 6 read the gates 3 and 5, which are one wire where these are joined
@@ -76,7 +76,7 @@ pub chain-counted : map (λ G. writeAnswer chained (planBytes 8 G) 124) (((3 ∷
 unfolding number kindOf workingOf operationOf codeOf readMark readCount readKinds readHeader readVariable readWord readBit operationWith exprWith readExpr readAssign branchWith
     statementWith blockWith blockFuel readBlock readRule applyGate makeExpr assignsIn assigns choices makeStatement makeBlock plainCircuit conditions collect numbers
     preconditions preconditionSets costs wholeWithin ruleAnswer restsOn rests groupsIn groups restsOf waitsFor order planRow planAnswer bytesOf spread tableOver table
-    oneWire joined written fused fusedFile recordsCost fusedCounts writeAnswer wantedOf isCostly placed
+    oneWire joined written fused fusedFile recordsCost fusedCounts writeAnswer placed isCostly wantedOf
 chain-counted = refl
 
 -- "Who waits for whom is judged as before". v3 := v0 × v1 and v4 := v0 × v1, working words, then if v0 < v1 then v2 := v3 else v2 := v4: the products 5 and 6 rest on the condition
@@ -103,7 +103,7 @@ pub late-file : fusedFile late (planBytes 9 ((5 ∷ 6 ∷ []) ∷ [])) ≡
     ∷ []
 unfolding number kindOf workingOf operationOf codeOf readMark readCount readKinds readHeader readVariable readWord readBit operationWith exprWith readExpr readAssign branchWith
     statementWith blockWith blockFuel readBlock readRule applyGate makeExpr assignsIn assigns choices makeStatement makeBlock plainCircuit conditions collect numbers
-    preconditions preconditionSets restsOn rests groupsIn groups restsOf waitsFor order bytesOf spread tableOver table oneWire joined written fused fusedFile wantedOf isCostly placed
+    preconditions preconditionSets restsOn rests groupsIn groups restsOf waitsFor order bytesOf spread tableOver table oneWire joined written fused fusedFile wantedOf
 late-file = refl
 
 -- and a circle through such a condition is 30: R2 (example 6) with v1 × v2 in its first block, so that the products 4 and 7 read one wire at each place
@@ -118,5 +118,5 @@ pub circle-stays : map (λ G. planAnswer r2-equal (planBytes 11 G)) (((4 ∷ 7 �
     ≡ success 11 0 0 119 0 ∷ success 11 0 0 119 0 ∷ refusal 30 0 ∷ []
 unfolding number kindOf workingOf operationOf codeOf readMark readCount readKinds readHeader readVariable readWord readBit operationWith exprWith readExpr readAssign branchWith
     statementWith blockWith blockFuel readBlock readRule applyGate makeExpr assignsIn assigns choices makeStatement makeBlock plainCircuit conditions collect numbers
-    preconditions preconditionSets costs wholeWithin ruleAnswer restsOn rests groupsIn groups restsOf waitsFor order planRow planAnswer bytesOf wantedOf isCostly placed
+    preconditions preconditionSets costs wholeWithin ruleAnswer restsOn rests groupsIn groups restsOf waitsFor order planRow planAnswer bytesOf placed isCostly wantedOf
 circle-stays = refl

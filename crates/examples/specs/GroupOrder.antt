@@ -38,12 +38,12 @@ two-pairs n a b c d =
 pub one-order : map (planAnswer r1-twice) (two-pairs 9 3 4 6 7 ∷ two-pairs 9 6 7 3 4 ∷ []) ≡ success 9 0 0 66 0 ∷ refusal 32 0 ∷ []
 unfolding number kindOf workingOf operationOf codeOf readMark readCount readKinds readHeader readVariable readWord readBit operationWith exprWith readExpr readAssign branchWith
     statementWith blockWith blockFuel readBlock readRule applyGate makeExpr assignsIn assigns choices makeStatement makeBlock plainCircuit conditions collect numbers
-    preconditions preconditionSets costs wholeWithin ruleAnswer restsOn rests groupsIn groups restsOf waitsFor order planRow planAnswer wantedOf isCostly placed
+    preconditions preconditionSets costs wholeWithin ruleAnswer restsOn rests groupsIn groups restsOf waitsFor order planRow planAnswer placed isCostly wantedOf
 one-order = refl
 
 -- on R1: a gate in two groups is 26 before 32, equal smallest members too; 32 comes before 27; in order the same two groups are 27
 pub rows-in-order : map (planRow r1) (two-pairs 6 3 4 1 3 ∷ two-pairs 6 3 4 3 5 ∷ two-pairs 6 3 4 1 2 ∷ two-pairs 6 1 2 3 4 ∷ []) ≡ 26 ∷ 26 ∷ 32 ∷ 27 ∷ []
 unfolding number kindOf workingOf operationOf codeOf readMark readCount readKinds readHeader readVariable readWord readBit operationWith exprWith readExpr readAssign branchWith
     statementWith blockWith blockFuel readBlock readRule applyGate makeExpr assignsIn assigns choices makeStatement makeBlock plainCircuit conditions collect numbers
-    preconditions preconditionSets restsOn rests groupsIn groups restsOf waitsFor order planRow wantedOf isCostly placed
+    preconditions preconditionSets restsOn rests groupsIn groups restsOf waitsFor order planRow isCostly
 rows-in-order = refl

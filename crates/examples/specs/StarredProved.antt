@@ -33,14 +33,12 @@ use Rattle.run.specs.Direct.{runAnswer, runResults}
 use Rattle.examples.specs.Starred.{Starred, bothGroup}
 use Rattle.examples.specs.MeaningLaws.{precondition, unneeded, rests-on, waits-for, written-whole, written-short}
 use Rattle.circuit_needed.specs.Needed.{wantedOf}
-use Rattle.file.specs.FileFigures.{outputFigure}
-use Rattle.file.specs.WireFigures.{pickSum}
 
 pub starred : Starred
 unfolding number bytesOf kindOf workingOf operationOf codeOf resultOf readMark readCount readKinds readHeader readVariable readWord readBit operationWith exprWith readExpr
     readAssign branchWith statementWith blockWith blockFuel readBlock readRule figureOf runStatement runBlock runRule runWrites applyGate makeExpr assignsIn assigns choices
     makeStatement makeBlock plainCircuit costs conditions collect numbers preconditions preconditionSets wholeWithin ruleAnswer restsOn rests groupsIn groups restsOf
-    waitsFor order planRow planAnswer over someAbove inputsRow inputRow runAnswer runResults wantedOf isCostly placed writtenFor outputFigure pickSum
+    waitsFor order planRow planAnswer over someAbove inputsRow inputRow runAnswer runResults placed isCostly wantedOf writtenFor
 starred =
     record {
       example-1 = (

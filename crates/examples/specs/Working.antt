@@ -36,8 +36,6 @@ use Rattle.fused.specs.Answers.{fusedCounts, writeAnswer}
 use Rattle.run.specs.Inputs.{inputRow}
 use Rattle.run.specs.Direct.{runAnswer, runResults}
 use Rattle.circuit_needed.specs.Needed.{wantedOf}
-use Rattle.file.specs.FileFigures.{outputFigure}
-use Rattle.file.specs.WireFigures.{pickSum}
 
 -- what the four kind bytes say: 00 word, 01 bit, 02 working word, 03 working bit
 pub kinds-are : (map kindOf (0x00 ∷ 0x01 ∷ 0x02 ∷ 0x03 ∷ []) ≡ Word ∷ Bit ∷ Word ∷ Bit ∷ [])
@@ -65,7 +63,7 @@ pub needed-then : map (λ k. map (λ g. getD (rulePreconditions (scraps k)) g 0)
     ∷ (0xAAAAAAAAAAAAAAAAAAAAAAAAAAAAAAAAAAAAAAAAAAAAAAAAAAAAAAAAAAAAAAAA ∷ 0x5555555555555555555555555555555555555555555555555555555555555555 ∷ []) ∷ []
 unfolding number kindOf workingOf operationOf codeOf readMark readCount readKinds readHeader readVariable readWord readBit operationWith exprWith readExpr readAssign branchWith
     statementWith blockWith blockFuel readBlock readRule applyGate makeExpr assignsIn assigns choices makeStatement makeBlock plainCircuit conditions collect numbers
-    preconditions preconditionSets wantedOf isCostly placed
+    preconditions preconditionSets wantedOf
 needed-then = refl
 
 -- so the plan is refused 29, and accepted: it saves 9 of 33
@@ -73,7 +71,7 @@ pub plan-then : map (λ k. writeAnswer (scraps k) products 152) (0x00 ∷ 0x02 �
 unfolding number kindOf workingOf operationOf codeOf readMark readCount readKinds readHeader readVariable readWord readBit operationWith exprWith readExpr readAssign branchWith
     statementWith blockWith blockFuel readBlock readRule applyGate makeExpr assignsIn assigns choices makeStatement makeBlock plainCircuit conditions collect numbers
     preconditions preconditionSets costs wholeWithin ruleAnswer restsOn rests groupsIn groups restsOf waitsFor order planRow planAnswer bytesOf spread tableOver table
-    oneWire joined written fused fusedFile recordsCost fusedCounts writeAnswer wantedOf isCostly placed
+    oneWire joined written fused fusedFile recordsCost fusedCounts writeAnswer placed isCostly wantedOf
 plan-then = refl
 
 -- a direct run writes 0 for them
@@ -81,7 +79,7 @@ pub run-then : map (λ k. runResults (ruleAnswer (scraps k)) (scraps k) (1 ∷ 3
     ≡ (1 ∷ 3 ∷ 5 ∷ 7 ∷ 15 ∷ 21 ∷ 15 ∷ 8 ∷ []) ∷ (1 ∷ 3 ∷ 5 ∷ 7 ∷ 0 ∷ 0 ∷ 15 ∷ 8 ∷ []) ∷ []
 unfolding over number kindOf workingOf operationOf codeOf resultOf readMark readCount readKinds readHeader readVariable readWord readBit operationWith exprWith readExpr
     readAssign branchWith statementWith blockWith blockFuel readBlock readRule figureOf runStatement runBlock runRule runWrites applyGate makeExpr assignsIn assigns
-    choices makeStatement makeBlock plainCircuit costs conditions collect wholeWithin ruleAnswer someAbove inputsRow inputRow runAnswer runResults wantedOf isCostly placed writtenFor outputFigure pickSum
+    choices makeStatement makeBlock plainCircuit costs conditions collect wholeWithin ruleAnswer someAbove inputsRow inputRow runAnswer runResults writtenFor
 run-then = refl
 
 -- A plan that was accepted need not be where more works. Three words, v1 of kind k, and a bit: v1 := v1 × v1 (gate 4); v3 := v1 < v0 (5); v2 := v0 × v0 (6); v2 := v0;
@@ -103,7 +101,7 @@ two-pairs = 0x50 ∷ 0x4C ∷ 0x4E ∷ 0x00 ∷ 0x01 ∷ 0x00 ∷ 0x0B ∷ 0x00 
 pub more-waits : map (λ k. planAnswer (square k) two-pairs) (0x00 ∷ 0x02 ∷ []) ≡ success 11 0 0 113 0 ∷ refusal 30 0 ∷ []
 unfolding number kindOf workingOf operationOf codeOf readMark readCount readKinds readHeader readVariable readWord readBit operationWith exprWith readExpr readAssign branchWith
     statementWith blockWith blockFuel readBlock readRule applyGate makeExpr assignsIn assigns choices makeStatement makeBlock plainCircuit conditions collect numbers
-    preconditions preconditionSets costs wholeWithin ruleAnswer restsOn rests groupsIn groups restsOf waitsFor order planRow planAnswer wantedOf isCostly placed
+    preconditions preconditionSets costs wholeWithin ruleAnswer restsOn rests groupsIn groups restsOf waitsFor order planRow planAnswer placed isCostly wantedOf
 more-waits = refl
 
 -- one variable, a working bit: taken with 0 and with 1, 41 with 2; 04 is no kind
