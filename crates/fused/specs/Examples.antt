@@ -33,22 +33,22 @@ use Rattle.circuit_needed.specs.Needed.{wantedOf}
 
 -- example 3, whole, in version 00 02 (document 02, C-17), with no pick between equal wires (C-18)
 pub example-3 : fusedFile r1 p1 ≡ file3
-unfolding number kindOf workingOf operationOf codeOf readMark readCount readKinds readHeader readVariable readWord readBit operationWith exprWith readExpr readAssign branchWith wantedOf isCostly placed
-    statementWith blockWith blockFuel readBlock readRule applyGate makeExpr assignsIn assigns choices makeStatement makeBlock plainCircuit conditions collect numbers
+unfolding number kindOf workingOf operationOf codeOf readMark readCount readKinds readHeader readVariable readWord readBit operationWith exprWith readExpr readAssign branchWith wantedOf isCostly
+    placed statementWith blockWith blockFuel readBlock readRule applyGate makeExpr assignsIn assigns choices makeStatement makeBlock plainCircuit conditions collect numbers
     preconditions preconditionSets restsOn rests groupsIn groups restsOf waitsFor order bytesOf spread tableOver table oneWire joined written fused fusedFile
 example-3 = refl
 
 -- its counts: 6 gates, 8 wires, 114 bytes, cost 33 before and 24 after; a buffer of 113: 50
 pub example-3-answer : writeAnswer r1 p1 114 ≡ success 6 8 114 33 24
-unfolding number kindOf workingOf operationOf codeOf readMark readCount readKinds readHeader readVariable readWord readBit operationWith exprWith readExpr readAssign branchWith wantedOf isCostly placed
-    statementWith blockWith blockFuel readBlock readRule applyGate makeExpr assignsIn assigns choices makeStatement makeBlock plainCircuit conditions collect numbers
+unfolding number kindOf workingOf operationOf codeOf readMark readCount readKinds readHeader readVariable readWord readBit operationWith exprWith readExpr readAssign branchWith wantedOf isCostly
+    placed statementWith blockWith blockFuel readBlock readRule applyGate makeExpr assignsIn assigns choices makeStatement makeBlock plainCircuit conditions collect numbers
     preconditions preconditionSets costs wholeWithin ruleAnswer restsOn rests groupsIn groups restsOf waitsFor order planRow planAnswer bytesOf spread tableOver table
     oneWire joined written fused fusedFile recordsCost fusedCounts writeAnswer
 example-3-answer = refl
 
 pub example-3-short : writeAnswer r1 p1 113 ≡ refusal 50 0
-unfolding number kindOf workingOf operationOf codeOf readMark readCount readKinds readHeader readVariable readWord readBit operationWith exprWith readExpr readAssign branchWith wantedOf isCostly placed
-    statementWith blockWith blockFuel readBlock readRule applyGate makeExpr assignsIn assigns choices makeStatement makeBlock plainCircuit conditions collect numbers
+unfolding number kindOf workingOf operationOf codeOf readMark readCount readKinds readHeader readVariable readWord readBit operationWith exprWith readExpr readAssign branchWith wantedOf isCostly
+    placed statementWith blockWith blockFuel readBlock readRule applyGate makeExpr assignsIn assigns choices makeStatement makeBlock plainCircuit conditions collect numbers
     preconditions preconditionSets costs wholeWithin ruleAnswer restsOn rests groupsIn groups restsOf waitsFor order planRow planAnswer bytesOf spread tableOver table
     oneWire joined written fused fusedFile recordsCost fusedCounts writeAnswer
 example-3-short = refl

@@ -40,36 +40,36 @@ pairs n a b c d =
 
 -- R1 with P1: accepted, with R1's counts
 pub example-p1 : planAnswer r1 p1 ≡ success 6 0 0 33 0
-unfolding number kindOf workingOf operationOf codeOf readMark readCount readKinds readHeader readVariable readWord readBit operationWith exprWith readExpr readAssign branchWith wantedOf isCostly placed
-    statementWith blockWith blockFuel readBlock readRule applyGate makeExpr assignsIn assigns choices makeStatement makeBlock plainCircuit conditions collect numbers
+unfolding number kindOf workingOf operationOf codeOf readMark readCount readKinds readHeader readVariable readWord readBit operationWith exprWith readExpr readAssign branchWith wantedOf isCostly
+    placed statementWith blockWith blockFuel readBlock readRule applyGate makeExpr assignsIn assigns choices makeStatement makeBlock plainCircuit conditions collect numbers
     preconditions preconditionSets costs wholeWithin ruleAnswer restsOn rests groupsIn groups restsOf waitsFor order planRow planAnswer
 example-p1 = refl
 
 -- example 5: group 3, 5 in R1: 27
 pub example-5 : planAnswer r1 (pair 6 3 5) ≡ refusal 27 0
-unfolding number kindOf workingOf operationOf codeOf readMark readCount readKinds readHeader readVariable readWord readBit operationWith exprWith readExpr readAssign branchWith wantedOf isCostly placed
-    statementWith blockWith blockFuel readBlock readRule applyGate makeExpr assignsIn assigns choices makeStatement makeBlock plainCircuit conditions collect numbers
+unfolding number kindOf workingOf operationOf codeOf readMark readCount readKinds readHeader readVariable readWord readBit operationWith exprWith readExpr readAssign branchWith wantedOf isCostly
+    placed statementWith blockWith blockFuel readBlock readRule applyGate makeExpr assignsIn assigns choices makeStatement makeBlock plainCircuit conditions collect numbers
     preconditions preconditionSets costs wholeWithin ruleAnswer restsOn rests groupsIn groups restsOf waitsFor order planRow planAnswer
 example-5 = refl
 
 -- example 6: groups {4, 7} or {5, 6} alone: accepted. Both: 30
 pub example-6 : map (planRow r2) (pair 11 4 7 ∷ pair 11 5 6 ∷ pairs 11 4 7 5 6 ∷ []) ≡ 0 ∷ 0 ∷ 30 ∷ []
-unfolding number kindOf workingOf operationOf codeOf readMark readCount readKinds readHeader readVariable readWord readBit operationWith exprWith readExpr readAssign branchWith wantedOf isCostly placed
-    statementWith blockWith blockFuel readBlock readRule applyGate makeExpr assignsIn assigns choices makeStatement makeBlock plainCircuit conditions collect numbers
+unfolding number kindOf workingOf operationOf codeOf readMark readCount readKinds readHeader readVariable readWord readBit operationWith exprWith readExpr readAssign branchWith wantedOf isCostly
+    placed statementWith blockWith blockFuel readBlock readRule applyGate makeExpr assignsIn assigns choices makeStatement makeBlock plainCircuit conditions collect numbers
     preconditions preconditionSets restsOn rests groupsIn groups restsOf waitsFor order planRow
 example-6 = refl
 
 -- example 7: group {1, 2}: 30, though nothing needs either
 pub example-7 : planRow r7 (pair 4 1 2) ≡ 30
-unfolding number kindOf workingOf operationOf codeOf readMark readCount readKinds readHeader readVariable readWord readBit operationWith exprWith readExpr readAssign branchWith wantedOf isCostly placed
-    statementWith blockWith blockFuel readBlock readRule applyGate makeExpr assignsIn assigns choices makeStatement makeBlock plainCircuit conditions collect numbers
+unfolding number kindOf workingOf operationOf codeOf readMark readCount readKinds readHeader readVariable readWord readBit operationWith exprWith readExpr readAssign branchWith wantedOf isCostly
+    placed statementWith blockWith blockFuel readBlock readRule applyGate makeExpr assignsIn assigns choices makeStatement makeBlock plainCircuit conditions collect numbers
     preconditions preconditionSets restsOn rests groupsIn groups restsOf waitsFor order planRow
 example-7 = refl
 
 -- example 8: group {5, 9}: 29
 pub example-8 : planRow r8 (pair 11 5 9) ≡ 29
-unfolding number kindOf workingOf operationOf codeOf readMark readCount readKinds readHeader readVariable readWord readBit operationWith exprWith readExpr readAssign branchWith wantedOf isCostly placed
-    statementWith blockWith blockFuel readBlock readRule applyGate makeExpr assignsIn assigns choices makeStatement makeBlock plainCircuit conditions collect numbers
+unfolding number kindOf workingOf operationOf codeOf readMark readCount readKinds readHeader readVariable readWord readBit operationWith exprWith readExpr readAssign branchWith wantedOf isCostly
+    placed statementWith blockWith blockFuel readBlock readRule applyGate makeExpr assignsIn assigns choices makeStatement makeBlock plainCircuit conditions collect numbers
     preconditions preconditionSets restsOn rests groupsIn groups restsOf waitsFor order planRow
 example-8 = refl
 
@@ -80,7 +80,7 @@ pub examples-rows :
     take 8 p1 ∷ set p1 4 2 ∷ set p1 6 7 ∷ (p1 ++ (0x00 ∷ [])) ∷ (take 8 p1 ++ (0x01 ∷ 0x01 ∷ 0x00 ∷ 0x03 ∷ [])) ∷ pair 6 4 3 ∷ pair 6 3 6 ∷ pairs 6 3 4 4 5 ∷ []
     ) ++ (planRow r2 (pair 11 4 6) ∷ [])
     ≡ 20 ∷ 21 ∷ 22 ∷ 23 ∷ 24 ∷ 25 ∷ 25 ∷ 26 ∷ 28 ∷ []
-unfolding number kindOf workingOf operationOf codeOf readMark readCount readKinds readHeader readVariable readWord readBit operationWith exprWith readExpr readAssign branchWith wantedOf isCostly placed
-    statementWith blockWith blockFuel readBlock readRule applyGate makeExpr assignsIn assigns choices makeStatement makeBlock plainCircuit conditions collect numbers
+unfolding number kindOf workingOf operationOf codeOf readMark readCount readKinds readHeader readVariable readWord readBit operationWith exprWith readExpr readAssign branchWith wantedOf isCostly
+    placed statementWith blockWith blockFuel readBlock readRule applyGate makeExpr assignsIn assigns choices makeStatement makeBlock plainCircuit conditions collect numbers
     preconditions preconditionSets restsOn rests groupsIn groups restsOf waitsFor order planRow
 examples-rows = refl
