@@ -174,5 +174,5 @@ file-bytes = sizes.bytes-most
 pub room-enough : (s p : List ℕ) → writeAnswer s p 16384 ≡ fusedAnswer s p
 room-enough = answers.room-enough
 
--- "example 3 becomes 124 bytes": `example-3-picks` of records (C-18 makes it 114). "example 1's patterns go on over 256 bits", "example 10: eight accepted, nine 11": `Starred`
--- (examples), and `example-10` of reading and of circuit.
+-- "example 3 becomes 124 bytes": `example-3-picks` of `file` (C-18 makes it 114). "example 1's patterns go on over 256 bits", "example 10: eight accepted, nine 11": `Starred`
+-- (examples), and `example-10` of `rule` and of `circuit` (WholeExamples).
