@@ -12,7 +12,7 @@ ghost use lib.ListN.{length, take, replicate};
 ghost use Rattle.rule.specs.Limits.{mostVariables};
 ghost use Rattle.rule.specs.Header.{variables, HasKinds};
 ghost use Rattle.base.specs.Lists.{Inside};
-ghost use Rattle.circuit.specs.Limits.{mostGates, mostConditions};
+ghost use Rattle.circuit.specs.Limits.{mostConditions};
 ghost use Rattle.circuit.specs.Gates.{Earlier};
 ghost use Rattle.circuit_needed.specs.Needed.{wantedAmong};
 ghost use Rattle.circuit_needed.specs.Held.{gatesIn};
@@ -72,7 +72,7 @@ fn list_wanted(
     outputs: &[u16; VARIABLE_ROOM],
     wanted: &mut [u16; VARIABLE_ROOM],
 ) -> usize
-    requires { ⌜ (HasKinds (now rule) × (variables (now rule) ≤ mostVariables)) × (length (now wanted) ≡ mostVariables) ⌝ }
+    requires { ⌜ (HasKinds (now rule) × (variables (now rule) ≤ mostVariables)) × (length (now wanted) ≡ variableRoom) ⌝ }
     ensures listed { λ r. ⌜ take r (now (wanted .exit)) ≡ wantedAmong (now (rule .entry)) (now (outputs .entry)) ⌝ }
     ensures within { λ r. ⌜ r ≤ length (now (wanted .exit)) ⌝ }
 {
@@ -105,7 +105,7 @@ fn rule_needs(
     requires { ⌜ ((HasKinds (now rule) × (variables (now rule) ≤ mostVariables)) × (Passable (now quads) (now ranks) count × Inside count (wantedAmong (now rule) (now outputs))))
         × (setsIn (now needs) ≡ replicate gateRoom 0) ⌝ }
     ensures { λ r. ⌜ setsIn (now (needs .exit)) ≡ preconditionSets mostConditions (gatesIn (now (quads .entry)) count) (wantedAmong (now (rule .entry)) (now (outputs .entry)))
-        ++ replicate (mostGates - count) 0 ⌝ }
+        ++ replicate (gateRoom - count) 0 ⌝ }
 {
     let mut wanted = [0u16; VARIABLE_ROOM];
     let k = list_wanted(rule, outputs, &mut wanted);

@@ -10,7 +10,7 @@ ghost use mathlib.Core.List.{_++_};
 ghost use Prim.Native.Nat.{_-_, _<_, _≤_};
 ghost use lib.ListN.{getD, replicate};
 ghost use Rattle.base.specs.Sets.{whole, given, without};
-ghost use Rattle.circuit.specs.Limits.{mostGates, mostConditions, mostSettings};
+ghost use Rattle.circuit.specs.Limits.{mostConditions, mostSettings};
 ghost use Rattle.base.specs.Lists.{Inside};
 ghost use Rattle.circuit_needed.specs.Held.{gatesIn};
 ghost use Rattle.circuit_needed.specs.Pass.{preconditionSets};
@@ -158,7 +158,7 @@ pub fn find_needed(
     sets: &mut [u64; NEED_WORDS],
 )
     requires { ⌜ (Passable (now quads) (now ranks) count × Inside count (now wanted)) × (setsIn (now sets) ≡ replicate gateRoom 0) ⌝ }
-    ensures { λ r. ⌜ setsIn (now (sets .exit)) ≡ preconditionSets mostConditions (gatesIn (now (quads .entry)) count) (now (wanted .entry)) ++ replicate (mostGates - count) 0 ⌝ }
+    ensures { λ r. ⌜ setsIn (now (sets .exit)) ≡ preconditionSets mostConditions (gatesIn (now (quads .entry)) count) (now (wanted .entry)) ++ replicate (gateRoom - count) 0 ⌝ }
 {
     want_all(wanted, sets);
     pass(quads, count, ranks, sets);

@@ -7,7 +7,7 @@ ghost use mathlib.Core.List.{_++_};
 ghost use Prim.Native.Nat.{_-_};
 ghost use lib.ListN.{replicate};
 ghost use Rattle.base.specs.Lists.{Inside};
-ghost use Rattle.circuit.specs.Limits.{mostGates, mostConditions};
+ghost use Rattle.circuit.specs.Limits.{mostConditions};
 ghost use Rattle.circuit_needed.specs.Held.{gatesIn};
 ghost use Rattle.circuit_needed.specs.Pass.{preconditionSets};
 ghost use Rattle.circuit_needed.specs.Passing.{Passable};
@@ -24,7 +24,7 @@ pub extern "C" fn linnet_pass(
     sets: &mut [u64; NEED_WORDS],
 )
     requires { ⌜ (Passable (now quads) (now ranks) count × Inside count (now wanted)) × (setsIn (now sets) ≡ replicate gateRoom 0) ⌝ }
-    ensures { λ r. ⌜ setsIn (now (sets .exit)) ≡ preconditionSets mostConditions (gatesIn (now (quads .entry)) count) (now (wanted .entry)) ++ replicate (mostGates - count) 0 ⌝ }
+    ensures { λ r. ⌜ setsIn (now (sets .exit)) ≡ preconditionSets mostConditions (gatesIn (now (quads .entry)) count) (now (wanted .entry)) ++ replicate (gateRoom - count) 0 ⌝ }
 {
     circuit_pass::find_needed(quads, count, ranks, wanted, sets)
 }

@@ -5,7 +5,7 @@ use circuit::GATE_ROOM;
 use circuit::QUAD_ROOM;
 ghost use mathlib.Core.Path.{_≡_};
 ghost use Prim.Native.Nat.{_<_, _≤_};
-ghost use lib.ListN.{length, getD, replicate};
+ghost use lib.ListN.{length, replicate};
 ghost use Rattle.base.specs.Buffers.{over};
 ghost use Rattle.circuit.specs.Gates.{Earlier, costs, conditions};
 ghost use Rattle.circuit.specs.Limits.{mostGates, mostConditions};

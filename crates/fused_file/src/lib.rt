@@ -15,7 +15,6 @@ ghost use lib.ListN.{length, getD, replicate};
 ghost use Rattle.base.specs.Lists.{upto};
 ghost use Rattle.base.specs.Numbers.{bytesOf};
 ghost use Rattle.base.specs.Buffers.{over};
-ghost use Rattle.circuit.specs.Limits.{mostGates};
 ghost use Rattle.file.specs.Versions.{writtenVersion};
 ghost use Rattle.file.specs.CircuitFile.{mark, wiresBytes, recordsBytes};
 ghost use Rattle.rule.specs.Header.{variables, HasKinds};

@@ -6,7 +6,6 @@ use mathlib.Core.Logic.{_⊎_, inl, inr}
 use lib.ListN.{length, getD, take}
 use Rattle.base.specs.Lists.{_∈_}
 use Rattle.base.specs.TestLaws.{same?}
-use Rattle.circuit.specs.Gates.{Gate}
 use Rattle.circuit.specs.PlainCircuit.{gatesOf, gateCount}
 use Rattle.circuit.specs.Quads.{quadsOf}
 use Rattle.circuit_needed.specs.Held.{Shaped}

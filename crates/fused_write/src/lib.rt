@@ -14,7 +14,6 @@ ghost use Rattle.base.specs.Answers.{success};
 ghost use Rattle.fused.specs.FusedCircuit.{fusedFile};
 ghost use Rattle.fused.specs.Answers.{fusedAnswer, writeAnswer, writtenOver};
 ghost use Rattle.fused_write.specs.Ready.{Ready};
-ghost use Rattle.circuit.specs.Limits.{mostConditions, mostGates};
 ghost use Rattle.base.specs.SetsHeld.{setsIn};
 ghost use Rattle.circuit.specs.Rooms.{gateRoom, quadRoom, variableRoom, conditionRoom};
 

@@ -11,7 +11,6 @@ ghost use lib.ListN.{replicate};
 ghost use Rattle.base.specs.Answers.{refusal};
 ghost use Rattle.plan.specs.Rows.{planAnswer};
 ghost use Rattle.plan_check.specs.Handed.{Handed};
-ghost use Rattle.circuit.specs.Limits.{mostConditions, mostGates};
 ghost use Rattle.base.specs.SetsHeld.{setsIn};
 ghost use Rattle.circuit.specs.Rooms.{gateRoom, quadRoom, variableRoom, conditionRoom};
 

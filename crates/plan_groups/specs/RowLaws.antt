@@ -9,7 +9,6 @@ use lib.ListN.{length, getD, take}
 use borrow.Author.Tests.{eq-eqb, ne-eqb, leb-true, le-leb, lt-leb}
 use Rattle.base.specs.Lists.{every, same}
 use Rattle.base.specs.TestLaws.{both}
-use Rattle.base.specs.Codes.{codeOf}
 use Rattle.circuit.specs.Limits.{mostGates}
 use Rattle.circuit.specs.Gates.{Gates}
 use Rattle.plan.specs.PlanFile.{mark, gatesCounted, groupsCounted, Plan, groupAt, groupsIn, ends}

@@ -41,14 +41,14 @@ pub fn after(plan: &[u8], at: usize) -> usize
 
 // The gate count and the group count that the plan gives.
 fn gates_counted(plan: &[u8]) -> usize
-    requires { ⌜ 9 ≤ length (now plan) ⌝ }
+    requires { ⌜ leastPlanBytes ≤ length (now plan) ⌝ }
     ensures { λ r. ⌜ r ≡ file.gatesCounted (now (plan .entry)) ⌝ }
 {
     base_words::wide16(base_words::read16(plan, 5))
 }
 
 pub fn groups_counted(plan: &[u8]) -> usize
-    requires { ⌜ 9 ≤ length (now plan) ⌝ }
+    requires { ⌜ leastPlanBytes ≤ length (now plan) ⌝ }
     ensures { λ r. ⌜ r ≡ file.groupsCounted (now (plan .entry)) ⌝ }
 {
     base_words::wide16(base_words::read16(plan, 7))
@@ -66,7 +66,7 @@ fn size_fits(plan: &[u8]) -> bool
 
 // 21: the mark and version.
 fn marked(plan: &[u8]) -> bool
-    requires { ⌜ 9 ≤ length (now plan) ⌝ }
+    requires { ⌜ leastPlanBytes ≤ length (now plan) ⌝ }
     ensures { λ r. ⌜ r ≡ same (take 5 (now (plan .entry))) file.mark ⌝ }
 {
     match base_answers::read_mark(plan, b"PLN\x00\x01", 21) {

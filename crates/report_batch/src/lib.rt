@@ -11,7 +11,7 @@ ghost use lib.ListN.{length, take, drop};
 ghost use Rattle.base.specs.Lists.{same};
 ghost use Rattle.base.specs.Buffers.{over};
 ghost use Rattle.report.specs.Line.{putOver, putCount};
-ghost use Rattle.report.specs.Batch.{batchMark, hasPart, partSize, hasEntry, entrySize, entryAnswer, plus};
+ghost use Rattle.report.specs.Batch.{batchMark, headBytes, hasPart, partSize, hasEntry, entrySize, entryAnswer, plus};
 ghost use Rattle.report.specs.Steps.{headStep, entryStep, step, hasStopped, ending};
 ghost use Rattle.report.specs.Limits.{mostLine};
 ghost use Rattle.report.specs.Bounds.{Sized, Costs, Within, mostPart, mostHeld, Nears, Few};
@@ -34,7 +34,7 @@ fn quiet(progress: Progress, bytes: usize) -> Taken
 
 // The mark and the version stand at the start.
 fn marked(s: &[u8]) -> bool
-    requires { ⌜ 7 ≤ length (now s) ⌝ }
+    requires { ⌜ headBytes ≤ length (now s) ⌝ }
     ensures { λ r. ⌜ r ≡ same (take 5 (now (s .entry))) batchMark ⌝ }
 {
     match base_answers::read_mark(s, b"BAT\x00\x01", 75) {

@@ -14,6 +14,7 @@ ghost use Rattle.rule.specs.Header.{HasKinds, kindAt, workingAt, readKinds, rea
 ghost use Rattle.rule.specs.Expressions.{readVariable, readWord, readBit, readExpr};
 ghost use Rattle.rule.specs.Blocks.{readAssign, readStatement, readBlock};
 ghost use Rattle.rule.specs.Rule.{readRule};
+ghost use Rattle.rule.specs.Limits.{leastRuleBytes, mostRuleBytes, mostVariables};
 
 // The kind of variable x, which the header has.
 pub fn kind_at(s: &[u8], x: u8) -> Kind
@@ -233,7 +234,7 @@ pub fn read_block(s: &[u8], at: usize, nest: u8) -> Step
 
 // The kind bytes of `count` variables, from `from` on.
 fn read_kinds(s: &[u8], from: usize, count: usize) -> Step
-    requires { ⌜ (from ≤ length (now s)) × (count ≤ 32) ⌝ }
+    requires { ⌜ (from ≤ length (now s)) × (count ≤ mostVariables) ⌝ }
     ensures { λ r. ⌜ r ≡ stepOf (readKinds count (now (s .entry)) from) ⌝ }
 {
     let mut at = from;
@@ -253,7 +254,7 @@ fn read_kinds(s: &[u8], from: usize, count: usize) -> Step
 
 // The mark and version, V and the kind bytes.
 fn read_header(s: &[u8]) -> Step
-    requires { ⌜ 6 ≤ length (now s) ⌝ }
+    requires { ⌜ leastRuleBytes ≤ length (now s) ⌝ }
     ensures { λ r. ⌜ r ≡ stepOf (readHeader (now (s .entry))) ⌝ }
 {
     match base_answers::read_mark(s, b"RUL\x00\x01", 2) {
@@ -273,7 +274,7 @@ fn read_header(s: &[u8]) -> Step
 
 // What follows the size: the header, a block, and nothing after it.
 fn read_bytes(s: &[u8]) -> Step
-    requires { ⌜ (6 ≤ length (now s)) × (length (now s) ≤ 4096) ⌝ }
+    requires { ⌜ (leastRuleBytes ≤ length (now s)) × (length (now s) ≤ mostRuleBytes) ⌝ }
     ensures { λ r. ⌜ r ≡ stepOf (readRule (now (s .entry))) ⌝ }
 {
     match read_header(s) {
