@@ -15,8 +15,8 @@ refusal number place =
     record { number = number; place = place; gates = 0; wires = 0; bytes = 0; before = 0; after = 0 }
 
 -- what came before decides: its refusal stands; else the row of what comes after, if one refuses, with place 0; else its answer stands, with the counts that it has
-abbrev pub thenRow : Answer → ℕ → Answer
-thenRow first row = cond (eqb first.number 0) (cond (eqb row 0) first (refusal row 0)) first
+abbrev pub then_row : Answer → ℕ → Answer
+then_row first row = cond (eqb first.number 0) (cond (eqb row 0) first (refusal row 0)) first
 
 -- a reader's step as the paper's number and place; a reader counts nothing
 abbrev pub answer_of : Step → Answer

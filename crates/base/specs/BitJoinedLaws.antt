@@ -11,66 +11,66 @@ use Rattle.std.proofs.lemmas.Nat.{and_block, or_block, xor_block, and_le_l, and_
 use Rattle.std.proofs.lemmas.List.{length-map}
 use Rattle.std.proofs.Math.Pow.{pow-lt}
 use Rattle.base.specs.Lists.{upto}
-use Rattle.base.specs.ListLaws.{length_from, getD-upto}
+use Rattle.base.specs.ListLaws.{length_from, get_or_upto}
 use Rattle.base.specs.Numbers.{bytes_of}
-use Rattle.base.specs.NumberLaws.{bytes-append}
+use Rattle.base.specs.NumberLaws.{bytes_append}
 use Rattle.base.specs.TestLaws.{same_test, both, and}
 use Rattle.base.specs.Bits.{bit}
-use Rattle.base.specs.BitLaws.{bit-none, bit-mod, bit-shift, same_bits}
+use Rattle.base.specs.BitLaws.{bit_none, bit_mod, bit_shift, same_bits}
 use Rattle.base.specs.BitWords.{put_bit, joined, Fit, wordwise, folded}
 
 -- lists of words
 pub fit_none : Fit []
 fit_none i = omega arith
 
-pub fit-cons : (w : ℕ) (l : List ℕ) → w < 2 ^ 64 → Fit l → Fit (w ∷ l)
-fit-cons w l h k zero = h
-fit-cons w l h k (suc i) = k i
+pub fit_cons : (w : ℕ) (l : List ℕ) → w < 2 ^ 64 → Fit l → Fit (w ∷ l)
+fit_cons w l h k zero = h
+fit_cons w l h k (suc i) = k i
 
-pub fit-map : (f : ℕ → ℕ) (l : List ℕ) → ((a : ℕ) → f a < 2 ^ 64) → Fit (map f l)
-fit-map f [] h = fit_none
-fit-map f (a ∷ l) h = fit-cons (f a) (map f l) (h a) (fit-map f l h)
+pub fit_map : (f : ℕ → ℕ) (l : List ℕ) → ((a : ℕ) → f a < 2 ^ 64) → Fit (map f l)
+fit_map f [] h = fit_none
+fit_map f (a ∷ l) h = fit_cons (f a) (map f l) (h a) (fit_map f l h)
 
 -- the lowest word and the others
 module _ (w : ℕ) (l : List ℕ) (h : w < 2 ^ 64) where
-  pub joined-low : joined (w ∷ l) % 2 ^ 64 ≡ w
+  pub joined_low : joined (w ∷ l) % 2 ^ 64 ≡ w
   unfolding joined
-  joined-low = omega arith
+  joined_low = omega arith
 
-  pub joined-high : joined (w ∷ l) / 2 ^ 64 ≡ joined l
+  pub joined_high : joined (w ∷ l) / 2 ^ 64 ≡ joined l
   unfolding joined
-  joined-high = omega arith
+  joined_high = omega arith
 
   -- the bytes of the others, then those of the lowest word
   pub joined_bytes : (n : ℕ) → bytes_of (n + 8) (joined (w ∷ l)) ≡ bytes_of n (joined l) ++ bytes_of 8 w
-  joined_bytes n = bytes-append n 8 (joined (w ∷ l)) ∙ ap₂ (λ (x y : ℕ). bytes_of n x ++ bytes_of 8 y) joined-high joined-low
+  joined_bytes n = bytes_append n 8 (joined (w ∷ l)) ∙ ap₂ (λ (x y : ℕ). bytes_of n x ++ bytes_of 8 y) joined_high joined_low
 
 -- so many words, so many bits
-pub joined-below : (l : List ℕ) → Fit l → joined l < 2 ^ (64 * length l)
+pub joined_below : (l : List ℕ) → Fit l → joined l < 2 ^ (64 * length l)
 unfolding joined
-joined-below [] h = omega arith
-joined-below (w ∷ l) h =
+joined_below [] h = omega arith
+joined_below (w ∷ l) h =
     let e : 64 * suc (length l) ≡ 64 * length l + 64 = omega arith in
-    rw (e, pow-add 2 (64 * length l) 64, add_comm w (2 ^ 64 * joined l), mul_comm (2 ^ 64) (joined l)) (digits_lt (joined-below l (λ i. h (suc i))) (h 0))
+    rw (e, pow-add 2 (64 * length l) 64, add_comm w (2 ^ 64 * joined l), mul_comm (2 ^ 64) (joined l)) (digits_lt (joined_below l (λ i. h (suc i))) (h 0))
 
-pub joined-clear : (n : ℕ) → joined (replicate n 0) ≡ 0
+pub joined_clear : (n : ℕ) → joined (replicate n 0) ≡ 0
 unfolding joined
-joined-clear zero = refl
-joined-clear (suc n) = ap (λ (x : ℕ). 0 + 2 ^ 64 * x) (joined-clear n)
+joined_clear zero = refl
+joined_clear (suc n) = ap (λ (x : ℕ). 0 + 2 ^ 64 * x) (joined_clear n)
 
 -- bit q is bit q % 64 of the word q / 64
 pub joined_at : (l : List ℕ) → Fit l → (i k : ℕ) → k < 64 → bit (joined l) (64 * i + k) ≡ bit (get_or l i 0) k
-joined_at [] h i k b = unfold joined in bit-none (64 * i + k) ∙ sym (bit-none k)
-joined_at (w ∷ l) h zero k b = rw zero-add (sym (bit-mod (joined (w ∷ l)) 64 k b) ∙ ap (λ (x : ℕ). bit x k) (joined-low w l (h 0)))
+joined_at [] h i k b = unfold joined in bit_none (64 * i + k) ∙ sym (bit_none k)
+joined_at (w ∷ l) h zero k b = rw zero-add (sym (bit_mod (joined (w ∷ l)) 64 k b) ∙ ap (λ (x : ℕ). bit x k) (joined_low w l (h 0)))
 joined_at (w ∷ l) h (suc i) k b =
     let e : 64 * suc i + k ≡ 64 + (64 * i + k) = omega arith in
     ap (bit (joined (w ∷ l))) e
-    ∙ sym (bit-shift (joined (w ∷ l)) 64 (64 * i + k))
-    ∙ ap (λ (x : ℕ). bit x (64 * i + k)) (joined-high w l (h 0))
+    ∙ sym (bit_shift (joined (w ∷ l)) 64 (64 * i + k))
+    ∙ ap (λ (x : ℕ). bit x (64 * i + k)) (joined_high w l (h 0))
     ∙ joined_at l (λ j. h (suc j)) i k b
 
-pub joined-bit : (l : List ℕ) → Fit l → (q : ℕ) → bit (joined l) q ≡ bit (get_or l (q / 64) 0) (q % 64)
-joined-bit l h q =
+pub joined_bit : (l : List ℕ) → Fit l → (q : ℕ) → bit (joined l) q ≡ bit (get_or l (q / 64) 0) (q % 64)
+joined_bit l h q =
     let e : q ≡ 64 * (q / 64) + q % 64 = omega arith in
     ap (bit (joined l)) e ∙ joined_at l h (q / 64) (q % 64) (omega arith)
 
@@ -79,12 +79,12 @@ pub joined_of : (m x : ℕ) (f : ℕ → ℕ) → x < 2 ^ (64 * m) → ((i : ℕ
     → ((i k : ℕ) → i < m → k < 64 → bit x (64 * i + k) ≡ bit (f i) k) → x ≡ joined (map f (upto m))
 joined_of m x f h b g =
     let n : length (map f (upto m)) ≡ m = length-map (upto m) f ∙ length_from 0 m in
-    let fit : Fit (map f (upto m)) = fit-map f (upto m) b in
-    same_bits (64 * m) x _ h (rw n at (joined-below (map f (upto m)) fit))
+    let fit : Fit (map f (upto m)) = fit_map f (upto m) b in
+    same_bits (64 * m) x _ h (rw n at (joined_below (map f (upto m)) fit))
     (λ j l.
     let e : j ≡ 64 * (j / 64) + j % 64 = omega arith in
     ap (bit x) e ∙ g (j / 64) (j % 64) (omega arith) (omega arith)
-    ∙ ap (λ (w : ℕ). bit w (j % 64)) (sym (getD-upto f 0 m (j / 64) (omega arith))) ∙ sym (joined-bit (map f (upto m)) fit j))
+    ∙ ap (λ (w : ℕ). bit w (j % 64)) (sym (get_or_upto f 0 m (j / 64) (omega arith))) ∙ sym (joined_bit (map f (upto m)) fit j))
 
 -- what is common, a union, a difference, word by word
 module _ (f : ℕ → ℕ → ℕ) (z : f 0 0 ≡ 0)
@@ -100,21 +100,21 @@ module _ (f : ℕ → ℕ → ℕ) (z : f 0 0 ≡ 0)
       let b : y + 2 ^ 64 * joined m ≡ joined m * 2 ^ 64 + y = omega arith in
       ap₂ f a b ∙ block 64 (joined l) (joined m) x y (h 0) (k 0) ∙ rw ih (omega arith)
 
-pub joined-and : (l m : List ℕ) → Fit l → Fit m → length l ≡ length m → bit_and (joined l) (joined m) ≡ joined (wordwise bit_and l m)
-joined-and = joined_by bit_and refl and_block
+pub joined_and : (l m : List ℕ) → Fit l → Fit m → length l ≡ length m → bit_and (joined l) (joined m) ≡ joined (wordwise bit_and l m)
+joined_and = joined_by bit_and refl and_block
 
-pub joined-or : (l m : List ℕ) → Fit l → Fit m → length l ≡ length m → bit_or (joined l) (joined m) ≡ joined (wordwise bit_or l m)
-joined-or = joined_by bit_or refl or_block
+pub joined_or : (l m : List ℕ) → Fit l → Fit m → length l ≡ length m → bit_or (joined l) (joined m) ≡ joined (wordwise bit_or l m)
+joined_or = joined_by bit_or refl or_block
 
-pub joined-xor : (l m : List ℕ) → Fit l → Fit m → length l ≡ length m → bit_xor (joined l) (joined m) ≡ joined (wordwise bit_xor l m)
-joined-xor = joined_by bit_xor refl xor_block
+pub joined_xor : (l m : List ℕ) → Fit l → Fit m → length l ≡ length m → bit_xor (joined l) (joined m) ≡ joined (wordwise bit_xor l m)
+joined_xor = joined_by bit_xor refl xor_block
 
 -- the words of two lists are words again
-pub fit-by : (f : ℕ → ℕ → ℕ) → ((k a b : ℕ) → a < 2 ^ k → b < 2 ^ k → f a b < 2 ^ k) → (l m : List ℕ) → Fit l → Fit m → Fit (wordwise f l m)
-fit-by f lt [] [] h k = fit_none
-fit-by f lt [] (y ∷ m) h k = fit_none
-fit-by f lt (x ∷ l) [] h k = fit_none
-fit-by f lt (x ∷ l) (y ∷ m) h k = fit-cons (f x y) (wordwise f l m) (lt 64 x y (h 0) (k 0)) (fit-by f lt l m (λ i. h (suc i)) (λ i. k (suc i)))
+pub fit_by : (f : ℕ → ℕ → ℕ) → ((k a b : ℕ) → a < 2 ^ k → b < 2 ^ k → f a b < 2 ^ k) → (l m : List ℕ) → Fit l → Fit m → Fit (wordwise f l m)
+fit_by f lt [] [] h k = fit_none
+fit_by f lt [] (y ∷ m) h k = fit_none
+fit_by f lt (x ∷ l) [] h k = fit_none
+fit_by f lt (x ∷ l) (y ∷ m) h k = fit_cons (f x y) (wordwise f l m) (lt 64 x y (h 0) (k 0)) (fit_by f lt l m (λ i. h (suc i)) (λ i. k (suc i)))
 
 -- number q put among the words is bit q put in
 joined_store : (l : List ℕ) → Fit l → (i k : ℕ) → k < 64 → i < length l
@@ -132,9 +132,9 @@ joined_store (w ∷ l) h (suc i) k a b =
     (sym (ap (bit_or (joined l * 2 ^ 64 + w)) (sym (add-zero (2 ^ (64 * i + k) * 2 ^ 64)))
     ∙ or_block 64 (joined l) (2 ^ (64 * i + k)) w 0 (h 0) (omega arith) ∙ rw or_zero_r (omega arith)))
 
-pub joined-put : (l : List ℕ) → Fit l → (q : ℕ) → q / 64 < length l → joined (put_bit 0 q l) ≡ bit_or (joined l) (2 ^ q)
+pub joined_put : (l : List ℕ) → Fit l → (q : ℕ) → q / 64 < length l → joined (put_bit 0 q l) ≡ bit_or (joined l) (2 ^ q)
 unfolding put_bit
-joined-put l h q k =
+joined_put l h q k =
     let e : q ≡ 64 * (q / 64) + q % 64 = omega arith in
     rw zero-add (joined_store l h (q / 64) (q % 64) (omega arith) k ∙ ap (λ (x : ℕ). bit_or (joined l) (2 ^ x)) (sym e))
 
@@ -170,9 +170,9 @@ module _ (f : ℕ → ℕ → ℕ) (e : ℕ) (low : e < 2 ^ 64) (lt : (k a b : �
 pub no_word : (w : ℕ) (l : List ℕ) → w < 2 ^ 64 → Fit l → eqb (folded bit_or w l) 0 ≡ eqb (joined (w ∷ l)) (joined (replicate (suc (length l)) 0))
 no_word = together bit_or 0 (omega arith) or_lt refl (λ a b h k e. (omega (arith, or_add_and a b, and_le_r a b), omega (arith, or_add_and a b, and_le_l a b)))
 
-pub every-word : (w : ℕ) (l : List ℕ) → w < 2 ^ 64 → Fit l
+pub every_word : (w : ℕ) (l : List ℕ) → w < 2 ^ 64 → Fit l
     → eqb (folded bit_and w l) (2 ^ 64 - 1) ≡ eqb (joined (w ∷ l)) (joined (replicate (suc (length l)) (2 ^ 64 - 1)))
-every-word = together bit_and (2 ^ 64 - 1) (omega arith) and_lt refl (λ a b h k e. (omega (arith, and_le_l a b), omega (arith, and_le_r a b)))
+every_word = together bit_and (2 ^ 64 - 1) (omega arith) and_lt refl (λ a b h k e. (omega (arith, and_le_l a b), omega (arith, and_le_r a b)))
 
 -- a number has its words once: as many words with the same number are the same
 pub joined_once : (a b : List ℕ) → length a ≡ length b → Fit a → Fit b → joined a ≡ joined b → a ≡ b
@@ -180,6 +180,6 @@ joined_once [] [] e h k q = refl
 joined_once [] (y ∷ b) e h k q = absurd (omega (arith, e))
 joined_once (x ∷ a) [] e h k q = absurd (omega (arith, e))
 joined_once (x ∷ a) (y ∷ b) e h k q =
-    let low : x ≡ y = sym (joined-low x a (h 0)) ∙ ap (λ (n : ℕ). n % 2 ^ 64) q ∙ joined-low y b (k 0) in
-    let high : joined a ≡ joined b = sym (joined-high x a (h 0)) ∙ ap (λ (n : ℕ). n / 2 ^ 64) q ∙ joined-high y b (k 0) in
+    let low : x ≡ y = sym (joined_low x a (h 0)) ∙ ap (λ (n : ℕ). n % 2 ^ 64) q ∙ joined_low y b (k 0) in
+    let high : joined a ≡ joined b = sym (joined_high x a (h 0)) ∙ ap (λ (n : ℕ). n / 2 ^ 64) q ∙ joined_high y b (k 0) in
     ap₂ (λ (w : ℕ) (l : List ℕ). w ∷ l) low (joined_once a b (omega (arith, e)) (λ i. h (suc i)) (λ i. k (suc i)) high)

@@ -2,24 +2,24 @@
 -- number q is bit q % 64 of the word q / 64 after the set's first, which is at `base`.
 use Rattle.std.specs.Prelude.{ℕ, ◌+◌, ◌*◌, ◌/◌, ◌%◌, ◌^◌, ◌<◌, ◌≡◌, Bool, List, [], ◌∷◌, length, get_or, set}
 use Rattle.std.specs.Int.Bits.{bit_or}
-use Rattle.base.specs.Bits.{bit, flipBit}
+use Rattle.base.specs.Bits.{bit, flip_bit}
 
 -- number q is in that set
-unfoldable pub bitIn : ℕ → List ℕ → ℕ → Bool
-bitIn base words q = bit (get_or words (base + q / 64) 0) (q % 64)
+unfoldable pub bit_in : ℕ → List ℕ → ℕ → Bool
+bit_in base words q = bit (get_or words (base + q / 64) 0) (q % 64)
 
 -- number q is put in it
 unfoldable pub put_bit : ℕ → ℕ → List ℕ → List ℕ
 put_bit base q words = set words (base + q / 64) (bit_or (get_or words (base + q / 64) 0) (2 ^ (q % 64)))
 
 -- the numbers of a list are put in it
-unfoldable pub putEach : ℕ → List ℕ → List ℕ → List ℕ
-putEach base [] words = words
-putEach base (q ∷ l) words = putEach base l (put_bit base q words)
+unfoldable pub put_each : ℕ → List ℕ → List ℕ → List ℕ
+put_each base [] words = words
+put_each base (q ∷ l) words = put_each base l (put_bit base q words)
 
 -- number q, which is in the set of the first words, is struck from it
-unfoldable pub strikeBit : ℕ → List ℕ → List ℕ
-strikeBit q words = set words (q / 64) (flipBit (q % 64) (get_or words (q / 64) 0))
+unfoldable pub strike_bit : ℕ → List ℕ → List ℕ
+strike_bit q words = set words (q / 64) (flip_bit (q % 64) (get_or words (q / 64) 0))
 
 -- the number whose words these are, the lowest first
 unfoldable pub joined : List ℕ → ℕ

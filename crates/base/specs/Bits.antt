@@ -21,8 +21,8 @@ abbrev pub unlike : Bool → Bool → Bool
 unlike a b = not (beq a b)
 
 -- the number j with bit t alone changed
-abbrev pub flipBit : ℕ → ℕ → ℕ
-flipBit t j = bit_xor j (2 ^ t)
+abbrev pub flip_bit : ℕ → ℕ → ℕ
+flip_bit t j = bit_xor j (2 ^ t)
 
 -- the numbers below N that pass the test, as the bits that are 1 of a number
 unfoldable pub collect : ℕ → (ℕ → Bool) → ℕ

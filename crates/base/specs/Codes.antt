@@ -8,11 +8,11 @@ use Rattle.base.specs.declared.Form.{Form}
 use Rattle.base.specs.declared.Form.TheVariants.{End, Assign, Skip, Branch, Variable, Word, Bit, Apply, Unknown}
 use Rattle.base.specs.declared.Code.{Code}
 
-abbrev pub sameKind : Kind → Kind → Bool
-sameKind kind.Word kind.Word = true
-sameKind kind.Word kind.Bit = false
-sameKind kind.Bit kind.Word = false
-sameKind kind.Bit kind.Bit = true
+abbrev pub same_kind : Kind → Kind → Bool
+same_kind kind.Word kind.Word = true
+same_kind kind.Word kind.Bit = false
+same_kind kind.Bit kind.Word = false
+same_kind kind.Bit kind.Bit = true
 
 -- A word is 32 bits, unsigned; a bit is 0 or 1.
 abbrev pub Fits : Kind → ℕ → Type 0
@@ -20,22 +20,22 @@ Fits kind.Word n = n < 4294967296
 Fits kind.Bit n = n ≤ 1
 
 -- an entry of the operation table: kind of the arguments, kind of the result, arity, cost
-abbrev pub tableEntry : Operation → Kind → Kind → ℕ → ℕ → Code
-tableEntry op takes gives arity cost = record { form = Apply op; takes = takes; gives = gives; arity = arity; cost = cost }
+abbrev pub table_entry : Operation → Kind → Kind → ℕ → ℕ → Code
+table_entry op takes gives arity cost = record { form = Apply op; takes = takes; gives = gives; arity = arity; cost = cost }
 
-abbrev pub entryOf : Operation → Code
-entryOf Sum = tableEntry Sum kind.Word kind.Word 2 0
-entryOf Difference = tableEntry Difference kind.Word kind.Word 2 0
-entryOf Product = tableEntry Product kind.Word kind.Word 2 15
-entryOf LessThan = tableEntry LessThan kind.Word kind.Bit 2 40
-entryOf Equal = tableEntry Equal kind.Word kind.Bit 2 20
-entryOf And = tableEntry And kind.Bit kind.Bit 2 1
-entryOf Or = tableEntry Or kind.Bit kind.Bit 2 1
-entryOf Not = tableEntry Not kind.Bit kind.Bit 1 0
+abbrev pub entry_of : Operation → Code
+entry_of Sum = table_entry Sum kind.Word kind.Word 2 0
+entry_of Difference = table_entry Difference kind.Word kind.Word 2 0
+entry_of Product = table_entry Product kind.Word kind.Word 2 15
+entry_of LessThan = table_entry LessThan kind.Word kind.Bit 2 40
+entry_of Equal = table_entry Equal kind.Word kind.Bit 2 20
+entry_of And = table_entry And kind.Bit kind.Bit 2 1
+entry_of Or = table_entry Or kind.Bit kind.Bit 2 1
+entry_of Not = table_entry Not kind.Bit kind.Bit 1 0
 
 -- An operation of this table with a cost above 0 is costly.
 abbrev pub costly : Operation → Bool
-costly op = ltb 0 (entryOf op).cost
+costly op = ltb 0 (entry_of op).cost
 
 -- Document 02, C-12: sum, product, equal, and, or give the same in either order of their arguments; difference and less-than do not (ResultLaws), and not has one.
 abbrev pub commutes : Operation → Bool
@@ -49,8 +49,8 @@ commutes Or = true
 commutes Not = false
 
 -- the operation of a byte 20 to 27
-unfoldable pub operationOf : ℕ → Operation
-operationOf b =
+unfoldable pub operation_of : ℕ → Operation
+operation_of b =
     cond (eqb b 0x20) Sum
     (cond (eqb b 0x21) Difference
     (cond (eqb b 0x22) Product
@@ -85,18 +85,18 @@ code_of b =
     (cond (eqb b 0x10) (plain Variable kind.Word)
     (cond (eqb b 0x11) (plain Word kind.Word)
     (cond (eqb b 0x12) (plain Bit kind.Bit)
-    (cond (leb 0x20 b && leb b 0x27) (entryOf (operationOf b))
+    (cond (leb 0x20 b && leb b 0x27) (entry_of (operation_of b))
     (plain Unknown kind.Word))))))))
 
 -- in a circuit file: 00 a variable's starting value that is a word, 01 one that is a bit
-abbrev pub startCode : Kind → ℕ
-startCode kind.Word = 0x00
-startCode kind.Bit = 0x01
+abbrev pub start_code : Kind → ℕ
+start_code kind.Word = 0x00
+start_code kind.Bit = 0x01
 
 -- and back: the kind that such a code names
-unfoldable pub startKind : ℕ → Kind
-startKind b = cond (eqb b 0x01) kind.Bit kind.Word
+unfoldable pub start_kind : ℕ → Kind
+start_kind b = cond (eqb b 0x01) kind.Bit kind.Word
 
 -- "Cost of a circuit: operations as above, choice 3"
-abbrev pub choiceCost : ℕ
-choiceCost = 3
+abbrev pub choice_cost : ℕ
+choice_cost = 3

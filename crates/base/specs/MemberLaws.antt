@@ -16,26 +16,26 @@ pub ∈→elem : (a : ℕ) (l : List ℕ) → a ∈ l → elem a l ≡ true
 ∈→elem a (x ∷ l) (inr h) = split (eqb a x) (λ e. rw e) (λ e. rw e (∈→elem a l h))
 
 -- one more
-pub elem-more : (a : ℕ) (l : List ℕ) (x : ℕ) → elem a (l ++ (x ∷ [])) ≡ cond (eqb a x) true (elem a l)
-elem-more a [] x = refl
-elem-more a (y ∷ l) x = split (eqb a y) (λ t. rw t (split (eqb a x) (λ u. rw u) (λ u. rw u))) (λ t. rw t (elem-more a l x))
+pub elem_more : (a : ℕ) (l : List ℕ) (x : ℕ) → elem a (l ++ (x ∷ [])) ≡ cond (eqb a x) true (elem a l)
+elem_more a [] x = refl
+elem_more a (y ∷ l) x = split (eqb a y) (λ t. rw t (split (eqb a x) (λ u. rw u) (λ u. rw u))) (λ t. rw t (elem_more a l x))
 
 -- a number is kept exactly when it is in the list and passes
-pub keep-in : (p : ℕ → Bool) (l : List ℕ) (a : ℕ) → a ∈ l → p a ≡ true → a ∈ keep p l
-keep-in p [] a m h = m
-keep-in p (b ∷ l) a (inl e) h = rw (ap p (sym e) ∙ h) (inl e)
-keep-in p (b ∷ l) a (inr m) h = split (p b) (λ t. rw t (inr (keep-in p l a m h))) (λ t. rw t (keep-in p l a m h))
+pub keep_in : (p : ℕ → Bool) (l : List ℕ) (a : ℕ) → a ∈ l → p a ≡ true → a ∈ keep p l
+keep_in p [] a m h = m
+keep_in p (b ∷ l) a (inl e) h = rw (ap p (sym e) ∙ h) (inl e)
+keep_in p (b ∷ l) a (inr m) h = split (p b) (λ t. rw t (inr (keep_in p l a m h))) (λ t. rw t (keep_in p l a m h))
 
-pub keep-from : (p : ℕ → Bool) (l : List ℕ) (a : ℕ) → a ∈ keep p l → (a ∈ l) × (p a ≡ true)
-keep-from p [] a m = absurd m
-keep-from p (b ∷ l) a m = split (p b) (λ t. yes-b t (λ k. keep-from p l a k) (rw t at m)) (λ t. later (keep-from p l a (rw t at m)))
+pub keep_from : (p : ℕ → Bool) (l : List ℕ) (a : ℕ) → a ∈ keep p l → (a ∈ l) × (p a ≡ true)
+keep_from p [] a m = absurd m
+keep_from p (b ∷ l) a m = split (p b) (λ t. yes_b t (λ k. keep_from p l a k) (rw t at m)) (λ t. later (keep_from p l a (rw t at m)))
   where
     later : (a ∈ l) × (p a ≡ true) → (a ∈ (b ∷ l)) × (p a ≡ true)
     later r = (inr r.0, r.1)
 
-    yes-b : p b ≡ true → (a ∈ keep p l → (a ∈ l) × (p a ≡ true)) → a ∈ (b ∷ keep p l) → (a ∈ (b ∷ l)) × (p a ≡ true)
-    yes-b t ih (inl e) = (inl e, ap p e ∙ t)
-    yes-b t ih (inr k) = later (ih k)
+    yes_b : p b ≡ true → (a ∈ keep p l → (a ∈ l) × (p a ≡ true)) → a ∈ (b ∷ keep p l) → (a ∈ (b ∷ l)) × (p a ≡ true)
+    yes_b t ih (inl e) = (inl e, ap p e ∙ t)
+    yes_b t ih (inr k) = later (ih k)
 
 -- a run holds exactly the numbers between its ends
 pub from_in : (i n a : ℕ) → i ≤ a → a < i + n → a ∈ from i n
@@ -46,23 +46,23 @@ from_in i (suc n) a h l = go (same? a i) (λ k. from_in (suc i) n a k (omega ari
     go (inl e) ih = inl e
     go (inr m) ih = inr (ih (omega arith))
 
-pub from-below : (i n a : ℕ) → a ∈ from i n → (i ≤ a) × (a < i + n)
-from-below i zero a m = absurd m
-from-below i (suc n) a (inl e) = omega arith
-from-below i (suc n) a (inr m) = let r : (suc i ≤ a) × (a < suc i + n) = from-below (suc i) n a m in omega arith
+pub from_below : (i n a : ℕ) → a ∈ from i n → (i ≤ a) × (a < i + n)
+from_below i zero a m = absurd m
+from_below i (suc n) a (inl e) = omega arith
+from_below i (suc n) a (inr m) = let r : (suc i ≤ a) × (a < suc i + n) = from_below (suc i) n a m in omega arith
 
 -- a member of two joined lists is one of either
-pub in-append : (a : ℕ) (l m : List ℕ) → (a ∈ l) ⊎ (a ∈ m) → a ∈ (l ++ m)
-in-append a [] m (inl h) = absurd h
-in-append a [] m (inr h) = h
-in-append a (x ∷ l) m (inl (inl e)) = inl e
-in-append a (x ∷ l) m (inl (inr h)) = inr (in-append a l m (inl h))
-in-append a (x ∷ l) m (inr h) = inr (in-append a l m (inr h))
+pub in_append : (a : ℕ) (l m : List ℕ) → (a ∈ l) ⊎ (a ∈ m) → a ∈ (l ++ m)
+in_append a [] m (inl h) = absurd h
+in_append a [] m (inr h) = h
+in_append a (x ∷ l) m (inl (inl e)) = inl e
+in_append a (x ∷ l) m (inl (inr h)) = inr (in_append a l m (inl h))
+in_append a (x ∷ l) m (inr h) = inr (in_append a l m (inr h))
 
-pub append-in : (a : ℕ) (l m : List ℕ) → a ∈ (l ++ m) → (a ∈ l) ⊎ (a ∈ m)
-append-in a [] m h = inr h
-append-in a (x ∷ l) m (inl e) = inl (inl e)
-append-in a (x ∷ l) m (inr h) = go (append-in a l m h)
+pub append_in : (a : ℕ) (l m : List ℕ) → a ∈ (l ++ m) → (a ∈ l) ⊎ (a ∈ m)
+append_in a [] m h = inr h
+append_in a (x ∷ l) m (inl e) = inl (inl e)
+append_in a (x ∷ l) m (inr h) = go (append_in a l m h)
   where
     go : (a ∈ l) ⊎ (a ∈ m) → (a ∈ (x ∷ l)) ⊎ (a ∈ m)
     go (inl k) = inl (inr k)
@@ -74,60 +74,60 @@ in_map f a [] h = h
 in_map f a (x ∷ l) (inl e) = inl (ap f e)
 in_map f a (x ∷ l) (inr h) = inr (in_map f a l h)
 
-pub map-in : (f : ℕ → ℕ) (b : ℕ) (l : List ℕ) → b ∈ map f l → (a : ℕ) × (a ∈ l) × (b ≡ f a)
-map-in f b [] h = absurd h
-map-in f b (x ∷ l) (inl e) = (x, inl refl, e)
-map-in f b (x ∷ l) (inr h) = let r = map-in f b l h in (r.0, inr r.1, r.2)
+pub map_in : (f : ℕ → ℕ) (b : ℕ) (l : List ℕ) → b ∈ map f l → (a : ℕ) × (a ∈ l) × (b ≡ f a)
+map_in f b [] h = absurd h
+map_in f b (x ∷ l) (inl e) = (x, inl refl, e)
+map_in f b (x ∷ l) (inr h) = let r = map_in f b l h in (r.0, inr r.1, r.2)
 
 -- a member of the joined lists is one of some list
-pub in-flat : (f : ℕ → List ℕ) (b a : ℕ) (l : List ℕ) → a ∈ l → b ∈ f a → b ∈ flat f l
-in-flat f b a [] m h = absurd m
-in-flat f b a (x ∷ l) (inl e) h = in-append b (f x) (flat f l) (inl (rw e at h))
-in-flat f b a (x ∷ l) (inr m) h = in-append b (f x) (flat f l) (inr (in-flat f b a l m h))
+pub in_flat : (f : ℕ → List ℕ) (b a : ℕ) (l : List ℕ) → a ∈ l → b ∈ f a → b ∈ flat f l
+in_flat f b a [] m h = absurd m
+in_flat f b a (x ∷ l) (inl e) h = in_append b (f x) (flat f l) (inl (rw e at h))
+in_flat f b a (x ∷ l) (inr m) h = in_append b (f x) (flat f l) (inr (in_flat f b a l m h))
 
 pub flat_in : (f : ℕ → List ℕ) (b : ℕ) (l : List ℕ) → b ∈ flat f l → (a : ℕ) × (a ∈ l) × (b ∈ f a)
 flat_in f b [] h = absurd h
-flat_in f b (x ∷ l) h = go (append-in b (f x) (flat f l) h) (λ k. flat_in f b l k)
+flat_in f b (x ∷ l) h = go (append_in b (f x) (flat f l) h) (λ k. flat_in f b l k)
   where
     go : (b ∈ f x) ⊎ (b ∈ flat f l) → (b ∈ flat f l → (a : ℕ) × (a ∈ l) × (b ∈ f a)) → (a : ℕ) × (a ∈ (x ∷ l)) × (b ∈ f a)
     go (inl k) ih = (x, inl refl, k)
     go (inr k) ih = let r = ih k in (r.0, inr r.1, r.2)
 
 -- an element that is read at a place is a member
-pub getD-in : (l : List ℕ) (k : ℕ) → k < length l → get_or l k 0 ∈ l
-getD-in [] k h = absurd (omega arith)
-getD-in (a ∷ l) zero h = inl refl
-getD-in (a ∷ l) (suc k) h = inr (getD-in l k (omega arith))
+pub get_or_in : (l : List ℕ) (k : ℕ) → k < length l → get_or l k 0 ∈ l
+get_or_in [] k h = absurd (omega arith)
+get_or_in (a ∷ l) zero h = inl refl
+get_or_in (a ∷ l) (suc k) h = inr (get_or_in l k (omega arith))
 
 -- of numbers that all lie below n: one of them changed, a larger bound, one that is read at a place
-set-in : (l : List ℕ) (i b a : ℕ) → a ∈ set l i b → (a ≡ b) ⊎ (a ∈ l)
-set-in [] i b a h = absurd h
-set-in (y ∷ l) zero b a (inl e) = inl e
-set-in (y ∷ l) zero b a (inr m) = inr (inr m)
-set-in (y ∷ l) (suc i) b a (inl e) = inr (inl e)
-set-in (y ∷ l) (suc i) b a (inr m) = go (set-in l i b a m)
+set_in : (l : List ℕ) (i b a : ℕ) → a ∈ set l i b → (a ≡ b) ⊎ (a ∈ l)
+set_in [] i b a h = absurd h
+set_in (y ∷ l) zero b a (inl e) = inl e
+set_in (y ∷ l) zero b a (inr m) = inr (inr m)
+set_in (y ∷ l) (suc i) b a (inl e) = inr (inl e)
+set_in (y ∷ l) (suc i) b a (inr m) = go (set_in l i b a m)
   where
     go : (a ≡ b) ⊎ (a ∈ l) → (a ≡ b) ⊎ (a ∈ (y ∷ l))
     go (inl e) = inl e
     go (inr k) = inr (inr k)
 
-pub inside-set : (n : ℕ) (l : List ℕ) (i b : ℕ) → Inside n l → b < n → Inside n (set l i b)
-inside-set n l i b h k a m = go (set-in l i b a m)
+pub inside_set : (n : ℕ) (l : List ℕ) (i b : ℕ) → Inside n l → b < n → Inside n (set l i b)
+inside_set n l i b h k a m = go (set_in l i b a m)
   where
     go : (a ≡ b) ⊎ (a ∈ l) → a < n
     go (inl e) = rw e k
     go (inr r) = h a r
 
-pub inside-more : {n k : ℕ} (l : List ℕ) → n ≤ k → Inside n l → Inside k l
-inside-more l h i a m = omega (arith, i a m)
+pub inside_more : {n k : ℕ} (l : List ℕ) → n ≤ k → Inside n l → Inside k l
+inside_more l h i a m = omega (arith, i a m)
 
-pub inside-at : (n : ℕ) (l : List ℕ) (x : ℕ) → Inside n l → x < length l → get_or l x 0 < n
-inside-at n l x i h = i _ (getD-in l x h)
+pub inside_at : (n : ℕ) (l : List ℕ) (x : ℕ) → Inside n l → x < length l → get_or l x 0 < n
+inside_at n l x i h = i _ (get_or_in l x h)
 
 -- A law `..-right` is reflection: a boolean test is true exactly when the relation that it tests holds.
 -- a test of all members, and of two lists
-pub every-right : (t : ℕ → Bool) (l : List ℕ) → (every t l ≡ true) ↔ ((a : ℕ) → a ∈ l → t a ≡ true)
-every-right t l = (to l, back l)
+pub every_right : (t : ℕ → Bool) (l : List ℕ) → (every t l ≡ true) ↔ ((a : ℕ) → a ∈ l → t a ≡ true)
+every_right t l = (to l, back l)
   where
     to : (l : List ℕ) → every t l ≡ true → (a : ℕ) → a ∈ l → t a ≡ true
     to [] h a m = absurd m
@@ -138,8 +138,8 @@ every-right t l = (to l, back l)
     back [] h = refl
     back (b ∷ l) h = and (h b (inl refl)) (back l (λ a m. h a (inr m)))
 
-pub same-right : (l m : List ℕ) → (same l m ≡ true) ↔ (l ≡ m)
-same-right l m = (to l m, λ e. rw e (itself m))
+pub same_right : (l m : List ℕ) → (same l m ≡ true) ↔ (l ≡ m)
+same_right l m = (to l m, λ e. rw e (itself m))
   where
     to : (l m : List ℕ) → same l m ≡ true → l ≡ m
     to [] [] h = refl
@@ -151,12 +151,12 @@ same-right l m = (to l m, λ e. rw e (itself m))
     itself [] = refl
     itself (a ∷ m) = and (eq-eqb a a refl) (itself m)
 
-pub inside-right : (n : ℕ) (l : List ℕ) → (every (λ a. ltb a n) l ≡ true) ↔ Inside n l
-inside-right n l = (
-  λ h a m. ltb-true a n ((every-right (λ k. ltb k n) l).0 h a m),
-  λ x. (every-right (λ k. ltb k n) l).1 (λ a m. lt-ltb a n (x a m)),
+pub inside_right : (n : ℕ) (l : List ℕ) → (every (λ a. ltb a n) l ≡ true) ↔ Inside n l
+inside_right n l = (
+  λ h a m. ltb-true a n ((every_right (λ k. ltb k n) l).0 h a m),
+  λ x. (every_right (λ k. ltb k n) l).1 (λ a m. lt-ltb a n (x a m)),
 )
 
-pub every-same : (s t : ℕ → Bool) (l : List ℕ) → ((g : ℕ) → g ∈ l → s g ≡ t g) → every s l ≡ every t l
-every-same s t [] h = refl
-every-same s t (a ∷ l) h = rw (h a (inl refl), every-same s t l (λ g m. h g (inr m)))
+pub every_same : (s t : ℕ → Bool) (l : List ℕ) → ((g : ℕ) → g ∈ l → s g ≡ t g) → every s l ≡ every t l
+every_same s t [] h = refl
+every_same s t (a ∷ l) h = rw (h a (inl refl), every_same s t l (λ g m. h g (inr m)))

@@ -18,10 +18,10 @@ pub word_below : (n : ℕ) → n % 4294967296 < 4294967296
 word_below n = omega arith
 
 -- n is written in w bytes
-pub length-bytes : (w n : ℕ) → length (bytes_of w n) ≡ w
+pub length_bytes : (w n : ℕ) → length (bytes_of w n) ≡ w
 unfolding bytes_of
-length-bytes zero n = refl
-length-bytes (suc w) n = ap suc (length-bytes w n)
+length_bytes zero n = refl
+length_bytes (suc w) n = ap suc (length_bytes w n)
 
 -- and each of them is a byte
 pub bytes_below : (w n : ℕ) → Bytes (bytes_of w n)
@@ -36,11 +36,11 @@ unfolding bytes_of
 bytes_one n h = ap (λ (k : ℕ). k ∷ []) (omega arith)
 
 -- bytes stand for a number of their width
-pub number-below : (s : List ℕ) → Bytes s → number s < 256 ^ length s
+pub number_below : (s : List ℕ) → Bytes s → number s < 256 ^ length s
 unfolding number
-number-below [] h = omega arith
-number-below (b ∷ s) h =
-    rw pow-succ' (digits_lt (h 0 (omega arith)) (number-below s (λ i l. h (suc i) (omega arith))))
+number_below [] h = omega arith
+number_below (b ∷ s) h =
+    rw pow-succ' (digits_lt (h 0 (omega arith)) (number_below s (λ i l. h (suc i) (omega arith))))
 
 -- the number of two runs of bytes
 pub number_append : (s t : List ℕ) → number (s ++ t) ≡ number s * 256 ^ length t + number t
@@ -64,72 +64,72 @@ bytes_low : (w n : ℕ) → bytes_of w (n % 256 ^ w) ≡ bytes_of w n
 bytes_low w n = sym (bytes_high w (n / 256 ^ w) (n % 256 ^ w)) ∙ ap (bytes_of w) (div-add-mod' n (256 ^ w))
 
 -- the high bytes, then the low ones
-pub bytes-append : (v w n : ℕ) → bytes_of (v + w) n ≡ bytes_of v (n / 256 ^ w) ++ bytes_of w (n % 256 ^ w)
+pub bytes_append : (v w n : ℕ) → bytes_of (v + w) n ≡ bytes_of v (n / 256 ^ w) ++ bytes_of w (n % 256 ^ w)
 unfolding bytes_of
-bytes-append zero w n = rw zero-add (sym (bytes_low w n))
-bytes-append (suc v) w n =
-    rw (suc-add, bytes-append v w n, div-div-eq-div-mul, pow-add 256 v w, mul_comm (256 ^ v) (256 ^ w))
+bytes_append zero w n = rw zero-add (sym (bytes_low w n))
+bytes_append (suc v) w n =
+    rw (suc-add, bytes_append v w n, div-div-eq-div-mul, pow-add 256 v w, mul_comm (256 ^ v) (256 ^ w))
 
 -- writing, then reading
-pub number-bytes : (w n : ℕ) → number (bytes_of w n) ≡ n % 256 ^ w
+pub number_bytes : (w n : ℕ) → number (bytes_of w n) ≡ n % 256 ^ w
 unfolding number bytes_of
-number-bytes zero n = omega arith
-number-bytes (suc w) n =
+number_bytes zero n = omega arith
+number_bytes (suc w) n =
     let e : n / 256 ^ w % 256 * 256 ^ length (bytes_of w n) + number (bytes_of w n) ≡ n % 256 ^ suc w =
-    rw (length-bytes, number-bytes w n, pow-succ') (sym (mod-mul n (omega arith) (one-le-pow w 256 (omega arith)))) in
+    rw (length_bytes, number_bytes w n, pow-succ') (sym (mod-mul n (omega arith) (one-le-pow w 256 (omega arith)))) in
     e
 
 -- the same for a number of the width
-pub number-written : (w n : ℕ) → n < 256 ^ w → number (bytes_of w n) ≡ n
-number-written w n h = number-bytes w n ∙ mod-eq_of_lt h
+pub number_written : (w n : ℕ) → n < 256 ^ w → number (bytes_of w n) ≡ n
+number_written w n h = number_bytes w n ∙ mod-eq_of_lt h
 
 -- reading, then writing
-pub bytes-number : (s : List ℕ) → Bytes s → bytes_of (length s) (number s) ≡ s
+pub bytes_number : (s : List ℕ) → Bytes s → bytes_of (length s) (number s) ≡ s
 unfolding number bytes_of
-bytes-number [] h = refl
-bytes-number (b ∷ s) h =
+bytes_number [] h = refl
+bytes_number (b ∷ s) h =
     let t : Bytes s = λ i l. h (suc i) (omega arith) in
-    rw (digits_div b (number-below s t), mod-eq_of_lt (h 0 (omega arith)), bytes_high (length s) b (number s), bytes-number s t)
+    rw (digits_div b (number_below s t), mod-eq_of_lt (h 0 (omega arith)), bytes_high (length s) b (number s), bytes_number s t)
 
 -- w bytes from a place on
 module _ (w : ℕ) (s : List ℕ) (at : ℕ) (bytes : Bytes s) (h : at + w ≤ length s) where
-  part_length : length (take w (drop at s)) ≡ w
-  part_length = length-take-le w (drop at s) (simp length-drop (omega arith))
+  part_length_lem : length (take w (drop at s)) ≡ w
+  part_length_lem = length-take-le w (drop at s) (simp length-drop (omega arith))
 
-  part_bytes : Bytes (take w (drop at s))
-  part_bytes i l = let m : i < w = rw part_length at l in rw (get_or-take w (drop at s) i 0 m, get_or-drop at s i 0) (bytes (at + i) (omega arith))
+  part_bytes_lem : Bytes (take w (drop at s))
+  part_bytes_lem i l = let m : i < w = rw part_length_lem at l in rw (get_or-take w (drop at s) i 0 m, get_or-drop at s i 0) (bytes (at + i) (omega arith))
 
   -- their number fits w bytes
   pub number_small : number_at w s at < 256 ^ w
-  number_small = rw part_length at (number-below (take w (drop at s)) part_bytes)
+  number_small = rw part_length_lem at (number_below (take w (drop at s)) part_bytes_lem)
 
   -- and written again it is the same bytes
-  pub number-back : drop at s ≡ bytes_of w (number_at w s at) ++ drop (at + w) s
-  number-back =
+  pub number_back : drop at s ≡ bytes_of w (number_at w s at) ++ drop (at + w) s
+  number_back =
       sym (take-append-drop w (drop at s))
       ∙ ap₂ (λ (a b : List ℕ). a ++ b)
-      (sym (ap (λ (k : ℕ). bytes_of k (number_at w s at)) (sym part_length) ∙ bytes-number (take w (drop at s)) part_bytes)) (drop-drop w at s)
+      (sym (ap (λ (k : ℕ). bytes_of k (number_at w s at)) (sym part_length_lem) ∙ bytes_number (take w (drop at s)) part_bytes_lem)) (drop-drop w at s)
 
 -- the number that a buffer holds where it was written
-pub number-found : (w n : ℕ) (a b : List ℕ) → n < 256 ^ w → number_at w (a ++ (bytes_of w n ++ b)) (length a) ≡ n
-number-found w n a b h =
-    rw (drop-append_seam, take_at (bytes_of w n) b w (length-bytes w n)) (number-written w n h)
+pub number_found : (w n : ℕ) (a b : List ℕ) → n < 256 ^ w → number_at w (a ++ (bytes_of w n ++ b)) (length a) ≡ n
+number_found w n a b h =
+    rw (drop-append_seam, take_at (bytes_of w n) b w (length_bytes w n)) (number_written w n h)
 
 -- reading one byte
-pub number-one : (s : List ℕ) (at : ℕ) → at < length s → number_at 1 s at ≡ get_or s at 0
+pub number_one : (s : List ℕ) (at : ℕ) → at < length s → number_at 1 s at ≡ get_or s at 0
 unfolding number
-number-one s at h = rw (drop-cons s at 0) (omega arith)
+number_one s at h = rw (drop-cons s at 0) (omega arith)
 
 -- reading v + w bytes as two numbers
-pub number-split : (v w : ℕ) (s : List ℕ) (at : ℕ) → at + (v + w) ≤ length s
+pub number_split : (v w : ℕ) (s : List ℕ) (at : ℕ) → at + (v + w) ≤ length s
     → number_at (v + w) s at ≡ number_at v s at * 256 ^ w + number_at w s (at + v)
-number-split v w s at h =
+number_split v w s at h =
     let l : length (take w (drop (at + v) s)) ≡ w = length-take-le w _ (simp length-drop (omega arith)) in
     rw (take-add, number_append, drop-drop, l)
 
 -- k bytes have 8 k bits
-pub bits-bytes : (k : ℕ) → 2 ^ (8 * k) ≡ 256 ^ k
-bits-bytes zero = refl
-bits-bytes (suc k) =
+pub bits_bytes : (k : ℕ) → 2 ^ (8 * k) ≡ 256 ^ k
+bits_bytes zero = refl
+bits_bytes (suc k) =
     let e : 8 * suc k ≡ 8 + 8 * k = omega arith in
-    ap (λ (n : ℕ). 2 ^ n) e ∙ pow-add 2 8 (8 * k) ∙ ap (λ (n : ℕ). 256 * n) (bits-bytes k) ∙ sym (pow-succ' 256 k)
+    ap (λ (n : ℕ). 2 ^ n) e ∙ pow-add 2 8 (8 * k) ∙ ap (λ (n : ℕ). 256 * n) (bits_bytes k) ∙ sym (pow-succ' 256 k)

@@ -29,9 +29,9 @@ abbrev pub sum_of : ℕ → ℕ → ℕ
 sum_of a b = (a + b) % 4294967296
 
 -- the difference of two words; 4,294,967,296 is added first, so that it never stops at 0
-abbrev pub differenceOf : ℕ → ℕ → ℕ
-differenceOf a b = (a + 4294967296 - b) % 4294967296
+abbrev pub difference_of : ℕ → ℕ → ℕ
+difference_of a b = (a + 4294967296 - b) % 4294967296
 
 -- the product of two words
-abbrev pub productOf : ℕ → ℕ → ℕ
-productOf a b = (a * b) % 4294967296
+abbrev pub product_of : ℕ → ℕ → ℕ
+product_of a b = (a * b) % 4294967296

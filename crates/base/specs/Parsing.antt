@@ -31,6 +31,6 @@ parsed a next >>= rest = rest a next
 refused number place >>= rest = refused number place
 
 -- the bytes of a mark stand in s from `at` on: the number lies on the first that differs
-unfoldable pub readMark : ℕ → List ℕ → List ℕ → ℕ → Parsed (Unit {0})
-readMark number [] s at = parsed tt at
-readMark number (b ∷ mark) s at = unless (eqb (get_or s at 0) b) number at (readMark number mark s (at + 1))
+unfoldable pub read_mark : ℕ → List ℕ → List ℕ → ℕ → Parsed (Unit {0})
+read_mark number [] s at = parsed tt at
+read_mark number (b ∷ mark) s at = unless (eqb (get_or s at 0) b) number at (read_mark number mark s (at + 1))

@@ -2,21 +2,21 @@
 use Rattle.std.specs.Prelude.{ℕ, ◌*◌, ◌/◌, ◌^◌}
 
 -- the conditions that a set has room for: as many as a plain circuit may have
-abbrev pub setConditions : ℕ
-setConditions = 8
+abbrev pub set_conditions : ℕ
+set_conditions = 8
 
 -- so many settings
-abbrev pub setSettings : ℕ
-setSettings = 2 ^ setConditions
+abbrev pub set_settings : ℕ
+set_settings = 2 ^ set_conditions
 
 -- a word of 64 bits tells the settings of so many conditions apart
-abbrev pub wordConditions : ℕ
-wordConditions = 6
+abbrev pub word_conditions : ℕ
+word_conditions = 6
 
 -- so the settings of a set stand in so many words
-abbrev pub setWords : ℕ
-setWords = setSettings / 2 ^ wordConditions
+abbrev pub set_words : ℕ
+set_words = set_settings / 2 ^ word_conditions
 
 -- and so many bytes
-abbrev pub setBytes : ℕ
-setBytes = 8 * setWords
+abbrev pub set_bytes : ℕ
+set_bytes = 8 * set_words

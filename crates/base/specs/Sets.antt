@@ -2,8 +2,8 @@
 use Rattle.std.specs.Prelude.{◌≡◌, Bool, true, not, List, ℕ, ◌+◌, ◌*◌, ◌/◌, ◌^◌, ◌<◌, eqb}
 use Rattle.std.specs.Int.Bits.{bit_and, bit_or, bit_xor}
 use Rattle.base.specs.Lists.{keep, upto}
-use Rattle.base.specs.Bits.{bit, unlike, flipBit, collect}
-use Rattle.base.specs.Settings.{anyBelow}
+use Rattle.base.specs.Bits.{bit, unlike, flip_bit, collect}
+use Rattle.base.specs.Settings.{any_below}
 
 -- is setting j in the set s?
 abbrev pub has : ℕ → ℕ → Bool
@@ -45,15 +45,15 @@ excludes s t = eqb (bit_and s t) 0
 
 -- a set of settings of n conditions rests on condition t, t is in its support: changing bit t alone moves some setting in or out
 abbrev pub MovedBy : ℕ → ℕ → ℕ → Type 0
-MovedBy n s t = (j : ℕ) × (j < 2 ^ n) × (has s j ≡ has s (flipBit t j) → ⊥)
+MovedBy n s t = (j : ℕ) × (j < 2 ^ n) × (has s j ≡ has s (flip_bit t j) → ⊥)
 
 -- the same as a test
-unfoldable pub restsOn : ℕ → ℕ → ℕ → Bool
-restsOn n s t = anyBelow (λ j. unlike (has s j) (has s (flipBit t j))) (2 ^ n)
+unfoldable pub rests_on : ℕ → ℕ → ℕ → Bool
+rests_on n s t = any_below (λ j. unlike (has s j) (has s (flip_bit t j))) (2 ^ n)
 
 -- the conditions that the set rests on, rising
 unfoldable pub rests : ℕ → ℕ → List ℕ
-rests n s = keep (restsOn n s) (upto n)
+rests n s = keep (rests_on n s) (upto n)
 
 -- the movers of condition t: the settings that give it 0 and of which just one of j and j + 2 ^ t is in s, by a shift, a difference and a mask
 unfoldable pub movers : ℕ → ℕ → ℕ → ℕ

@@ -2,7 +2,7 @@
 use Rattle.std.specs.Prelude.{ℕ, ◌*◌, ◌/◌, List, [], ◌∷◌, map, length, take, drop}
 use Rattle.base.specs.Lists.{upto}
 use Rattle.base.specs.BitWords.{joined}
-use Rattle.base.specs.SetLimits.{setWords}
+use Rattle.base.specs.SetLimits.{set_words}
 use Rattle.base.specs.declared.Set.{Set}
 
 -- the words of the set in hand
@@ -10,13 +10,13 @@ abbrev pub words_of : Set → List ℕ
 words_of s = s.w0 ∷ s.w1 ∷ s.w2 ∷ s.w3 ∷ []
 
 -- the set in hand, as a number
-unfoldable pub setOf : Set → ℕ
-setOf s = joined (words_of s)
+unfoldable pub set_of : Set → ℕ
+set_of s = joined (words_of s)
 
 -- set i of lent words, n words a set
 unfoldable pub set_at : ℕ → List ℕ → ℕ → ℕ
 set_at n words i = joined (take n (drop (n * i) words))
 
 -- the sets that lie in lent words
-unfoldable pub setsIn : List ℕ → List ℕ
-setsIn words = map (set_at setWords words) (upto (length words / setWords))
+unfoldable pub sets_in : List ℕ → List ℕ
+sets_in words = map (set_at set_words words) (upto (length words / set_words))

@@ -40,18 +40,18 @@ abbrev pub flip : Setting → ℕ → Setting
 flip σ c = put σ c (not (σ c))
 
 -- does some number below n pass the test?
-abbrev pub anyBelow : (ℕ → Bool) → ℕ → Bool
-anyBelow p zero = false
-anyBelow p (suc n) = cond (p n) true (anyBelow p n)
+abbrev pub any_below : (ℕ → Bool) → ℕ → Bool
+any_below p zero = false
+any_below p (suc n) = cond (p n) true (any_below p n)
 
 -- changing condition c alone moves setting j over cs in or out of the test P
 abbrev pub moves : (Setting → Bool) → List ℕ → ℕ → ℕ → Bool
 moves P cs c j = unlike (P (setting_of cs j)) (P (flip (setting_of cs j) c))
 
 -- P rests on condition c, which is then in its support: changing c alone moves some setting over cs in or out
-unfoldable pub preRestsOn : (Setting → Bool) → List ℕ → ℕ → Bool
-preRestsOn P cs c = anyBelow (moves P cs c) (2 ^ length cs)
+unfoldable pub pre_rests_on : (Setting → Bool) → List ℕ → ℕ → Bool
+pre_rests_on P cs c = any_below (moves P cs c) (2 ^ length cs)
 
 -- the conditions that P rests on, in the order of cs
-abbrev pub preRests : (Setting → Bool) → List ℕ → List ℕ
-preRests P cs = keep (preRestsOn P cs) cs
+abbrev pub pre_rests : (Setting → Bool) → List ℕ → List ℕ
+pre_rests P cs = keep (pre_rests_on P cs) cs

@@ -6,41 +6,41 @@ use Rattle.std.proofs.Math.Bool.{and-true}
 use native.Mathlib.Omega.{arith}
 use Rattle.std.specs.Int.Bits.{bit_and, and_step}
 use Rattle.base.specs.Lists.{◌∈◌, keep, from}
-use Rattle.base.specs.MemberLaws.{keep-from, from-below}
+use Rattle.base.specs.MemberLaws.{keep_from, from_below}
 use Rattle.base.specs.TestLaws.{split}
 use Rattle.base.specs.Bits.{odd, bit_of, bit}
 use Rattle.base.specs.BitLaws.{half, low_bit, rebuilt}
 use Rattle.base.specs.Settings.{setting_of, number_of}
 use Rattle.base.specs.Guards.{spread, chosen}
-use Rattle.base.specs.SettingLaws.{numberOf-agree, settingOf-out}
+use Rattle.base.specs.SettingLaws.{number_of_agree, setting_of_out}
 
 -- the bits of j laid, in order, at the places below n where `on` has the bit 1
 unfoldable laid : ℕ → ℕ → ℕ → ℕ
 laid zero on j = 0
 laid (suc n) on j = cond (odd on) (bit_of (odd j) + 2 * laid n (on / 2) (j / 2)) (2 * laid n (on / 2) j)
 
-laid-yes : (n on j : ℕ) → odd on ≡ true → laid (suc n) on j ≡ bit_of (odd j) + 2 * laid n (on / 2) (j / 2)
+laid_yes : (n on j : ℕ) → odd on ≡ true → laid (suc n) on j ≡ bit_of (odd j) + 2 * laid n (on / 2) (j / 2)
 unfolding laid
-laid-yes n on j e = rw e
+laid_yes n on j e = rw e
 
-laid-no : (n on j : ℕ) → odd on ≡ false → laid (suc n) on j ≡ 2 * laid n (on / 2) j
+laid_no : (n on j : ℕ) → odd on ≡ false → laid (suc n) on j ≡ 2 * laid n (on / 2) j
 unfolding laid
-laid-no n on j e = rw e
+laid_no n on j e = rw e
 
 -- that is the setting's number, condition by condition from i on
-spread-from : (n i on j : ℕ) → number_of (from i n) (setting_of (keep (bit on) (from i n)) j) ≡ laid n (on / 2 ^ i) j
-spread-from zero i on j = unfold laid in refl
-spread-from (suc n) i on j =
+spread_from : (n i on j : ℕ) → number_of (from i n) (setting_of (keep (bit on) (from i n)) j) ≡ laid n (on / 2 ^ i) j
+spread_from zero i on j = unfold laid in refl
+spread_from (suc n) i on j =
     split (bit on i)
     (λ e.
     rw (e, eq-eqb i i refl)
     (ap (λ (x : ℕ). bit_of (odd j) + 2 * x)
-    (numberOf-agree (from (suc i) n) _ (setting_of (keep (bit on) (from (suc i) n)) (j / 2)) (λ d m. rw (ne_eqb d i (omega (arith, from-below (suc i) n d m))))
-    ∙ spread-from n (suc i) on (j / 2) ∙ ap (λ (o : ℕ). laid n o (j / 2)) down)
-    ∙ sym (laid-yes n (on / 2 ^ i) j e)))
+    (number_of_agree (from (suc i) n) _ (setting_of (keep (bit on) (from (suc i) n)) (j / 2)) (λ d m. rw (ne_eqb d i (omega (arith, from_below (suc i) n d m))))
+    ∙ spread_from n (suc i) on (j / 2) ∙ ap (λ (o : ℕ). laid n o (j / 2)) down)
+    ∙ sym (laid_yes n (on / 2 ^ i) j e)))
     (λ e.
-    rw (e, settingOf-out (keep (bit on) (from (suc i) n)) j i (λ m. omega (arith, from-below (suc i) n i (keep-from (bit on) (from (suc i) n) i m).0)))
-    (omega (arith, spread-from n (suc i) on j ∙ ap (λ (o : ℕ). laid n o j) down, laid-no n (on / 2 ^ i) j e)))
+    rw (e, setting_of_out (keep (bit on) (from (suc i) n)) j i (λ m. omega (arith, from_below (suc i) n i (keep_from (bit on) (from (suc i) n) i m).0)))
+    (omega (arith, spread_from n (suc i) on j ∙ ap (λ (o : ℕ). laid n o j) down, laid_no n (on / 2 ^ i) j e)))
   where
     down : on / 2 ^ suc i ≡ on / 2 ^ i / 2
     down = sym (shr-shr on i 1 ∙ ap (λ (k : ℕ). on / 2 ^ k) (add-one i))
@@ -66,13 +66,13 @@ kept (suc n) on j h =
     split (odd on)
     (λ e.
     let d : ℕ = laid n q (j / 2) in
-    let l : laid (suc n) on j ≡ bit_of (odd j) + 2 * d = laid-yes n on j e in
+    let l : laid (suc n) on j ≡ bit_of (odd j) + 2 * d = laid_yes n on j e in
     let o : on ≡ bit_of true + 2 * q = sym (rebuilt on) ∙ ap (λ (b : Bool). bit_of b + 2 * q) e in
     common (laid (suc n) on j + (2 ^ suc n - 1 - on)) on (odd j) true (d + (2 ^ n - 1 - q)) q (omega (arith, l, o)) o
     ∙ ap₂ (λ (b : Bool) (x : ℕ). bit_of b + 2 * x) (and-true (odd j)) (kept n q (j / 2) (omega arith)) ∙ sym l)
     (λ e.
     let d : ℕ = laid n q j in
-    let l : laid (suc n) on j ≡ 2 * d = laid-no n on j e in
+    let l : laid (suc n) on j ≡ 2 * d = laid_no n on j e in
     let o : on ≡ bit_of false + 2 * q = sym (rebuilt on) ∙ ap (λ (b : Bool). bit_of b + 2 * q) e in
     common (laid (suc n) on j + (2 ^ suc n - 1 - on)) on true false (d + (2 ^ n - 1 - q)) q (omega (arith, l, o)) o
     ∙ omega (arith, l, kept n q j (omega arith)))
@@ -86,7 +86,7 @@ next (suc n) on j h =
     split (odd on)
     (λ e.
     let o : on ≡ bit_of true + 2 * q = sym (rebuilt on) ∙ ap (λ (b : Bool). bit_of b + 2 * q) e in
-    let l : laid (suc n) on j ≡ bit_of (odd j) + 2 * d = laid-yes n on j e in
+    let l : laid (suc n) on j ≡ bit_of (odd j) + 2 * d = laid_yes n on j e in
     split (odd j)
     (λ y.
     let b : j % 2 ≡ 1 = low_bit j ∙ ap bit_of y in
@@ -94,32 +94,32 @@ next (suc n) on j h =
     let f : odd (j + 1) ≡ false = ne_eqb ((j + 1) % 2) 1 (omega arith) in
     common (laid (suc n) on j + (2 ^ suc n - on)) on false true (d + (2 ^ n - q)) q (omega (arith, l, o, ap bit_of y)) o
     ∙ ap (λ (x : ℕ). 0 + 2 * x) (next n q (j / 2) (omega arith) ∙ ap (laid n q) (sym k))
-    ∙ sym (laid-yes n on (j + 1) e ∙ rw f))
+    ∙ sym (laid_yes n on (j + 1) e ∙ rw f))
     (λ y.
     let b : j % 2 ≡ 0 = low_bit j ∙ ap bit_of y in
     let k : (j + 1) / 2 ≡ j / 2 = omega arith in
     let f : odd (j + 1) ≡ true = eq-eqb ((j + 1) % 2) 1 (omega arith) in
     common (laid (suc n) on j + (2 ^ suc n - on)) on true true (d + (2 ^ n - 1 - q)) q (omega (arith, l, o, ap bit_of y)) o
     ∙ ap (λ (x : ℕ). 1 + 2 * x) (kept n q (j / 2) (omega arith) ∙ ap (laid n q) (sym k))
-    ∙ sym (laid-yes n on (j + 1) e ∙ rw f)))
+    ∙ sym (laid_yes n on (j + 1) e ∙ rw f)))
     (λ e.
     let o : on ≡ bit_of false + 2 * q = sym (rebuilt on) ∙ ap (λ (b : Bool). bit_of b + 2 * q) e in
-    common (laid (suc n) on j + (2 ^ suc n - on)) on false false (laid n q j + (2 ^ n - q)) q (omega (arith, laid-no n on j e, o)) o
-    ∙ omega (arith, next n q j (omega arith), laid-no n on (j + 1) e))
+    common (laid (suc n) on j + (2 ^ suc n - on)) on false false (laid n q j + (2 ^ n - q)) q (omega (arith, laid_no n on j e, o)) o
+    ∙ omega (arith, next n q j (omega arith), laid_no n on (j + 1) e))
 
 -- the setting of n conditions that gives those of `on` the bits of j, and the one after it
-spread-laid : (n on j : ℕ) → spread n (chosen n on) j ≡ laid n on j
+spread_laid : (n on j : ℕ) → spread n (chosen n on) j ≡ laid n on j
 unfolding spread chosen
-spread-laid n on j = spread-from n 0 on j ∙ rw div-one
+spread_laid n on j = spread_from n 0 on j ∙ rw div-one
 
-pub spread-next : (n on j : ℕ) → on < 2 ^ n → bit_and (spread n (chosen n on) j + (2 ^ n - on)) on ≡ spread n (chosen n on) (j + 1)
-spread-next n on j h = rw (spread-laid n on j) (next n on j h) ∙ sym (spread-laid n on (j + 1))
+pub spread_next : (n on j : ℕ) → on < 2 ^ n → bit_and (spread n (chosen n on) j + (2 ^ n - on)) on ≡ spread n (chosen n on) (j + 1)
+spread_next n on j h = rw (spread_laid n on j) (next n on j h) ∙ sym (spread_laid n on (j + 1))
 
 -- the first of them gives every condition 0
 laid_none : (n on : ℕ) → laid n on 0 ≡ 0
 laid_none zero on = unfold laid in refl
 laid_none (suc n) on =
-    split (odd on) (λ e. laid-yes n on 0 e ∙ ap (λ (x : ℕ). 0 + 2 * x) (laid_none n (on / 2))) (λ e. laid-no n on 0 e ∙ ap (λ (x : ℕ). 2 * x) (laid_none n (on / 2)))
+    split (odd on) (λ e. laid_yes n on 0 e ∙ ap (λ (x : ℕ). 0 + 2 * x) (laid_none n (on / 2))) (λ e. laid_no n on 0 e ∙ ap (λ (x : ℕ). 2 * x) (laid_none n (on / 2)))
 
 pub spread_none : (n on : ℕ) → spread n (chosen n on) 0 ≡ 0
-spread_none n on = spread-laid n on 0 ∙ laid_none n on
+spread_none n on = spread_laid n on 0 ∙ laid_none n on

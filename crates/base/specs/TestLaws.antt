@@ -20,9 +20,9 @@ same_test false true f g = g refl
 same_test false false f g = refl
 
 -- neither of two tests that fail together holds
-pub or-none : (a b : Bool) → (a || b) ≡ false → (a ≡ false) × (b ≡ false)
-or-none true b h = absurd (false≢true (sym h))
-or-none false b h = (refl, h)
+pub or_none : (a b : Bool) → (a || b) ≡ false → (a ≡ false) × (b ≡ false)
+or_none true b h = absurd (false≢true (sym h))
+or_none false b h = (refl, h)
 
 -- two tests: both hold, one of them holds
 pub both : (a b : Bool) → (a && b) ≡ true → (a ≡ true) × (b ≡ true)

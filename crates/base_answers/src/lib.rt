@@ -1,7 +1,7 @@
 // How an operation answers, and how a reader of bytes goes on.
 ghost use Rattle.std.specs.Prelude.{◌≡◌, ◌≤◌, length};
 ghost use Rattle.base.specs.Answers.{refusal, answer_of};
-ghost use Rattle.base.specs.Parsing.{step_of, readMark};
+ghost use Rattle.base.specs.Parsing.{step_of, read_mark};
 
 use base::{Answer, Step};
 
@@ -33,7 +33,7 @@ pub fn of_step(step: Step) -> Answer
 // The bytes of `mark` stand at the start of the file, or the number lies on the first that does not.
 pub fn read_mark(s: &[u8], mark: &[u8], number: u8) -> Step
     requires { length mark.now ≤ length s.now }
-    ensures { result ≡ step_of (readMark number mark.now s.now 0) }
+    ensures { result ≡ step_of (read_mark number mark.now s.now 0) }
 {
     let mut at = 0;
     while at < mark.len() {

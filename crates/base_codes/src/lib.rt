@@ -1,7 +1,7 @@
 // The codes of a rule file: what each opens, and the operation table.
 ghost use Rattle.std.specs.Prelude.{◌≡◌, ◌&&◌, ◌||◌, ◌≤◌, eqb};
 ghost use Rattle.base.specs.Results.{bit_of, result_of};
-ghost use Rattle.base.specs.Codes.{startKind, sameKind, plain, entryOf, commutes, operationOf, byte_of, code_of};
+ghost use Rattle.base.specs.Codes.{start_kind, same_kind, plain, entry_of, commutes, operation_of, byte_of, code_of};
 
 use base::{Code, Form, Kind, Operation};
 
@@ -10,13 +10,13 @@ pub const VARIABLE: u8 = 0x10;
 
 // The kind that the code of an input names, in a circuit file.
 pub fn start_kind(b: u8) -> Kind
-    ensures { result ≡ startKind b }
+    ensures { result ≡ start_kind b }
 {
     if b == 1 { Kind::Bit } else { Kind::Word }
 }
 
-pub fn same_kind(a: Kind, b: Kind) -> bool
-    ensures { result ≡ sameKind a b }
+pub fn same_kind_lem(a: Kind, b: Kind) -> bool
+    ensures { result ≡ same_kind a b }
 {
     match a {
         Kind::Word => match b {
@@ -45,7 +45,7 @@ fn plain_code(form: Form, gives: Kind) -> Code
 
 // The operation table, column by column: a compiler makes a comparison of each, and a jump for each row of a table by rows.
 fn takes_of(op: Operation) -> Kind
-    ensures { result ≡ (entryOf op).takes }
+    ensures { result ≡ (entry_of op).takes }
 {
     match op {
         Operation::Sum => Kind::Word,
@@ -60,7 +60,7 @@ fn takes_of(op: Operation) -> Kind
 }
 
 fn gives_of(op: Operation) -> Kind
-    ensures { result ≡ (entryOf op).gives }
+    ensures { result ≡ (entry_of op).gives }
 {
     match op {
         Operation::Sum => Kind::Word,
@@ -75,7 +75,7 @@ fn gives_of(op: Operation) -> Kind
 }
 
 fn arity_of(op: Operation) -> u8
-    ensures { result ≡ (entryOf op).arity }
+    ensures { result ≡ (entry_of op).arity }
 {
     match op {
         Operation::Sum => 2,
@@ -90,7 +90,7 @@ fn arity_of(op: Operation) -> u8
 }
 
 fn cost_of(op: Operation) -> u8
-    ensures { result ≡ (entryOf op).cost }
+    ensures { result ≡ (entry_of op).cost }
 {
     match op {
         Operation::Sum => 0,
@@ -106,7 +106,7 @@ fn cost_of(op: Operation) -> u8
 
 // The operation's entry of the table.
 pub fn entry_of(op: Operation) -> Code
-    ensures { result ≡ entryOf op }
+    ensures { result ≡ entry_of op }
 {
     Code {
         form: Form::Apply(op),
@@ -136,7 +136,7 @@ pub fn commutes(op: Operation) -> bool
 // The operation of a byte of the operation range.
 fn operation_of(b: u8) -> Operation
     requires { (0x20 ≤ b) × (b ≤ 0x27) }
-    ensures { result ≡ operationOf b }
+    ensures { result ≡ operation_of b }
 {
     match b {
         0x20 => Operation::Sum,

@@ -8,8 +8,8 @@ ghost use Rattle.base.specs.Bits.{collect};
 ghost use Rattle.base.specs.BitWords.{joined};
 ghost use Rattle.base.specs.Sets as sets;
 ghost use Rattle.base.specs.Guards as guards;
-ghost use Rattle.base.specs.SetLimits.{wordConditions, setConditions, setSettings, setWords, setBytes};
-ghost use Rattle.base.specs.SetsHeld.{words_of, setOf, setsIn};
+ghost use Rattle.base.specs.SetLimits.{word_conditions, set_conditions, set_settings, set_words, set_bytes};
+ghost use Rattle.base.specs.SetsHeld.{words_of, set_of, sets_in};
 
 use base::{ConditionList, LIST_ROOM, SET_CONDITIONS, SET_WORDS, Set};
 
@@ -24,8 +24,8 @@ const ONES: u64 = 0xFFFFFFFFFFFFFFFF;
 
 // Set i of lent words.
 pub fn load(words: &[u64], i: usize) -> Set
-    requires { setWords * i + setWords ≤ length words.now }
-    ensures { setOf result ≡ get_or (setsIn words.now) i 0 }
+    requires { set_words * i + set_words ≤ length words.now }
+    ensures { set_of result ≡ get_or (sets_in words.now) i 0 }
 {
     let at = SET_WORDS * i;
     Set {
@@ -38,8 +38,8 @@ pub fn load(words: &[u64], i: usize) -> Set
 
 // Set i of lent words is made s.
 pub fn store(words: &mut [u64], i: usize, s: Set)
-    requires { setWords * i + setWords ≤ length words.old }
-    ensures { setsIn words.new ≡ set (setsIn words.old) i (setOf s) }
+    requires { set_words * i + set_words ≤ length words.old }
+    ensures { sets_in words.new ≡ set (sets_in words.old) i (set_of s) }
 {
     let at = SET_WORDS * i;
     words[at] = s.w0;
@@ -50,7 +50,7 @@ pub fn store(words: &mut [u64], i: usize, s: Set)
 
 // The set of which every word is w.
 fn each(w: u64) -> Set
-    ensures { setOf result ≡ joined (replicate setWords w) }
+    ensures { set_of result ≡ joined (replicate set_words w) }
 {
     Set {
         w0: w,
@@ -62,28 +62,28 @@ fn each(w: u64) -> Set
 
 // No setting.
 pub fn empty() -> Set
-    ensures { setOf result ≡ sets.empty }
+    ensures { set_of result ≡ sets.empty }
 {
     each(0)
 }
 
 // Every setting.
 pub fn whole() -> Set
-    ensures { setOf result ≡ sets.whole setSettings }
+    ensures { set_of result ≡ sets.whole set_settings }
 {
     each(ONES)
 }
 
 // Is it every setting?
 pub fn is_whole(s: Set) -> bool
-    ensures { result ≡ eqb (setOf s) (sets.whole setSettings) }
+    ensures { result ≡ eqb (set_of s) (sets.whole set_settings) }
 {
     s.w0 & s.w1 & s.w2 & s.w3 == ONES
 }
 
 // Word i of a set.
 fn word(s: Set, i: u8) -> u64
-    requires { i < setWords }
+    requires { i < set_words }
     ensures { result ≡ get_or (words_of s) i 0 }
 {
     match i {
@@ -96,15 +96,15 @@ fn word(s: Set, i: u8) -> u64
 
 // Is setting j in the set s?
 pub fn has(s: Set, j: u8) -> bool
-    requires { j < setSettings }
-    ensures { result ≡ sets.has (setOf s) j }
+    requires { j < set_settings }
+    ensures { result ≡ sets.has (set_of s) j }
 {
     base_bits::bit_of(word(s, j / 64), j % 64)
 }
 
 // The settings of either set.
 pub fn union(a: Set, b: Set) -> Set
-    ensures { setOf result ≡ sets.union (setOf a) (setOf b) }
+    ensures { set_of result ≡ sets.union (set_of a) (set_of b) }
 {
     Set {
         w0: a.w0 | b.w0,
@@ -116,22 +116,22 @@ pub fn union(a: Set, b: Set) -> Set
 
 // The union of a set with the whole one, which is the whole one: the set is not looked at, and a read of it for this falls away.
 pub fn with_whole(s: Set) -> Set
-    ensures { setOf result ≡ sets.union (setOf s) (sets.whole setSettings) }
+    ensures { set_of result ≡ sets.union (set_of s) (sets.whole set_settings) }
 {
     whole()
 }
 
 // No setting is in both sets.
 pub fn excludes(a: Set, b: Set) -> bool
-    ensures { result ≡ sets.excludes (setOf a) (setOf b) }
+    ensures { result ≡ sets.excludes (set_of a) (set_of b) }
 {
     (a.w0 & b.w0) | (a.w1 & b.w1) | (a.w2 & b.w2) | (a.w3 & b.w3) == 0
 }
 
 // The settings that give condition t the bit 1: the same in each word for a condition within a word, else whole words.
 fn giving(t: u8) -> Set
-    requires { t < setConditions }
-    ensures { setOf result ≡ sets.giving setSettings t }
+    requires { t < set_conditions }
+    ensures { set_of result ≡ sets.giving set_settings t }
 {
     match t {
         0 => each(0xAAAAAAAAAAAAAAAA),
@@ -164,9 +164,9 @@ pub struct Parted {
 
 // The set s parted by condition t: those that give t the bit 1, and the others, which give it 0.
 pub fn part(t: u8, s: Set) -> Parted
-    requires { t < setConditions }
-    ensures given { setOf result.given ≡ sets.given setSettings t (setOf s) }
-    ensures without { setOf result.without ≡ sets.without setSettings t (setOf s) }
+    requires { t < set_conditions }
+    ensures given { set_of result.given ≡ sets.given set_settings t (set_of s) }
+    ensures without { set_of result.without ≡ sets.without set_settings t (set_of s) }
 {
     let m = giving(t);
     let g = Set {
@@ -188,7 +188,7 @@ pub fn part(t: u8, s: Set) -> Parted
 
 // 2 to the t.
 fn power(t: u8) -> u8
-    requires { t < setConditions }
+    requires { t < set_conditions }
     ensures { result ≡ 2 ^ t }
 {
     1 << t
@@ -196,8 +196,8 @@ fn power(t: u8) -> u8
 
 // The movers of a condition within one word: the settings j that give t the bit 0 and of which just one of j and j + 2^t is in it.
 fn word_movers(w: u64, t: u8) -> u64
-    requires { t < wordConditions }
-    ensures { result ≡ sets.movers wordConditions w t }
+    requires { t < word_conditions }
+    ensures { result ≡ sets.movers word_conditions w t }
 {
     let far = power(t);
     let m = giving(t);
@@ -206,8 +206,8 @@ fn word_movers(w: u64, t: u8) -> u64
 
 // The movers of condition t: j and j + 2^t are in one word, or the same bit of two words.
 fn movers(s: Set, t: u8) -> Set
-    requires { t < setConditions }
-    ensures { setOf result ≡ sets.movers setConditions (setOf s) t }
+    requires { t < set_conditions }
+    ensures { set_of result ≡ sets.movers set_conditions (set_of s) t }
 {
     if t < WORD_CONDITIONS {
         return Set {
@@ -235,8 +235,8 @@ fn movers(s: Set, t: u8) -> Set
 
 // Does s rest on condition t? Some setting j gives t the bit 0, and just one of j and j + 2^t is in s.
 pub fn rests_on(s: Set, t: u8) -> bool
-    requires { t < setConditions }
-    ensures { result ≡ sets.restsOn setConditions (setOf s) t }
+    requires { t < set_conditions }
+    ensures { result ≡ sets.rests_on set_conditions (set_of s) t }
 {
     let m = movers(s, t);
     m.w0 | m.w1 | m.w2 | m.w3 != 0
@@ -244,9 +244,9 @@ pub fn rests_on(s: Set, t: u8) -> bool
 
 // The conditions that s rests on, one after another.
 pub fn rested(s: Set) -> ConditionList
-    ensures counted { result.count ≡ length (sets.rests setConditions (setOf s)) }
-    ensures listed { result.at ≡ padded setConditions (sets.rests setConditions (setOf s)) }
-    ensures chosen { result.on ≡ collect setConditions (sets.restsOn setConditions (setOf s)) }
+    ensures counted { result.count ≡ length (sets.rests set_conditions (set_of s)) }
+    ensures listed { result.at ≡ padded set_conditions (sets.rests set_conditions (set_of s)) }
+    ensures chosen { result.on ≡ collect set_conditions (sets.rests_on set_conditions (set_of s)) }
 {
     let mut at = [0u8; LIST_ROOM];
     let mut on: u8 = 0;
@@ -270,7 +270,7 @@ pub fn rested(s: Set) -> ConditionList
 
 // The bits of a table over so many conditions.
 fn size(count: u8) -> u16
-    requires { count ≤ setConditions }
+    requires { count ≤ set_conditions }
     ensures { result ≡ 2 ^ count }
 {
     1 << count
@@ -278,16 +278,16 @@ fn size(count: u8) -> u16
 
 // The setting after this one, of those that give 1 to conditions of `on` alone: a carry passes over the conditions that are none of `on`.
 fn next_setting(on: u16, setting: u16) -> u16
-    requires { (on < setSettings) × (setting < setSettings) }
-    ensures { result ≡ bit_and (setting + (setSettings - on)) on }
+    requires { (on < set_settings) × (setting < set_settings) }
+    ensures { result ≡ bit_and (setting + (set_settings - on)) on }
 {
     (setting + (SETTINGS - on)) & on
 }
 
 // The guard's table of s: over the conditions that s rests on, which r lists. Bit j says whether the setting that gives them the bits of j is in s.
 pub fn table(s: Set, r: ConditionList) -> Set
-    requires { (r.count ≡ length (sets.rests setConditions (setOf s))) × (r.on ≡ collect setConditions (sets.restsOn setConditions (setOf s))) }
-    ensures { setOf result ≡ guards.table setConditions (setOf s) }
+    requires { (r.count ≡ length (sets.rests set_conditions (set_of s))) × (r.on ≡ collect set_conditions (sets.rests_on set_conditions (set_of s))) }
+    ensures { set_of result ≡ guards.table set_conditions (set_of s) }
 {
     let on = r.on as u16;
     let n = size(r.count);
@@ -306,8 +306,8 @@ pub fn table(s: Set, r: ConditionList) -> Set
 
 // The bytes of a set, the highest first.
 pub fn put_bytes(out: &mut [u8], s: Set)
-    requires { setBytes ≤ length out.old }
-    ensures { out.new ≡ over (bytes_of setBytes (setOf s)) out.old }
+    requires { set_bytes ≤ length out.old }
+    ensures { out.new ≡ over (bytes_of set_bytes (set_of s)) out.old }
 {
     base_words::put64(out, s.w3);
     base_words::put64(&mut out[8..], s.w2);

@@ -1,6 +1,6 @@
 // Big-endian numbers in lent bytes, and sums, differences and products of words.
 ghost use Rattle.std.specs.Prelude.{◌≡◌, ◌+◌, ◌<◌, ◌≤◌, length};
-ghost use Rattle.base.specs.Numbers.{bytes_of, number_at, sum_of, differenceOf, productOf};
+ghost use Rattle.base.specs.Numbers.{bytes_of, number_at, sum_of, difference_of, product_of};
 ghost use Rattle.base.specs.Buffers.{over};
 
 // A byte as a wider number: the bound is proved here once, so no reader asks for it again.
@@ -77,14 +77,14 @@ pub fn sum(a: u32, b: u32) -> u32
 }
 
 pub fn difference(a: u32, b: u32) -> u32
-    ensures { result ≡ differenceOf a b }
+    ensures { result ≡ difference_of a b }
 {
     std::num::wrapping_sub_u32(a, b)
 }
 
 // A product of two words fits 64 bits; the remainder brings it back to a word.
 pub fn product(a: u32, b: u32) -> u32
-    ensures { result ≡ productOf a b }
+    ensures { result ≡ product_of a b }
 {
     ((a as u64) * (b as u64) % 4294967296) as u32
 }

@@ -2,8 +2,8 @@
 use Rattle.std.specs.Prelude.{ℕ, ◌+◌, ◌<◌, ◌≡◌, List, [], ◌∷◌, map, cond, length, get_or}
 use Rattle.base.specs.Lists.{◌∈◌, elem, keep, upto}
 use Rattle.base.specs.Runs.{run_at}
-use Rattle.base.specs.Codes.{entryOf, choiceCost}
-use Rattle.base.specs.Results.{isOne, resultOn}
+use Rattle.base.specs.Codes.{entry_of, choice_cost}
+use Rattle.base.specs.Results.{is_one, result_on}
 use Rattle.base.specs.declared.Operation.{Operation}
 
 -- gates name their arguments by gate number: nodes of a data-flow graph; a choice is a multiplexer
@@ -19,8 +19,8 @@ abbrev pub Gates : Type 0
 Gates = List Gate
 
 -- gate i; past the end a constant, which asks for nothing
-abbrev pub gateAt : Gates → ℕ → Gate
-gateAt C i = get_or C i (word 0)
+abbrev pub gate_at : Gates → ℕ → Gate
+gate_at C i = get_or C i (word 0)
 
 -- the gates that a gate reads
 abbrev pub arguments : Gate → List ℕ
@@ -32,35 +32,35 @@ arguments (choice c a b) = c ∷ a ∷ b ∷ []
 
 -- every gate's arguments are made before it
 abbrev pub Earlier : Gates → Type 0
-Earlier C = (i a : ℕ) → a ∈ arguments (gateAt C i) → a < i
+Earlier C = (i a : ℕ) → a ∈ arguments (gate_at C i) → a < i
 
 -- the figure of a gate, from the variables' inputs and the figures v of other gates
 abbrev pub figure : List ℕ → (ℕ → ℕ) → Gate → ℕ
 figure inputs v (start x) = get_or inputs x 0
 figure inputs v (word n) = n
 figure inputs v (bit b) = b
-figure inputs v (operation op l) = resultOn op (map v l)
-figure inputs v (choice c a b) = cond (isOne (v c)) (v a) (v b)
+figure inputs v (operation op l) = result_on op (map v l)
+figure inputs v (choice c a b) = cond (is_one (v c)) (v a) (v b)
 
 -- the figure of gate i on the inputs
-unfoldable pub figureAt : List ℕ → Gates → ℕ → ℕ
-figureAt inputs C i = run_at 0 (figure inputs) C i
+unfoldable pub figure_at : List ℕ → Gates → ℕ → ℕ
+figure_at inputs C i = run_at 0 (figure inputs) C i
 
 -- "Cost of a circuit", of a plain one: operations by the table, choice 3, others 0
-abbrev pub costOf : Gate → ℕ
-costOf (start x) = 0
-costOf (word n) = 0
-costOf (bit b) = 0
-costOf (operation op l) = (entryOf op).cost
-costOf (choice c a b) = choiceCost
+abbrev pub cost_of : Gate → ℕ
+cost_of (start x) = 0
+cost_of (word n) = 0
+cost_of (bit b) = 0
+cost_of (operation op l) = (entry_of op).cost
+cost_of (choice c a b) = choice_cost
 
 unfoldable pub costs : Gates → ℕ
 costs [] = 0
-costs (k ∷ C) = costOf k + costs C
+costs (k ∷ C) = cost_of k + costs C
 
 -- c is a condition: it stands first in a choice gate
 abbrev pub Condition : Gates → ℕ → Type 0
-Condition C c = (i : ℕ) × (a : ℕ) × (b : ℕ) × (gateAt C i ≡ choice c a b)
+Condition C c = (i : ℕ) × (a : ℕ) × (b : ℕ) × (gate_at C i ≡ choice c a b)
 
 -- the gates standing first in a choice gate, in gate order, perhaps more than once
 abbrev pub heads : Gates → List ℕ

@@ -2,17 +2,17 @@
 use Rattle.std.specs.Prelude.{ℕ, ◌*◌}
 
 -- one for each gate
-abbrev pub gateRoom : ℕ
-gateRoom = 256
+abbrev pub gate_room : ℕ
+gate_room = 256
 
 -- four numbers for each gate
-abbrev pub quadRoom : ℕ
-quadRoom = 4 * gateRoom
+abbrev pub quad_room : ℕ
+quad_room = 4 * gate_room
 
 -- one for each variable
-abbrev pub variableRoom : ℕ
-variableRoom = 32
+abbrev pub variable_room : ℕ
+variable_room = 32
 
 -- one for each condition
-abbrev pub conditionRoom : ℕ
-conditionRoom = 8
+abbrev pub condition_room : ℕ
+condition_room = 8

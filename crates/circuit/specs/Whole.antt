@@ -5,14 +5,14 @@ use Rattle.base.specs.Parsing.{step_of}
 use Rattle.base.specs.declared.Answer.{Answer}
 use Rattle.base.specs.declared.Step.{Step}
 use Rattle.base.specs.declared.Step.TheVariants.{Past, Refused}
-use Rattle.rule.specs.Rule.{readRule}
-use Rattle.circuit.specs.Limits.{mostGates, mostConditions}
+use Rattle.rule.specs.Rule.{read_rule}
+use Rattle.circuit.specs.Limits.{most_gates, most_conditions}
 use Rattle.circuit.specs.Gates.{Gates, costs, conditions}
-use Rattle.circuit.specs.PlainCircuit.{gatesOf}
+use Rattle.circuit.specs.PlainCircuit.{gates_of}
 
 -- 10: over so many gates; 11: over so many conditions; both lie at the file's length. Success counts gates and cost before
-unfoldable pub wholeWithin : ℕ → ℕ → Gates → ℕ → Answer
-wholeWithin gates conds C size =
+unfoldable pub whole_within : ℕ → ℕ → Gates → ℕ → Answer
+whole_within gates conds C size =
     cond (leb (length C) gates)
     (cond (leb (length (conditions C)) conds)
     (success (length C) 0 0 (costs C) 0)
@@ -20,13 +20,13 @@ wholeWithin gates conds C size =
     (refusal 10 size)
 
 -- the rows byte by byte come first
-abbrev pub afterBytes : Step → Answer → Answer
-afterBytes (Past next) whole = whole
-afterBytes (Refused number place) whole = refusal number place
+abbrev pub after_bytes : Step → Answer → Answer
+after_bytes (Past next) whole = whole
+after_bytes (Refused number place) whole = refusal number place
 
 -- what reading a rule answers, within limits on gates and conditions
-abbrev pub answerWithin : ℕ → ℕ → List ℕ → Answer
-answerWithin gates conds s = afterBytes (step_of (readRule s)) (wholeWithin gates conds (gatesOf s) (length s))
+abbrev pub answer_within : ℕ → ℕ → List ℕ → Answer
+answer_within gates conds s = after_bytes (step_of (read_rule s)) (whole_within gates conds (gates_of s) (length s))
 
-unfoldable pub ruleAnswer : List ℕ → Answer
-ruleAnswer s = answerWithin mostGates mostConditions s
+unfoldable pub rule_answer : List ℕ → Answer
+rule_answer s = answer_within most_gates most_conditions s

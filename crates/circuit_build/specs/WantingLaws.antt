@@ -4,33 +4,33 @@ use Rattle.std.proofs.Math.Nat.{sub-zero}
 use Rattle.std.proofs.Common.{arith, sym, ap, ◌∙◌, length-set, take-suc-set}
 use Rattle.std.proofs.lemmas.List.{map-append, take-set-le}
 use Rattle.base.specs.Lists.{Inside, keep, upto}
-use Rattle.base.specs.ListLaws.{keep-yes, keep-no}
-use Rattle.rule.specs.Limits.{mostVariables}
-use Rattle.rule.specs.Header.{variables, workingAt}
-use Rattle.circuit.specs.Limits.{mostConditions}
+use Rattle.base.specs.ListLaws.{keep_yes, keep_no}
+use Rattle.rule.specs.Limits.{most_variables}
+use Rattle.rule.specs.Header.{variables, working_at}
+use Rattle.circuit.specs.Limits.{most_conditions}
 use Rattle.circuit.specs.Gates.{Gates}
-use Rattle.circuit_needed.specs.Needed.{wantedAmong}
-use Rattle.circuit_needed.specs.Pass.{preconditionSets}
+use Rattle.circuit_needed.specs.Needed.{wanted_among}
+use Rattle.circuit_needed.specs.Pass.{precondition_sets}
 
 -- those of the first x variables
-abbrev pub wantedBelow : List ℕ → List ℕ → ℕ → List ℕ
-wantedBelow s outputs x = map (λ y. get_or outputs y 0) (keep (λ y. not (workingAt s y)) (upto x))
+abbrev pub wanted_below : List ℕ → List ℕ → ℕ → List ℕ
+wanted_below s outputs x = map (λ y. get_or outputs y 0) (keep (λ y. not (working_at s y)) (upto x))
 
 -- loop invariant
 pub record Listing (s outputs wanted : List ℕ) (x k : ℕ) : Type 0 where
   pub low : x ≤ variables s
-  pub few : variables s ≤ mostVariables
-  pub room : length wanted ≡ mostVariables
+  pub few : variables s ≤ most_variables
+  pub room : length wanted ≡ most_variables
   pub so_far : k ≤ x
-  pub listed : take k wanted ≡ wantedBelow s outputs x
+  pub listed : take k wanted ≡ wanted_below s outputs x
 
-pub listing_start : (s outputs wanted : List ℕ) → variables s ≤ mostVariables → length wanted ≡ mostVariables → Listing s outputs wanted 0 0
+pub listing_start : (s outputs wanted : List ℕ) → variables s ≤ most_variables → length wanted ≡ most_variables → Listing s outputs wanted 0 0
 listing_start s outputs wanted f r = record { low = omega arith; few = f; room = r; so_far = omega arith; listed = refl }
 
 -- one variable more: its gate is put down behind those listed, and stays if it is a result
-module _ (s outputs wanted : List ℕ) (x k m : ℕ) (b : Bool) (i : Listing s outputs wanted x k) (l : x < variables s) (e : b ≡ workingAt s x) where
-  pub listing-result : b ≡ false → m ≡ 1 → Listing s outputs (set wanted k (get_or outputs x 0)) (x + 1) (k + m)
-  listing-result f h =
+module _ (s outputs wanted : List ℕ) (x k m : ℕ) (b : Bool) (i : Listing s outputs wanted x k) (l : x < variables s) (e : b ≡ working_at s x) where
+  pub listing_result : b ≡ false → m ≡ 1 → Listing s outputs (set wanted k (get_or outputs x 0)) (x + 1) (k + m)
+  listing_result f h =
       let n : k + m ≡ suc k = omega arith in
       let r : k < length wanted = omega (arith, i.room, i.so_far, i.few) in
       record {
@@ -40,12 +40,12 @@ module _ (s outputs wanted : List ℕ) (x k m : ℕ) (b : Bool) (i : Listing s o
         so_far = omega (arith, i.so_far);
         listed = rw n (take-suc-set wanted k (get_or outputs x 0) r)
             ∙ ap (λ (z : List ℕ). z ++ (get_or outputs x 0 ∷ [])) i.listed
-            ∙ sym (map-append (λ y. get_or outputs y 0) (keep (λ y. not (workingAt s y)) (upto x)) (x ∷ []))
-            ∙ ap (map (λ y. get_or outputs y 0)) (sym (keep-yes (λ y. not (workingAt s y)) x (ap not (sym e ∙ f))));
+            ∙ sym (map-append (λ y. get_or outputs y 0) (keep (λ y. not (working_at s y)) (upto x)) (x ∷ []))
+            ∙ ap (map (λ y. get_or outputs y 0)) (sym (keep_yes (λ y. not (working_at s y)) x (ap not (sym e ∙ f))));
       }
 
-  pub listing-working : b ≡ true → m ≡ 0 → Listing s outputs (set wanted k (get_or outputs x 0)) (x + 1) (k + m)
-  listing-working t h =
+  pub listing_working : b ≡ true → m ≡ 0 → Listing s outputs (set wanted k (get_or outputs x 0)) (x + 1) (k + m)
+  listing_working t h =
       let n : k + m ≡ k = omega arith in
       record {
         low = omega arith;
@@ -53,22 +53,22 @@ module _ (s outputs wanted : List ℕ) (x k m : ℕ) (b : Bool) (i : Listing s o
         room = length-set wanted k _ ∙ i.room;
         so_far = omega (arith, i.so_far);
         listed = rw n (take-set-le k wanted k _ (omega arith)) ∙ i.listed
-            ∙ ap (map (λ y. get_or outputs y 0)) (sym (keep-no (λ y. not (workingAt s y)) x (ap not (sym e ∙ t))));
+            ∙ ap (map (λ y. get_or outputs y 0)) (sym (keep_no (λ y. not (working_at s y)) x (ap not (sym e ∙ t))));
       }
 
-pub listing-end : (s outputs wanted : List ℕ) (x k : ℕ) → Listing s outputs wanted x k → variables s ≤ x
-    → (take k wanted ≡ wantedAmong s outputs) × (k ≤ length wanted)
-listing-end s outputs wanted x k i l =
+pub listing_end : (s outputs wanted : List ℕ) (x k : ℕ) → Listing s outputs wanted x k → variables s ≤ x
+    → (take k wanted ≡ wanted_among s outputs) × (k ≤ length wanted)
+listing_end s outputs wanted x k i l =
     let e : x ≡ variables s = omega (arith, i.low) in
-    (i.listed ∙ ap (wantedBelow s outputs) e, omega (arith, i.few, i.low, i.so_far, i.room))
+    (i.listed ∙ ap (wanted_below s outputs) e, omega (arith, i.few, i.low, i.so_far, i.room))
 
 -- what is listed, lent as a part from 0 on
-part : (s outputs wanted : List ℕ) (k : ℕ) → take k wanted ≡ wantedAmong s outputs → take (k - 0) wanted ≡ wantedAmong s outputs
+part : (s outputs wanted : List ℕ) (k : ℕ) → take k wanted ≡ wanted_among s outputs → take (k - 0) wanted ≡ wanted_among s outputs
 part s outputs wanted k e = rw sub-zero e
 
-pub part-inside : (s outputs wanted : List ℕ) (k n : ℕ) → take k wanted ≡ wantedAmong s outputs → Inside n (wantedAmong s outputs) → Inside n (take (k - 0) wanted)
-part-inside s outputs wanted k n e i = rw (part s outputs wanted k e) i
+pub part_inside : (s outputs wanted : List ℕ) (k n : ℕ) → take k wanted ≡ wanted_among s outputs → Inside n (wanted_among s outputs) → Inside n (take (k - 0) wanted)
+part_inside s outputs wanted k n e i = rw (part s outputs wanted k e) i
 
-pub part-needs : (s outputs wanted needs : List ℕ) (C : Gates) (k n : ℕ) → take k wanted ≡ wantedAmong s outputs
-    → needs ≡ preconditionSets mostConditions C (take (k - 0) wanted) ++ replicate n 0 → needs ≡ preconditionSets mostConditions C (wantedAmong s outputs) ++ replicate n 0
-part-needs s outputs wanted needs C k n e q = q ∙ ap (λ (l : List ℕ). preconditionSets mostConditions C l ++ replicate n 0) (part s outputs wanted k e)
+pub part_needs : (s outputs wanted needs : List ℕ) (C : Gates) (k n : ℕ) → take k wanted ≡ wanted_among s outputs
+    → needs ≡ precondition_sets most_conditions C (take (k - 0) wanted) ++ replicate n 0 → needs ≡ precondition_sets most_conditions C (wanted_among s outputs) ++ replicate n 0
+part_needs s outputs wanted needs C k n e q = q ∙ ap (λ (l : List ℕ). precondition_sets most_conditions C l ++ replicate n 0) (part s outputs wanted k e)

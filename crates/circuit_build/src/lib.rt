@@ -1,28 +1,28 @@
 // Reading a rule as its caller sees it, rows 1 to 11, and building its plain circuit.
 ghost use Rattle.std.specs.Prelude.{◌≡◌, ◌++◌, ◌-◌, ◌≤◌, length, take, replicate};
-ghost use Rattle.rule.specs.Limits.{mostVariables};
+ghost use Rattle.rule.specs.Limits.{most_variables};
 ghost use Rattle.rule.specs.Header.{variables, HasKinds};
 ghost use Rattle.base.specs.Lists.{Inside};
-ghost use Rattle.circuit.specs.Limits.{mostConditions};
+ghost use Rattle.circuit.specs.Limits.{most_conditions};
 ghost use Rattle.circuit.specs.Gates.{Earlier};
-ghost use Rattle.circuit_needed.specs.Needed.{wantedAmong};
-ghost use Rattle.circuit_needed.specs.Held.{gatesIn};
+ghost use Rattle.circuit_needed.specs.Needed.{wanted_among};
+ghost use Rattle.circuit_needed.specs.Held.{gates_in};
 ghost use Rattle.circuit_needed.specs.Ranks.{Marked};
-ghost use Rattle.circuit_needed.specs.Pass.{preconditionSets};
+ghost use Rattle.circuit_needed.specs.Pass.{precondition_sets};
 ghost use Rattle.circuit_needed.specs.Passing.{Passable};
-ghost use Rattle.circuit.specs.Whole.{ruleAnswer};
-ghost use Rattle.circuit_needed.specs.Built.{builtQuads, builtNeeds, builtOutputs, builtConditions};
-ghost use Rattle.circuit_build.specs.Making.{wholeIn};
-ghost use Rattle.base.specs.SetsHeld.{setsIn};
-ghost use Rattle.circuit.specs.Rooms.{gateRoom, quadRoom, variableRoom, conditionRoom};
+ghost use Rattle.circuit.specs.Whole.{rule_answer};
+ghost use Rattle.circuit_needed.specs.Built.{built_quads, built_needs, built_outputs, built_conditions};
+ghost use Rattle.circuit_build.specs.Making.{whole_in};
+ghost use Rattle.base.specs.SetsHeld.{sets_in};
+ghost use Rattle.circuit.specs.Rooms.{gate_room, quad_room, variable_room, condition_room};
 
 use base::Answer;
 use circuit::{CONDITION_ROOM, GATE_ROOM, NEED_WORDS, QUAD_ROOM, VARIABLE_ROOM};
 
 // Rows 10 and 11, and the counts, of the gates that lie in `quads`; the conditions are marked in `ranks`, which are lent clear.
 fn whole(size: usize, quads: &[u32; QUAD_ROOM], count: u16, ranks: &mut [u16; GATE_ROOM]) -> Answer
-    requires { (count ≤ gateRoom → Earlier (gatesIn quads.now count)) × (ranks.old ≡ replicate gateRoom 0) }
-    ensures { (result ≡ wholeIn quads.now count size) × (count ≤ gateRoom → Marked (gatesIn quads.now count) ranks.new) }
+    requires { (count ≤ gate_room → Earlier (gates_in quads.now count)) × (ranks.old ≡ replicate gate_room 0) }
+    ensures { (result ≡ whole_in quads.now count size) × (count ≤ gate_room → Marked (gates_in quads.now count) ranks.new) }
 {
     if circuit::MOST_GATES < count {
         return base_answers::refused(10, size);
@@ -45,7 +45,7 @@ fn whole(size: usize, quads: &[u32; QUAD_ROOM], count: u16, ranks: &mut [u16; GA
 
 // Reads a rule: its refusal by rows 1 to 11, or its gates and their cost.
 pub fn read_rule(rule: &[u8]) -> Answer
-    ensures { result ≡ ruleAnswer rule.now }
+    ensures { result ≡ rule_answer rule.now }
 {
     // A copy is handed on: so the compiler takes the rule's place and length in two registers, not through memory.
     let rest = rule;
@@ -66,8 +66,8 @@ fn list_wanted(
     outputs: &[u16; VARIABLE_ROOM],
     wanted: &mut [u16; VARIABLE_ROOM],
 ) -> usize
-    requires { (HasKinds rule.now × (variables rule.now ≤ mostVariables)) × (length wanted.old ≡ variableRoom) }
-    ensures listed { take result wanted.new ≡ wantedAmong rule.now outputs.now }
+    requires { (HasKinds rule.now × (variables rule.now ≤ most_variables)) × (length wanted.old ≡ variable_room) }
+    ensures listed { take result wanted.new ≡ wanted_among rule.now outputs.now }
     ensures within { result ≤ length wanted.new }
 {
     let v = rule[5];
@@ -96,10 +96,10 @@ fn rule_needs(
     outputs: &[u16; VARIABLE_ROOM],
     needs: &mut [u64; NEED_WORDS],
 )
-    requires { ((HasKinds rule.now × (variables rule.now ≤ mostVariables)) × (Passable quads.now ranks.now count × Inside count (wantedAmong rule.now outputs.now)))
-        × (setsIn needs.old ≡ replicate gateRoom 0) }
-    ensures { setsIn needs.new ≡ preconditionSets mostConditions (gatesIn quads.now count) (wantedAmong rule.now outputs.now)
-        ++ replicate (gateRoom - count) 0 }
+    requires { ((HasKinds rule.now × (variables rule.now ≤ most_variables)) × (Passable quads.now ranks.now count × Inside count (wanted_among rule.now outputs.now)))
+        × (sets_in needs.old ≡ replicate gate_room 0) }
+    ensures { sets_in needs.new ≡ precondition_sets most_conditions (gates_in quads.now count) (wanted_among rule.now outputs.now)
+        ++ replicate (gate_room - count) 0 }
 {
     let mut wanted = [0u16; VARIABLE_ROOM];
     let k = list_wanted(rule, outputs, &mut wanted);
@@ -115,12 +115,12 @@ pub fn build(
     outputs: &mut [u16; VARIABLE_ROOM],
     conditions: &mut [u16; CONDITION_ROOM],
 ) -> Answer
-    requires { (quads.old ≡ replicate quadRoom 0) × ((setsIn needs.old ≡ replicate gateRoom 0) × ((outputs.old ≡ replicate variableRoom 0) × (conditions.old ≡ replicate conditionRoom 0))) }
-    ensures answer { result ≡ ruleAnswer rule.now }
-    ensures quads { quads.new ≡ builtQuads rule.now }
-    ensures needs { setsIn needs.new ≡ builtNeeds rule.now }
-    ensures outputs { outputs.new ≡ builtOutputs rule.now }
-    ensures conditions { conditions.new ≡ builtConditions rule.now }
+    requires { (quads.old ≡ replicate quad_room 0) × ((sets_in needs.old ≡ replicate gate_room 0) × ((outputs.old ≡ replicate variable_room 0) × (conditions.old ≡ replicate condition_room 0))) }
+    ensures answer { result ≡ rule_answer rule.now }
+    ensures quads { quads.new ≡ built_quads rule.now }
+    ensures needs { sets_in needs.new ≡ built_needs rule.now }
+    ensures outputs { outputs.new ≡ built_outputs rule.now }
+    ensures conditions { conditions.new ≡ built_conditions rule.now }
 {
     let a = rule_reader::read_rule(rule);
     if a.number != 0 {

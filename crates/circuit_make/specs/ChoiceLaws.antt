@@ -7,29 +7,29 @@ use Rattle.std.proofs.Math.Bool.{cond}
 use mathlib.Core.List.{List, [], ◌∷◌, ◌++◌, map, map-append}
 use Rattle.std.proofs.Math.ListN.{length, get_or, length-set, length-append}
 use Rattle.std.proofs.lemmas.Bool.{eqb-false}
-use Rattle.base.specs.ListLaws.{getD-zeros, getD-from, upto-more}
+use Rattle.base.specs.ListLaws.{get_or_zeros, get_or_from, upto_more}
 use Rattle.base.specs.Lists.{keep, from, upto}
 use Rattle.base.specs.TestLaws.{split, same?}
 use Rattle.base.specs.Bits.{bit}
 use Rattle.base.specs.Sets.{has}
-use Rattle.base.specs.BitLaws.{bit-zero, bit-suc, bit-none}
-use Rattle.base.specs.Codes.{startCode}
-use Rattle.rule.specs.Header.{variables, kindAt}
+use Rattle.base.specs.BitLaws.{bit_zero, bit_suc, bit_none}
+use Rattle.base.specs.Codes.{start_code}
+use Rattle.rule.specs.Header.{variables, kind_at}
 use Rattle.circuit.specs.Gates.{Gate, start, choice, Gates}
 use Rattle.circuit.specs.PlainCircuit.{Making, choose, choices, starts}
-use Rattle.circuit.specs.Quads.{quadOf, quadsOf}
+use Rattle.circuit.specs.Quads.{quad_of, quads_of}
 use Rattle.circuit_make.specs.Holding.{Stored, StandsFor, Held, Pushed, Chose, Chosen, ChosenTo, Started}
 
 -- the bit of one variable alone
-eqb-suc : (j t : ℕ) → eqb j t ≡ eqb (suc j) (suc t)
-eqb-suc j t =
+eqb_suc : (j t : ℕ) → eqb j t ≡ eqb (suc j) (suc t)
+eqb_suc j t =
     split (eqb j t) (λ e. e ∙ sym (eq-eqb (suc j) (suc t) (ap suc (eqb-true j t e)))) (λ e. e ∙ sym (ne_eqb (suc j) (suc t) (λ q. eqb-false j t e (omega arith))))
 
-pub only-bit : (t j : ℕ) → has (2 ^ t) j ≡ eqb j t
-only-bit zero zero = refl
-only-bit zero (suc j) = bit-suc 1 j ∙ bit-none j ∙ sym (ne_eqb (suc j) 0 (λ e. omega arith))
-only-bit (suc t) zero = let e : 2 ^ suc t % 2 ≡ 0 = omega arith in bit-zero (2 ^ suc t) ∙ ap (λ (k : ℕ). eqb k 1) e ∙ sym (ne_eqb 0 (suc t) (λ q. omega arith))
-only-bit (suc t) (suc j) = let e : 2 ^ suc t / 2 ≡ 2 ^ t = omega arith in bit-suc (2 ^ suc t) j ∙ ap (λ (k : ℕ). bit k j) e ∙ only-bit t j ∙ eqb-suc j t
+pub only_bit : (t j : ℕ) → has (2 ^ t) j ≡ eqb j t
+only_bit zero zero = refl
+only_bit zero (suc j) = bit_suc 1 j ∙ bit_none j ∙ sym (ne_eqb (suc j) 0 (λ e. omega arith))
+only_bit (suc t) zero = let e : 2 ^ suc t % 2 ≡ 0 = omega arith in bit_zero (2 ^ suc t) ∙ ap (λ (k : ℕ). eqb k 1) e ∙ sym (ne_eqb 0 (suc t) (λ q. omega arith))
+only_bit (suc t) (suc j) = let e : 2 ^ suc t / 2 ≡ 2 ^ t = omega arith in bit_suc (2 ^ suc t) j ∙ ap (λ (k : ℕ). bit k j) e ∙ only_bit t j ∙ eqb_suc j t
 
 -- a variable's gate stored in both
 pub stands_set : (p l : List ℕ) (x a b : ℕ) → a ≡ b → x < length l → x < length p → StandsFor p l → StandsFor (set p x b) (set l x a)
@@ -40,15 +40,15 @@ stands_set p l x a b e h k st y = go (same? y x)
     go (inr n) = get_or-set_other l x y a 0 n ∙ st y ∙ sym (get_or-set_other p x y b 0 n)
 
 -- a gate that variable x stands for
-pub pushed-chose : (k : Gate) (code a b c x : ℕ) (quads present : List ℕ) (count : ℕ) (after : List ℕ) (more : ℕ) → x < 32
-    → ((s : List ℕ) → quadOf s k ≡ code ∷ a ∷ b ∷ c ∷ []) → Pushed (code ∷ a ∷ b ∷ c ∷ []) quads count after more
+pub pushed_chose : (k : Gate) (code a b c x : ℕ) (quads present : List ℕ) (count : ℕ) (after : List ℕ) (more : ℕ) → x < 32
+    → ((s : List ℕ) → quad_of s k ≡ code ∷ a ∷ b ∷ c ∷ []) → Pushed (code ∷ a ∷ b ∷ c ∷ []) quads count after more
     → Chose k x quads present count after (set present x count) more
-pushed-chose k code a b c x quads present count after more small four q =
+pushed_chose k code a b c x quads present count after more small four q =
     record {
       chose = λ s m wanted right inside held.
           let longer : length (m.gates ++ (wanted ∷ [])) ≡ length m.gates + 1 = length-append m.gates (wanted ∷ []) in
           record {
-            stored = q.pushed s m.gates wanted (λ h. ap (quadOf s) (right h) ∙ four s) held.stored;
+            stored = q.pushed s m.gates wanted (λ h. ap (quad_of s) (right h) ∙ four s) held.stored;
             wide = length-set present x count ∙ held.wide;
             stand = λ few.
                 stands_set m.present present x count (length m.gates) (omega (arith, held.stored.counted)) (omega (arith, held.wide)) inside
@@ -57,10 +57,10 @@ pushed-chose k code a b c x quads present count after more small four q =
     }
 
 -- choices keep the count of variables
-pub choices-length : (c : ℕ) (p q l : List ℕ) (m : Making) → length (choices c p q l m).present ≡ length m.present
+pub choices_length : (c : ℕ) (p q l : List ℕ) (m : Making) → length (choices c p q l m).present ≡ length m.present
 unfolding choices
-choices-length c p q [] m = refl
-choices-length c p q (x ∷ l) m = choices-length c p q l (choose c p q x m) ∙ length-set m.present x (length m.gates)
+choices_length c p q [] m = refl
+choices_length c p q (x ∷ l) m = choices_length c p q l (choose c p q x m) ∙ length-set m.present x (length m.gates)
 
 -- the choices, one variable after another
 module _ (condition : ℕ) (first second : List ℕ) (mask v : ℕ) (quads present : List ℕ) (count : ℕ) where
@@ -82,8 +82,8 @@ module _ (condition : ℕ) (first second : List ℕ) (mask v : ℕ) (quads prese
       ∙ ap (λ (j : ℕ). cond (has mask x) (x ∷ keep (has mask) (from j (v - (x + 1)))) (keep (has mask) (from j (v - (x + 1))))) f
 
   module _ (x n : ℕ) (quads' present' : List ℕ) (r : ChosenTo condition first second mask v quads present count x n quads' present') (inside : x < v) where
-    pub chosen-not : has mask x ≡ false → ChosenTo condition first second mask v quads present count (x + 1) n quads' present'
-    chosen-not b =
+    pub chosen_not : has mask x ≡ false → ChosenTo condition first second mask v quads present count (x + 1) n quads' present'
+    chosen_not b =
         record {
           inside = omega arith;
           to = λ s m c p q l ready held.
@@ -92,11 +92,11 @@ module _ (condition : ℕ) (first second : List ℕ) (mask v : ℕ) (quads prese
               record { now = z.now; count = z.count; grown = z.grown; held = z.held; same = ap (λ (k : List ℕ). choices c p q k z.now) (sym e) ∙ z.same };
         }
 
-    pub chosen-one : has mask x ≡ true → (more : ℕ) (quads'' present'' : List ℕ) → Chose
+    pub chosen_one : has mask x ≡ true → (more : ℕ) (quads'' present'' : List ℕ) → Chose
         (choice condition (get_or first x 0) (get_or second x 0)) x quads' present' n quads'' present'' more
         → ChosenTo condition first second mask v quads present count (x + 1) more quads'' present''
     unfolding choices
-    chosen-one b more quads'' present'' y =
+    chosen_one b more quads'' present'' y =
         record {
           inside = omega arith;
           to = λ s m c p q l ready held.
@@ -120,10 +120,10 @@ module _ (condition : ℕ) (first second : List ℕ) (mask v : ℕ) (quads prese
               };
         }
 
-  pub chosen-all : (x n : ℕ) (quads' present' : List ℕ) → ChosenTo condition first second mask v quads present count x n quads' present' → v ≤ x
+  pub chosen_all : (x n : ℕ) (quads' present' : List ℕ) → ChosenTo condition first second mask v quads present count x n quads' present' → v ≤ x
       → Chosen condition first second mask v quads present count n quads' present'
   unfolding choices
-  chosen-all x n quads' present' r h =
+  chosen_all x n quads' present' r h =
       record {
         chosen = λ s m c p q l ready held.
             let z = r.to s m c p q l ready held in
@@ -134,7 +134,7 @@ module _ (condition : ℕ) (first second : List ℕ) (mask v : ℕ) (quads prese
 starts_more : (x : ℕ) → map start (upto (x + 1)) ≡ map start (upto x) ++ (start x ∷ [])
 starts_more x =
     let e : x + 1 ≡ suc x = omega arith in
-    ap (λ (k : ℕ). map start (upto k)) e ∙ ap (map start) (upto-more x) ∙ map-append start (upto x) (x ∷ [])
+    ap (λ (k : ℕ). map start (upto k)) e ∙ ap (map start) (upto_more x) ∙ map-append start (upto x) (x ∷ [])
 
 -- the next variable's place is the only one that changes
 from_next : (i n k : ℕ) → (k ≡ n → ⊥) → get_or (from i n) k 0 ≡ get_or (from i (suc n)) k 0
@@ -146,18 +146,18 @@ from_next i (suc n) (suc k) h = from_next (suc i) n k (λ e. h (ap suc e))
 -- the starting values, one variable after another
 module _ (s quads present : List ℕ) where
   pub started_none : quads ≡ replicate 1024 0 → present ≡ replicate 32 0 → Started s 0 quads present 0
-  unfolding quadsOf
+  unfolding quads_of
   started_none r w =
       record {
         inside = omega arith;
         wide = ap length w;
         stored = record { counted = omega arith; lie = λ few. r };
-        stand = λ y. ap (λ (l : List ℕ). get_or l y 0) w ∙ getD-zeros 32 y;
+        stand = λ y. ap (λ (l : List ℕ). get_or l y 0) w ∙ get_or_zeros 32 y;
       }
 
-  pub started-more : (x n code more : ℕ) (after : List ℕ) → Started s x quads present n → x < variables s → variables s ≤ 32 → code ≡ startCode (kindAt s x)
+  pub started_more : (x n code more : ℕ) (after : List ℕ) → Started s x quads present n → x < variables s → variables s ≤ 32 → code ≡ start_code (kind_at s x)
       → Pushed (code ∷ x ∷ 0 ∷ 0 ∷ []) quads n after more → Started s (x + 1) after (set present x x) more
-  started-more x n code more after r h few e q =
+  started_more x n code more after r h few e q =
       record {
         inside = omega arith;
         wide = length-set present x x ∙ r.wide;
@@ -171,14 +171,14 @@ module _ (s quads present : List ℕ) where
       one = omega arith
 
       here : get_or (upto (x + 1)) x 0 ≡ x
-      here = getD-from 0 (x + 1) x (omega arith) ∙ omega arith
+      here = get_or_from 0 (x + 1) x (omega arith) ∙ omega arith
 
       later : (y : ℕ) → (y ≡ x) ⊎ (y ≡ x → ⊥) → get_or (set present x x) y 0 ≡ get_or (upto (x + 1)) y 0
       later y (inl z) = rw z (get_or-set_same present x x 0 (omega (arith, r.wide)) ∙ sym here)
       later y (inr z) = get_or-set_other present x y x 0 z ∙ r.stand y ∙ from_next 0 x y z ∙ ap (λ (k : ℕ). get_or (upto k) y 0) one
 
-  pub started-all : (x n : ℕ) → Started s x quads present n → variables s ≤ x → Held s (starts (variables s)) quads present n
-  started-all x n r h =
+  pub started_all : (x n : ℕ) → Started s x quads present n → variables s ≤ x → Held s (starts (variables s)) quads present n
+  started_all x n r h =
       let e : x ≡ variables s = omega (arith, r.inside) in
       record {
         stored = subst (λ (k : ℕ). Stored s (map start (upto k)) quads n) e r.stored;

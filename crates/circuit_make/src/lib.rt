@@ -3,9 +3,9 @@ ghost use Rattle.std.specs.Prelude.{◌≡◌, [], ◌∷◌, ◌≤◌, ◌<◌
 ghost use Rattle.base.specs.Sets.{has};
 ghost use Rattle.base.specs.Codes.{byte_of};
 ghost use Rattle.circuit.specs.Gates.{choice};
-ghost use Rattle.circuit.specs.PlainCircuit.{turned, applyGate};
+ghost use Rattle.circuit.specs.PlainCircuit.{turned, apply_gate};
 ghost use Rattle.circuit_make.specs.Holding.{Pushed, Applied, Chose, Chosen};
-ghost use Rattle.circuit.specs.Rooms.{variableRoom};
+ghost use Rattle.circuit.specs.Rooms.{variable_room};
 
 use base::Operation;
 use circuit::{GateId, QUAD_ROOM, VARIABLE_ROOM};
@@ -51,7 +51,7 @@ pub fn apply_gate(
     a: GateId,
     b: GateId,
 ) -> u16
-    ensures { Applied (applyGate op a.0 b.0) quads.old count quads.new result }
+    ensures { Applied (apply_gate op a.0 b.0) quads.old count quads.new result }
 {
     let byte = byte_of(op);
     if turned(op, a, b) {
@@ -63,7 +63,7 @@ pub fn apply_gate(
 
 // Is variable x in the set?
 fn among(assigned: u32, x: u8) -> bool
-    requires { x < variableRoom }
+    requires { x < variable_room }
     ensures { result ≡ has assigned x }
 {
     (assigned >> x) % 2 == 1
@@ -79,7 +79,7 @@ fn choose(
     quads: &mut [u32; QUAD_ROOM],
     count: u16,
 ) -> u16
-    requires { x < variableRoom }
+    requires { x < variable_room }
     ensures { Chose (choice condition.0 first.0 second.0) x quads.old present.old count quads.new present.new result }
 {
     let more = push(
@@ -106,7 +106,7 @@ pub fn make_choices(
     quads: &mut [u32; QUAD_ROOM],
     count: u16,
 ) -> u16
-    requires { v ≤ variableRoom }
+    requires { v ≤ variable_room }
     ensures { Chosen condition.0 first.now second.now assigned v quads.old present.old count result quads.new present.new }
 {
     let mut n = count;

@@ -5,51 +5,51 @@ use Rattle.base.specs.Lists.{◌∈◌}
 use Rattle.base.specs.Parsing.{parsed, IsRead}
 use Rattle.base.specs.ParsingLaws.{is_read}
 use Rattle.rule.specs.Tree.{Block}
-use Rattle.rule.specs.Rule.{readRule}
-use Rattle.circuit.specs.Limits.{mostConditions}
+use Rattle.rule.specs.Rule.{read_rule}
+use Rattle.circuit.specs.Limits.{most_conditions}
 use Rattle.circuit.specs.Gates.{Earlier, conditions}
-use Rattle.circuit.specs.PlainCircuit.{gatesOf, outputsOf}
-use Rattle.circuit.specs.StartLaws.{plain-sound}
+use Rattle.circuit.specs.PlainCircuit.{gates_of, outputs_of}
+use Rattle.circuit.specs.StartLaws.{plain_sound}
 use Rattle.base.specs.Settings.{setting_of}
 use Rattle.base.specs.Sets.{has, excludes}
 use Rattle.base.specs.SettingNumbers.{numbers}
-use Rattle.circuit_needed.specs.Needed.{Needed, wantedOf, Exclude}
-use Rattle.circuit_needed.specs.WantedLaws.{wanted-output}
-use Rattle.circuit_needed.specs.Pass.{preconditions, preconditionSets, rulePreconditions}
+use Rattle.circuit_needed.specs.Needed.{Needed, wanted_of, Exclude}
+use Rattle.circuit_needed.specs.WantedLaws.{wanted_output}
+use Rattle.circuit_needed.specs.Pass.{preconditions, precondition_sets, rule_preconditions}
 use Rattle.circuit_needed.specs.Reaching.{begun, RuleReaching}
-use Rattle.circuit_needed.specs.ReachingLaws.{reaches_end, reached-final}
-use Rattle.circuit_needed.specs.PreconditionLaws.{precondition-right, exclude-right}
+use Rattle.circuit_needed.specs.ReachingLaws.{reaches_end, reached_final}
+use Rattle.circuit_needed.specs.PreconditionLaws.{precondition_right, exclude_right}
 
 -- the pass over a rule's gates ends with the preconditions
-pub rule-reached : (s : List ℕ) → RuleReaching s 0 (rulePreconditions s)
-unfolding preconditionSets preconditions
-rule-reached s = reaches_end _ _ _ _ (length (gatesOf s)) begun
+pub rule_reached : (s : List ℕ) → RuleReaching s 0 (rule_preconditions s)
+unfolding precondition_sets preconditions
+rule_reached s = reaches_end _ _ _ _ (length (gates_of s)) begun
 
-module _ (s : List ℕ) (b : Block) (n : ℕ) (read : readRule s ≡ parsed b n) where
-  pub rule-earlier : Earlier (gatesOf s)
-  rule-earlier = (plain-sound s b n read).earlier
+module _ (s : List ℕ) (b : Block) (n : ℕ) (read : read_rule s ≡ parsed b n) where
+  pub rule_earlier : Earlier (gates_of s)
+  rule_earlier = (plain_sound s b n read).earlier
 
   -- what is wanted from the start is a gate
-  pub wanted-inside : (g : ℕ) → g ∈ wantedOf s → g < length (gatesOf s)
-  unfolding wantedOf
-  wanted-inside g m = (plain-sound s b n read).inside g (wanted-output s (outputsOf s) (plain-sound s b n read).count g m)
+  pub wanted_inside : (g : ℕ) → g ∈ wanted_of s → g < length (gates_of s)
+  unfolding wanted_of
+  wanted_inside g m = (plain_sound s b n read).inside g (wanted_output s (outputs_of s) (plain_sound s b n read).count g m)
 
   -- and each gate's set is final when the pass reaches it
-  pub rule-final : (k : ℕ) (M : List ℕ) → RuleReaching s k M → (g : ℕ) → k ≤ suc g → get_or M g 0 ≡ get_or (rulePreconditions s) g 0
-  unfolding preconditionSets preconditions numbers
-  rule-final k M = reached-final _ _ _ _ rule-earlier
+  pub rule_final : (k : ℕ) (M : List ℕ) → RuleReaching s k M → (g : ℕ) → k ≤ suc g → get_or M g 0 ≡ get_or (rule_preconditions s) g 0
+  unfolding precondition_sets preconditions numbers
+  rule_final k M = reached_final _ _ _ _ rule_earlier
 
-  module _ (few : length (conditions (gatesOf s)) ≤ mostConditions) where
-    pub rule-precondition : (g j : ℕ) → j < 2 ^ mostConditions
-        → (has (get_or (rulePreconditions s) g 0) j ≡ true) ↔ Needed (gatesOf s) (wantedOf s) (setting_of (conditions (gatesOf s)) j) g
-    unfolding wantedOf
-    rule-precondition = precondition-right (gatesOf s) (wantedOf s) rule-earlier wanted-inside mostConditions few
+  module _ (few : length (conditions (gates_of s)) ≤ most_conditions) where
+    pub rule_precondition : (g j : ℕ) → j < 2 ^ most_conditions
+        → (has (get_or (rule_preconditions s) g 0) j ≡ true) ↔ Needed (gates_of s) (wanted_of s) (setting_of (conditions (gates_of s)) j) g
+    unfolding wanted_of
+    rule_precondition = precondition_right (gates_of s) (wanted_of s) rule_earlier wanted_inside most_conditions few
 
-    pub rule-exclude : (g h : ℕ)
-        → (excludes (get_or (rulePreconditions s) g 0) (get_or (rulePreconditions s) h 0) ≡ true) ↔ Exclude (gatesOf s) (wantedOf s) g h
-    unfolding wantedOf
-    rule-exclude = exclude-right (gatesOf s) (wantedOf s) rule-earlier wanted-inside mostConditions few
+    pub rule_exclude : (g h : ℕ)
+        → (excludes (get_or (rule_preconditions s) g 0) (get_or (rule_preconditions s) h 0) ≡ true) ↔ Exclude (gates_of s) (wanted_of s) g h
+    unfolding wanted_of
+    rule_exclude = exclude_right (gates_of s) (wanted_of s) rule_earlier wanted_inside most_conditions few
 
 -- the same of any rule that is read
-pub read-final : (s : List ℕ) → IsRead (readRule s) → (k : ℕ) (M : List ℕ) → RuleReaching s k M → (g : ℕ) → k ≤ suc g → get_or M g 0 ≡ get_or (rulePreconditions s) g 0
-read-final s h = let r = is_read (readRule s) h in rule-final s r.0 r.1 r.2
+pub read_final : (s : List ℕ) → IsRead (read_rule s) → (k : ℕ) (M : List ℕ) → RuleReaching s k M → (g : ℕ) → k ≤ suc g → get_or M g 0 ≡ get_or (rule_preconditions s) g 0
+read_final s h = let r = is_read (read_rule s) h in rule_final s r.0 r.1 r.2

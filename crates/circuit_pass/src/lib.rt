@@ -2,21 +2,21 @@
 // The lent arrays hold plain numbers; a gate's number in hand is a `GateId`, its set a `Set`.
 ghost use Rattle.std.specs.Prelude.{◌≡◌, ◌++◌, ◌-◌, ◌<◌, ◌≤◌, get_or, replicate};
 ghost use Rattle.base.specs.Sets.{whole, given, without};
-ghost use Rattle.circuit.specs.Limits.{mostConditions, mostSettings};
+ghost use Rattle.circuit.specs.Limits.{most_conditions, most_settings};
 ghost use Rattle.base.specs.Lists.{Inside};
-ghost use Rattle.circuit_needed.specs.Held.{gatesIn};
-ghost use Rattle.circuit_needed.specs.Pass.{preconditionSets};
-ghost use Rattle.circuit_needed.specs.Passing.{addNumber, addNumbers, handGate, passGates, handGatesFrom, Passable};
-ghost use Rattle.base.specs.SetsHeld.{setOf, setsIn};
-ghost use Rattle.circuit.specs.Rooms.{gateRoom};
+ghost use Rattle.circuit_needed.specs.Held.{gates_in};
+ghost use Rattle.circuit_needed.specs.Pass.{precondition_sets};
+ghost use Rattle.circuit_needed.specs.Passing.{add_number, add_numbers, hand_gate, pass_gates, hand_gates_from, Passable};
+ghost use Rattle.base.specs.SetsHeld.{set_of, sets_in};
+ghost use Rattle.circuit.specs.Rooms.{gate_room};
 
 use base::Set;
 use circuit::{GATE_ROOM, GateId, NEED_WORDS, QUAD_ROOM};
 
 // The set s is put to that of gate g.
 fn add(sets: &mut [u64; NEED_WORDS], g: GateId, s: Set)
-    requires { g.0 < gateRoom }
-    ensures { setsIn sets.new ≡ addNumber g.0 (setOf s) (setsIn sets.old) }
+    requires { g.0 < gate_room }
+    ensures { sets_in sets.new ≡ add_number g.0 (set_of s) (sets_in sets.old) }
 {
     let i = g.0 as usize;
     let old = base_settings::load(sets, i);
@@ -25,8 +25,8 @@ fn add(sets: &mut [u64; NEED_WORDS], g: GateId, s: Set)
 
 // Gate g is needed under every setting, whatever its set was: that is not read.
 fn add_whole(sets: &mut [u64; NEED_WORDS], g: GateId)
-    requires { g.0 < gateRoom }
-    ensures { setsIn sets.new ≡ addNumber g.0 (whole mostSettings) (setsIn sets.old) }
+    requires { g.0 < gate_room }
+    ensures { sets_in sets.new ≡ add_number g.0 (whole most_settings) (sets_in sets.old) }
 {
     let i = g.0 as usize;
     let old = base_settings::load(sets, i);
@@ -35,8 +35,8 @@ fn add_whole(sets: &mut [u64; NEED_WORDS], g: GateId)
 
 // Every wanted gate is needed under every setting.
 fn want_all(wanted: &[u16], sets: &mut [u64; NEED_WORDS])
-    requires { Inside gateRoom wanted.now }
-    ensures { setsIn sets.new ≡ addNumbers wanted.now (whole mostSettings) (setsIn sets.old) }
+    requires { Inside gate_room wanted.now }
+    ensures { sets_in sets.new ≡ add_numbers wanted.now (whole most_settings) (sets_in sets.old) }
 {
     let mut x: usize = 0;
     while x < wanted.len() {
@@ -48,8 +48,8 @@ fn want_all(wanted: &[u16], sets: &mut [u64; NEED_WORDS])
 
 // The set s of an operation is put to that of its argument g. Where s is the whole set no set is read for it, so no gate's turn waits for what the last one stored.
 fn hand_to(sets: &mut [u64; NEED_WORDS], g: GateId, s: Set)
-    requires { g.0 < gateRoom }
-    ensures { setsIn sets.new ≡ addNumber g.0 (setOf s) (setsIn sets.old) }
+    requires { g.0 < gate_room }
+    ensures { sets_in sets.new ≡ add_number g.0 (set_of s) (sets_in sets.old) }
 {
     if base_settings::is_whole(s) {
         add_whole(sets, g);
@@ -60,7 +60,7 @@ fn hand_to(sets: &mut [u64; NEED_WORDS], g: GateId, s: Set)
 
 // The number of the condition that gate c is.
 fn rank_of(ranks: &[u16; GATE_ROOM], c: GateId) -> u8
-    requires { (c.0 < gateRoom) × ((0 < get_or ranks.now c.0 0) × (get_or ranks.now c.0 0 ≤ mostConditions)) }
+    requires { (c.0 < gate_room) × ((0 < get_or ranks.now c.0 0) × (get_or ranks.now c.0 0 ≤ most_conditions)) }
     ensures { result ≡ get_or ranks.now c.0 0 - 1 }
 {
     let i = c.0 as usize;
@@ -76,9 +76,9 @@ fn hand_choice(
     b: GateId,
     s: Set,
 )
-    requires { ((c.0 < gateRoom) × ((0 < get_or ranks.now c.0 0) × (get_or ranks.now c.0 0 ≤ mostConditions))) × ((a.0 < gateRoom) × (b.0 < gateRoom)) }
-    ensures { setsIn sets.new ≡ addNumber b.0 (without mostSettings (get_or ranks.now c.0 0 - 1) (setOf s))
-        (addNumber a.0 (given mostSettings (get_or ranks.now c.0 0 - 1) (setOf s)) (addNumber c.0 (setOf s) (setsIn sets.old))) }
+    requires { ((c.0 < gate_room) × ((0 < get_or ranks.now c.0 0) × (get_or ranks.now c.0 0 ≤ most_conditions))) × ((a.0 < gate_room) × (b.0 < gate_room)) }
+    ensures { sets_in sets.new ≡ add_number b.0 (without most_settings (get_or ranks.now c.0 0 - 1) (set_of s))
+        (add_number a.0 (given most_settings (get_or ranks.now c.0 0 - 1) (set_of s)) (add_number c.0 (set_of s) (sets_in sets.old))) }
 {
     let t = rank_of(ranks, c);
     let parts = base_settings::part(t, s);
@@ -97,7 +97,7 @@ fn hand(
     sets: &mut [u64; NEED_WORDS],
 )
     requires { Passable quads.now ranks.now count × (g.0 < count) }
-    ensures { setsIn sets.new ≡ handGate (gatesIn quads.now count) g.0 (setsIn sets.old) }
+    ensures { sets_in sets.new ≡ hand_gate (gates_in quads.now count) g.0 (sets_in sets.old) }
 {
     let i = g.0 as usize;
     let code = quads[4 * i];
@@ -134,8 +134,8 @@ fn pass(
     sets: &mut [u64; NEED_WORDS],
 )
     requires { Passable quads.now ranks.now count }
-    ensures passed { setsIn sets.new ≡ passGates (gatesIn quads.now count) count (setsIn sets.old) }
-    ensures settled { setsIn sets.new ≡ handGatesFrom (gatesIn quads.now count) (setsIn sets.new) count (setsIn sets.old) }
+    ensures passed { sets_in sets.new ≡ pass_gates (gates_in quads.now count) count (sets_in sets.old) }
+    ensures settled { sets_in sets.new ≡ hand_gates_from (gates_in quads.now count) (sets_in sets.new) count (sets_in sets.old) }
 {
     let mut i = count as u16;
     while 0 < i {
@@ -152,8 +152,8 @@ pub fn find_needed(
     wanted: &[u16],
     sets: &mut [u64; NEED_WORDS],
 )
-    requires { (Passable quads.now ranks.now count × Inside count wanted.now) × (setsIn sets.old ≡ replicate gateRoom 0) }
-    ensures { setsIn sets.new ≡ preconditionSets mostConditions (gatesIn quads.now count) wanted.now ++ replicate (gateRoom - count) 0 }
+    requires { (Passable quads.now ranks.now count × Inside count wanted.now) × (sets_in sets.old ≡ replicate gate_room 0) }
+    ensures { sets_in sets.new ≡ precondition_sets most_conditions (gates_in quads.now count) wanted.now ++ replicate (gate_room - count) 0 }
 {
     want_all(wanted, sets);
     pass(quads, count, ranks, sets);

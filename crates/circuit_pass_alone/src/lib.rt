@@ -1,12 +1,12 @@
 // The backward pass alone, exported so that it can be measured; nothing of the product calls it.
 ghost use Rattle.std.specs.Prelude.{◌≡◌, ◌++◌, ◌-◌, replicate};
 ghost use Rattle.base.specs.Lists.{Inside};
-ghost use Rattle.circuit.specs.Limits.{mostConditions};
-ghost use Rattle.circuit_needed.specs.Held.{gatesIn};
-ghost use Rattle.circuit_needed.specs.Pass.{preconditionSets};
+ghost use Rattle.circuit.specs.Limits.{most_conditions};
+ghost use Rattle.circuit_needed.specs.Held.{gates_in};
+ghost use Rattle.circuit_needed.specs.Pass.{precondition_sets};
 ghost use Rattle.circuit_needed.specs.Passing.{Passable};
-ghost use Rattle.base.specs.SetsHeld.{setsIn};
-ghost use Rattle.circuit.specs.Rooms.{gateRoom};
+ghost use Rattle.base.specs.SetsHeld.{sets_in};
+ghost use Rattle.circuit.specs.Rooms.{gate_room};
 
 use circuit::{GATE_ROOM, NEED_WORDS, QUAD_ROOM};
 
@@ -19,8 +19,8 @@ pub extern "C" fn linnet_pass(
     wanted: &[u16],
     sets: &mut [u64; NEED_WORDS],
 )
-    requires { (Passable quads.now ranks.now count × Inside count wanted.now) × (setsIn sets.old ≡ replicate gateRoom 0) }
-    ensures { setsIn sets.new ≡ preconditionSets mostConditions (gatesIn quads.now count) wanted.now ++ replicate (gateRoom - count) 0 }
+    requires { (Passable quads.now ranks.now count × Inside count wanted.now) × (sets_in sets.old ≡ replicate gate_room 0) }
+    ensures { sets_in sets.new ≡ precondition_sets most_conditions (gates_in quads.now count) wanted.now ++ replicate (gate_room - count) 0 }
 {
     circuit_pass::find_needed(quads, count, ranks, wanted, sets)
 }

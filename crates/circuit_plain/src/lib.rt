@@ -3,14 +3,14 @@ ghost use Rattle.std.specs.Prelude.{◌≡◌, ◌+◌, ◌^◌, ◌<◌, length
 ghost use Rattle.base.specs.Parsing.{IsRead};
 ghost use Rattle.rule.specs.Header.{variables};
 ghost use Rattle.rule.specs.RuleLaws.{Headed};
-ghost use Rattle.rule.specs.Expressions.{readExpr};
-ghost use Rattle.rule.specs.Blocks.{readAssign, branchWith, readStatement, readBlock};
-ghost use Rattle.rule.specs.Rule.{readRule};
-ghost use Rattle.circuit.specs.PlainCircuit.{assignsIn, assigns, makeStatement, makeBlock, starts};
-ghost use Rattle.base.specs.Codes.{startCode};
+ghost use Rattle.rule.specs.Expressions.{read_expr};
+ghost use Rattle.rule.specs.Blocks.{read_assign, branch_with, read_statement, read_block};
+ghost use Rattle.rule.specs.Rule.{read_rule};
+ghost use Rattle.circuit.specs.PlainCircuit.{assigns_in, assigns, make_statement, make_block, starts};
+ghost use Rattle.base.specs.Codes.{start_code};
 ghost use Rattle.circuit_make.specs.RuleMade.{RuleMade};
 ghost use Rattle.circuit_make.specs.Holding.{Held, ExprMade, Done};
-ghost use Rattle.circuit.specs.Rooms.{quadRoom, variableRoom};
+ghost use Rattle.circuit.specs.Rooms.{quad_room, variable_room};
 
 use base::{Form, Kind};
 use circuit::{GateId, QUAD_ROOM, VARIABLE_ROOM};
@@ -35,7 +35,7 @@ struct MadePart {
 
 // The code of a starting value.
 fn start_code(kind: Kind) -> u32
-    ensures { result ≡ startCode kind }
+    ensures { result ≡ start_code kind }
 {
     match kind {
         Kind::Word => 0,
@@ -45,7 +45,7 @@ fn start_code(kind: Kind) -> u32
 
 // 10 variable, its code at `at`: it makes no gate and stands for its present one.
 fn make_variable(s: &[u8], at: usize, present: &[u16; VARIABLE_ROOM], count: u16) -> MadeExpr
-    requires { (at + 1 < length s.now) × (get_or s.now (at + 1) 0 < variableRoom) }
+    requires { (at + 1 < length s.now) × (get_or s.now (at + 1) 0 < variable_room) }
     ensures { result ≡ record { next = at + 2; gate = record { 0 = get_or present.now (get_or s.now (at + 1) 0) 0 }; count = count } }
 {
     let x = s[at + 1] as usize;
@@ -67,8 +67,8 @@ fn make_expr(
     quads: &mut [u32; QUAD_ROOM],
     count: u16,
 ) -> MadeExpr
-    requires { Headed s.now (6 + variables s.now) × IsRead (readExpr deep s.now want at) }
-    ensures { ExprMade s.now (readExpr deep s.now want at) present.now quads.old count result.next result.gate.0 result.count quads.new }
+    requires { Headed s.now (6 + variables s.now) × IsRead (read_expr deep s.now want at) }
+    ensures { ExprMade s.now (read_expr deep s.now want at) present.now quads.old count result.next result.gate.0 result.count quads.new }
 {
     let c = base_codes::code_of(s[at]);
     let form = c.form;
@@ -134,8 +134,8 @@ fn make_argument(
     quads: &mut [u32; QUAD_ROOM],
     count: u16,
 ) -> MadeExpr
-    requires { Headed s.now (6 + variables s.now) × IsRead (readExpr deep s.now want at) }
-    ensures { ExprMade s.now (readExpr deep s.now want at) present.now quads.old count result.next result.gate.0 result.count quads.new }
+    requires { Headed s.now (6 + variables s.now) × IsRead (read_expr deep s.now want at) }
+    ensures { ExprMade s.now (read_expr deep s.now want at) present.now quads.old count result.next result.gate.0 result.count quads.new }
 {
     if s[at] == base_codes::VARIABLE {
         return make_variable(s, at, present, count);
@@ -154,7 +154,7 @@ fn nothing(at: usize, count: u16) -> MadeExpr {
 
 // The set of variable x alone.
 fn only(x: u8) -> u32
-    requires { x < variableRoom }
+    requires { x < variable_room }
     ensures { result ≡ 2 ^ x }
 {
     1 << x
@@ -162,7 +162,7 @@ fn only(x: u8) -> u32
 
 // Gates 0 to V - 1: the variables' starting values.
 fn make_starts(s: &[u8], present: &mut [u16; VARIABLE_ROOM], quads: &mut [u32; QUAD_ROOM]) -> u16
-    requires { Headed s.now (6 + variables s.now) × ((quads.old ≡ replicate quadRoom 0) × (present.old ≡ replicate variableRoom 0)) }
+    requires { Headed s.now (6 + variables s.now) × ((quads.old ≡ replicate quad_room 0) × (present.old ≡ replicate variable_room 0)) }
     ensures { Held s.now (starts (variables s.now)) quads.new present.new result }
 {
     let v = s[5];
@@ -186,8 +186,8 @@ fn make_assign(
     quads: &mut [u32; QUAD_ROOM],
     count: u16,
 ) -> MadePart
-    requires { Headed s.now (6 + variables s.now) × IsRead (readAssign s.now at) }
-    ensures made { Done makeStatement assignsIn s.now (readAssign s.now at) quads.old present.old count
+    requires { Headed s.now (6 + variables s.now) × IsRead (read_assign s.now at) }
+    ensures made { Done make_statement assigns_in s.now (read_assign s.now at) quads.old present.old count
         result.next result.count result.assigned quads.new present.new }
     ensures small { result.count < 65536 }
 {
@@ -231,8 +231,8 @@ fn make_branch(
     quads: &mut [u32; QUAD_ROOM],
     count: u16,
 ) -> MadePart
-    requires { Headed s.now (6 + variables s.now) × ((at < length s.now) × IsRead (branchWith (readBlock s.now) s.now nest at)) }
-    ensures made { Done makeStatement assignsIn s.now (branchWith (readBlock s.now) s.now nest at) quads.old present.old count
+    requires { Headed s.now (6 + variables s.now) × ((at < length s.now) × IsRead (branch_with (read_block s.now) s.now nest at)) }
+    ensures made { Done make_statement assigns_in s.now (branch_with (read_block s.now) s.now nest at) quads.old present.old count
         result.next result.count result.assigned quads.new present.new }
     ensures small { result.count < 65536 }
 {
@@ -269,8 +269,8 @@ fn make_statement(
     quads: &mut [u32; QUAD_ROOM],
     count: u16,
 ) -> MadePart
-    requires { Headed s.now (6 + variables s.now) × ((at < length s.now) × IsRead (readStatement s.now nest at)) }
-    ensures made { Done makeStatement assignsIn s.now (readStatement s.now nest at) quads.old present.old count
+    requires { Headed s.now (6 + variables s.now) × ((at < length s.now) × IsRead (read_statement s.now nest at)) }
+    ensures made { Done make_statement assigns_in s.now (read_statement s.now nest at) quads.old present.old count
         result.next result.count result.assigned quads.new present.new }
     ensures small { result.count < 65536 }
 {
@@ -299,8 +299,8 @@ fn make_block(
     quads: &mut [u32; QUAD_ROOM],
     count: u16,
 ) -> MadePart
-    requires { Headed s.now (6 + variables s.now) × IsRead (readBlock s.now nest at) }
-    ensures made { Done makeBlock assigns s.now (readBlock s.now nest at) quads.old present.old count
+    requires { Headed s.now (6 + variables s.now) × IsRead (read_block s.now nest at) }
+    ensures made { Done make_block assigns s.now (read_block s.now nest at) quads.old present.old count
         result.next result.count result.assigned quads.new present.new }
     ensures small { result.count < 65536 }
 {
@@ -325,7 +325,7 @@ fn make_block(
 // The plain circuit of an accepted rule, into arrays that are lent clear: its gates' quads, the variables' last gates, and the count of its gates,
 // 257 for any above 256.
 pub fn make_rule(s: &[u8], quads: &mut [u32; QUAD_ROOM], present: &mut [u16; VARIABLE_ROOM]) -> u16
-    requires { IsRead (readRule s.now) × ((quads.old ≡ replicate quadRoom 0) × (present.old ≡ replicate variableRoom 0)) }
+    requires { IsRead (read_rule s.now) × ((quads.old ≡ replicate quad_room 0) × (present.old ≡ replicate variable_room 0)) }
     ensures { RuleMade s.now quads.new present.new result }
 {
     let v = s[5] as usize;

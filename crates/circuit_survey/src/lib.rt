@@ -3,16 +3,16 @@
 ghost use Rattle.std.specs.Prelude.{◌≡◌, ◌<◌, ◌≤◌, length, replicate};
 ghost use Rattle.base.specs.Buffers.{over};
 ghost use Rattle.circuit.specs.Gates.{Earlier, costs, conditions};
-ghost use Rattle.circuit.specs.Limits.{mostGates, mostConditions};
-ghost use Rattle.circuit_needed.specs.Held.{gatesIn, codeCost, costTable};
-ghost use Rattle.circuit_needed.specs.Ranks.{Marked, markedIn, NumberedBelow};
-ghost use Rattle.circuit.specs.Rooms.{gateRoom, conditionRoom};
+ghost use Rattle.circuit.specs.Limits.{most_gates, most_conditions};
+ghost use Rattle.circuit_needed.specs.Held.{gates_in, code_cost, cost_table};
+ghost use Rattle.circuit_needed.specs.Ranks.{Marked, marked_in, NumberedBelow};
+ghost use Rattle.circuit.specs.Rooms.{gate_room, condition_room};
 
 use circuit::{CONDITION_ROOM, GATE_ROOM, QUAD_ROOM};
 
 // The cost of a gate, by its code.
 fn cost_of(code: u32) -> u8
-    ensures { result ≡ codeCost code }
+    ensures { result ≡ code_cost code }
 {
     if code == circuit::CHOICE {
         circuit::CHOICE_COST
@@ -23,7 +23,7 @@ fn cost_of(code: u32) -> u8
 
 // The same of all codes below 40, in hexadecimal, to be looked up, since the tests take longer in a walk over mixed gates; the codes not named cost nothing.
 fn cost_table() -> [u8; 64]
-    ensures { result ≡ costTable }
+    ensures { result ≡ cost_table }
 {
     let mut costs = [0u8; 64];
     costs[0x22] = cost_of(0x22);
@@ -37,8 +37,8 @@ fn cost_table() -> [u8; 64]
 
 // The cost of a gate, looked up.
 fn listed_cost(costs: &[u8; 64], code: u32) -> usize
-    requires { costs.now ≡ costTable }
-    ensures { result ≡ codeCost code }
+    requires { costs.now ≡ cost_table }
+    ensures { result ≡ code_cost code }
 {
     if code < 64 {
         let at = code as usize;
@@ -57,10 +57,10 @@ pub struct Surveyed {
 
 // Counts the conditions and adds up the costs in one walk; it marks the gates that stand first in a choice gate, in ranks that are lent clear: the others are 0.
 pub fn survey(quads: &[u32; QUAD_ROOM], count: usize, ranks: &mut [u16; GATE_ROOM]) -> Surveyed
-    requires { (count ≤ mostGates) × (Earlier (gatesIn quads.now count) × (ranks.old ≡ replicate gateRoom 0)) }
-    ensures counted { result.conditions ≡ length (conditions (gatesIn quads.now count)) }
-    ensures cost { result.cost ≡ costs (gatesIn quads.now count) }
-    ensures marked { Marked (gatesIn quads.now count) ranks.new }
+    requires { (count ≤ most_gates) × (Earlier (gates_in quads.now count) × (ranks.old ≡ replicate gate_room 0)) }
+    ensures counted { result.conditions ≡ length (conditions (gates_in quads.now count)) }
+    ensures cost { result.cost ≡ costs (gates_in quads.now count) }
+    ensures marked { Marked (gates_in quads.now count) ranks.new }
 {
     let table = cost_table();
     let mut conditions: u16 = 0;
@@ -85,7 +85,7 @@ pub fn survey(quads: &[u32; QUAD_ROOM], count: usize, ranks: &mut [u16; GATE_ROO
 
 // Numbers the marked gates from 1, rising.
 pub fn number_marked(count: usize, ranks: &mut [u16; GATE_ROOM])
-    requires { (count ≤ mostGates) × (length ranks.old ≡ gateRoom) }
+    requires { (count ≤ most_gates) × (length ranks.old ≡ gate_room) }
     ensures { NumberedBelow ranks.old ranks.new count }
 {
     let mut t: u16 = 0;
@@ -101,8 +101,8 @@ pub fn number_marked(count: usize, ranks: &mut [u16; GATE_ROOM])
 
 // The gates that have a number, in rising order, in an array that is lent clear: of ranks that number the conditions, condition t is element t.
 pub fn condition_gates(ranks: &[u16; GATE_ROOM], count: usize, gates: &mut [u16; CONDITION_ROOM])
-    requires { ((count ≤ mostGates) × (length (markedIn ranks.now count) ≤ mostConditions)) × (gates.old ≡ replicate conditionRoom 0) }
-    ensures { gates.new ≡ over (markedIn ranks.now count) (replicate conditionRoom 0) }
+    requires { ((count ≤ most_gates) × (length (marked_in ranks.now count) ≤ most_conditions)) × (gates.old ≡ replicate condition_room 0) }
+    ensures { gates.new ≡ over (marked_in ranks.now count) (replicate condition_room 0) }
 {
     let mut t: usize = 0;
     let mut g: usize = 0;

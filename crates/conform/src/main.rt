@@ -1,7 +1,7 @@
 // Reads a conformance stream on standard input and prints one line a case (docs/CONFORMANCE.md).
 // Operations 01 to 09; any other ends the stream with `refused`.
 ghost use Rattle.std.specs.Prelude.{◌*◌, ◌≤◌, ◌<◌, length};
-ghost use Rattle.circuit.specs.Rooms.{gateRoom};
+ghost use Rattle.circuit.specs.Rooms.{gate_room};
 
 use base::Answer;
 use circuit::{CONDITION_ROOM, GateId, NEED_WORDS, QUAD_ROOM, VARIABLE_ROOM};
@@ -140,7 +140,7 @@ fn print_hex(n: u64, width: usize)
 
 // Gate g's set of the lent words, the highest word first.
 fn print_set(needs: &[u64; NEED_WORDS], g: GateId)
-    requires { g.0 < gateRoom }
+    requires { g.0 < gate_room }
 {
     let s = base_settings::load(needs, base_words::wide16(g.0));
     print_hex(s.w3, 16);
@@ -151,7 +151,7 @@ fn print_set(needs: &[u64; NEED_WORDS], g: GateId)
 
 // A gate: CODE.A.B.C.NEEDS.
 fn print_gate(quads: &[u32; QUAD_ROOM], needs: &[u64; NEED_WORDS], g: GateId)
-    requires { g.0 < gateRoom }
+    requires { g.0 < gate_room }
 {
     let i = base_words::wide16(g.0);
     print(b" ");

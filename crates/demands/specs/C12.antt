@@ -5,17 +5,17 @@ use Rattle.base.specs.Codes.{byte_of, commutes}
 use Rattle.base.specs.declared.Operation.{Operation}
 use Rattle.base.specs.Parsing.{IsRead}
 use Rattle.rule.specs.Tree.{variable, two, Block}
-use Rattle.rule.specs.Rule.{readRule}
-use Rattle.rule.specs.Format.{headerBytes, WellFormed}
+use Rattle.rule.specs.Rule.{read_rule}
+use Rattle.rule.specs.Format.{header_bytes, WellFormed}
 use Rattle.rule.specs.OnlyOrder.{OnlyOrder}
 use Rattle.rule.specs.Standing.{InBlock}
 use Rattle.rule.specs.OrderBytes as bytes
-use Rattle.circuit.specs.Gates.{operation, gateAt}
-use Rattle.circuit.specs.PlainCircuit.{gatesOf}
-use Rattle.circuit.specs.Whole.{ruleAnswer}
-use Rattle.plan.specs.Rows.{planAnswer}
-use Rattle.fused.specs.FusedCircuit.{fusedFile}
-use Rattle.fused.specs.Answers.{writeAnswer, writtenOver}
+use Rattle.circuit.specs.Gates.{operation, gate_at}
+use Rattle.circuit.specs.PlainCircuit.{gates_of}
+use Rattle.circuit.specs.Whole.{rule_answer}
+use Rattle.plan.specs.Rows.{plan_answer}
+use Rattle.fused.specs.FusedCircuit.{fused_file}
+use Rattle.fused.specs.Answers.{write_answer, written_over}
 use Rattle.fused.specs.OnlyOrderLaws as files
 use Rattle.demands.specs.OrderLaws as order
 
@@ -23,31 +23,31 @@ use Rattle.demands.specs.OrderLaws as order
 pub commuting : (op : Operation) → commutes op ≡ elem (byte_of op) (0x20 ∷ 0x22 ∷ 0x24 ∷ 0x25 ∷ 0x26 ∷ [])
 commuting = order.commuting
 
-pub lower-first : (s : List ℕ) → IsRead (readRule s) → (g a b : ℕ) (op : Operation) → gateAt (gatesOf s) g ≡ operation op (a ∷ b ∷ [])
+pub lower_first : (s : List ℕ) → IsRead (read_rule s) → (g a b : ℕ) (op : Operation) → gate_at (gates_of s) g ≡ operation op (a ∷ b ∷ [])
     → commutes op ≡ true → a ≤ b
-lower-first = order.lower-first
+lower_first = order.lower_first
 
 -- "Two accepted rules that differ only in the order of two variables that are themselves the two arguments of such an operation must give
 -- the same bytes with the same plan." If the first is accepted, the second is;
-pub one-rule : (s t : List ℕ) → OnlyOrder s t → (ruleAnswer s).number ≡ 0 → ruleAnswer s ≡ ruleAnswer t
-one-rule = files.same-rule
+pub one_rule : (s t : List ℕ) → OnlyOrder s t → (rule_answer s).number ≡ 0 → rule_answer s ≡ rule_answer t
+one_rule = files.same_rule
 
 -- every plan is answered the same, its file is the same, and so is all of a lent buffer, on a refusal too.
-pub one-check : (s t : List ℕ) → OnlyOrder s t → (ruleAnswer s).number ≡ 0 → (p : List ℕ) → planAnswer s p ≡ planAnswer t p
-one-check = files.same-plan
+pub one_check : (s t : List ℕ) → OnlyOrder s t → (rule_answer s).number ≡ 0 → (p : List ℕ) → plan_answer s p ≡ plan_answer t p
+one_check = files.same_plan
 
-pub one-file : (s t : List ℕ) → OnlyOrder s t → (ruleAnswer s).number ≡ 0 → (p : List ℕ) → fusedFile s p ≡ fusedFile t p
-one-file = files.same-file
+pub one_file : (s t : List ℕ) → OnlyOrder s t → (rule_answer s).number ≡ 0 → (p : List ℕ) → fused_file s p ≡ fused_file t p
+one_file = files.same_file
 
-pub one_answer : (s t : List ℕ) → OnlyOrder s t → (ruleAnswer s).number ≡ 0 → (p : List ℕ) (room : ℕ) → writeAnswer s p room ≡ writeAnswer t p room
+pub one_answer : (s t : List ℕ) → OnlyOrder s t → (rule_answer s).number ≡ 0 → (p : List ℕ) (room : ℕ) → write_answer s p room ≡ write_answer t p room
 one_answer = files.same_answer
 
-pub one-buffer : (s t : List ℕ) → OnlyOrder s t → (ruleAnswer s).number ≡ 0 → (p buffer : List ℕ) → writtenOver s p buffer ≡ writtenOver t p buffer
-one-buffer = files.same_over
+pub one_buffer : (s t : List ℕ) → OnlyOrder s t → (rule_answer s).number ≡ 0 → (p buffer : List ℕ) → written_over s p buffer ≡ written_over t p buffer
+one_buffer = files.same_over
 
 -- (so it is for two files whose bytes differ by 10 x 10 y against 10 y 10 x, where that is such an operation's arguments)
-pub bytes-order : (kinds : List ℕ) (b : Block) → WellFormed kinds b → (op : Operation) (x y : ℕ) → commutes op ≡ true
+pub bytes_order : (kinds : List ℕ) (b : Block) → WellFormed kinds b → (op : Operation) (x y : ℕ) → commutes op ≡ true
     → (pre post : List ℕ) → InBlock (two op (variable x) (variable y)) b pre post
-    → OnlyOrder (headerBytes kinds ++ (pre ++ (byte_of op ∷ 0x10 ∷ x ∷ 0x10 ∷ y ∷ post)))
-    (headerBytes kinds ++ (pre ++ (byte_of op ∷ 0x10 ∷ y ∷ 0x10 ∷ x ∷ post)))
-bytes-order = bytes.order-bytes
+    → OnlyOrder (header_bytes kinds ++ (pre ++ (byte_of op ∷ 0x10 ∷ x ∷ 0x10 ∷ y ∷ post)))
+    (header_bytes kinds ++ (pre ++ (byte_of op ∷ 0x10 ∷ y ∷ 0x10 ∷ x ∷ post)))
+bytes_order = bytes.order_bytes

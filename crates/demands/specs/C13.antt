@@ -5,91 +5,91 @@ use Rattle.base.specs.declared.Kind.TheVariants as kind
 use Rattle.base.specs.Lists.{◌∈◌}
 use Rattle.base.specs.Numbers.{Bytes}
 use Rattle.base.specs.Answers.{refusal}
-use Rattle.rule.specs.Header.{mark, variables, kindAt, workingAt}
+use Rattle.rule.specs.Header.{mark, variables, kind_at, working_at}
 use Rattle.rule.specs.HeaderLaws as kinds
 use Rattle.rule.specs.Tree.{Block}
-use Rattle.rule.specs.Format.{ruleBytes, WellFormed}
+use Rattle.rule.specs.Format.{rule_bytes, WellFormed}
 use Rattle.rule.specs.OnlyWorking.{OnlyWorking, MoreWorking}
-use Rattle.circuit.specs.Running.{runRule, runWrites}
+use Rattle.circuit.specs.Running.{run_rule, run_writes}
 use Rattle.circuit.specs.WrittenLaws as written
-use Rattle.circuit.specs.PlainCircuit.{gatesOf, outputsOf}
+use Rattle.circuit.specs.PlainCircuit.{gates_of, outputs_of}
 use Rattle.base.specs.Settings.{Setting}
-use Rattle.circuit_needed.specs.Needed.{Needed, wantedOf}
-use Rattle.circuit.specs.Whole.{ruleAnswer}
-use Rattle.plan.specs.Rows.{planAnswer}
+use Rattle.circuit_needed.specs.Needed.{Needed, wanted_of}
+use Rattle.circuit.specs.Whole.{rule_answer}
+use Rattle.plan.specs.Rows.{plan_answer}
 use Rattle.file.specs.Versions.{Version}
 use Rattle.file.specs.Records.{Record}
-use Rattle.file.specs.CircuitFile.{fileBytes, noWire}
-use Rattle.file.specs.FileFigures.{wireCount, fileOutputs, fileFigures}
+use Rattle.file.specs.CircuitFile.{file_bytes, no_wire}
+use Rattle.file.specs.FileFigures.{wire_count, file_outputs, file_figures}
 use Rattle.file.specs.WellFormed as circuits
-use Rattle.fused.specs.FusedCircuit.{fusedFile}
+use Rattle.fused.specs.FusedCircuit.{fused_file}
 use Rattle.fused.specs.FusedFigures as figures
-use Rattle.file.specs.Answers.{circuitAnswer}
+use Rattle.file.specs.Answers.{circuit_answer}
 use Rattle.demands.specs.WorkingLaws as working
 use Rattle.demands.specs.ReadingLaws as rules
 
 -- "From now on kind 02 is a working word and 03 a working bit": what the kind byte of variable x says, 02 and 03 as here, 00 and 01 as before.
-pub working-word : (s : List ℕ) (x : ℕ) → get_or s (6 + x) 0 ≡ 0x02 → (kindAt s x ≡ kind.Word) × (workingAt s x ≡ true)
-working-word = kinds.working-word-said
+pub working_word : (s : List ℕ) (x : ℕ) → get_or s (6 + x) 0 ≡ 0x02 → (kind_at s x ≡ kind.Word) × (working_at s x ≡ true)
+working_word = kinds.working_word_said
 
-pub working-bit : (s : List ℕ) (x : ℕ) → get_or s (6 + x) 0 ≡ 0x03 → (kindAt s x ≡ kind.Bit) × (workingAt s x ≡ true)
-working-bit = kinds.working-bit-said
+pub working_bit : (s : List ℕ) (x : ℕ) → get_or s (6 + x) 0 ≡ 0x03 → (kind_at s x ≡ kind.Bit) × (working_at s x ≡ true)
+working_bit = kinds.working_bit_said
 
-pub result-word : (s : List ℕ) (x : ℕ) → get_or s (6 + x) 0 ≡ 0x00 → (kindAt s x ≡ kind.Word) × (workingAt s x ≡ false)
-result-word = kinds.word-said
+pub result_word : (s : List ℕ) (x : ℕ) → get_or s (6 + x) 0 ≡ 0x00 → (kind_at s x ≡ kind.Word) × (working_at s x ≡ false)
+result_word = kinds.word_said
 
-pub result-bit : (s : List ℕ) (x : ℕ) → get_or s (6 + x) 0 ≡ 0x01 → (kindAt s x ≡ kind.Bit) × (workingAt s x ≡ false)
-result-bit = kinds.bit-said
+pub result_bit : (s : List ℕ) (x : ℕ) → get_or s (6 + x) 0 ≡ 0x01 → (kind_at s x ≡ kind.Bit) × (working_at s x ≡ false)
+result_bit = kinds.bit_said
 
 -- "Only the other variables' last gates are needed from the start": what is wanted are the outputs of the variables that do not work,
-pub wanted-are : (s : List ℕ) (g : ℕ) → (g ∈ wantedOf s) ↔ ((x : ℕ) × (x < variables s) × (workingAt s x ≡ false) × (g ≡ get_or (outputsOf s) x 0))
-wanted-are = working.wanted-are
+pub wanted_are : (s : List ℕ) (g : ℕ) → (g ∈ wanted_of s) ↔ ((x : ℕ) × (x < variables s) × (working_at s x ≡ false) × (g ≡ get_or (outputs_of s) x 0))
+wanted_are = working.wanted_are
 
 -- so that where more variables work no gate is needed that was not, under any setting,
-pub fewer-needed : (kinds other : List ℕ) → MoreWorking kinds other → (b : Block) → WellFormed kinds b → (σ : Setting) (g : ℕ)
-    → Needed (gatesOf (ruleBytes other b)) (wantedOf (ruleBytes other b)) σ g → Needed (gatesOf (ruleBytes kinds b)) (wantedOf (ruleBytes kinds b)) σ g
-fewer-needed kinds other m b w = working.fewer-needed kinds other m.only b w m.more
+pub fewer_needed : (kinds other : List ℕ) → MoreWorking kinds other → (b : Block) → WellFormed kinds b → (σ : Setting) (g : ℕ)
+    → Needed (gates_of (rule_bytes other b)) (wanted_of (rule_bytes other b)) σ g → Needed (gates_of (rule_bytes kinds b)) (wanted_of (rule_bytes kinds b)) σ g
+fewer_needed kinds other m b w = working.fewer_needed kinds other m.only b w m.more
 
 -- and where all work nothing is needed.
-pub nothing-needed : (s : List ℕ) → ((x : ℕ) → x < variables s → workingAt s x ≡ true) → (σ : Setting) (g : ℕ) → Needed (gatesOf s) (wantedOf s) σ g → ⊥
-nothing-needed = working.nothing-needed
+pub nothing_needed : (s : List ℕ) → ((x : ℕ) → x < variables s → working_at s x ≡ true) → (σ : Setting) (g : ℕ) → Needed (gates_of s) (wanted_of s) σ g → ⊥
+nothing_needed = working.nothing_needed
 
 -- (A rule is answered the same whichever of its variables work: so it is taken where all of them do.)
-pub working-answer : (kinds other : List ℕ) → OnlyWorking kinds other → (b : Block) → WellFormed kinds b → ruleAnswer (ruleBytes kinds b) ≡ ruleAnswer (ruleBytes other b)
-working-answer = working.same_answer
+pub working_answer : (kinds other : List ℕ) → OnlyWorking kinds other → (b : Block) → WellFormed kinds b → rule_answer (rule_bytes kinds b) ≡ rule_answer (rule_bytes other b)
+working_answer = working.same_answer
 
 -- "In the circuit file a working variable's output is FF FF, which names no wire" (and a result variable's is a wire),
-pub working-output : (s p : List ℕ) → Bytes s → (planAnswer s p).number ≡ 0 → (x : ℕ) → x < variables s → workingAt s x ≡ true
-    → get_or (fileOutputs (fusedFile s p)) x 0 ≡ noWire
-working-output = working.output-working
+pub working_output : (s p : List ℕ) → Bytes s → (plan_answer s p).number ≡ 0 → (x : ℕ) → x < variables s → working_at s x ≡ true
+    → get_or (file_outputs (fused_file s p)) x 0 ≡ no_wire
+working_output = working.output_working
 
-pub result-output : (s p : List ℕ) → Bytes s → (planAnswer s p).number ≡ 0 → (x : ℕ) → x < variables s → workingAt s x ≡ false
-    → get_or (fileOutputs (fusedFile s p)) x 0 < wireCount (fusedFile s p)
-result-output = working.output-result
+pub result_output : (s p : List ℕ) → Bytes s → (plan_answer s p).number ≡ 0 → (x : ℕ) → x < variables s → working_at s x ≡ false
+    → get_or (file_outputs (fused_file s p)) x 0 < wire_count (fused_file s p)
+result_output = working.output_result
 
 -- "and running writes 0 for it." So the file's figures are all that a run writes:
-pub working-file : (s p : List ℕ) → Bytes s → (planAnswer s p).number ≡ 0 → (inputs : List ℕ) → FiguresFit (variables s) (kindAt s) inputs
-    → length inputs ≡ variables s → fileFigures (fusedFile s p) inputs ≡ runWrites s inputs
-working-file = figures.file-run
+pub working_file : (s p : List ℕ) → Bytes s → (plan_answer s p).number ≡ 0 → (inputs : List ℕ) → FiguresFit (variables s) (kind_at s) inputs
+    → length inputs ≡ variables s → file_figures (fused_file s p) inputs ≡ run_writes s inputs
+working_file = figures.file_run
 
 -- "a direct run keeps working figures to its end but writes 0 for them too", and for a result variable its figure at the end:
-pub working-written : (s inputs : List ℕ) (x : ℕ) → x < variables s → workingAt s x ≡ true → get_or (runWrites s inputs) x 0 ≡ 0
-working-written = written.writes-working
+pub working_written : (s inputs : List ℕ) (x : ℕ) → x < variables s → working_at s x ≡ true → get_or (run_writes s inputs) x 0 ≡ 0
+working_written = written.writes_working
 
-pub result-written : (s inputs : List ℕ) (x : ℕ) → x < variables s → workingAt s x ≡ false → get_or (runWrites s inputs) x 0 ≡ get_or (runRule s inputs) x 0
-result-written = written.writes-result
+pub result_written : (s inputs : List ℕ) (x : ℕ) → x < variables s → working_at s x ≡ false → get_or (run_writes s inputs) x 0 ≡ get_or (run_rule s inputs) x 0
+result_written = written.writes_result
 
 -- "Refusal 3 now begins above kind 03": a rule of 6 to 4,096 bytes, its mark and version right and V in 1 to 32, is 3 at the kind byte of variable x, where it has that byte
 -- and those before it are at most 03, exactly when that byte is above 03;
-pub kind-refused : (s : List ℕ) → 6 ≤ length s → length s ≤ 4096 → take 5 s ≡ mark → 1 ≤ variables s → variables s ≤ 32
-    → (x : ℕ) → x < variables s → 6 + x < length s → ((y : ℕ) → y < x → get_or s (6 + y) 0 ≤ 0x03) → (ruleAnswer s ≡ refusal 3 (6 + x)) ↔ (0x03 < get_or s (6 + x) 0)
-kind-refused = rules.kind-refused
+pub kind_refused : (s : List ℕ) → 6 ≤ length s → length s ≤ 4096 → take 5 s ≡ mark → 1 ≤ variables s → variables s ≤ 32
+    → (x : ℕ) → x < variables s → 6 + x < length s → ((y : ℕ) → y < x → get_or s (6 + y) 0 ≤ 0x03) → (rule_answer s ≡ refusal 3 (6 + x)) ↔ (0x03 < get_or s (6 + x) 0)
+kind_refused = rules.kind_refused
 
 -- "and the circuit reader admits FF FF as an output": any output of any file that is read may be made FF FF; running it then writes 0 there, and else what it wrote.
-pub no-wire-read : (ver : Version) (v : ℕ) (R : List Record) (outputs : List ℕ) → circuits.WellFormed ver v R outputs → (x : ℕ)
-    → (circuitAnswer (fileBytes ver v R (set outputs x noWire))).number ≡ 0
-no-wire-read = working.no-wire-read
+pub no_wire_read : (ver : Version) (v : ℕ) (R : List Record) (outputs : List ℕ) → circuits.WellFormed ver v R outputs → (x : ℕ)
+    → (circuit_answer (file_bytes ver v R (set outputs x no_wire))).number ≡ 0
+no_wire_read = working.no_wire_read
 
-pub no-wire-run : (ver : Version) (v : ℕ) (R : List Record) (outputs : List ℕ) → circuits.WellFormed ver v R outputs → (x : ℕ) (inputs : List ℕ)
-    → fileFigures (fileBytes ver v R (set outputs x noWire)) inputs ≡ set (fileFigures (fileBytes ver v R outputs) inputs) x 0
-no-wire-run = working.no-wire-run
+pub no_wire_run : (ver : Version) (v : ℕ) (R : List Record) (outputs : List ℕ) → circuits.WellFormed ver v R outputs → (x : ℕ) (inputs : List ℕ)
+    → file_figures (file_bytes ver v R (set outputs x no_wire)) inputs ≡ set (file_figures (file_bytes ver v R outputs) inputs) x 0
+no_wire_run = working.no_wire_run

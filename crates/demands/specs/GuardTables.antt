@@ -4,12 +4,12 @@ use Rattle.std.specs.Prelude.{ℕ, ◌^◌, ◌≤◌, ◌<◌, ◌≡◌, true,
 use Rattle.base.specs.Lists.{◌∈◌}
 use Rattle.base.specs.Bits.{bit}
 use Rattle.base.specs.Settings.{Setting}
-use Rattle.circuit.specs.PlainCircuit.{gatesOf}
-use Rattle.circuit_needed.specs.Needed.{Needed, wantedOf}
+use Rattle.circuit.specs.PlainCircuit.{gates_of}
+use Rattle.circuit_needed.specs.Needed.{Needed, wanted_of}
 use Rattle.plan.specs.PlanFile.{Rising}
 use Rattle.plan.specs.Groups.{RestsOn}
 use Rattle.file.specs.Records.{Record, guard}
-use Rattle.fused.specs.FusedCircuit.{wireOf}
+use Rattle.fused.specs.FusedCircuit.{wire_of}
 
 -- the setting σ gives these conditions, in that order, the bits of j
 abbrev pub Gives : Setting → List ℕ → ℕ → Type 0
@@ -19,8 +19,8 @@ Gives σ conds j = (t : ℕ) → t < length conds → σ (get_or conds t 0) ≡ 
 pub record MemberGuard (s p : List ℕ) (m : ℕ) (r : Record) : Type 0 where
   pub conds : List ℕ
   pub table : ℕ
-  pub is : r ≡ guard (map (wireOf s p) conds) table
-  pub rests : (c : ℕ) → (c ∈ conds) ↔ RestsOn (gatesOf s) (wantedOf s) m c
+  pub is : r ≡ guard (map (wire_of s p) conds) table
+  pub rests : (c : ℕ) → (c ∈ conds) ↔ RestsOn (gates_of s) (wanted_of s) m c
   pub rising : Rising conds
-  pub bits : (j : ℕ) → j < 2 ^ length conds → (σ : Setting) → Gives σ conds j → (bit table j ≡ true) ↔ Needed (gatesOf s) (wantedOf s) σ m
+  pub bits : (j : ℕ) → j < 2 ^ length conds → (σ : Setting) → Gives σ conds j → (bit table j ≡ true) ↔ Needed (gates_of s) (wanted_of s) σ m
   pub above : (j : ℕ) → 2 ^ length conds ≤ j → bit table j ≡ false

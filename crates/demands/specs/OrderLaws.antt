@@ -6,10 +6,10 @@ use Rattle.base.specs.declared.Operation.{Operation}
 use Rattle.base.specs.declared.Operation.TheVariants.{Sum, Difference, Product, LessThan, Equal, And, Or, Not}
 use Rattle.base.specs.Parsing.{IsRead}
 use Rattle.base.specs.ParsingLaws.{is_read}
-use Rattle.rule.specs.Rule.{readRule}
-use Rattle.circuit.specs.Gates.{operation, gateAt}
-use Rattle.circuit.specs.PlainCircuit.{gatesOf}
-use Rattle.circuit.specs.LowerLaws.{rule-lower}
+use Rattle.rule.specs.Rule.{read_rule}
+use Rattle.circuit.specs.Gates.{operation, gate_at}
+use Rattle.circuit.specs.PlainCircuit.{gates_of}
+use Rattle.circuit.specs.LowerLaws.{rule_lower}
 
 pub commuting : (op : Operation) → commutes op ≡ elem (byte_of op) (0x20 ∷ 0x22 ∷ 0x24 ∷ 0x25 ∷ 0x26 ∷ [])
 commuting Sum = refl
@@ -21,6 +21,6 @@ commuting And = refl
 commuting Or = refl
 commuting Not = refl
 
-pub lower-first : (s : List ℕ) → IsRead (readRule s) → (g a b : ℕ) (op : Operation) → gateAt (gatesOf s) g ≡ operation op (a ∷ b ∷ [])
+pub lower_first : (s : List ℕ) → IsRead (read_rule s) → (g a b : ℕ) (op : Operation) → gate_at (gates_of s) g ≡ operation op (a ∷ b ∷ [])
     → commutes op ≡ true → a ≤ b
-lower-first s h g a b op e c = let r = is_read (readRule s) h in rule-lower s r.0 r.1 r.2 g op a b e c
+lower_first s h g a b op e c = let r = is_read (read_rule s) h in rule_lower s r.0 r.1 r.2 g op a b e c

@@ -6,38 +6,38 @@ use Rattle.std.proofs.lemmas.Bool.{eqb-false}
 use Rattle.base.specs.Numbers.{Bytes}
 use Rattle.base.specs.TestLaws.{split}
 use Rattle.base.specs.declared.Answer.{Answer}
-use Rattle.circuit.specs.Whole.{ruleAnswer}
-use Rattle.run.specs.Direct.{runAnswer}
-use Rattle.plan.specs.Rows.{planAnswer}
-use Rattle.plan.specs.AcceptedLaws.{answer-rule}
-use Rattle.file.specs.Limits.{mostFileBytes, mostWires}
-use Rattle.file.specs.FileFigures.{wireCount}
-use Rattle.fused.specs.FusedCircuit.{fusedFile}
-use Rattle.fused.specs.SizeBounds.{wires-bound, bytes-bound}
-use Rattle.fused.specs.FitPlan.{fused-found}
-use Rattle.fused.specs.FusedFigures.{reads-earlier, output-earlier}
-use Rattle.fused.specs.Answers.{fusedAnswer, writeAnswer}
-use Rattle.fused.specs.AnswerLaws.{fused-refused, write-refused, write-taken}
-use Rattle.demands.specs.AnsweredLaws.{plan-number}
+use Rattle.circuit.specs.Whole.{rule_answer}
+use Rattle.run.specs.Direct.{run_answer}
+use Rattle.plan.specs.Rows.{plan_answer}
+use Rattle.plan.specs.AcceptedLaws.{answer_rule}
+use Rattle.file.specs.Limits.{most_file_bytes, most_wires}
+use Rattle.file.specs.FileFigures.{wire_count}
+use Rattle.fused.specs.FusedCircuit.{fused_file}
+use Rattle.fused.specs.SizeBounds.{wires_bound, bytes_bound}
+use Rattle.fused.specs.FitPlan.{fused_found}
+use Rattle.fused.specs.FusedFigures.{reads_earlier, output_earlier}
+use Rattle.fused.specs.Answers.{fused_answer, write_answer}
+use Rattle.fused.specs.AnswerLaws.{fused_refused, write_refused, write_taken}
+use Rattle.demands.specs.AnsweredLaws.{plan_number}
 
 -- the wires that our own file counts
-pub wires-counted : (s p : List ℕ) → Bytes s → (planAnswer s p).number ≡ 0 → wireCount (fusedFile s p) ≤ mostWires
-wires-counted s p bytes h = subst⁻¹ (λ (n : ℕ). n ≤ mostWires) (fused-found s p h bytes (reads-earlier s p h) (output-earlier s p h)).3 (wires-bound s p h)
+pub wires_counted : (s p : List ℕ) → Bytes s → (plan_answer s p).number ≡ 0 → wire_count (fused_file s p) ≤ most_wires
+wires_counted s p bytes h = subst⁻¹ (λ (n : ℕ). n ≤ most_wires) (fused_found s p h bytes (reads_earlier s p h) (output_earlier s p h)).3 (wires_bound s p h)
 
 -- a buffer of that many bytes or more
-pub room-suffices : (s p : List ℕ) (room : ℕ) → mostFileBytes ≤ room → writeAnswer s p room ≡ fusedAnswer s p
-room-suffices s p room l =
-    split (eqb (planAnswer s p).number 0)
-    (λ t. let h = eqb-true _ _ t in write-taken s p room h (let b = bytes-bound s p h in omega (arith, b, l)))
-    (λ t. let n = eqb-false _ _ t in write-refused s p room n ∙ sym (fused-refused s p n))
+pub room_suffices : (s p : List ℕ) (room : ℕ) → most_file_bytes ≤ room → write_answer s p room ≡ fused_answer s p
+room_suffices s p room l =
+    split (eqb (plan_answer s p).number 0)
+    (λ t. let h = eqb-true _ _ t in write_taken s p room h (let b = bytes_bound s p h in omega (arith, b, l)))
+    (λ t. let n = eqb-false _ _ t in write_refused s p room n ∙ sym (fused_refused s p n))
 
 -- a refused rule
-module _ (s p : List ℕ) (h : (ruleAnswer s).number ≡ 0 → ⊥) where
-  plan-too : (planAnswer s p).number ≡ 0 → ⊥
-  plan-too z = h (ap (λ (a : Answer). a.number) (sym (answer-rule s p h)) ∙ z)
+module _ (s p : List ℕ) (h : (rule_answer s).number ≡ 0 → ⊥) where
+  plan_too : (plan_answer s p).number ≡ 0 → ⊥
+  plan_too z = h (ap (λ (a : Answer). a.number) (sym (answer_rule s p h)) ∙ z)
 
-  pub rule-before-writing : (room : ℕ) → writeAnswer s p room ≡ ruleAnswer s
-  rule-before-writing room = write-refused s p room plan-too ∙ answer-rule s p h
+  pub rule_before_writing : (room : ℕ) → write_answer s p room ≡ rule_answer s
+  rule_before_writing room = write_refused s p room plan_too ∙ answer_rule s p h
 
-  pub rule-before-running : (inputs : List ℕ) (room : ℕ) → runAnswer (fusedAnswer s p) s inputs room ≡ ruleAnswer s
-  rule-before-running inputs room = plan-number s p plan-too inputs room ∙ answer-rule s p h
+  pub rule_before_running : (inputs : List ℕ) (room : ℕ) → run_answer (fused_answer s p) s inputs room ≡ rule_answer s
+  rule_before_running inputs room = plan_number s p plan_too inputs room ∙ answer_rule s p h

@@ -8,94 +8,94 @@ use Rattle.base.specs.TestLaws.{split}
 use Rattle.base.specs.Settings.{Setting}
 use Rattle.base.specs.Parsing.{IsRead}
 use Rattle.base.specs.declared.Answer.{Answer}
-use Rattle.rule.specs.Header.{variables, workingOf, workingAt}
+use Rattle.rule.specs.Header.{variables, working_of, working_at}
 use Rattle.rule.specs.Tree.{Block}
-use Rattle.rule.specs.Format.{ruleBytes}
+use Rattle.rule.specs.Format.{rule_bytes}
 use Rattle.rule.specs.Format as rules
-use Rattle.rule.specs.RuleFormat.{rule-back}
+use Rattle.rule.specs.RuleFormat.{rule_back}
 use Rattle.rule.specs.OnlyWorking.{OnlyWorking}
-use Rattle.rule.specs.WorkingLaws.{rule-working, same_size, well-working}
-use Rattle.circuit.specs.Limits.{mostGates, mostConditions}
-use Rattle.circuit.specs.PlainCircuit.{Making, plain_of, plainCircuit, gatesOf, outputsOf}
+use Rattle.rule.specs.WorkingLaws.{rule_working, same_size, well_working}
+use Rattle.circuit.specs.Limits.{most_gates, most_conditions}
+use Rattle.circuit.specs.PlainCircuit.{Making, plain_of, plain_circuit, gates_of, outputs_of}
 use Rattle.circuit.specs.StartLaws.{read_plain}
-use Rattle.circuit_needed.specs.Needed.{Needed, wantedOf}
-use Rattle.circuit_needed.specs.NeededLaws.{none_needed, more-wanted}
-use Rattle.circuit_needed.specs.WantedLaws.{result-wanted, wanted-own, all-working}
-use Rattle.circuit.specs.Whole.{wholeWithin, ruleAnswer}
-use Rattle.circuit.specs.WholeLaws.{answer-whole}
-use Rattle.plan.specs.Rows.{planAnswer}
+use Rattle.circuit_needed.specs.Needed.{Needed, wanted_of}
+use Rattle.circuit_needed.specs.NeededLaws.{none_needed, more_wanted}
+use Rattle.circuit_needed.specs.WantedLaws.{result_wanted, wanted_own, all_working}
+use Rattle.circuit.specs.Whole.{whole_within, rule_answer}
+use Rattle.circuit.specs.WholeLaws.{answer_whole}
+use Rattle.plan.specs.Rows.{plan_answer}
 use Rattle.file.specs.Versions.{Version}
 use Rattle.file.specs.Records.{Record}
-use Rattle.file.specs.CircuitFile.{fileBytes, noWire}
-use Rattle.file.specs.FileFigures.{wireCount, fileOutputs, fileFigures}
+use Rattle.file.specs.CircuitFile.{file_bytes, no_wire}
+use Rattle.file.specs.FileFigures.{wire_count, file_outputs, file_figures}
 use Rattle.file.specs.WellFormed as circuits
-use Rattle.file.specs.FormatLaws.{well-row}
-use Rattle.file.specs.NoWireLaws.{well-less, figures-less}
-use Rattle.file.specs.Answers.{circuitAnswer}
-use Rattle.file.specs.ReadLaws.{answer-number}
-use Rattle.fused.specs.FusedCircuit.{outputWire, fusedFile}
+use Rattle.file.specs.FormatLaws.{well_row}
+use Rattle.file.specs.NoWireLaws.{well_less, figures_less}
+use Rattle.file.specs.Answers.{circuit_answer}
+use Rattle.file.specs.ReadLaws.{answer_number}
+use Rattle.fused.specs.FusedCircuit.{output_wire, fused_file}
 use Rattle.fused.specs.OutputLaws as own
-use Rattle.fused.specs.FitPlan.{fused-found}
-use Rattle.fused.specs.FusedFigures.{reads-earlier, result-earlier, output-earlier}
+use Rattle.fused.specs.FitPlan.{fused_found}
+use Rattle.fused.specs.FusedFigures.{reads_earlier, result_earlier, output_earlier}
 
 -- what is wanted from the start
-pub wanted-are : (s : List ℕ) (g : ℕ) → (g ∈ wantedOf s) ↔ ((x : ℕ) × (x < variables s) × (workingAt s x ≡ false) × (g ≡ get_or (outputsOf s) x 0))
-wanted-are s g = (wanted-own s g, λ r. subst⁻¹ (λ (h : ℕ). h ∈ wantedOf s) r.3 (result-wanted s r.0 r.1 r.2))
+pub wanted_are : (s : List ℕ) (g : ℕ) → (g ∈ wanted_of s) ↔ ((x : ℕ) × (x < variables s) × (working_at s x ≡ false) × (g ≡ get_or (outputs_of s) x 0))
+wanted_are s g = (wanted_own s g, λ r. subst⁻¹ (λ (h : ℕ). h ∈ wanted_of s) r.3 (result_wanted s r.0 r.1 r.2))
 
-pub nothing-needed : (s : List ℕ) → ((x : ℕ) → x < variables s → workingAt s x ≡ true) → (σ : Setting) (g : ℕ) → Needed (gatesOf s) (wantedOf s) σ g → ⊥
-nothing-needed s h σ g n = none_needed (gatesOf s) σ g (subst (λ (w : List ℕ). Needed (gatesOf s) w σ g) (all-working s h) n)
+pub nothing_needed : (s : List ℕ) → ((x : ℕ) → x < variables s → working_at s x ≡ true) → (σ : Setting) (g : ℕ) → Needed (gates_of s) (wanted_of s) σ g → ⊥
+nothing_needed s h σ g n = none_needed (gates_of s) σ g (subst (λ (w : List ℕ). Needed (gates_of s) w σ g) (all_working s h) n)
 
 -- two rules that differ only in which variables work
 module _ (kinds other : List ℕ) (o : OnlyWorking kinds other) (b : Block) (w : rules.WellFormed kinds b) where
   abbrev s : List ℕ
-  s = ruleBytes kinds b
+  s = rule_bytes kinds b
 
   abbrev t : List ℕ
-  t = ruleBytes other b
+  t = rule_bytes other b
 
-  same-plain : plainCircuit s ≡ plainCircuit t
-  same-plain =
-      read_plain s b (length s) (rule-back kinds b w) ∙ ap (λ (v : ℕ). plain_of v b) o.many
-      ∙ sym (read_plain t b (length t) (rule-back other b (well-working kinds other o b w)))
+  same_plain : plain_circuit s ≡ plain_circuit t
+  same_plain =
+      read_plain s b (length s) (rule_back kinds b w) ∙ ap (λ (v : ℕ). plain_of v b) o.many
+      ∙ sym (read_plain t b (length t) (rule_back other b (well_working kinds other o b w)))
 
-  pub same_answer : ruleAnswer (ruleBytes kinds b) ≡ ruleAnswer (ruleBytes other b)
+  pub same_answer : rule_answer (rule_bytes kinds b) ≡ rule_answer (rule_bytes other b)
   same_answer =
-      answer-whole s (subst⁻¹ IsRead (rule-back kinds b w) tt)
-      ∙ ap (λ (m : Making). wholeWithin mostGates mostConditions m.gates (length s)) same-plain
-      ∙ ap (wholeWithin mostGates mostConditions (gatesOf t)) (same_size kinds other o b)
-      ∙ sym (answer-whole t (subst⁻¹ IsRead (rule-back other b (well-working kinds other o b w)) tt))
+      answer_whole s (subst⁻¹ IsRead (rule_back kinds b w) tt)
+      ∙ ap (λ (m : Making). whole_within most_gates most_conditions m.gates (length s)) same_plain
+      ∙ ap (whole_within most_gates most_conditions (gates_of t)) (same_size kinds other o b)
+      ∙ sym (answer_whole t (subst⁻¹ IsRead (rule_back other b (well_working kinds other o b w)) tt))
 
   -- where more work, no gate is needed that was not
-  pub fewer-needed : ((x : ℕ) → x < length kinds → workingOf (get_or kinds x 0) ≡ true → workingOf (get_or other x 0) ≡ true) → (σ : Setting) (g : ℕ)
-      → Needed (gatesOf (ruleBytes other b)) (wantedOf (ruleBytes other b)) σ g → Needed (gatesOf (ruleBytes kinds b)) (wantedOf (ruleBytes kinds b)) σ g
-  fewer-needed more σ g n =
-      subst⁻¹ (λ (m : Making). Needed m.gates (wantedOf s) σ g) same-plain (more-wanted (gatesOf t) (wantedOf t) (wantedOf s) σ among g n)
+  pub fewer_needed : ((x : ℕ) → x < length kinds → working_of (get_or kinds x 0) ≡ true → working_of (get_or other x 0) ≡ true) → (σ : Setting) (g : ℕ)
+      → Needed (gates_of (rule_bytes other b)) (wanted_of (rule_bytes other b)) σ g → Needed (gates_of (rule_bytes kinds b)) (wanted_of (rule_bytes kinds b)) σ g
+  fewer_needed more σ g n =
+      subst⁻¹ (λ (m : Making). Needed m.gates (wanted_of s) σ g) same_plain (more_wanted (gates_of t) (wanted_of t) (wanted_of s) σ among g n)
     where
-      among : (h : ℕ) → h ∈ wantedOf t → h ∈ wantedOf s
+      among : (h : ℕ) → h ∈ wanted_of t → h ∈ wanted_of s
       among h m =
-          let (x, l, f, e) = wanted-own t h m in
+          let (x, l, f, e) = wanted_own t h m in
           let k : x < length kinds = omega (arith, l, o.many) in
-          let works : workingAt s x ≡ false = split (workingOf (get_or kinds x 0)) (λ y. absurd (contrary x k y f)) (λ n. rule-working kinds b x k ∙ n) in
-          subst⁻¹ (λ (h : ℕ). h ∈ wantedOf s) (e ∙ ap (λ (m : Making). get_or m.present x 0) (sym same-plain)) (result-wanted s x k works)
+          let works : working_at s x ≡ false = split (working_of (get_or kinds x 0)) (λ y. absurd (contrary x k y f)) (λ n. rule_working kinds b x k ∙ n) in
+          subst⁻¹ (λ (h : ℕ). h ∈ wanted_of s) (e ∙ ap (λ (m : Making). get_or m.present x 0) (sym same_plain)) (result_wanted s x k works)
         where
-          contrary : (x : ℕ) → x < length kinds → workingOf (get_or kinds x 0) ≡ true → workingAt t x ≡ false → ⊥
-          contrary x k y f = true≢false (sym (more x k y) ∙ sym (rule-working other b x (omega (arith, k, o.many))) ∙ f)
+          contrary : (x : ℕ) → x < length kinds → working_of (get_or kinds x 0) ≡ true → working_at t x ≡ false → ⊥
+          contrary x k y f = true≢false (sym (more x k y) ∙ sym (rule_working other b x (omega (arith, k, o.many))) ∙ f)
 
 -- any output of a circuit that is read may be made no wire
-pub no-wire-read : (ver : Version) (v : ℕ) (R : List Record) (outputs : List ℕ) → circuits.WellFormed ver v R outputs → (x : ℕ) → (circuitAnswer (fileBytes ver v R (set outputs x noWire))).number ≡ 0
-no-wire-read ver v R outputs w x = answer-number (fileBytes ver v R (set outputs x noWire)) ∙ well-row ver v R (set outputs x noWire) (well-less ver v R outputs x w)
+pub no_wire_read : (ver : Version) (v : ℕ) (R : List Record) (outputs : List ℕ) → circuits.WellFormed ver v R outputs → (x : ℕ) → (circuit_answer (file_bytes ver v R (set outputs x no_wire))).number ≡ 0
+no_wire_read ver v R outputs w x = answer_number (file_bytes ver v R (set outputs x no_wire)) ∙ well_row ver v R (set outputs x no_wire) (well_less ver v R outputs x w)
 
-pub no-wire-run : (ver : Version) (v : ℕ) (R : List Record) (outputs : List ℕ) → circuits.WellFormed ver v R outputs → (x : ℕ) (inputs : List ℕ)
-    → fileFigures (fileBytes ver v R (set outputs x noWire)) inputs ≡ set (fileFigures (fileBytes ver v R outputs) inputs) x 0
-no-wire-run ver v R outputs w x = figures-less ver v R outputs x w.fits
+pub no_wire_run : (ver : Version) (v : ℕ) (R : List Record) (outputs : List ℕ) → circuits.WellFormed ver v R outputs → (x : ℕ) (inputs : List ℕ)
+    → file_figures (file_bytes ver v R (set outputs x no_wire)) inputs ≡ set (file_figures (file_bytes ver v R outputs) inputs) x 0
+no_wire_run ver v R outputs w x = figures_less ver v R outputs x w.fits
 
 -- the outputs that stand in our own file
-module _ (s p : List ℕ) (bytes : Bytes s) (h : (planAnswer s p).number ≡ 0) (x : ℕ) (l : x < variables s) where
-  output-at : get_or (fileOutputs (fusedFile s p)) x 0 ≡ outputWire s p x
-  output-at = ap (λ (w : List ℕ). get_or w x 0) (fused-found s p h bytes (reads-earlier s p h) (output-earlier s p h)).1 ∙ own.output-at s p x l
+module _ (s p : List ℕ) (bytes : Bytes s) (h : (plan_answer s p).number ≡ 0) (x : ℕ) (l : x < variables s) where
+  output_at : get_or (file_outputs (fused_file s p)) x 0 ≡ output_wire s p x
+  output_at = ap (λ (w : List ℕ). get_or w x 0) (fused_found s p h bytes (reads_earlier s p h) (output_earlier s p h)).1 ∙ own.output_at s p x l
 
-  pub output-working : workingAt s x ≡ true → get_or (fileOutputs (fusedFile s p)) x 0 ≡ noWire
-  output-working t = output-at ∙ rw t
+  pub output_working : working_at s x ≡ true → get_or (file_outputs (fused_file s p)) x 0 ≡ no_wire
+  output_working t = output_at ∙ rw t
 
-  pub output-result : workingAt s x ≡ false → get_or (fileOutputs (fusedFile s p)) x 0 < wireCount (fusedFile s p)
-  output-result f = rw (output-at, (fused-found s p h bytes (reads-earlier s p h) (output-earlier s p h)).3) (result-earlier s p h x l f)
+  pub output_result : working_at s x ≡ false → get_or (file_outputs (fused_file s p)) x 0 < wire_count (fused_file s p)
+  output_result f = rw (output_at, (fused_found s p h bytes (reads_earlier s p h) (output_earlier s p h)).3) (result_earlier s p h x l f)

@@ -4,12 +4,12 @@ use Rattle.std.specs.Prelude.{ℕ, ◌+◌, ◌*◌, ◌≤◌, ◌<◌, ◌≡�
 use Rattle.base.specs.Lists.{◌∈◌}
 use Rattle.file.specs.Records.{Record, input, word, bit, operation, choice, pick, guard}
 use Rattle.file.specs.CircuitFile.{mark}
-use Rattle.file.specs.FileFigures.{versionIn, recordAt, size_at, placeAfter, firstRecord, fileVariables, wireCount}
-use Rattle.file.specs.Versions.{Version, mostGuardWires}
+use Rattle.file.specs.FileFigures.{version_in, record_at, size_at, place_after, first_record, file_variables, wire_count}
+use Rattle.file.specs.Versions.{Version, most_guard_wires}
 
 -- the bytes that a record begins with
-abbrev pub recordCodes : List ℕ
-recordCodes = 0x00 ∷ 0x01 ∷ 0x11 ∷ 0x12 ∷ 0x20 ∷ 0x21 ∷ 0x22 ∷ 0x23 ∷ 0x24 ∷ 0x25 ∷ 0x26 ∷ 0x27 ∷ 0x30 ∷ 0x31 ∷ 0x32 ∷ []
+abbrev pub record_codes : List ℕ
+record_codes = 0x00 ∷ 0x01 ∷ 0x11 ∷ 0x12 ∷ 0x20 ∷ 0x21 ∷ 0x22 ∷ 0x23 ∷ 0x24 ∷ 0x25 ∷ 0x26 ∷ 0x27 ∷ 0x30 ∷ 0x31 ∷ 0x32 ∷ []
 
 -- a bit constant is 00 or 01, a pick has a pair, a guard as many wires at most as its version allows
 abbrev pub Bounded : Version → Record → Type 0
@@ -19,28 +19,28 @@ Bounded ver (bit b) = b ≤ 1
 Bounded ver (operation op l) = Unit {0}
 Bounded ver (choice c a b) = Unit {0}
 Bounded ver (pick l) = 1 ≤ length l
-Bounded ver (guard cs t) = length cs ≤ mostGuardWires ver
+Bounded ver (guard cs t) = length cs ≤ most_guard_wires ver
 
 -- the place of record i; for the wire count, that of the output wires
-abbrev pub recordPlace : List ℕ → ℕ → ℕ
-recordPlace f i = placeAfter i f firstRecord
+abbrev pub record_place : List ℕ → ℕ → ℕ
+record_place f i = place_after i f first_record
 
 -- a whole record begins at a place
 pub record WholeAt (f : List ℕ) (at : ℕ) : Type 0 where
   -- with the code of one
-  pub known : get_or f at 0 ∈ recordCodes
+  pub known : get_or f at 0 ∈ record_codes
   -- its bytes are there
   pub inside : at + size_at f at ≤ length f
   -- and it keeps within its bounds
-  pub bounded : Bounded (versionIn f) (recordAt f at)
+  pub bounded : Bounded (version_in f) (record_at f at)
 
 -- the bytes f are laid out as a circuit file
 pub record LaidOut (f : List ℕ) : Type 0 where
   -- the bytes before the records are there
-  pub headed : firstRecord ≤ length f
+  pub headed : first_record ≤ length f
   -- the mark, and one of the two versions
-  pub marked : take (length (mark (versionIn f))) f ≡ mark (versionIn f)
+  pub marked : take (length (mark (version_in f))) f ≡ mark (version_in f)
   -- every record is whole
-  pub whole : (i : ℕ) → i < wireCount f → WholeAt f (recordPlace f i)
+  pub whole : (i : ℕ) → i < wire_count f → WholeAt f (record_place f i)
   -- an output for each variable, and nothing after them
-  pub ended : recordPlace f (wireCount f) + 2 * fileVariables f ≡ length f
+  pub ended : record_place f (wire_count f) + 2 * file_variables f ≡ length f

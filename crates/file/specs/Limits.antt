@@ -3,13 +3,13 @@
 use Rattle.std.specs.Prelude.{ℕ}
 
 -- 16,384 bytes
-abbrev pub mostFileBytes : ℕ
-mostFileBytes = 16384
+abbrev pub most_file_bytes : ℕ
+most_file_bytes = 16384
 
 -- V outside 1 to 32
-abbrev pub mostFileVariables : ℕ
-mostFileVariables = 32
+abbrev pub most_file_variables : ℕ
+most_file_variables = 32
 
 -- at most 640 wires
-abbrev pub mostWires : ℕ
-mostWires = 640
+abbrev pub most_wires : ℕ
+most_wires = 640

@@ -6,24 +6,24 @@ pub data Version : Type 0 where
   two : Version  -- 00 02
 
 -- the last byte of the version
-abbrev pub versionByte : Version → ℕ
-versionByte one = 0x01
-versionByte two = 0x02
+abbrev pub version_byte : Version → ℕ
+version_byte one = 0x01
+version_byte two = 0x02
 
 -- the version that such a byte names; a file with any other is refused (row 60)
-abbrev pub versionOf : ℕ → Version
-versionOf b = cond (eqb b (versionByte one)) one two
+abbrev pub version_of : ℕ → Version
+version_of b = cond (eqb b (version_byte one)) one two
 
 -- a guard reads at most so many wires
-abbrev pub mostGuardWires : Version → ℕ
-mostGuardWires one = 6
-mostGuardWires two = 8
+abbrev pub most_guard_wires : Version → ℕ
+most_guard_wires one = 6
+most_guard_wires two = 8
 
--- so that its table of two to that power bits has its bytes (`table-bits`, VersionLaws)
-abbrev pub tableBytes : Version → ℕ
-tableBytes one = 8
-tableBytes two = 32
+-- so that its table of two to that power bits has its bytes (`table_bits`, VersionLaws)
+abbrev pub table_bytes : Version → ℕ
+table_bytes one = 8
+table_bytes two = 32
 
 -- the version that is written
-abbrev pub writtenVersion : Version
-writtenVersion = two
+abbrev pub written_version : Version
+written_version = two

@@ -2,34 +2,34 @@
 use Rattle.std.specs.Prelude.{ℕ, ◌≡◌, List, [], ◌∷◌}
 use Rattle.base.specs.Lists.{◌∈◌}
 use Rattle.base.specs.Runs.{run_at}
-use Rattle.base.specs.Codes.{entryOf}
+use Rattle.base.specs.Codes.{entry_of}
 use Rattle.base.specs.declared.Kind.{Kind}
 use Rattle.base.specs.declared.Kind.TheVariants as kind
 use Rattle.file.specs.Records.{Pair, Record, input, word, bit, operation, choice, pick, guard}
 
 -- the guards and the values of a pick
-abbrev pub guardsOf : List Pair → List ℕ
-guardsOf [] = []
-guardsOf (p ∷ l) = p.guarding ∷ guardsOf l
+abbrev pub guards_of : List Pair → List ℕ
+guards_of [] = []
+guards_of (p ∷ l) = p.guarding ∷ guards_of l
 
 abbrev pub values_of : List Pair → List ℕ
 values_of [] = []
 values_of (p ∷ l) = p.value ∷ values_of l
 
 -- the kind of a record's wire, from the kinds k of other wires: a choice and a pick are of their first value's kind; a pick without a pair gives 0, a word
-abbrev pub recordKind : (ℕ → Kind) → Record → Kind
-recordKind k (input j x) = j
-recordKind k (word n) = kind.Word
-recordKind k (bit b) = kind.Bit
-recordKind k (operation op l) = (entryOf op).gives
-recordKind k (choice c a b) = k a
-recordKind k (pick []) = kind.Word
-recordKind k (pick (p ∷ l)) = k p.value
-recordKind k (guard cs t) = kind.Bit
+abbrev pub record_kind : (ℕ → Kind) → Record → Kind
+record_kind k (input j x) = j
+record_kind k (word n) = kind.Word
+record_kind k (bit b) = kind.Bit
+record_kind k (operation op l) = (entry_of op).gives
+record_kind k (choice c a b) = k a
+record_kind k (pick []) = kind.Word
+record_kind k (pick (p ∷ l)) = k p.value
+record_kind k (guard cs t) = kind.Bit
 
 -- the kind of wire i
-unfoldable pub wireKind : List Record → ℕ → Kind
-wireKind R i = run_at kind.Word recordKind R i
+unfoldable pub wire_kind : List Record → ℕ → Kind
+wire_kind R i = run_at kind.Word record_kind R i
 
 -- the wires of a list are all of one kind
 abbrev pub AllOf : (ℕ → Kind) → Kind → List ℕ → Type 0
@@ -40,7 +40,7 @@ abbrev pub RecordFits : (ℕ → Kind) → Record → Type 0
 RecordFits k (input j x) = Unit {0}
 RecordFits k (word n) = Unit {0}
 RecordFits k (bit b) = Unit {0}
-RecordFits k (operation op l) = AllOf k (entryOf op).takes l
+RecordFits k (operation op l) = AllOf k (entry_of op).takes l
 RecordFits k (choice c a b) = (k c ≡ kind.Bit) × (k b ≡ k a)
-RecordFits k (pick l) = AllOf k kind.Bit (guardsOf l) × AllOf k (recordKind k (pick l)) (values_of l)
+RecordFits k (pick l) = AllOf k kind.Bit (guards_of l) × AllOf k (record_kind k (pick l)) (values_of l)
 RecordFits k (guard cs t) = AllOf k kind.Bit cs

@@ -6,11 +6,11 @@ use Rattle.std.proofs.Math.Logic.{⊎_map}
 use Rattle.base.specs.Lists.{◌∈◌}
 use Rattle.base.specs.TestLaws.{split}
 use Rattle.base.specs.declared.Kind.{Kind}
-use Rattle.file.specs.Records.{Record, input, reads, recordIn, NotInput}
-use Rattle.file.specs.CircuitFile.{noWire}
-use Rattle.file.specs.FileFigures.{fileVariables, wireCount, fileRecords, fileOutputs}
-use Rattle.file.specs.FilePartLaws.{file-count, record_of}
-use Rattle.file.specs.LaidOut.{recordPlace}
+use Rattle.file.specs.Records.{Record, input, reads, record_in, NotInput}
+use Rattle.file.specs.CircuitFile.{no_wire}
+use Rattle.file.specs.FileFigures.{file_variables, wire_count, file_records, file_outputs}
+use Rattle.file.specs.FilePartLaws.{file_count, record_of}
+use Rattle.file.specs.LaidOut.{record_place}
 use Rattle.file.specs.FormatLaws.{Passed}
 use Rattle.file_figures.specs.Working.{Workable}
 
@@ -22,20 +22,20 @@ each_in P (a ∷ l) h w (inr m) = each_in P l (λ x k. h (suc x) (omega arith)) 
 
 module _ (f : List ℕ) (p : Passed f) where
   -- every output is no wire, or a wire of the file
-  pub outputs-there : (w : ℕ) → w ∈ fileOutputs f → (w ≡ noWire) ⊎ (w < wireCount f)
-  outputs-there =
-      each_in (λ w. (w ≡ noWire) ⊎ (w < wireCount f)) (fileOutputs f) (λ x h. ⊎_map (λ e. e) (λ o. rw (← file-count f) o.0) (p.stand.outs x h))
+  pub outputs_there : (w : ℕ) → w ∈ file_outputs f → (w ≡ no_wire) ⊎ (w < wire_count f)
+  outputs_there =
+      each_in (λ w. (w ≡ no_wire) ⊎ (w < wire_count f)) (file_outputs f) (λ x h. ⊎_map (λ e. e) (λ o. rw (← file_count f) o.0) (p.stand.outs x h))
 
   -- an input record is one of the first V, each its own variable's
-  input-below : (i : ℕ) (k : Kind) (x : ℕ) → recordIn (fileRecords f) i ≡ input k x → x < fileVariables f
-  input-below i k x e =
-      split (ltb i (fileVariables f))
-      (λ t. let h = ltb-true i (fileVariables f) t in let (j, q) = (p.stand.first i h).1 in let s : input k x ≡ input j i = sym e ∙ q in let r : x ≡ i = cc in rw r h)
-      (λ t. absurd (subst NotInput e (p.stand.later i (ltb-false i (fileVariables f) t))))
+  input_below : (i : ℕ) (k : Kind) (x : ℕ) → record_in (file_records f) i ≡ input k x → x < file_variables f
+  input_below i k x e =
+      split (ltb i (file_variables f))
+      (λ t. let h = ltb-true i (file_variables f) t in let (j, q) = (p.stand.first i h).1 in let s : input k x ≡ input j i = sym e ∙ q in let r : x ≡ i = cc in rw r h)
+      (λ t. absurd (subst NotInput e (p.stand.later i (ltb-false i (file_variables f) t))))
 
-  pub record-workable : (v i : ℕ) → v ≡ fileVariables f → i < wireCount f → Workable f v i (recordPlace f i)
-  record-workable v i e h = record {
+  pub record_workable : (v i : ℕ) → v ≡ file_variables f → i < wire_count f → Workable f v i (record_place f i)
+  record_workable v i e h = record {
     whole = p.layout.whole i h;
-    inputs = λ k x q. rw e (input-below i k x (record_of f i h ∙ q));
+    inputs = λ k x q. rw e (input_below i k x (record_of f i h ∙ q));
     earlier = λ w m. p.stand.earlier i w (subst (λ (q : Record). w ∈ reads q) (sym (record_of f i h)) m);
   }

@@ -8,103 +8,103 @@ use Rattle.std.proofs.lemmas.List.{length-map}
 use Rattle.base.specs.Lists.{◌∈◌}
 use Rattle.base.specs.Numbers.{number_at}
 use Rattle.base.specs.Buffers.{over}
-use Rattle.base.specs.BufferLaws.{over-nil, over-snoc, length_over}
+use Rattle.base.specs.BufferLaws.{over_nil, over_snoc, length_over}
 use Rattle.base.specs.ListLaws.{map_same}
-use Rattle.file.specs.CircuitFile.{noWire}
-use Rattle.file.specs.FileFigures.{wiresAt, fileVariables, wireCount, fileOutputs, fileFigures}
-use Rattle.file.specs.FilePartLaws.{wires-next, wires-length, wire-of, outputs-of, figures-of}
-use Rattle.file.specs.Limits.{mostWires}
-use Rattle.file.specs.LaidOut.{recordPlace}
+use Rattle.file.specs.CircuitFile.{no_wire}
+use Rattle.file.specs.FileFigures.{wires_at, file_variables, wire_count, file_outputs, file_figures}
+use Rattle.file.specs.FilePartLaws.{wires_next, wires_length, wire_of_lem, outputs_of_lem, figures_of_lem}
+use Rattle.file.specs.Limits.{most_wires}
+use Rattle.file.specs.LaidOut.{record_place}
 use Rattle.file.specs.FormatLaws.{Passed}
-use Rattle.file_figures.specs.Working.{held, Output, outputHeld, figuresOf}
-use Rattle.file_figures.specs.WorkingLaws.{figures-length, held-over}
-use Rattle.file_figures.specs.AcceptedLaws.{outputs-there}
+use Rattle.file_figures.specs.Working.{held, Output, output_held, figures_of}
+use Rattle.file_figures.specs.WorkingLaws.{figures_length, held_over}
+use Rattle.file_figures.specs.AcceptedLaws.{outputs_there}
 
 -- an output: n is its number as the code has it
 module _ (figures : List ℕ) (n w : ℕ) (e : n ≡ w) where
-  pub output-none : n ≡ noWire → 0 ≡ outputHeld figures w
-  output-none h = rw (eq-eqb w noWire (sym e ∙ h))
+  pub output_none : n ≡ no_wire → 0 ≡ output_held figures w
+  output_none h = rw (eq-eqb w no_wire (sym e ∙ h))
 
-  module _ (h : n ≡ noWire → ⊥) where
-    pub output-below : Output w → n < mostWires
-    output-below = ⊎_elim (λ z. absurd (h (e ∙ z))) (λ l. rw e l)
+  module _ (h : n ≡ no_wire → ⊥) where
+    pub output_below : Output w → n < most_wires
+    output_below = ⊎_elim (λ z. absurd (h (e ∙ z))) (λ l. rw e l)
 
-    pub output-held : (g : ℕ) → g ≡ held figures n → g ≡ outputHeld figures w
-    output-held g q = rw (ne_eqb w noWire (λ z. h (e ∙ z)), ← e) q
+    pub output_held_lem : (g : ℕ) → g ≡ held figures n → g ≡ output_held figures w
+    output_held_lem g q = rw (ne_eqb w no_wire (λ z. h (e ∙ z)), ← e) q
 
 -- loop invariant, amid the outputs: the first x are given over the results that were there before
 pub record Giving (f figures before results : List ℕ) (at x : ℕ) : Type 0 where
-  pub few : x ≤ fileVariables f
-  pub inside : at + 2 * fileVariables f ≤ length f
-  pub outputs : (x : ℕ) → x < fileVariables f → Output (number_at 2 f (at + 2 * x))
-  pub room : fileVariables f ≤ length before
-  pub same : results ≡ over (map (outputHeld figures) (wiresAt x f at)) before
+  pub few : x ≤ file_variables f
+  pub inside : at + 2 * file_variables f ≤ length f
+  pub outputs : (x : ℕ) → x < file_variables f → Output (number_at 2 f (at + 2 * x))
+  pub room : file_variables f ≤ length before
+  pub same : results ≡ over (map (output_held figures) (wires_at x f at)) before
 
-pub giving-start : (f figures before : List ℕ) (at : ℕ) → at + 2 * fileVariables f ≤ length f
-    → ((x : ℕ) → x < fileVariables f → Output (number_at 2 f (at + 2 * x))) → fileVariables f ≤ length before → Giving f figures before before at 0
-giving-start f figures before at i o r = record { few = omega arith; inside = i; outputs = o; room = r; same = sym (over-nil before) }
+pub giving_start : (f figures before : List ℕ) (at : ℕ) → at + 2 * file_variables f ≤ length f
+    → ((x : ℕ) → x < file_variables f → Output (number_at 2 f (at + 2 * x))) → file_variables f ≤ length before → Giving f figures before before at 0
+giving_start f figures before at i o r = record { few = omega arith; inside = i; outputs = o; room = r; same = sym (over_nil before) }
 
 -- one output's figure more
-given-more : (f figures : List ℕ) (at x : ℕ)
-    → map (outputHeld figures) (wiresAt (x + 1) f at) ≡ map (outputHeld figures) (wiresAt x f at) ++ (outputHeld figures (number_at 2 f (at + 2 * x)) ∷ [])
-given-more f figures at x =
-    ap (λ (n : ℕ). map (outputHeld figures) (wiresAt n f at)) (add-one x)
-    ∙ ap (map (outputHeld figures)) (wires-next x f at)
-    ∙ map-append (outputHeld figures) (wiresAt x f at) (number_at 2 f (at + 2 * x) ∷ [])
+given_more : (f figures : List ℕ) (at x : ℕ)
+    → map (output_held figures) (wires_at (x + 1) f at) ≡ map (output_held figures) (wires_at x f at) ++ (output_held figures (number_at 2 f (at + 2 * x)) ∷ [])
+given_more f figures at x =
+    ap (λ (n : ℕ). map (output_held figures) (wires_at n f at)) (add-one x)
+    ∙ ap (map (output_held figures)) (wires_next x f at)
+    ∙ map-append (output_held figures) (wires_at x f at) (number_at 2 f (at + 2 * x) ∷ [])
 
 module _ (f figures before results : List ℕ) (at x : ℕ) (p : Giving f figures before results at x) where
-  given-length : length (map (outputHeld figures) (wiresAt x f at)) ≡ x
-  given-length = length-map (wiresAt x f at) (outputHeld figures) ∙ wires-length x f at
+  given_length : length (map (output_held figures) (wires_at x f at)) ≡ x
+  given_length = length-map (wires_at x f at) (output_held figures) ∙ wires_length x f at
 
-  pub giving-length : length results ≡ length before
-  giving-length = ap length p.same ∙ length_over (map (outputHeld figures) (wiresAt x f at)) before (rw given-length (omega (arith, p.few, p.room)))
+  pub giving_length : length results ≡ length before
+  giving_length = ap length p.same ∙ length_over (map (output_held figures) (wires_at x f at)) before (rw given_length (omega (arith, p.few, p.room)))
 
-  pub giving-end : (v : ℕ) → v ≡ fileVariables f → v ≤ x → results ≡ over (map (outputHeld figures) (wiresAt (fileVariables f) f at)) before
-  giving-end v e h = let z : x ≡ fileVariables f = omega (arith, p.few) in p.same ∙ ap (λ (n : ℕ). over (map (outputHeld figures) (wiresAt n f at)) before) z
+  pub giving_end : (v : ℕ) → v ≡ file_variables f → v ≤ x → results ≡ over (map (output_held figures) (wires_at (file_variables f) f at)) before
+  giving_end v e h = let z : x ≡ file_variables f = omega (arith, p.few) in p.same ∙ ap (λ (n : ℕ). over (map (output_held figures) (wires_at n f at)) before) z
 
-  module _ (h : x < fileVariables f) where
-    pub giving-output : (at + 2 * x + 2 ≤ length f) × Output (number_at 2 f (at + 2 * x))
-    giving-output = (omega (arith, p.inside), p.outputs x h)
+  module _ (h : x < file_variables f) where
+    pub giving_output : (at + 2 * x + 2 ≤ length f) × Output (number_at 2 f (at + 2 * x))
+    giving_output = (omega (arith, p.inside), p.outputs x h)
 
-    pub giving-more : (g : ℕ) → g ≡ outputHeld figures (number_at 2 f (at + 2 * x)) → Giving f figures before (set results x g) at (x + 1)
-    giving-more g e = record {
+    pub giving_more : (g : ℕ) → g ≡ output_held figures (number_at 2 f (at + 2 * x)) → Giving f figures before (set results x g) at (x + 1)
+    giving_more g e = record {
       few = omega arith;
       inside = p.inside;
       outputs = p.outputs;
       room = p.room;
       same =
           ap (λ (l : List ℕ). set l x g) p.same
-          ∙ over-snoc (map (outputHeld figures) (wiresAt x f at)) before x g given-length (omega (arith, p.room))
-          ∙ rw (given-more f figures at x, e);
+          ∙ over_snoc (map (output_held figures) (wires_at x f at)) before x g given_length (omega (arith, p.room))
+          ∙ rw (given_more f figures at x, e);
     }
 
 -- the outputs of an accepted file can be given, and the figures given are the file's
-module _ (f inputs : List ℕ) (p : Passed f) (at : ℕ) (e : at ≡ recordPlace f (wireCount f)) where
-  pub outputs-whole : at + 2 * fileVariables f ≤ length f
-  outputs-whole = rw e (omega (arith, p.layout.ended))
+module _ (f inputs : List ℕ) (p : Passed f) (at : ℕ) (e : at ≡ record_place f (wire_count f)) where
+  pub outputs_whole : at + 2 * file_variables f ≤ length f
+  outputs_whole = rw e (omega (arith, p.layout.ended))
 
-  outputs-are : wiresAt (fileVariables f) f at ≡ fileOutputs f
-  outputs-are = ap (wiresAt (fileVariables f) f) e ∙ sym (outputs-of f)
+  outputs_are : wires_at (file_variables f) f at ≡ file_outputs f
+  outputs_are = ap (wires_at (file_variables f) f) e ∙ sym (outputs_of_lem f)
 
-  pub outputs-fine : (x : ℕ) → x < fileVariables f → Output (number_at 2 f (at + 2 * x))
-  outputs-fine x =
-      wire-of Output (fileVariables f) f at x
-      (λ w m. ⊎_map (λ z. z) (λ l. omega (arith, l, p.head.wires)) (outputs-there f p w (subst (λ (l : List ℕ). w ∈ l) outputs-are m)))
+  pub outputs_fine : (x : ℕ) → x < file_variables f → Output (number_at 2 f (at + 2 * x))
+  outputs_fine x =
+      wire_of_lem Output (file_variables f) f at x
+      (λ w m. ⊎_map (λ z. z) (λ l. omega (arith, l, p.head.wires)) (outputs_there f p w (subst (λ (l : List ℕ). w ∈ l) outputs_are m)))
 
   -- an array that begins with the file's figures holds them
-  output-same : (before figures : List ℕ) → figures ≡ over (figuresOf f inputs (wireCount f)) before → (w : ℕ) → (w ≡ noWire) ⊎ (w < wireCount f)
-      → outputHeld figures w ≡ outputHeld (figuresOf f inputs (wireCount f)) w
-  output-same before figures g w (inl z) = rw (eq-eqb w noWire z)
-  output-same before figures g w (inr l) =
-      ap (λ (v : ℕ). cond (eqb w noWire) 0 v)
-      (ap (λ (m : List ℕ). held m w) g ∙ held-over (figuresOf f inputs (wireCount f)) before w (rw (figures-length f inputs (wireCount f)) l))
+  output_same : (before figures : List ℕ) → figures ≡ over (figures_of f inputs (wire_count f)) before → (w : ℕ) → (w ≡ no_wire) ⊎ (w < wire_count f)
+      → output_held figures w ≡ output_held (figures_of f inputs (wire_count f)) w
+  output_same before figures g w (inl z) = rw (eq-eqb w no_wire z)
+  output_same before figures g w (inr l) =
+      ap (λ (v : ℕ). cond (eqb w no_wire) 0 v)
+      (ap (λ (m : List ℕ). held m w) g ∙ held_over (figures_of f inputs (wire_count f)) before w (rw (figures_length f inputs (wire_count f)) l))
 
-  pub outputs-given : (before figures results d : List ℕ) → figures ≡ over (figuresOf f inputs (wireCount f)) before
-      → results ≡ over (map (outputHeld figures) (wiresAt (fileVariables f) f at)) d → results ≡ over (fileFigures f inputs) d
-  unfolding figuresOf
-  outputs-given before figures results d g q =
+  pub outputs_given : (before figures results d : List ℕ) → figures ≡ over (figures_of f inputs (wire_count f)) before
+      → results ≡ over (map (output_held figures) (wires_at (file_variables f) f at)) d → results ≡ over (file_figures f inputs) d
+  unfolding figures_of
+  outputs_given before figures results d g q =
       q ∙ ap (λ (l : List ℕ). over l d) (
-      ap (map (outputHeld figures)) outputs-are
-      ∙ map_same (outputHeld figures) (outputHeld (figuresOf f inputs (wireCount f))) (fileOutputs f) (λ w m. output-same before figures g w (outputs-there f p w m))
-      ∙ sym (figures-of f inputs)
+      ap (map (output_held figures)) outputs_are
+      ∙ map_same (output_held figures) (output_held (figures_of f inputs (wire_count f))) (file_outputs f) (λ w m. output_same before figures g w (outputs_there f p w m))
+      ∙ sym (figures_of_lem f inputs)
       )

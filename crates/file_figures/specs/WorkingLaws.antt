@@ -2,104 +2,104 @@
 use Rattle.std.specs.Prelude.{ℕ, suc, ◌+◌, ◌≤◌, ◌<◌, ◌≡◌, refl, Bool, List, [], ◌∷◌, ◌++◌, length, set}
 use Rattle.std.proofs.Common.{sym, ap, subst, ◌∙◌, zero-add, add-one, arith, length-set}
 use Rattle.base.specs.Buffers.{over}
-use Rattle.base.specs.BufferLaws.{over-nil, over-snoc, over-at}
+use Rattle.base.specs.BufferLaws.{over_nil, over_snoc, over_at}
 use Rattle.base.specs.Runs.{run}
-use Rattle.base.specs.RunLaws.{run_length, run-append}
-use Rattle.file.specs.Records.{Record, recordIn, recordFigure}
-use Rattle.file.specs.WireKinds.{recordKind, wireKind}
-use Rattle.file.specs.WireFigures.{pickSum}
-use Rattle.file.specs.FileFigures.{recordAt, size_at, recordsFrom, firstRecord, fileVariables, wireCount, fileRecords}
-use Rattle.file.specs.RecordLaws.{picks-same, record_same}
-use Rattle.file.specs.WireKindLaws.{kind-same}
-use Rattle.file.specs.FilePartLaws.{records-next, records-length, file-count, record_of}
-use Rattle.file.specs.FileLaws.{place-next}
-use Rattle.file.specs.Limits.{mostWires}
-use Rattle.file.specs.LaidOut.{recordPlace}
+use Rattle.base.specs.RunLaws.{run_length, run_append}
+use Rattle.file.specs.Records.{Record, record_in, record_figure}
+use Rattle.file.specs.WireKinds.{record_kind, wire_kind}
+use Rattle.file.specs.WireFigures.{pick_sum}
+use Rattle.file.specs.FileFigures.{record_at, size_at, records_from, first_record, file_variables, wire_count, file_records}
+use Rattle.file.specs.RecordLaws.{picks_same, record_same}
+use Rattle.file.specs.WireKindLaws.{kind_same}
+use Rattle.file.specs.FilePartLaws.{records_next, records_length, file_count, record_of}
+use Rattle.file.specs.FileLaws.{place_next}
+use Rattle.file.specs.Limits.{most_wires}
+use Rattle.file.specs.LaidOut.{record_place}
 use Rattle.file.specs.FormatLaws.{Passed}
-use Rattle.file_parts.specs.HeldKinds.{isBit, heldKind}
-use Rattle.file_parts.specs.TableLaws.{holds-none, holds_more}
-use Rattle.file_figures.specs.Working.{held, pick_by, Workable, figuresOf, AmidRecords}
-use Rattle.file_figures.specs.RecordLaws.{pick-told}
-use Rattle.file_figures.specs.AcceptedLaws.{record-workable}
+use Rattle.file_parts.specs.HeldKinds.{is_bit, held_kind}
+use Rattle.file_parts.specs.TableLaws.{holds_none, holds_more}
+use Rattle.file_figures.specs.Working.{held, pick_by, Workable, figures_of, AmidRecords}
+use Rattle.file_figures.specs.RecordLaws.{pick_told}
+use Rattle.file_figures.specs.AcceptedLaws.{record_workable}
 
 -- the figures of the first wires: so many, and the next one
-pub figures-length : (f inputs : List ℕ) (i : ℕ) → length (figuresOf f inputs i) ≡ i
-unfolding figuresOf
-figures-length f inputs i = run_length 0 (recordFigure inputs (pickSum (wireKind (fileRecords f)))) (recordsFrom i f firstRecord) [] ∙ zero-add _ ∙ records-length i f firstRecord
+pub figures_length : (f inputs : List ℕ) (i : ℕ) → length (figures_of f inputs i) ≡ i
+unfolding figures_of
+figures_length f inputs i = run_length 0 (record_figure inputs (pick_sum (wire_kind (file_records f)))) (records_from i f first_record) [] ∙ zero-add _ ∙ records_length i f first_record
 
-figures-more : (f inputs : List ℕ) (i : ℕ)
-    → figuresOf f inputs (suc i)
-    ≡ figuresOf f inputs i ++ (recordFigure inputs (pickSum (wireKind (fileRecords f))) (held (figuresOf f inputs i)) (recordAt f (recordPlace f i)) ∷ [])
-unfolding figuresOf
-figures-more f inputs i =
-    let value = recordFigure inputs (pickSum (wireKind (fileRecords f))) in
-    ap (λ (R : List Record). run 0 value R []) (records-next i f firstRecord)
-    ∙ run-append 0 value (recordsFrom i f firstRecord) (recordAt f (recordPlace f i) ∷ []) []
+figures_more : (f inputs : List ℕ) (i : ℕ)
+    → figures_of f inputs (suc i)
+    ≡ figures_of f inputs i ++ (record_figure inputs (pick_sum (wire_kind (file_records f))) (held (figures_of f inputs i)) (record_at f (record_place f i)) ∷ [])
+unfolding figures_of
+figures_more f inputs i =
+    let value = record_figure inputs (pick_sum (wire_kind (file_records f))) in
+    ap (λ (R : List Record). run 0 value R []) (records_next i f first_record)
+    ∙ run_append 0 value (records_from i f first_record) (record_at f (record_place f i) ∷ []) []
 
 -- what lies at the start of an array is read from it
-pub held-over : (a d : List ℕ) (w : ℕ) → w < length a → held (over a d) w ≡ held a w
-held-over a d w h = over-at a d w h
+pub held_over : (a d : List ℕ) (w : ℕ) → w < length a → held (over a d) w ≡ held a w
+held_over a d w h = over_at a d w h
 
-pub amid-start : (f inputs before : List ℕ) (bits : List Bool) → Passed f → length inputs ≡ fileVariables f → length before ≡ mostWires → length bits ≡ mostWires
+pub amid_start : (f inputs before : List ℕ) (bits : List Bool) → Passed f → length inputs ≡ file_variables f → length before ≡ most_wires → length bits ≡ most_wires
     → AmidRecords f inputs before before bits 8 0
-unfolding figuresOf
-amid-start f inputs before bits p e l m = record {
+unfolding figures_of
+amid_start f inputs before bits p e l m = record {
   passed = p;
   given = e;
   room = l;
   few = omega arith;
   place = refl;
-  same = sym (over-nil before);
+  same = sym (over_nil before);
   many = m;
-  kinds = holds-none (fileRecords f) bits;
+  kinds = holds_none (file_records f) bits;
 }
 
 module _ (f inputs before figures : List ℕ) (bits : List Bool) (at i : ℕ) (p : AmidRecords f inputs before figures bits at i) where
-  pub amid-end : wireCount f ≤ i → (at ≡ recordPlace f (wireCount f)) × (figures ≡ over (figuresOf f inputs (wireCount f)) before)
-  amid-end h = let e : i ≡ wireCount f = omega (arith, p.few) in (p.place ∙ ap (recordPlace f) e, p.same ∙ ap (λ (n : ℕ). over (figuresOf f inputs n) before) e)
+  pub amid_end : wire_count f ≤ i → (at ≡ record_place f (wire_count f)) × (figures ≡ over (figures_of f inputs (wire_count f)) before)
+  amid_end h = let e : i ≡ wire_count f = omega (arith, p.few) in (p.place ∙ ap (record_place f) e, p.same ∙ ap (λ (n : ℕ). over (figures_of f inputs n) before) e)
 
-  module _ (h : i < wireCount f) where
+  module _ (h : i < wire_count f) where
     here : Workable f (length inputs) i at
-    here = subst (λ (q : ℕ). Workable f (length inputs) i q) (sym p.place) (record-workable f p.passed (length inputs) i p.given h)
+    here = subst (λ (q : ℕ). Workable f (length inputs) i q) (sym p.place) (record_workable f p.passed (length inputs) i p.given h)
 
-    pub amid-below : i < mostWires
-    amid-below = omega (arith, h, p.passed.head.wires)
+    pub amid_below : i < most_wires
+    amid_below = omega (arith, h, p.passed.head.wires)
 
-    pub amid-workable : Workable f (length inputs) mostWires at
-    amid-workable = record { whole = here.whole; inputs = here.inputs; earlier = λ w m. omega (arith, here.earlier w m, amid-below) }
+    pub amid_workable : Workable f (length inputs) most_wires at
+    amid_workable = record { whole = here.whole; inputs = here.inputs; earlier = λ w m. omega (arith, here.earlier w m, amid_below) }
 
     -- the record there is record i of the file, and the kinds that are held are those of the wires that it reads
-    there : recordAt f at ≡ recordIn (fileRecords f) i
-    there = ap (recordAt f) p.place ∙ sym (record_of f i h)
+    there : record_at f at ≡ record_in (file_records f) i
+    there = ap (record_at f) p.place ∙ sym (record_of f i h)
 
-    kind-here : recordKind (heldKind bits) (recordAt f at) ≡ recordKind (wireKind (fileRecords f)) (recordAt f at)
-    kind-here = kind-same (heldKind bits) (wireKind (fileRecords f)) (recordAt f at) (λ w m. p.kinds w (here.earlier w m))
+    kind_here : record_kind (held_kind bits) (record_at f at) ≡ record_kind (wire_kind (file_records f)) (record_at f at)
+    kind_here = kind_same (held_kind bits) (wire_kind (file_records f)) (record_at f at) (λ w m. p.kinds w (here.earlier w m))
 
     -- what is read of the record: its wire's kind, its figure, its size
-    module _ (b : Bool) (g n : ℕ) (k : b ≡ isBit (recordKind (heldKind bits) (recordAt f at)))
-        (e : g ≡ recordFigure inputs (pick_by b) (held figures) (recordAt f at)) (s : n ≡ size_at f at) where
+    module _ (b : Bool) (g n : ℕ) (k : b ≡ is_bit (record_kind (held_kind bits) (record_at f at)))
+        (e : g ≡ record_figure inputs (pick_by b) (held figures) (record_at f at)) (s : n ≡ size_at f at) where
       -- the record reads what the run before it gave
-      same-figure : g ≡ recordFigure inputs (pickSum (wireKind (fileRecords f))) (held (figuresOf f inputs i)) (recordAt f (recordPlace f i))
-      same-figure =
-          e ∙ ap (λ (c : Bool). recordFigure inputs (pick_by c) (held figures) (recordAt f at)) (k ∙ ap isBit kind-here)
-          ∙ pick-told inputs (wireKind (fileRecords f)) (held figures) (recordAt f at)
-          ∙ record_same inputs (pickSum (wireKind (fileRecords f))) (picks-same (wireKind (fileRecords f))) (held figures) (held (figuresOf f inputs i)) (recordAt f at)
-          (λ w m. ap (λ (l : List ℕ). held l w) p.same ∙ held-over (figuresOf f inputs i) before w (rw (figures-length f inputs i) (here.earlier w m)))
-          ∙ ap (λ (q : ℕ). recordFigure inputs (pickSum (wireKind (fileRecords f))) (held (figuresOf f inputs i)) (recordAt f q)) p.place
+      same_figure : g ≡ record_figure inputs (pick_sum (wire_kind (file_records f))) (held (figures_of f inputs i)) (record_at f (record_place f i))
+      same_figure =
+          e ∙ ap (λ (c : Bool). record_figure inputs (pick_by c) (held figures) (record_at f at)) (k ∙ ap is_bit kind_here)
+          ∙ pick_told inputs (wire_kind (file_records f)) (held figures) (record_at f at)
+          ∙ record_same inputs (pick_sum (wire_kind (file_records f))) (picks_same (wire_kind (file_records f))) (held figures) (held (figures_of f inputs i)) (record_at f at)
+          (λ w m. ap (λ (l : List ℕ). held l w) p.same ∙ held_over (figures_of f inputs i) before w (rw (figures_length f inputs i) (here.earlier w m)))
+          ∙ ap (λ (q : ℕ). record_figure inputs (pick_sum (wire_kind (file_records f))) (held (figures_of f inputs i)) (record_at f q)) p.place
 
-      pub amid-more : AmidRecords f inputs before (set figures i g) (set bits i b) (at + n) (i + 1)
-      amid-more = record {
+      pub amid_more : AmidRecords f inputs before (set figures i g) (set bits i b) (at + n) (i + 1)
+      amid_more = record {
         passed = p.passed;
         given = p.given;
         room = p.room;
         few = omega arith;
-        place = rw (add-one i, place-next i f firstRecord, s, p.place);
+        place = rw (add-one i, place_next i f first_record, s, p.place);
         same =
             ap (λ (l : List ℕ). set l i g) p.same
-            ∙ over-snoc (figuresOf f inputs i) before i g (figures-length f inputs i) (omega (arith, amid-below, p.room))
-            ∙ rw (add-one i, figures-more f inputs i, same-figure);
+            ∙ over_snoc (figures_of f inputs i) before i g (figures_length f inputs i) (omega (arith, amid_below, p.room))
+            ∙ rw (add-one i, figures_more f inputs i, same_figure);
         many = length-set bits i b ∙ p.many;
         kinds =
-            holds_more (fileRecords f) bits i (rw (file-count f) h) (p.passed.stand.earlier i) p.kinds b
-            (k ∙ ap (λ (r : Record). isBit (recordKind (heldKind bits) r)) there) (omega (arith, p.many, amid-below));
+            holds_more (file_records f) bits i (rw (file_count f) h) (p.passed.stand.earlier i) p.kinds b
+            (k ∙ ap (λ (r : Record). is_bit (record_kind (held_kind bits) r)) there) (omega (arith, p.many, amid_below));
       }

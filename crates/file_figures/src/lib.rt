@@ -6,22 +6,22 @@ ghost use Rattle.base.specs.Buffers.{over};
 ghost use Rattle.base.specs.Lists.{Inside};
 ghost use Rattle.base.specs.Settings.{number_of};
 ghost use Rattle.base.specs.Sets.{has};
-ghost use Rattle.base.specs.Codes.{operationOf, code_of};
-ghost use Rattle.base.specs.Results.{isOne, resultOn};
-ghost use Rattle.file.specs.Versions.{two, mostGuardWires, tableBytes};
-ghost use Rattle.file.specs.Records.{pairWires, guardFigure, recordFigure};
-ghost use Rattle.file.specs.FileFigures.{versionIn, wiresAt, pairsAt, recordAt, fileVariables, wireCount, fileFigures};
-ghost use Rattle.file.specs.Limits.{mostWires};
-ghost use Rattle.file.specs.LaidOut.{recordPlace};
-ghost use Rattle.file.specs.CircuitRows.{circuitRow};
-ghost use Rattle.file_figures.specs.Working.{held, outputHeld, Output, pick_by, Workable, figuresOf};
+ghost use Rattle.base.specs.Codes.{operation_of, code_of};
+ghost use Rattle.base.specs.Results.{is_one, result_on};
+ghost use Rattle.file.specs.Versions.{two, most_guard_wires, table_bytes};
+ghost use Rattle.file.specs.Records.{pair_wires, guard_figure, record_figure};
+ghost use Rattle.file.specs.FileFigures.{version_in, wires_at, pairs_at, record_at, file_variables, wire_count, file_figures};
+ghost use Rattle.file.specs.Limits.{most_wires};
+ghost use Rattle.file.specs.LaidOut.{record_place};
+ghost use Rattle.file.specs.CircuitRows.{circuit_row};
+ghost use Rattle.file_figures.specs.Working.{held, output_held, Output, pick_by, Workable, figures_of};
 
 use base::Form;
 use file::WireId;
 
 // The figure of a wire that is worked out.
 fn figure_of(figures: &[u32; file::MOST_WIRES], w: WireId) -> u32
-    requires { w.0 < mostWires }
+    requires { w.0 < most_wires }
     ensures { result ≡ held figures.now w.0 }
 {
     figures[base_words::wide16(w.0)]
@@ -29,7 +29,7 @@ fn figure_of(figures: &[u32; file::MOST_WIRES], w: WireId) -> u32
 
 // The figure of the wire whose number stands at a place.
 fn figure_at(file: &[u8], at: usize, figures: &[u32; file::MOST_WIRES]) -> u32
-    requires { (at + 2 ≤ length file.now) × (number_at 2 file.now at < mostWires) }
+    requires { (at + 2 ≤ length file.now) × (number_at 2 file.now at < most_wires) }
     ensures { result ≡ held figures.now (number_at 2 file.now at) }
 {
     let w = file_parts::wire_at(file, at);
@@ -40,9 +40,9 @@ fn figure_at(file: &[u8], at: usize, figures: &[u32; file::MOST_WIRES]) -> u32
 fn operation_figure(file: &[u8], at: usize, figures: &[u32; file::MOST_WIRES]) -> u32
     requires { (0x20 ≤ get_or file.now at 0) × (get_or file.now at 0 ≤ 0x27)
         × (at + (1 + 2 * (code_of (get_or file.now at 0)).arity) ≤ length file.now)
-        × Inside mostWires (wiresAt (code_of (get_or file.now at 0)).arity file.now (at + 1)) }
-    ensures { result ≡ resultOn (operationOf (get_or file.now at 0))
-        (map (held figures.now) (wiresAt (code_of (get_or file.now at 0)).arity file.now (at + 1))) }
+        × Inside most_wires (wires_at (code_of (get_or file.now at 0)).arity file.now (at + 1)) }
+    ensures { result ≡ result_on (operation_of (get_or file.now at 0))
+        (map (held figures.now) (wires_at (code_of (get_or file.now at 0)).arity file.now (at + 1))) }
 {
     let c = base_codes::code_of(file[at]);
     let form = c.form;
@@ -63,8 +63,8 @@ fn operation_figure(file: &[u8], at: usize, figures: &[u32; file::MOST_WIRES]) -
 // A choice, 30: its condition wire names one of two wires.
 fn choice_figure(file: &[u8], at: usize, figures: &[u32; file::MOST_WIRES]) -> u32
     requires { (at + 7 ≤ length file.now)
-        × Inside mostWires (number_at 2 file.now (at + 1) ∷ number_at 2 file.now (at + 3) ∷ number_at 2 file.now (at + 5) ∷ []) }
-    ensures { result ≡ cond (isOne (held figures.now (number_at 2 file.now (at + 1))))
+        × Inside most_wires (number_at 2 file.now (at + 1) ∷ number_at 2 file.now (at + 3) ∷ number_at 2 file.now (at + 5) ∷ []) }
+    ensures { result ≡ cond (is_one (held figures.now (number_at 2 file.now (at + 1))))
         (held figures.now (number_at 2 file.now (at + 3)))
         (held figures.now (number_at 2 file.now (at + 5))) }
 {
@@ -83,8 +83,8 @@ fn pick_figure(
     bit: bool,
     figures: &[u32; file::MOST_WIRES],
 ) -> u32
-    requires { (at + 4 * count ≤ length file.now) × Inside mostWires (pairWires (pairsAt count file.now at)) }
-    ensures { result ≡ pick_by bit (held figures.now) (pairsAt count file.now at) }
+    requires { (at + 4 * count ≤ length file.now) × Inside most_wires (pair_wires (pairs_at count file.now at)) }
+    ensures { result ≡ pick_by bit (held figures.now) (pairs_at count file.now at) }
 {
     let mut sum: u32 = 0;
     let mut t = base_words::wide8(count);
@@ -99,10 +99,10 @@ fn pick_figure(
 
 // The number whose bit t is the wire t of `count` wires from `at` on; the last wire is read first, so each moves those after it up.
 fn guard_number(file: &[u8], at: usize, count: u8, figures: &[u32; file::MOST_WIRES]) -> usize
-    requires { (count ≤ mostGuardWires two)
+    requires { (count ≤ most_guard_wires two)
         × (at + 2 * count ≤ length file.now)
-        × Inside mostWires (wiresAt count file.now at) }
-    ensures { (result ≡ number_of (wiresAt count file.now at) (λ w. isOne (held figures.now w))) × (result < 2 ^ count) }
+        × Inside most_wires (wires_at count file.now at) }
+    ensures { (result ≡ number_of (wires_at count file.now at) (λ w. is_one (held figures.now w))) × (result < 2 ^ count) }
 {
     let mut j: usize = 0;
     let mut t = base_words::wide8(count);
@@ -128,11 +128,11 @@ fn table_has(file: &[u8], at: usize, size: usize, j: usize) -> bool
 
 // A guard, 32: bit j of its table.
 fn guard_figure(file: &[u8], at: usize, count: u8, figures: &[u32; file::MOST_WIRES]) -> u32
-    requires { (count ≤ mostGuardWires (versionIn file.now))
-        × (at + 2 * count + tableBytes (versionIn file.now) ≤ length file.now)
-        × Inside mostWires (wiresAt count file.now at) }
-    ensures { result ≡ guardFigure (held figures.now) (wiresAt count file.now at)
-        (number_at (tableBytes (versionIn file.now)) file.now (at + 2 * count)) }
+    requires { (count ≤ most_guard_wires (version_in file.now))
+        × (at + 2 * count + table_bytes (version_in file.now) ≤ length file.now)
+        × Inside most_wires (wires_at count file.now at) }
+    ensures { result ≡ guard_figure (held figures.now) (wires_at count file.now at)
+        (number_at (table_bytes (version_in file.now)) file.now (at + 2 * count)) }
 {
     let j = guard_number(file, at, count, figures);
     let from = at + 2 * base_words::wide8(count);
@@ -148,8 +148,8 @@ fn record_figure(
     inputs: &[u32],
     figures: &[u32; file::MOST_WIRES],
 ) -> u32
-    requires { Workable file.now (length inputs.now) mostWires at }
-    ensures { result ≡ recordFigure inputs.now (pick_by bit) (held figures.now) (recordAt file.now at) }
+    requires { Workable file.now (length inputs.now) most_wires at }
+    ensures { result ≡ record_figure inputs.now (pick_by bit) (held figures.now) (record_at file.now at) }
 {
     match file[at] {
         0x00 => inputs[base_words::wide8(file[at + 1])],
@@ -165,9 +165,9 @@ fn record_figure(
 
 // Works out every record's figure, and beside it which wires are bits; gives the place after the records.
 fn work_out(file: &[u8], inputs: &[u32], figures: &mut [u32; file::MOST_WIRES]) -> usize
-    requires { (circuitRow file.now ≡ 0) × (length inputs.now ≡ fileVariables file.now) × (length figures.old ≡ mostWires) }
-    ensures place { result ≡ recordPlace file.now (wireCount file.now) }
-    ensures figures { figures.new ≡ over (figuresOf file.now inputs.now (wireCount file.now)) figures.old }
+    requires { (circuit_row file.now ≡ 0) × (length inputs.now ≡ file_variables file.now) × (length figures.old ≡ most_wires) }
+    ensures place { result ≡ record_place file.now (wire_count file.now) }
+    ensures figures { figures.new ≡ over (figures_of file.now inputs.now (wire_count file.now)) figures.old }
 {
     let count = base_words::wide16(base_words::read16(file, 6));
     let mut bits = [false; file::MOST_WIRES];
@@ -187,7 +187,7 @@ fn work_out(file: &[u8], inputs: &[u32], figures: &mut [u32; file::MOST_WIRES]) 
 // What a run writes for the output that stands at a place: the figure of its wire, 0 where it is no wire.
 fn output_figure(file: &[u8], at: usize, figures: &[u32; file::MOST_WIRES]) -> u32
     requires { (at + 2 ≤ length file.now) × Output (number_at 2 file.now at) }
-    ensures { result ≡ outputHeld figures.now (number_at 2 file.now at) }
+    ensures { result ≡ output_held figures.now (number_at 2 file.now at) }
 {
     let w = file_parts::wire_at(file, at);
     if w.0 == file::NO_WIRE {
@@ -199,10 +199,10 @@ fn output_figure(file: &[u8], at: usize, figures: &[u32; file::MOST_WIRES]) -> u
 // What a run writes for every variable; the outputs stand from `at` on.
 fn give_outputs(file: &[u8], at: usize, figures: &[u32; file::MOST_WIRES], results: &mut [u32])
     requires { (8 ≤ length file.now)
-        × (at + 2 * fileVariables file.now ≤ length file.now)
-        × ((x : ℕ) → x < fileVariables file.now → Output (number_at 2 file.now (at + 2 * x)))
-        × (fileVariables file.now ≤ length results.old) }
-    ensures { results.new ≡ over (map (outputHeld figures.now) (wiresAt (fileVariables file.now) file.now at)) results.old }
+        × (at + 2 * file_variables file.now ≤ length file.now)
+        × ((x : ℕ) → x < file_variables file.now → Output (number_at 2 file.now (at + 2 * x)))
+        × (file_variables file.now ≤ length results.old) }
+    ensures { results.new ≡ over (map (output_held figures.now) (wires_at (file_variables file.now) file.now at)) results.old }
 {
     let v = base_words::wide8(file[5]);
     let mut x: usize = 0;
@@ -215,10 +215,10 @@ fn give_outputs(file: &[u8], at: usize, figures: &[u32; file::MOST_WIRES], resul
 
 // Of a file that passes rows 60 to 62: what a run writes for every variable into the first results, from the inputs; nothing after them is touched.
 pub fn run_file(file: &[u8], inputs: &[u32], results: &mut [u32])
-    requires { (circuitRow file.now ≡ 0)
-        × (length inputs.now ≡ fileVariables file.now)
-        × (fileVariables file.now ≤ length results.old) }
-    ensures { results.new ≡ over (fileFigures file.now inputs.now) results.old }
+    requires { (circuit_row file.now ≡ 0)
+        × (length inputs.now ≡ file_variables file.now)
+        × (file_variables file.now ≤ length results.old) }
+    ensures { results.new ≡ over (file_figures file.now inputs.now) results.old }
 {
     let mut figures = [0u32; file::MOST_WIRES];
     let at = work_out(file, inputs, &mut figures);

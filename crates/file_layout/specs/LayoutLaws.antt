@@ -9,23 +9,23 @@ use Rattle.std.proofs.lemmas.Bool.{lt-leb}
 use Rattle.base.specs.Lists.{elem}
 use Rattle.base.specs.MemberLaws.{∈→elem}
 use Rattle.base.specs.TestLaws.{split, same_test}
-use Rattle.base.specs.Codes.{entryOf, byte_of, startCode}
+use Rattle.base.specs.Codes.{entry_of, byte_of, start_code}
 use Rattle.base.specs.declared.Kind.{Kind}
 use Rattle.base.specs.declared.Kind.TheVariants as kind
 use Rattle.base.specs.declared.Operation.{Operation}
 use Rattle.file.specs.Records.{Record}
-use Rattle.file.specs.Versions.{mostGuardWires, tableBytes}
-use Rattle.file.specs.FileFigures.{versionIn, recordAt, size_at, firstRecord, fileVariables, wireCount}
-use Rattle.file.specs.FilePartLaws.{wires-length, pairs-length}
-use Rattle.file.specs.RecordBounds.{operation-code}
-use Rattle.file.specs.FoundForms.{form-input, form-word, form-bit, form-operation, form-choice, form-pick, form-guard, size-some}
-use Rattle.file.specs.LaidOut.{recordCodes}
-use Rattle.file.specs.CircuitRows.{marked, bounded, whole_at, laidFrom, laid}
-use Rattle.file.specs.RowLaws.{whole-right}
-use Rattle.file_layout.specs.Said.{saidSize}
+use Rattle.file.specs.Versions.{most_guard_wires, table_bytes}
+use Rattle.file.specs.FileFigures.{version_in, record_at, size_at, first_record, file_variables, wire_count}
+use Rattle.file.specs.FilePartLaws.{wires_length, pairs_length}
+use Rattle.file.specs.RecordBounds.{operation_code_lem}
+use Rattle.file.specs.FoundForms.{form_input, form_word, form_bit, form_operation, form_choice, form_pick, form_guard, size_some}
+use Rattle.file.specs.LaidOut.{record_codes}
+use Rattle.file.specs.CircuitRows.{marked, bounded, whole_at, laid_from, laid}
+use Rattle.file.specs.RowLaws.{whole_right}
+use Rattle.file_layout.specs.Said.{said_size}
 
 -- the first five bytes, each against those of the mark; the last is one version's or the other's
-pub marked_by : (f : List ℕ) → firstRecord ≤ length f
+pub marked_by : (f : List ℕ) → first_record ≤ length f
     → marked f
     ≡ (eqb (get_or f 0 0) 0x43 && (eqb (get_or f 1 0) 0x49 && (eqb (get_or f 2 0) 0x52 && (eqb (get_or f 3 0) 0x00 && (eqb (get_or f 4 0) 0x01 || eqb (get_or f 4 0) 0x02)))))
 marked_by [] h = absurd (omega arith)
@@ -51,47 +51,47 @@ told : (N : Type 0) (b : ℕ) (l : List ℕ) → NoneOf N b l → N
 told N b [] h = h
 told N b (x ∷ l) h = (told (N × (b ≡ x → ⊥)) b l h).0
 
-none-elem : (N : Type 0) (b : ℕ) (l : List ℕ) → NoneOf N b l → elem b l ≡ false
-none-elem N b [] h = refl
-none-elem N b (x ∷ l) h = rw (ne_eqb b x (told (N × (b ≡ x → ⊥)) b l h).1) (none-elem (N × (b ≡ x → ⊥)) b l h)
+none_elem : (N : Type 0) (b : ℕ) (l : List ℕ) → NoneOf N b l → elem b l ≡ false
+none_elem N b [] h = refl
+none_elem N b (x ∷ l) h = rw (ne_eqb b x (told (N × (b ≡ x → ⊥)) b l h).1) (none_elem (N × (b ≡ x → ⊥)) b l h)
 
 module _ (f : List ℕ) (at : ℕ) where
   -- what a record says, by the byte that it begins with
-  said-by : (b n : ℕ) (r : Record) → get_or f at 0 ≡ b → elem b recordCodes ≡ true → (recordAt f at ≡ r) × (size_at f at ≡ n) → saidSize f at ≡ cond (bounded (versionIn f) r) n 0
-  unfolding saidSize
-  said-by b n r e k (q, s) = rw (e, k, q, s)
+  said_by : (b n : ℕ) (r : Record) → get_or f at 0 ≡ b → elem b record_codes ≡ true → (record_at f at ≡ r) × (size_at f at ≡ n) → said_size f at ≡ cond (bounded (version_in f) r) n 0
+  unfolding said_size
+  said_by b n r e k (q, s) = rw (e, k, q, s)
 
-  pub said-input : (k : Kind) → get_or f at 0 ≡ startCode k → saidSize f at ≡ 2
-  said-input kind.Word e = said-by 0x00 2 _ e refl (form-input f at kind.Word e)
-  said-input kind.Bit e = said-by 0x01 2 _ e refl (form-input f at kind.Bit e)
+  pub said_input : (k : Kind) → get_or f at 0 ≡ start_code k → said_size f at ≡ 2
+  said_input kind.Word e = said_by 0x00 2 _ e refl (form_input f at kind.Word e)
+  said_input kind.Bit e = said_by 0x01 2 _ e refl (form_input f at kind.Bit e)
 
-  pub said-word : get_or f at 0 ≡ 0x11 → saidSize f at ≡ 5
-  said-word e = said-by 0x11 5 _ e refl (form-word f at e)
+  pub said_word : get_or f at 0 ≡ 0x11 → said_size f at ≡ 5
+  said_word e = said_by 0x11 5 _ e refl (form_word f at e)
 
-  pub said-bit : (n : ℕ) → get_or f at 0 ≡ 0x12 → n ≡ get_or f (at + 1) 0 → saidSize f at ≡ cond (leb n 1) 2 0
-  said-bit n e q = said-by 0x12 2 _ e refl (form-bit f at e) ∙ rw q
+  pub said_bit : (n : ℕ) → get_or f at 0 ≡ 0x12 → n ≡ get_or f (at + 1) 0 → said_size f at ≡ cond (leb n 1) 2 0
+  said_bit n e q = said_by 0x12 2 _ e refl (form_bit f at e) ∙ rw q
 
-  pub said-operation : (op : Operation) → get_or f at 0 ≡ byte_of op → saidSize f at ≡ 1 + 2 * (entryOf op).arity
-  said-operation op e = said-by (byte_of op) (1 + 2 * (entryOf op).arity) _ e (∈→elem (byte_of op) recordCodes (operation-code op).0) (form-operation f at op e)
+  pub said_operation : (op : Operation) → get_or f at 0 ≡ byte_of op → said_size f at ≡ 1 + 2 * (entry_of op).arity
+  said_operation op e = said_by (byte_of op) (1 + 2 * (entry_of op).arity) _ e (∈→elem (byte_of op) record_codes (operation_code_lem op).0) (form_operation f at op e)
 
-  pub said-choice : get_or f at 0 ≡ 0x30 → saidSize f at ≡ 7
-  said-choice e = said-by 0x30 7 _ e refl (form-choice f at e)
+  pub said_choice : get_or f at 0 ≡ 0x30 → said_size f at ≡ 7
+  said_choice e = said_by 0x30 7 _ e refl (form_choice f at e)
 
-  pub said-pick : (n : ℕ) → get_or f at 0 ≡ 0x31 → n ≡ get_or f (at + 1) 0 → saidSize f at ≡ cond (leb 1 n) (2 + 4 * n) 0
-  said-pick n e q = said-by 0x31 (2 + 4 * get_or f (at + 1) 0) _ e refl (form-pick f at e) ∙ rw (pairs-length (get_or f (at + 1) 0) f (at + 2), q)
+  pub said_pick : (n : ℕ) → get_or f at 0 ≡ 0x31 → n ≡ get_or f (at + 1) 0 → said_size f at ≡ cond (leb 1 n) (2 + 4 * n) 0
+  said_pick n e q = said_by 0x31 (2 + 4 * get_or f (at + 1) 0) _ e refl (form_pick f at e) ∙ rw (pairs_length (get_or f (at + 1) 0) f (at + 2), q)
 
-  pub said-guard : (n : ℕ) → get_or f at 0 ≡ 0x32 → n ≡ get_or f (at + 1) 0 → saidSize f at ≡ cond (leb n (mostGuardWires (versionIn f))) (2 + 2 * n + tableBytes (versionIn f)) 0
-  said-guard n e q = said-by 0x32 (2 + 2 * get_or f (at + 1) 0 + tableBytes (versionIn f)) _ e refl (form-guard f at e) ∙ rw (wires-length (get_or f (at + 1) 0) f (at + 2), q)
+  pub said_guard : (n : ℕ) → get_or f at 0 ≡ 0x32 → n ≡ get_or f (at + 1) 0 → said_size f at ≡ cond (leb n (most_guard_wires (version_in f))) (2 + 2 * n + table_bytes (version_in f)) 0
+  said_guard n e q = said_by 0x32 (2 + 2 * get_or f (at + 1) 0 + table_bytes (version_in f)) _ e refl (form_guard f at e) ∙ rw (wires_length (get_or f (at + 1) 0) f (at + 2), q)
 
-  pub said-unknown : (b : ℕ) {N : Type 0} → get_or f at 0 ≡ b → NoneOf N b recordCodes → saidSize f at ≡ 0
-  unfolding saidSize
-  said-unknown b {N = N} e h = rw (e, none-elem N b recordCodes h)
+  pub said_unknown : (b : ℕ) {N : Type 0} → get_or f at 0 ≡ b → NoneOf N b record_codes → said_size f at ≡ 0
+  unfolding said_size
+  said_unknown b {N = N} e h = rw (e, none_elem N b record_codes h)
 
   -- a record is whole where the bytes that it says it has are there
   module _ (l : at ≤ length f) where
-    pub whole-said : saidSize f at ≤ length f - at → saidSize f at ≡ cond (whole_at f at) (size_at f at) 0
-    unfolding saidSize whole_at
-    whole-said = go (elem (get_or f at 0) recordCodes) (bounded (versionIn f) (recordAt f at))
+    pub whole_said : said_size f at ≤ length f - at → said_size f at ≡ cond (whole_at f at) (size_at f at) 0
+    unfolding said_size whole_at
+    whole_said = go (elem (get_or f at 0) record_codes) (bounded (version_in f) (record_at f at))
       where
         go : (a b : Bool) → cond (a && b) (size_at f at) 0 ≤ length f - at
             → cond (a && b) (size_at f at) 0 ≡ cond (a && leb (at + size_at f at) (length f) && b) (size_at f at) 0
@@ -99,9 +99,9 @@ module _ (f : List ℕ) (at : ℕ) where
         go true false h = split (leb (at + size_at f at) (length f)) (λ t. rw t) (λ t. rw t)
         go false b h = refl
 
-    pub whole-short : length f - at < saidSize f at → 0 ≡ cond (whole_at f at) (size_at f at) 0
-    unfolding saidSize whole_at
-    whole-short = go (elem (get_or f at 0) recordCodes) (bounded (versionIn f) (recordAt f at))
+    pub whole_short : length f - at < said_size f at → 0 ≡ cond (whole_at f at) (size_at f at) 0
+    unfolding said_size whole_at
+    whole_short = go (elem (get_or f at 0) record_codes) (bounded (version_in f) (record_at f at))
       where
         go : (a b : Bool) → length f - at < cond (a && b) (size_at f at) 0 → 0 ≡ cond (a && leb (at + size_at f at) (length f) && b) (size_at f at) 0
         go true true h = rw (lt-leb (at + size_at f at) (length f) (omega (arith, l, h)))
@@ -109,39 +109,39 @@ module _ (f : List ℕ) (at : ℕ) where
         go false b h = absurd (omega arith)
 
 -- the bytes of a guard of n wires; most and bytes: what the code was told of the file's version
-module _ (f : List ℕ) (n most : ℕ) (p : most ≡ mostGuardWires (versionIn f)) where
-  pub guard-few : (bytes : ℕ) → bytes ≡ tableBytes (versionIn f) → n ≤ most
-      → 2 + 2 * n + bytes ≡ cond (leb n (mostGuardWires (versionIn f))) (2 + 2 * n + tableBytes (versionIn f)) 0
-  guard-few bytes q h = rw (← p, le-leb n most h, q)
+module _ (f : List ℕ) (n most : ℕ) (p : most ≡ most_guard_wires (version_in f)) where
+  pub guard_few : (bytes : ℕ) → bytes ≡ table_bytes (version_in f) → n ≤ most
+      → 2 + 2 * n + bytes ≡ cond (leb n (most_guard_wires (version_in f))) (2 + 2 * n + table_bytes (version_in f)) 0
+  guard_few bytes q h = rw (← p, le-leb n most h, q)
 
-  pub guard-many : most < n → 0 ≡ cond (leb n (mostGuardWires (versionIn f))) (2 + 2 * n + tableBytes (versionIn f)) 0
-  guard-many h = rw (← p, lt-leb n most h)
+  pub guard_many : most < n → 0 ≡ cond (leb n (most_guard_wires (version_in f))) (2 + 2 * n + table_bytes (version_in f)) 0
+  guard_many h = rw (← p, lt-leb n most h)
 
 -- the walk over the records: one that is not whole ends it, after a whole one it goes on, and the outputs end where the file ends
-pub laid-start : (f : List ℕ) → laid f ≡ laidFrom (wireCount f) f firstRecord
+pub laid_start : (f : List ℕ) → laid f ≡ laid_from (wire_count f) f first_record
 unfolding laid
-laid-start f = refl
+laid_start f = refl
 
-laid-step : (n : ℕ) (f : List ℕ) (at : ℕ) → 0 < n → laidFrom n f at ≡ (whole_at f at && laidFrom (n - 1) f (at + size_at f at))
-laid-step zero f at h = absurd (omega arith)
-laid-step (suc n) f at h = let e : n ≡ suc n - 1 = omega arith in ap (λ (k : ℕ). whole_at f at && laidFrom k f (at + size_at f at)) e
+laid_step : (n : ℕ) (f : List ℕ) (at : ℕ) → 0 < n → laid_from n f at ≡ (whole_at f at && laid_from (n - 1) f (at + size_at f at))
+laid_step zero f at h = absurd (omega arith)
+laid_step (suc n) f at h = let e : n ≡ suc n - 1 = omega arith in ap (λ (k : ℕ). whole_at f at && laid_from k f (at + size_at f at)) e
 
 module _ (f : List ℕ) (at n size : ℕ) (l : 0 < n) (s : size ≡ cond (whole_at f at) (size_at f at) 0) where
-  pub laid-broken : size ≡ 0 → laidFrom n f at ≡ false
-  laid-broken e =
+  pub laid_broken : size ≡ 0 → laid_from n f at ≡ false
+  laid_broken e =
       split (whole_at f at)
-      (λ t. let z : size ≡ size_at f at = s ∙ rw t in absurd (omega (arith, z, e, size-some f at)))
-      (λ t. rw (laid-step n f at l, t))
+      (λ t. let z : size ≡ size_at f at = s ∙ rw t in absurd (omega (arith, z, e, size_some f at)))
+      (λ t. rw (laid_step n f at l, t))
 
-  pub laid_next : (size ≡ 0 → ⊥) → (laidFrom n f at ≡ laidFrom (n - 1) f (at + size)) × (at + size ≤ length f)
+  pub laid_next : (size ≡ 0 → ⊥) → (laid_from n f at ≡ laid_from (n - 1) f (at + size)) × (at + size ≤ length f)
   laid_next e =
       split (whole_at f at)
-      (λ t. let z : size ≡ size_at f at = s ∙ rw t in (rw (laid-step n f at l, t, z), rw z ((whole-right f at).0 t).inside))
+      (λ t. let z : size ≡ size_at f at = s ∙ rw t in (rw (laid_step n f at l, t, z), rw z ((whole_right f at).0 t).inside))
       (λ t. absurd (e (s ∙ rw t)))
 
-pub laid_end : (n : ℕ) (f : List ℕ) (at : ℕ) → n ≤ 0 → at ≤ length f → laidFrom n f at ≡ eqb (length f - at) (2 * fileVariables f)
+pub laid_end : (n : ℕ) (f : List ℕ) (at : ℕ) → n ≤ 0 → at ≤ length f → laid_from n f at ≡ eqb (length f - at) (2 * file_variables f)
 laid_end zero f at h l =
-    same_test (eqb (at + 2 * fileVariables f) (length f)) (eqb (length f - at) (2 * fileVariables f))
-    (λ t. eq-eqb (length f - at) (2 * fileVariables f) (omega (arith, l, eqb-true (at + 2 * fileVariables f) (length f) t)))
-    (λ t. eq-eqb (at + 2 * fileVariables f) (length f) (omega (arith, l, eqb-true (length f - at) (2 * fileVariables f) t)))
+    same_test (eqb (at + 2 * file_variables f) (length f)) (eqb (length f - at) (2 * file_variables f))
+    (λ t. eq-eqb (length f - at) (2 * file_variables f) (omega (arith, l, eqb-true (at + 2 * file_variables f) (length f) t)))
+    (λ t. eq-eqb (at + 2 * file_variables f) (length f) (omega (arith, l, eqb-true (length f - at) (2 * file_variables f) t)))
 laid_end (suc n) f at h l = absurd (omega arith)

@@ -1,13 +1,13 @@
 // Document 02, C-11: rows 60 and 61 of a circuit file, as tests over its bytes: its head, and its records laid out one after another.
 ghost use Rattle.std.specs.Prelude.{◌≡◌, cond, ◌+◌, ◌*◌, ◌≤◌, ◌<◌, leb, length, get_or};
-ghost use Rattle.file.specs.Versions.{mostGuardWires, tableBytes};
-ghost use Rattle.file.specs.FileFigures.{versionIn, size_at, firstRecord};
+ghost use Rattle.file.specs.Versions.{most_guard_wires, table_bytes};
+ghost use Rattle.file.specs.FileFigures.{version_in, size_at, first_record};
 ghost use Rattle.file.specs.CircuitRows.{marked, headed, whole_at, laid};
-ghost use Rattle.file_layout.specs.Said.{saidSize};
+ghost use Rattle.file_layout.specs.Said.{said_size};
 
 // The mark and one of the two versions.
 fn marked(file: &[u8]) -> bool
-    requires { firstRecord ≤ length file.now }
+    requires { first_record ≤ length file.now }
     ensures { result ≡ marked file.now }
 {
     if file[0] != 0x43 {
@@ -59,8 +59,8 @@ fn byte_at(file: &[u8], at: usize) -> u8
 
 // The bytes of a guard of so many wires; 0 for more wires than the file's version allows.
 fn guard_size(file: &[u8], wires: usize) -> usize
-    requires { (firstRecord ≤ length file.now) × (wires < 256) }
-    ensures { result ≡ cond (leb wires (mostGuardWires (versionIn file.now))) (2 + 2 * wires + tableBytes (versionIn file.now)) 0 }
+    requires { (first_record ≤ length file.now) × (wires < 256) }
+    ensures { result ≡ cond (leb wires (most_guard_wires (version_in file.now))) (2 + 2 * wires + table_bytes (version_in file.now)) 0 }
 {
     let version = file[4];
     if wires <= file_parts::most_guard_wires(version) {
@@ -73,8 +73,8 @@ fn guard_size(file: &[u8], wires: usize) -> usize
 // The bytes that the record at a place says it has; 0 for an unknown code, a bit constant above 01, a pick with no pair
 // or a guard of more wires than its version allows.
 fn said_size(file: &[u8], at: usize) -> usize
-    requires { (firstRecord ≤ length file.now) × (at ≤ length file.now) }
-    ensures { result ≡ saidSize file.now at }
+    requires { (first_record ≤ length file.now) × (at ≤ length file.now) }
+    ensures { result ≡ said_size file.now at }
 {
     match byte_at(file, at) {
         0x00 => 2,
@@ -101,7 +101,7 @@ fn said_size(file: &[u8], at: usize) -> usize
 
 // The bytes of the record at a place; 0 where no whole one begins.
 fn whole_size(file: &[u8], at: usize) -> usize
-    requires { (firstRecord ≤ length file.now) × (at ≤ length file.now) }
+    requires { (first_record ≤ length file.now) × (at ≤ length file.now) }
     ensures { result ≡ cond (whole_at file.now at) (size_at file.now at) 0 }
 {
     let size = said_size(file, at);
@@ -110,7 +110,7 @@ fn whole_size(file: &[u8], at: usize) -> usize
 
 // Row 61: does none of it apply to the file?
 pub fn laid(file: &[u8]) -> bool
-    requires { firstRecord ≤ length file.now }
+    requires { first_record ≤ length file.now }
     ensures { result ≡ laid file.now }
 {
     let mut left = base_words::read16(file, 6);

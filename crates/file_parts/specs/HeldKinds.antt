@@ -4,14 +4,14 @@ use Rattle.base.specs.declared.Kind.{Kind}
 use Rattle.base.specs.declared.Kind.TheVariants as kind
 
 -- a kind as a truth value, and back
-abbrev pub isBit : Kind → Bool
-isBit kind.Word = false
-isBit kind.Bit = true
+abbrev pub is_bit : Kind → Bool
+is_bit kind.Word = false
+is_bit kind.Bit = true
 
-abbrev pub kindBy : Bool → Kind
-kindBy true = kind.Bit
-kindBy false = kind.Word
+abbrev pub kind_by : Bool → Kind
+kind_by true = kind.Bit
+kind_by false = kind.Word
 
 -- the kind that a table holds for a wire
-abbrev pub heldKind : List Bool → ℕ → Kind
-heldKind bits w = kindBy (get_or bits w false)
+abbrev pub held_kind : List Bool → ℕ → Kind
+held_kind bits w = kind_by (get_or bits w false)

@@ -4,25 +4,25 @@ ghost use Rattle.std.specs.Prelude.{◌≡◌, false, ◌+◌, ◌<◌, ◌≤�
 ghost use Rattle.base.specs.Numbers.{number_at};
 ghost use Rattle.base.specs.Lists.{Inside};
 ghost use Rattle.file.specs.Records.{reads};
-ghost use Rattle.file.specs.WireKinds.{recordKind};
-ghost use Rattle.file.specs.FileFigures.{recordAt, size_at};
-ghost use Rattle.file.specs.Limits.{mostWires};
+ghost use Rattle.file.specs.WireKinds.{record_kind};
+ghost use Rattle.file.specs.FileFigures.{record_at, size_at};
+ghost use Rattle.file.specs.Limits.{most_wires};
 ghost use Rattle.file.specs.Versions as versions;
 ghost use Rattle.file.specs.LaidOut.{WholeAt};
-ghost use Rattle.file_parts.specs.HeldKinds.{isBit, heldKind};
+ghost use Rattle.file_parts.specs.HeldKinds.{is_bit, held_kind};
 
 use file::WireId;
 
 // The wires of a guard, at most, in a file whose version byte is `version`.
 pub fn most_guard_wires(version: u8) -> usize
-    ensures { (result ≡ versions.mostGuardWires (versions.versionOf version)) × (result ≤ versions.mostGuardWires versions.two) }
+    ensures { (result ≡ versions.most_guard_wires (versions.version_of version)) × (result ≤ versions.most_guard_wires versions.two) }
 {
     if version == 1 { 6 } else { 8 }
 }
 
 // The bytes of its table.
 pub fn table_bytes(version: u8) -> usize
-    ensures { (result ≡ versions.tableBytes (versions.versionOf version)) × (versions.tableBytes versions.one ≤ result) × (result ≤ versions.tableBytes versions.two) }
+    ensures { (result ≡ versions.table_bytes (versions.version_of version)) × (versions.table_bytes versions.one ≤ result) × (result ≤ versions.table_bytes versions.two) }
 {
     if version == 1 { 8 } else { 32 }
 }
@@ -56,7 +56,7 @@ pub fn record_size(file: &[u8], at: usize) -> usize
 
 // Whether a wire is a bit, of the wires whose kinds are worked out.
 pub fn is_bit(bits: &[bool; file::MOST_WIRES], w: WireId) -> bool
-    requires { w.0 < mostWires }
+    requires { w.0 < most_wires }
     ensures { result ≡ get_or bits.now w.0 false }
 {
     bits[base_words::wide16(w.0)]
@@ -64,8 +64,8 @@ pub fn is_bit(bits: &[bool; file::MOST_WIRES], w: WireId) -> bool
 
 // Whether the wire of the record at a place is a bit: a choice is of its first value's kind, a pick of its first pair's.
 pub fn record_is_bit(file: &[u8], at: usize, bits: &[bool; file::MOST_WIRES]) -> bool
-    requires { WholeAt file.now at × Inside mostWires (reads (recordAt file.now at)) }
-    ensures { result ≡ isBit (recordKind (heldKind bits.now) (recordAt file.now at)) }
+    requires { WholeAt file.now at × Inside most_wires (reads (record_at file.now at)) }
+    ensures { result ≡ is_bit (record_kind (held_kind bits.now) (record_at file.now at)) }
 {
     match file[at] {
         0x00 => false,

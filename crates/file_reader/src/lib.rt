@@ -1,18 +1,18 @@
 // Document 02, C-11: circuit files from any house: read, one record of them shown, and run.
 ghost use Rattle.std.specs.Prelude.{◌≡◌, ◌<◌, length, take, drop};
-ghost use Rattle.base.specs.Inputs.{inputsRow};
-ghost use Rattle.file.specs.WireKinds.{wireKind};
-ghost use Rattle.file.specs.FileFigures.{fileVariables, wireCount, fileRecords};
-ghost use Rattle.file.specs.LaidOut.{recordPlace};
-ghost use Rattle.file.specs.CircuitRows.{circuitRow};
-ghost use Rattle.file.specs.Answers.{circuitAnswer, partStart, partLength, recordPart, circuitRunAnswer, circuitRunResults};
+ghost use Rattle.base.specs.Inputs.{inputs_row};
+ghost use Rattle.file.specs.WireKinds.{wire_kind};
+ghost use Rattle.file.specs.FileFigures.{file_variables, wire_count, file_records};
+ghost use Rattle.file.specs.LaidOut.{record_place};
+ghost use Rattle.file.specs.CircuitRows.{circuit_row};
+ghost use Rattle.file.specs.Answers.{circuit_answer, part_start, part_length, record_part, circuit_run_answer, circuit_run_results};
 
 use base::{Answer, Kind};
 use file::WireId;
 
 // Rows 60, 61 and 62 in that order, each over the whole file; 0 when none of them applies.
 fn circuit_row(file: &[u8]) -> u8
-    ensures { result ≡ circuitRow file.now }
+    ensures { result ≡ circuit_row file.now }
 {
     if !file_layout::headed(file) {
         return 60;
@@ -28,7 +28,7 @@ fn circuit_row(file: &[u8]) -> u8
 
 // Reads a circuit file: its wires and bytes, or its refusal.
 pub fn read(file: &[u8]) -> Answer
-    ensures { result ≡ circuitAnswer file.now }
+    ensures { result ≡ circuit_answer file.now }
 {
     let row = circuit_row(file);
     if row != 0 {
@@ -47,8 +47,8 @@ pub fn read(file: &[u8]) -> Answer
 
 // The place of a wire's record in a file that is read.
 fn record_place(file: &[u8], wire: WireId) -> usize
-    requires { (circuitRow file.now ≡ 0) × (wire.0 < wireCount file.now) }
-    ensures { result ≡ recordPlace file.now wire.0 }
+    requires { (circuit_row file.now ≡ 0) × (wire.0 < wire_count file.now) }
+    ensures { result ≡ record_place file.now wire.0 }
 {
     let mut at: usize = 8;
     let mut i: u16 = 0;
@@ -69,9 +69,9 @@ pub struct Part {
 
 // The part of the file that holds a wire's record; 0 and 0 for a refused file or a number that is no wire.
 pub fn part_of(file: &[u8], wire: WireId) -> Part
-    ensures start { result.start ≡ partStart file.now wire.0 }
-    ensures length { result.length ≡ partLength file.now wire.0 }
-    ensures bytes { take result.length (drop result.start file.now) ≡ recordPart file.now wire.0 }
+    ensures start { result.start ≡ part_start file.now wire.0 }
+    ensures length { result.length ≡ part_length file.now wire.0 }
+    ensures bytes { take result.length (drop result.start file.now) ≡ record_part file.now wire.0 }
 {
     if circuit_row(file) != 0 {
         return Part {
@@ -94,7 +94,7 @@ pub fn part_of(file: &[u8], wire: WireId) -> Part
 
 // That part itself, inside the caller's file: nothing is moved.
 pub fn record<'a>(file: &'a [u8], wire: WireId) -> &'a [u8]
-    ensures { result.now ≡ recordPart file.now wire.0 }
+    ensures { result.now ≡ record_part file.now wire.0 }
 {
     let p = part_of(file, wire);
     let start = p.start;
@@ -104,8 +104,8 @@ pub fn record<'a>(file: &'a [u8], wire: WireId) -> &'a [u8]
 
 // Rows 40 to 42 of the inputs of a file that is read, the lowest first; 0 when none of them applies. The first V records are its inputs, two bytes each.
 fn inputs_refusal(file: &[u8], inputs: &[u32], room: usize) -> u8
-    requires { circuitRow file.now ≡ 0 }
-    ensures { result ≡ inputsRow (fileVariables file.now) (wireKind (fileRecords file.now)) inputs.now room }
+    requires { circuit_row file.now ≡ 0 }
+    ensures { result ≡ inputs_row (file_variables file.now) (wire_kind (file_records file.now)) inputs.now room }
 {
     let v = base_words::wide8(file[5]);
     if inputs.len() != v {
@@ -128,8 +128,8 @@ fn inputs_refusal(file: &[u8], inputs: &[u32], room: usize) -> u8
 
 // Runs a circuit file on inputs: in the first V results every variable's figure, 0 where its output is no wire. A refusal writes nothing.
 pub fn run(file: &[u8], inputs: &[u32], results: &mut [u32]) -> Answer
-    ensures answer { result ≡ circuitRunAnswer file.now inputs.now (length results.old) }
-    ensures results { results.new ≡ circuitRunResults file.now inputs.now results.old }
+    ensures answer { result ≡ circuit_run_answer file.now inputs.now (length results.old) }
+    ensures results { results.new ≡ circuit_run_results file.now inputs.now results.old }
 {
     let answer = read(file);
     if answer.number != 0 {

@@ -6,48 +6,48 @@ use Rattle.std.proofs.Math.Nat.{one-le-pow}
 use native.Mathlib.Omega.{arith}
 use Rattle.std.proofs.lemmas.Bool.{eqb-false}
 use Rattle.base.specs.Numbers.{number, number_at, Bytes}
-use Rattle.base.specs.NumberLaws.{number-one, number-split, number_small, bits-bytes}
+use Rattle.base.specs.NumberLaws.{number_one, number_split, number_small, bits_bytes}
 use Rattle.base.specs.TestLaws.{split, same_test}
-use Rattle.file.specs.Versions.{Version, one, two, mostGuardWires, tableBytes}
-use Rattle.file.specs.VersionLaws.{table-few}
-use Rattle.file_wiring.specs.Wires.{usedBytes, topByte}
+use Rattle.file.specs.Versions.{Version, one, two, most_guard_wires, table_bytes}
+use Rattle.file.specs.VersionLaws.{table_few}
+use Rattle.file_wiring.specs.Wires.{used_bytes, top_byte}
 
 -- loop invariant, amid bytes that are 0, one after another: those that are left decide
 pub record AmidZeros (f : List ℕ) (at count here left : ℕ) : Type 0 where
   pub inside : here + left ≤ length f
   pub same : number_at count f at ≡ number_at left f here
 
-pub zeros-start : (f : List ℕ) (at count : ℕ) → at + count ≤ length f → AmidZeros f at count at count
-zeros-start f at count h = record { inside = h; same = refl }
+pub zeros_start : (f : List ℕ) (at count : ℕ) → at + count ≤ length f → AmidZeros f at count at count
+zeros_start f at count h = record { inside = h; same = refl }
 
 module _ (f : List ℕ) (at count here left : ℕ) (p : AmidZeros f at count here left) where
-  pub zeros-done : left ≤ 0 → true ≡ eqb (number_at count f at) 0
+  pub zeros_done : left ≤ 0 → true ≡ eqb (number_at count f at) 0
   unfolding number
-  zeros-done h = let e : left ≡ 0 = omega arith in sym (eq-eqb _ 0 (p.same ∙ ap (λ (n : ℕ). number_at n f here) e))
+  zeros_done h = let e : left ≡ 0 = omega arith in sym (eq-eqb _ 0 (p.same ∙ ap (λ (n : ℕ). number_at n f here) e))
 
   module _ (h : 0 < left) where
     first : number_at count f at ≡ get_or f here 0 * 256 ^ (left - 1) + number_at (left - 1) f (here + 1)
     first =
         let e : left ≡ 1 + (left - 1) = omega arith in
         let l : here + (1 + (left - 1)) ≤ length f = omega (arith, p.inside) in
-        p.same ∙ ap (λ (n : ℕ). number_at n f here) e ∙ number-split 1 (left - 1) f here l
-        ∙ ap (λ (b : ℕ). b * 256 ^ (left - 1) + number_at (left - 1) f (here + 1)) (number-one f here (omega (arith, p.inside)))
+        p.same ∙ ap (λ (n : ℕ). number_at n f here) e ∙ number_split 1 (left - 1) f here l
+        ∙ ap (λ (b : ℕ). b * 256 ^ (left - 1) + number_at (left - 1) f (here + 1)) (number_one f here (omega (arith, p.inside)))
 
-    pub zeros-fail : (get_or f here 0 ≡ 0 → ⊥) → false ≡ eqb (number_at count f at) 0
-    zeros-fail n =
+    pub zeros_fail : (get_or f here 0 ≡ 0 → ⊥) → false ≡ eqb (number_at count f at) 0
+    zeros_fail n =
         let some : 1 ≤ get_or f here 0 = omega (arith, n) in
         let l : 1 * 256 ^ (left - 1) ≤ get_or f here 0 * 256 ^ (left - 1) = mul-le-mul_right (256 ^ (left - 1)) some in
         sym (ne_eqb (number_at count f at) 0 (λ z. absurd (omega (arith, l, first, z, one-le-pow (left - 1) 256 (omega arith)))))
 
-    pub zeros-more : get_or f here 0 ≡ 0 → AmidZeros f at count (here + 1) (left - 1)
-    zeros-more z = record { inside = omega (arith, p.inside); same = first ∙ rw z (omega arith) }
+    pub zeros_more : get_or f here 0 ≡ 0 → AmidZeros f at count (here + 1) (left - 1)
+    zeros_more z = record { inside = omega (arith, p.inside); same = first ∙ rw z (omega arith) }
 
 -- a number of `size` bytes and a bound of its last k
 module _ (f : List ℕ) (at size k : ℕ) (inside : at + size ≤ length f) (some : k ≤ size) where
   parted : number_at size f at ≡ number_at (size - k) f at * 256 ^ k + number_at k f (at + (size - k))
   parted =
       let e : size ≡ size - k + k = omega arith in
-      ap (λ (n : ℕ). number_at n f at) e ∙ number-split (size - k) k f at (omega arith)
+      ap (λ (n : ℕ). number_at n f at) e ∙ number_split (size - k) k f at (omega arith)
 
   below_both : (bound : ℕ) → bound ≤ 256 ^ k → ltb (number_at size f at) bound ≡ (eqb (number_at (size - k) f at) 0 && ltb (number_at k f (at + (size - k))) bound)
   below_both bound most =
@@ -63,58 +63,58 @@ module _ (f : List ℕ) (at size k : ℕ) (inside : at + size ≤ length f) (som
       rw (t, le-ltb (number_at size f at) bound (omega (arith, l, parted, most))))
 
 -- 2^d bits are 2^(d - 3) bytes
-bits-used : (d : ℕ) → 3 ≤ d → 2 ^ 2 ^ d ≡ 256 ^ 2 ^ (d - 3)
-bits-used d h =
+bits_used : (d : ℕ) → 3 ≤ d → 2 ^ 2 ^ d ≡ 256 ^ 2 ^ (d - 3)
+bits_used d h =
     let e : d ≡ 3 + (d - 3) = omega arith in
-    ap (λ (n : ℕ). 2 ^ n) (ap (λ (n : ℕ). 2 ^ n) e ∙ pow-add 2 3 (d - 3)) ∙ bits-bytes (2 ^ (d - 3))
+    ap (λ (n : ℕ). 2 ^ n) (ap (λ (n : ℕ). 2 ^ n) e ∙ pow-add 2 3 (d - 3)) ∙ bits_bytes (2 ^ (d - 3))
 
 -- one byte at least is used
-pub used-some : (d : ℕ) → 1 ≤ usedBytes d
-used-some d = split (leb 3 d) (λ t. rw t (pow_pos (d - 3))) (λ t. rw t (omega arith))
+pub used_some : (d : ℕ) → 1 ≤ used_bytes d
+used_some d = split (leb 3 d) (λ t. rw t (pow_pos (d - 3))) (λ t. rw t (omega arith))
 
 -- the bits fit the used bytes, and are there alone where the first of these is small enough
-used-bound : (d : ℕ) → 2 ^ 2 ^ d ≤ 256 ^ usedBytes d
-used-bound d =
+used_bound : (d : ℕ) → 2 ^ 2 ^ d ≤ 256 ^ used_bytes d
+used_bound d =
     split (leb 3 d)
-    (λ t. rw (t, bits-used d (leb-true 3 d t)) (omega arith))
+    (λ t. rw (t, bits_used d (leb-true 3 d t)) (omega arith))
     (λ t.
     let l : d < 3 = leb-false 3 d t in
     let i : 2 ^ d ≤ 2 ^ 3 = pow_mono {i = d} {j = 3} (omega arith) in
     let k : 2 ^ 2 ^ d ≤ 2 ^ 8 = pow_mono {i = 2 ^ d} {j = 8} i in
     rw t (omega (arith, k)))
 
-module _ (f : List ℕ) (bytes : Bytes f) (at d : ℕ) (inside : at + usedBytes d ≤ length f) where
-  used-top : leb (get_or f at 0) (topByte d) ≡ ltb (number_at (usedBytes d) f at) (2 ^ 2 ^ d)
-  used-top =
+module _ (f : List ℕ) (bytes : Bytes f) (at d : ℕ) (inside : at + used_bytes d ≤ length f) where
+  used_top : leb (get_or f at 0) (top_byte d) ≡ ltb (number_at (used_bytes d) f at) (2 ^ 2 ^ d)
+  used_top =
       split (leb 3 d)
       (λ t.
       let some : 1 ≤ 2 ^ (d - 3) = pow_pos (d - 3) in
       let l : at + 2 ^ (d - 3) ≤ length f = rw t at inside in
       let b : get_or f at 0 < 256 = bytes at (omega (arith, some, l)) in
-      rw (t, le-leb (get_or f at 0) 255 (omega (arith, b)), bits-used d (leb-true 3 d t), lt-ltb _ _ (number_small (2 ^ (d - 3)) f at bytes l)))
+      rw (t, le-leb (get_or f at 0) 255 (omega (arith, b)), bits_used d (leb-true 3 d t), lt-ltb _ _ (number_small (2 ^ (d - 3)) f at bytes l)))
       (λ t.
       let l : at + 1 ≤ length f = rw t at inside in
       let some : 1 ≤ 2 ^ 2 ^ d = pow_pos (2 ^ d) in
-      rw (t, number-one f at (omega (arith, l)))
+      rw (t, number_one f at (omega (arith, l)))
       (same_test (leb (get_or f at 0) (2 ^ 2 ^ d - 1)) (ltb (get_or f at 0) (2 ^ 2 ^ d))
       (λ h. lt-ltb (get_or f at 0) (2 ^ 2 ^ d) (omega (arith, some, leb-true (get_or f at 0) (2 ^ 2 ^ d - 1) h)))
       (λ h. le-leb (get_or f at 0) (2 ^ 2 ^ d - 1) (omega (arith, some, ltb-true (get_or f at 0) (2 ^ 2 ^ d) h)))))
 
 -- a table of 2^d bits in `size` bytes; none: whether the bytes before the used ones are 0, as the code answers it
-module _ (f : List ℕ) (at size d : ℕ) (inside : at + size ≤ length f) (room : usedBytes d ≤ size) (none : Bool)
-    (e : none ≡ eqb (number_at (size - usedBytes d) f at) 0) where
-  pub table-high : none ≡ false → false ≡ ltb (number_at size f at) (2 ^ 2 ^ d)
-  table-high z = sym (below_both f at size (usedBytes d) inside room (2 ^ 2 ^ d) (used-bound d) ∙ rw (← e, z))
+module _ (f : List ℕ) (at size d : ℕ) (inside : at + size ≤ length f) (room : used_bytes d ≤ size) (none : Bool)
+    (e : none ≡ eqb (number_at (size - used_bytes d) f at) 0) where
+  pub table_high : none ≡ false → false ≡ ltb (number_at size f at) (2 ^ 2 ^ d)
+  table_high z = sym (below_both f at size (used_bytes d) inside room (2 ^ 2 ^ d) (used_bound d) ∙ rw (← e, z))
 
-  pub table-low : none ≡ true → Bytes f → leb (get_or f (at + (size - usedBytes d)) 0) (topByte d) ≡ ltb (number_at size f at) (2 ^ 2 ^ d)
-  table-low z bytes =
-      used-top f bytes (at + (size - usedBytes d)) d (omega (arith, inside, room))
-      ∙ sym (below_both f at size (usedBytes d) inside room (2 ^ 2 ^ d) (used-bound d) ∙ rw (← e, z))
+  pub table_low : none ≡ true → Bytes f → leb (get_or f (at + (size - used_bytes d)) 0) (top_byte d) ≡ ltb (number_at size f at) (2 ^ 2 ^ d)
+  table_low z bytes =
+      used_top f bytes (at + (size - used_bytes d)) d (omega (arith, inside, room))
+      ∙ sym (below_both f at size (used_bytes d) inside room (2 ^ 2 ^ d) (used_bound d) ∙ rw (← e, z))
 
 -- a version's table has room for the bits of its guards
-pub used-few : (ver : Version) (d : ℕ) → d ≤ mostGuardWires ver → usedBytes d ≤ tableBytes ver
-used-few ver d h = split (leb 3 d) (λ t. rw t (go ver h)) (λ t. rw t (omega (arith, table-few ver)))
+pub used_few : (ver : Version) (d : ℕ) → d ≤ most_guard_wires ver → used_bytes d ≤ table_bytes ver
+used_few ver d h = split (leb 3 d) (λ t. rw t (go ver h)) (λ t. rw t (omega (arith, table_few ver)))
   where
-    go : (ver : Version) → d ≤ mostGuardWires ver → 2 ^ (d - 3) ≤ tableBytes ver
+    go : (ver : Version) → d ≤ most_guard_wires ver → 2 ^ (d - 3) ≤ table_bytes ver
     go one l = let k : 2 ^ (d - 3) ≤ 2 ^ 3 = pow_mono {i = d - 3} {j = 3} (omega arith) in omega (arith, k)
     go two l = let k : 2 ^ (d - 3) ≤ 2 ^ 5 = pow_mono {i = d - 3} {j = 5} (omega arith) in omega (arith, k)

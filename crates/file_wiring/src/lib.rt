@@ -3,25 +3,25 @@
 ghost use Rattle.std.specs.Prelude.{◌≡◌, true, cond, ◌&&◌, ◌+◌, ◌*◌, ◌^◌, ◌<◌, ◌≤◌, eqb, ltb, length, get_or};
 ghost use Rattle.base.specs.Lists.{every};
 ghost use Rattle.base.specs.Numbers.{number_at};
-ghost use Rattle.base.specs.Codes.{sameKind, code_of};
-ghost use Rattle.file.specs.Versions.{two, mostGuardWires, tableBytes};
-ghost use Rattle.file.specs.WireKinds.{wireKind};
-ghost use Rattle.file.specs.FileFigures.{versionIn, wiresAt, recordAt, fileVariables, wireCount, fileRecords};
-ghost use Rattle.file.specs.Limits.{mostFileBytes, mostWires};
-ghost use Rattle.file.specs.LaidOut.{recordPlace, WholeAt, LaidOut};
-ghost use Rattle.file.specs.CircuitRows.{headed, laid, stands, allStand, outputStands, outputsStand, standing};
+ghost use Rattle.base.specs.Codes.{same_kind, code_of};
+ghost use Rattle.file.specs.Versions.{two, most_guard_wires, table_bytes};
+ghost use Rattle.file.specs.WireKinds.{wire_kind};
+ghost use Rattle.file.specs.FileFigures.{version_in, wires_at, record_at, file_variables, wire_count, file_records};
+ghost use Rattle.file.specs.Limits.{most_file_bytes, most_wires};
+ghost use Rattle.file.specs.LaidOut.{record_place, WholeAt, LaidOut};
+ghost use Rattle.file.specs.CircuitRows.{headed, laid, stands, all_stand, output_stands, outputs_stand, standing};
 ghost use Rattle.file.specs.RowLaws.{Headed};
-ghost use Rattle.file_parts.specs.HeldKinds.{kindBy, heldKind};
+ghost use Rattle.file_parts.specs.HeldKinds.{kind_by, held_kind};
 ghost use Rattle.file_parts.specs.TableLaws.{HoldsKinds};
-ghost use Rattle.file_wiring.specs.Wires.{fits, wiresBy, usedBytes, topByte};
+ghost use Rattle.file_wiring.specs.Wires.{fits, wires_by, used_bytes, top_byte};
 
 use base::Kind;
 use file::WireId;
 
 // A wire is a bit, or a word, as is wanted.
 fn of_kind(bits: &[bool; file::MOST_WIRES], w: WireId, want: bool) -> bool
-    requires { w.0 < mostWires }
-    ensures { result ≡ sameKind (heldKind bits.now w.0) (kindBy want) }
+    requires { w.0 < most_wires }
+    ensures { result ≡ same_kind (held_kind bits.now w.0) (kind_by want) }
 {
     let bit = file_parts::is_bit(bits, w);
     if want { bit } else { !bit }
@@ -29,8 +29,8 @@ fn of_kind(bits: &[bool; file::MOST_WIRES], w: WireId, want: bool) -> bool
 
 // A wire that record i may read as a bit, or as a word.
 fn wire_fits(file: &[u8], at: usize, i: WireId, bits: &[bool; file::MOST_WIRES], want: bool) -> bool
-    requires { (at + 2 ≤ length file.now) × (i.0 ≤ mostWires) }
-    ensures { result ≡ fits i.0 (heldKind bits.now) (kindBy want) (number_at 2 file.now at) }
+    requires { (at + 2 ≤ length file.now) × (i.0 ≤ most_wires) }
+    ensures { result ≡ fits i.0 (held_kind bits.now) (kind_by want) (number_at 2 file.now at) }
 {
     let w = file_parts::wire_at(file, at);
     if w.0 < i.0 {
@@ -50,11 +50,11 @@ fn all_fit(
     bits: &[bool; file::MOST_WIRES],
     want: bool,
 ) -> bool
-    requires { (length file.now ≤ mostFileBytes)
+    requires { (length file.now ≤ most_file_bytes)
         × (2 ≤ step) × (step ≤ 4)
         × (at + step * count + 2 ≤ length file.now + step)
-        × (i.0 ≤ mostWires) }
-    ensures { result ≡ every (fits i.0 (heldKind bits.now) (kindBy want)) (wiresBy step count file.now at) }
+        × (i.0 ≤ most_wires) }
+    ensures { result ≡ every (fits i.0 (held_kind bits.now) (kind_by want)) (wires_by step count file.now at) }
 {
     let mut here = at;
     let mut left = count;
@@ -77,12 +77,12 @@ fn all_alike(
     i: WireId,
     bits: &[bool; file::MOST_WIRES],
 ) -> bool
-    requires { (length file.now ≤ mostFileBytes)
+    requires { (length file.now ≤ most_file_bytes)
         × (2 ≤ step) × (step ≤ 4)
         × (at + step * count + 2 ≤ length file.now + step)
-        × (i.0 ≤ mostWires)
+        × (i.0 ≤ most_wires)
         × (1 ≤ count) }
-    ensures { result ≡ every (fits i.0 (heldKind bits.now) (heldKind bits.now (number_at 2 file.now at))) (wiresBy step count file.now at) }
+    ensures { result ≡ every (fits i.0 (held_kind bits.now) (held_kind bits.now (number_at 2 file.now at))) (wires_by step count file.now at) }
 {
     let first = file_parts::wire_at(file, at);
     if first.0 < i.0 {
@@ -112,15 +112,15 @@ fn none_set(file: &[u8], at: usize, count: usize) -> bool
 
 // The 2^d bits of a table stand in its last bytes: in so many.
 fn used_bytes(d: u8) -> usize
-    requires { d ≤ mostGuardWires two }
-    ensures { result ≡ usedBytes d }
+    requires { d ≤ most_guard_wires two }
+    ensures { result ≡ used_bytes d }
 {
     if d < 3 { 1 } else { 1 << (d - 3) }
 }
 
 // The first of them is this at most.
 fn top_byte(d: u8) -> u8
-    ensures { result ≡ topByte d }
+    ensures { result ≡ top_byte d }
 {
     match d {
         0 => 1,
@@ -132,7 +132,7 @@ fn top_byte(d: u8) -> u8
 
 // A table of `size` bytes from `at` on has 2^d bits: none is set from 2^d up.
 fn table_fits(file: &[u8], at: usize, size: usize, d: u8) -> bool
-    requires { (at + size ≤ length file.now) × (d ≤ mostGuardWires two) × (usedBytes d ≤ size) }
+    requires { (at + size ≤ length file.now) × (d ≤ most_guard_wires two) × (used_bytes d ≤ size) }
     ensures { result ≡ ltb (number_at size file.now at) (2 ^ 2 ^ d) }
 {
     let high = size - used_bytes(d);
@@ -145,11 +145,11 @@ fn table_fits(file: &[u8], at: usize, size: usize, d: u8) -> bool
 
 // An operation, 20 to 27: its one or two wires are of the kind that it takes.
 fn operation_wires(file: &[u8], at: usize, i: WireId, bits: &[bool; file::MOST_WIRES]) -> bool
-    requires { (length file.now ≤ mostFileBytes)
+    requires { (length file.now ≤ most_file_bytes)
         × (at + (1 + 2 * (code_of (get_or file.now at 0)).arity) ≤ length file.now)
-        × (i.0 ≤ mostWires) }
-    ensures { result ≡ every (fits i.0 (heldKind bits.now) (code_of (get_or file.now at 0)).takes)
-        (wiresBy 2 (code_of (get_or file.now at 0)).arity file.now (at + 1)) }
+        × (i.0 ≤ most_wires) }
+    ensures { result ≡ every (fits i.0 (held_kind bits.now) (code_of (get_or file.now at 0)).takes)
+        (wires_by 2 (code_of (get_or file.now at 0)).arity file.now (at + 1)) }
 {
     let c = base_codes::code_of(file[at]);
     let takes = c.takes;
@@ -159,9 +159,9 @@ fn operation_wires(file: &[u8], at: usize, i: WireId, bits: &[bool; file::MOST_W
 
 // A choice, 30: its condition is a bit, its two values are alike.
 fn choice_wires(file: &[u8], at: usize, i: WireId, bits: &[bool; file::MOST_WIRES]) -> bool
-    requires { (length file.now ≤ mostFileBytes) × (at + 7 ≤ length file.now) × (i.0 ≤ mostWires) }
-    ensures { result ≡ (fits i.0 (heldKind bits.now) (kindBy true) (number_at 2 file.now (at + 1))
-        && every (fits i.0 (heldKind bits.now) (heldKind bits.now (number_at 2 file.now (at + 3)))) (wiresBy 2 2 file.now (at + 3))) }
+    requires { (length file.now ≤ most_file_bytes) × (at + 7 ≤ length file.now) × (i.0 ≤ most_wires) }
+    ensures { result ≡ (fits i.0 (held_kind bits.now) (kind_by true) (number_at 2 file.now (at + 1))
+        && every (fits i.0 (held_kind bits.now) (held_kind bits.now (number_at 2 file.now (at + 3)))) (wires_by 2 2 file.now (at + 3))) }
 {
     if wire_fits(file, at + 1, i, bits, true) {
         all_alike(file, at + 3, 2, 2, i, bits)
@@ -178,9 +178,9 @@ fn pick_wires(
     i: WireId,
     bits: &[bool; file::MOST_WIRES],
 ) -> bool
-    requires { (length file.now ≤ mostFileBytes) × (at + 4 * count ≤ length file.now) × (1 ≤ count) × (i.0 ≤ mostWires) }
-    ensures { result ≡ (every (fits i.0 (heldKind bits.now) (kindBy true)) (wiresBy 4 count file.now at)
-        && every (fits i.0 (heldKind bits.now) (heldKind bits.now (number_at 2 file.now (at + 2)))) (wiresBy 4 count file.now (at + 2))) }
+    requires { (length file.now ≤ most_file_bytes) × (at + 4 * count ≤ length file.now) × (1 ≤ count) × (i.0 ≤ most_wires) }
+    ensures { result ≡ (every (fits i.0 (held_kind bits.now) (kind_by true)) (wires_by 4 count file.now at)
+        && every (fits i.0 (held_kind bits.now) (held_kind bits.now (number_at 2 file.now (at + 2)))) (wires_by 4 count file.now (at + 2))) }
 {
     if all_fit(file, at, 4, count, i, bits, true) {
         all_alike(file, at + 2, 4, count, i, bits)
@@ -197,12 +197,12 @@ fn guard_wires(
     i: WireId,
     bits: &[bool; file::MOST_WIRES],
 ) -> bool
-    requires { (length file.now ≤ mostFileBytes)
-        × (at + 2 * count + tableBytes (versionIn file.now) ≤ length file.now)
-        × (count ≤ mostGuardWires (versionIn file.now))
-        × (i.0 ≤ mostWires) }
-    ensures { result ≡ (every (fits i.0 (heldKind bits.now) (kindBy true)) (wiresBy 2 count file.now at)
-        && ltb (number_at (tableBytes (versionIn file.now)) file.now (at + 2 * count)) (2 ^ 2 ^ count)) }
+    requires { (length file.now ≤ most_file_bytes)
+        × (at + 2 * count + table_bytes (version_in file.now) ≤ length file.now)
+        × (count ≤ most_guard_wires (version_in file.now))
+        × (i.0 ≤ most_wires) }
+    ensures { result ≡ (every (fits i.0 (held_kind bits.now) (kind_by true)) (wires_by 2 count file.now at)
+        && ltb (number_at (table_bytes (version_in file.now)) file.now (at + 2 * count)) (2 ^ 2 ^ count)) }
 {
     let d = base_words::wide8(count);
     if all_fit(file, at, 2, d, i, bits, true) {
@@ -220,8 +220,8 @@ fn record_stands(
     v: usize,
     bits: &[bool; file::MOST_WIRES],
 ) -> bool
-    requires { (length file.now ≤ mostFileBytes) × WholeAt file.now at × (i.0 ≤ mostWires) }
-    ensures { result ≡ stands v (heldKind bits.now) i.0 (recordAt file.now at) }
+    requires { (length file.now ≤ most_file_bytes) × WholeAt file.now at × (i.0 ≤ most_wires) }
+    ensures { result ≡ stands v (held_kind bits.now) i.0 (record_at file.now at) }
 {
     let code = file[at];
     let n = base_words::wide16(i.0);
@@ -243,9 +243,9 @@ fn record_stands(
 
 // Every record in its turn, and its kind into the table; the place after the records, or 0 where one does not stand.
 fn records_stand(file: &[u8], v: usize, count: usize, bits: &mut [bool; file::MOST_WIRES]) -> usize
-    requires { (Headed file.now × LaidOut file.now) × (v ≡ fileVariables file.now) × (count ≡ wireCount file.now) × (length bits.old ≡ mostWires) }
-    ensures place { result ≡ cond (allStand v (wireKind (fileRecords file.now)) 0 (fileRecords file.now)) (recordPlace file.now count) 0 }
-    ensures kinds { 0 < result → HoldsKinds (fileRecords file.now) bits.new count }
+    requires { (Headed file.now × LaidOut file.now) × (v ≡ file_variables file.now) × (count ≡ wire_count file.now) × (length bits.old ≡ most_wires) }
+    ensures place { result ≡ cond (all_stand v (wire_kind (file_records file.now)) 0 (file_records file.now)) (record_place file.now count) 0 }
+    ensures kinds { 0 < result → HoldsKinds (file_records file.now) bits.new count }
 {
     let mut at = file::FIRST_RECORD;
     let mut i: usize = 0;
@@ -269,8 +269,8 @@ fn output_stands(
     count: usize,
     bits: &[bool; file::MOST_WIRES],
 ) -> bool
-    requires { (at + 2 ≤ length file.now) × (x < mostWires) × (count ≤ mostWires) }
-    ensures { result ≡ outputStands count (heldKind bits.now) x (number_at 2 file.now at) }
+    requires { (at + 2 ≤ length file.now) × (x < most_wires) × (count ≤ most_wires) }
+    ensures { result ≡ output_stands count (held_kind bits.now) x (number_at 2 file.now at) }
 {
     let w = file_parts::wire_at(file, at);
     if w.0 == file::NO_WIRE {
@@ -292,8 +292,8 @@ fn outputs_stand(
     count: usize,
     bits: &[bool; file::MOST_WIRES],
 ) -> bool
-    requires { (at + 2 * v ≤ length file.now) × (v ≤ count) × (count ≤ mostWires) }
-    ensures { result ≡ outputsStand count (heldKind bits.now) 0 (wiresAt v file.now at) }
+    requires { (at + 2 * v ≤ length file.now) × (v ≤ count) × (count ≤ most_wires) }
+    ensures { result ≡ outputs_stand count (held_kind bits.now) 0 (wires_at v file.now at) }
 {
     let mut x: usize = 0;
     while x < v {

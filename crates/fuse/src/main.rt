@@ -2,9 +2,9 @@
 ghost use Rattle.std.specs.Prelude.{◌≡◌, true, ◌≤◌, eqb, length};
 ghost use Rattle.io.specs.Counts.{IsPrefixLen};
 ghost use Rattle.base.specs.Buffers.{over};
-ghost use Rattle.fused.specs.Answers.{writeAnswer, writtenOver};
+ghost use Rattle.fused.specs.Answers.{write_answer, written_over};
 ghost use Rattle.report.specs.Line.{line_of};
-ghost use Rattle.report.specs.Limits.{mostLine};
+ghost use Rattle.report.specs.Limits.{most_line};
 
 use libc::STDOUT_FILENO;
 
@@ -80,12 +80,12 @@ struct Fused {
 // All that the program says of a rule and a plan, whole before any of it is saved or printed: the file of an accepted plan, and the line.
 // The line buffer holds the longest line.
 fn fuse_rule(rule: &[u8], plan: &[u8], file: &mut [u8], line: &mut [u8]) -> Fused
-    requires { mostLine ≤ length line.old }
-    ensures accepted { result.accepted ≡ eqb (writeAnswer rule.now plan.now (length file.old)).number 0 }
-    ensures bytes { result.bytes ≡ (writeAnswer rule.now plan.now (length file.old)).bytes }
-    ensures saved { file.new ≡ writtenOver rule.now plan.now file.old }
-    ensures counted { result.line ≡ length (line_of (writeAnswer rule.now plan.now (length file.old))) }
-    ensures printed { line.new ≡ over (line_of (writeAnswer rule.now plan.now (length file.old))) line.old }
+    requires { most_line ≤ length line.old }
+    ensures accepted { result.accepted ≡ eqb (write_answer rule.now plan.now (length file.old)).number 0 }
+    ensures bytes { result.bytes ≡ (write_answer rule.now plan.now (length file.old)).bytes }
+    ensures saved { file.new ≡ written_over rule.now plan.now file.old }
+    ensures counted { result.line ≡ length (line_of (write_answer rule.now plan.now (length file.old))) }
+    ensures printed { line.new ≡ over (line_of (write_answer rule.now plan.now (length file.old))) line.old }
     ensures within { (result.accepted ≡ true → result.bytes ≤ length file.new) × (result.line ≤ length line.new) }
 {
     let answer = fused_write::write(rule, plan, file);

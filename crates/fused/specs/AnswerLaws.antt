@@ -6,73 +6,73 @@ use Rattle.base.specs.TestLaws.{split}
 use Rattle.base.specs.Buffers.{over}
 use Rattle.base.specs.Answers.{refusal}
 use Rattle.base.specs.declared.Answer.{Answer}
-use Rattle.circuit.specs.CostLaws.{costs-most}
-use Rattle.circuit.specs.PlainCircuit.{gatesOf}
+use Rattle.circuit.specs.CostLaws.{costs_most}
+use Rattle.circuit.specs.PlainCircuit.{gates_of}
 use Rattle.circuit.specs.WholeLaws.{accepted}
-use Rattle.plan.specs.Rows.{planAnswer}
-use Rattle.plan.specs.AcceptedLaws.{plan-accepted}
-use Rattle.fused.specs.FusedCircuit.{fusedFile}
-use Rattle.fused.specs.Answers.{fusedCounts, fusedAnswer, writeAnswer, writtenOver}
-use Rattle.fused.specs.SizeBounds.{bytes-bound, plan-most}
-use Rattle.file.specs.Limits.{mostFileBytes}
+use Rattle.plan.specs.Rows.{plan_answer}
+use Rattle.plan.specs.AcceptedLaws.{plan_accepted}
+use Rattle.fused.specs.FusedCircuit.{fused_file}
+use Rattle.fused.specs.Answers.{fused_counts, fused_answer, write_answer, written_over}
+use Rattle.fused.specs.SizeBounds.{bytes_bound, plan_most}
+use Rattle.file.specs.Limits.{most_file_bytes}
 
 module _ (s p : List ℕ) where
   -- a refused plan has the plan's answer
-  pub fused-refused : ((planAnswer s p).number ≡ 0 → ⊥) → fusedAnswer s p ≡ planAnswer s p
-  unfolding fusedAnswer
-  fused-refused h = rw (ne_eqb _ _ h)
+  pub fused_refused : ((plan_answer s p).number ≡ 0 → ⊥) → fused_answer s p ≡ plan_answer s p
+  unfolding fused_answer
+  fused_refused h = rw (ne_eqb _ _ h)
 
   -- an accepted one is taken
-  pub fused-taken : (planAnswer s p).number ≡ 0 → ((fusedAnswer s p).number ≡ 0) × ((fusedAnswer s p).place ≡ 0)
-  unfolding fusedAnswer fusedCounts
-  fused-taken h = rw (eq-eqb _ _ h) (refl, refl)
+  pub fused_taken : (plan_answer s p).number ≡ 0 → ((fused_answer s p).number ≡ 0) × ((fused_answer s p).place ≡ 0)
+  unfolding fused_answer fused_counts
+  fused_taken h = rw (eq-eqb _ _ h) (refl, refl)
 
   -- so a fused circuit that is answered with number 0 has an accepted plan
-  pub fused-plan : (fusedAnswer s p).number ≡ 0 → (planAnswer s p).number ≡ 0
-  fused-plan h =
-      split (eqb (planAnswer s p).number 0) (λ t. eqb-true _ _ t)
-      (λ t. ap (λ (a : Answer). a.number) (sym (fused-refused (eqb-false _ _ t))) ∙ h)
+  pub fused_plan : (fused_answer s p).number ≡ 0 → (plan_answer s p).number ≡ 0
+  fused_plan h =
+      split (eqb (plan_answer s p).number 0) (λ t. eqb-true _ _ t)
+      (λ t. ap (λ (a : Answer). a.number) (sym (fused_refused (eqb-false _ _ t))) ∙ h)
 
   -- and its answer counts the file's bytes
-  pub answer-bytes : (planAnswer s p).number ≡ 0 → (fusedAnswer s p).bytes ≡ length (fusedFile s p)
-  unfolding fusedAnswer fusedCounts
-  answer-bytes h = rw (eq-eqb _ _ h)
+  pub answer_bytes : (plan_answer s p).number ≡ 0 → (fused_answer s p).bytes ≡ length (fused_file s p)
+  unfolding fused_answer fused_counts
+  answer_bytes h = rw (eq-eqb _ _ h)
 
-  -- neither cost is above 10,240: no gate costs more than 40, and fused they come to no more (`plan-most`)
-  pub costs-bound : (fusedAnswer s p).number ≡ 0 → ((fusedAnswer s p).before ≤ 10240) × ((fusedAnswer s p).after ≤ 10240)
-  unfolding fusedAnswer fusedCounts
-  costs-bound z =
-      let h = fused-plan z in
-      let few = (accepted s ((plan-accepted s p).0 h).0).gates in
-      rw (eq-eqb _ _ h) (omega (arith, costs-most (gatesOf s), few), (plan-most s p h).2)
+  -- neither cost is above 10,240: no gate costs more than 40, and fused they come to no more (`plan_most`)
+  pub costs_bound : (fused_answer s p).number ≡ 0 → ((fused_answer s p).before ≤ 10240) × ((fused_answer s p).after ≤ 10240)
+  unfolding fused_answer fused_counts
+  costs_bound z =
+      let h = fused_plan z in
+      let few = (accepted s ((plan_accepted s p).0 h).0).gates in
+      rw (eq-eqb _ _ h) (omega (arith, costs_most (gates_of s), few), (plan_most s p h).2)
 
   -- writing it: the plan's refusal first, then 50, else the same answer
   module _ (room : ℕ) where
-    pub write-refused : ((planAnswer s p).number ≡ 0 → ⊥) → writeAnswer s p room ≡ planAnswer s p
-    unfolding writeAnswer
-    write-refused h = rw (ne_eqb _ _ h)
+    pub write_refused : ((plan_answer s p).number ≡ 0 → ⊥) → write_answer s p room ≡ plan_answer s p
+    unfolding write_answer
+    write_refused h = rw (ne_eqb _ _ h)
 
-    pub write-short : (planAnswer s p).number ≡ 0 → room < length (fusedFile s p) → writeAnswer s p room ≡ refusal 50 0
-    unfolding writeAnswer
-    write-short h l = rw (eq-eqb _ _ h, lt-leb _ _ l)
+    pub write_short : (plan_answer s p).number ≡ 0 → room < length (fused_file s p) → write_answer s p room ≡ refusal 50 0
+    unfolding write_answer
+    write_short h l = rw (eq-eqb _ _ h, lt-leb _ _ l)
 
-    pub write-taken : (planAnswer s p).number ≡ 0 → length (fusedFile s p) ≤ room → writeAnswer s p room ≡ fusedAnswer s p
-    unfolding writeAnswer fusedAnswer
-    write-taken h l = rw (eq-eqb _ _ h, le-leb _ _ l)
+    pub write_taken : (plan_answer s p).number ≡ 0 → length (fused_file s p) ≤ room → write_answer s p room ≡ fused_answer s p
+    unfolding write_answer fused_answer
+    write_taken h l = rw (eq-eqb _ _ h, le-leb _ _ l)
 
   -- the buffer after writing: the file over its start, or a refusal writes to none
   module _ (buffer : List ℕ) where
-    pub write-over : (writeAnswer s p (length buffer)).number ≡ 0 → writtenOver s p buffer ≡ over (fusedFile s p) buffer
-    unfolding writtenOver
-    write-over h = rw (eq-eqb _ _ h)
+    pub write_over : (write_answer s p (length buffer)).number ≡ 0 → written_over s p buffer ≡ over (fused_file s p) buffer
+    unfolding written_over
+    write_over h = rw (eq-eqb _ _ h)
 
-    pub write-untouched : ((writeAnswer s p (length buffer)).number ≡ 0 → ⊥) → writtenOver s p buffer ≡ buffer
-    unfolding writtenOver
-    write-untouched h = rw (ne_eqb _ _ h)
+    pub write_untouched : ((write_answer s p (length buffer)).number ≡ 0 → ⊥) → written_over s p buffer ≡ buffer
+    unfolding written_over
+    write_untouched h = rw (ne_eqb _ _ h)
 
   -- 16,384 bytes always suffice
-  pub room-enough : writeAnswer s p mostFileBytes ≡ fusedAnswer s p
-  room-enough =
-      split (eqb (planAnswer s p).number 0)
-      (λ t. let h = eqb-true _ _ t in write-taken mostFileBytes h (bytes-bound s p h))
-      (λ t. let n = eqb-false _ _ t in write-refused mostFileBytes n ∙ sym (fused-refused n))
+  pub room_enough : write_answer s p most_file_bytes ≡ fused_answer s p
+  room_enough =
+      split (eqb (plan_answer s p).number 0)
+      (λ t. let h = eqb-true _ _ t in write_taken most_file_bytes h (bytes_bound s p h))
+      (λ t. let n = eqb-false _ _ t in write_refused most_file_bytes n ∙ sym (fused_refused n))

@@ -7,173 +7,173 @@ use Rattle.std.proofs.lemmas.Simd.{map-map}
 use Rattle.std.proofs.Math.ListN.{length}
 use Rattle.std.proofs.lemmas.List.{length-map}
 use Rattle.base.specs.Lists.{◌∈◌}
-use Rattle.base.specs.MemberLaws.{in_map, map-in, getD-in}
-use Rattle.base.specs.Codes.{entryOf}
-use Rattle.base.specs.Results.{resultOn}
+use Rattle.base.specs.MemberLaws.{in_map, map_in, get_or_in}
+use Rattle.base.specs.Codes.{entry_of}
+use Rattle.base.specs.Results.{result_on}
 use Rattle.base.specs.declared.Operation.{Operation}
-use Rattle.file.specs.Versions.{writtenVersion}
-use Rattle.file.specs.Records.{Record, operation, recordIn, recordFigure, recordsCost}
-use Rattle.file.specs.CircuitFile.{recordsBytes}
-use Rattle.file.specs.SizeLaws.{cost-none}
-use Rattle.file.specs.RecordLaws.{wires-right}
-use Rattle.file.specs.WireKinds.{wireKind}
-use Rattle.file.specs.WireFigures.{pickSum, wireFigure}
-use Rattle.circuit.specs.Gates.{gateAt, arguments}
-use Rattle.circuit.specs.PlainCircuit.{gatesOf, gateCount}
-use Rattle.circuit_needed.specs.Pass.{rulePreconditions}
-use Rattle.plan.specs.PlanFile.{groupsIn, EachGroup}
-use Rattle.plan.specs.Groups.{group_of, restsOf}
+use Rattle.file.specs.Versions.{written_version}
+use Rattle.file.specs.Records.{Record, operation, record_in, record_figure, records_cost}
+use Rattle.file.specs.CircuitFile.{records_bytes}
+use Rattle.file.specs.SizeLaws.{cost_none}
+use Rattle.file.specs.RecordLaws.{wires_right}
+use Rattle.file.specs.WireKinds.{wire_kind}
+use Rattle.file.specs.WireFigures.{pick_sum, wire_figure}
+use Rattle.circuit.specs.Gates.{gate_at, arguments}
+use Rattle.circuit.specs.PlainCircuit.{gates_of, gate_count}
+use Rattle.circuit_needed.specs.Pass.{rule_preconditions}
+use Rattle.plan.specs.PlanFile.{groups_in, EachGroup}
+use Rattle.plan.specs.Groups.{group_of, rests_of}
 use Rattle.plan.specs.GroupLaws.{member_of}
-use Rattle.plan.specs.ReadsLaws.{waits-rests}
-use Rattle.plan.specs.Rows.{planAnswer}
-use Rattle.fused.specs.Emission.{gateOperation, oneWire, picked, guarded, guard_of}
-use Rattle.fused.specs.JoinedParts.{joined-count}
-use Rattle.fused.specs.SizeJoined.{joined-size, joined-cost, joined-most, guards-cost, values-each}
-use Rattle.fused.specs.FusedCircuit.{recordsOf, wireOf}
-use Rattle.fused.specs.JoinedGates.{argument, joinedWith, guardsWith, wiresAt, recordsWith, picksWith, Stands}
-use Rattle.fused.specs.PlaceLaws.{one-wire-each, one-wire}
-use Rattle.fused.specs.PlannedLaws.{planned-two, planned-earlier, planned-wire}
-use Rattle.fused.specs.GroupStands.{record-behind, stands-as, waited-earlier}
-use Rattle.fused.specs.JoinedShapes.{none-picked, joined-stands}
+use Rattle.plan.specs.ReadsLaws.{waits_rests}
+use Rattle.plan.specs.Rows.{plan_answer}
+use Rattle.fused.specs.Emission.{gate_operation, one_wire, picked, guarded, guard_of}
+use Rattle.fused.specs.JoinedParts.{joined_count}
+use Rattle.fused.specs.SizeJoined.{joined_size, joined_cost, joined_most, guards_cost, values_each}
+use Rattle.fused.specs.FusedCircuit.{records_of, wire_of}
+use Rattle.fused.specs.JoinedGates.{argument, joined_with, guards_with, wires_at, records_with, picks_with, Stands}
+use Rattle.fused.specs.PlaceLaws.{one_wire_each, one_wire_lem}
+use Rattle.fused.specs.PlannedLaws.{planned_two, planned_earlier, planned_wire}
+use Rattle.fused.specs.GroupStands.{record_behind, stands_as, waited_earlier}
+use Rattle.fused.specs.JoinedShapes.{none_picked, joined_stands}
 
 in_some : (l : List ℕ) (a : ℕ) → a ∈ l → 0 < length l
 in_some [] a m = absurd m
 in_some (b ∷ l) a m = omega arith
 
 -- the first numbers of a list of two are the list
-two-of : (l : List ℕ) → length l ≡ 2 → get_or l 0 0 ∷ get_or l 1 0 ∷ [] ≡ l
-two-of [] e = absurd (omega (arith, e))
-two-of (a ∷ []) e = absurd (omega (arith, e))
-two-of (a ∷ b ∷ []) e = refl
-two-of (a ∷ b ∷ c ∷ l) e = absurd (omega (arith, e))
+two_of : (l : List ℕ) → length l ≡ 2 → get_or l 0 0 ∷ get_or l 1 0 ∷ [] ≡ l
+two_of [] e = absurd (omega (arith, e))
+two_of (a ∷ []) e = absurd (omega (arith, e))
+two_of (a ∷ b ∷ []) e = refl
+two_of (a ∷ b ∷ c ∷ l) e = absurd (omega (arith, e))
 
 module _ (s p : List ℕ) where
   -- m is joined with itself
-  own : (m : ℕ) → m < gateCount s → m ∈ joinedWith s p m
-  own m l = member_of (gateCount s) (group_of (groupsIn p)) m (group_of (groupsIn p) m) l refl
+  own : (m : ℕ) → m < gate_count s → m ∈ joined_with s p m
+  own m l = member_of (gate_count s) (group_of (groups_in p)) m (group_of (groups_in p) m) l refl
 
   -- the gates joined with m have one wire at place k exactly when each has m's
-  pub one-wire-right : (m k : ℕ) → m < gateCount s → (oneWire (wiresAt s p m k) ≡ true) ↔ ((j : ℕ) → j ∈ joinedWith s p m → wireOf s p (argument s j k) ≡ wireOf s p (argument s m k))
+  pub one_wire_right : (m k : ℕ) → m < gate_count s → (one_wire (wires_at s p m k) ≡ true) ↔ ((j : ℕ) → j ∈ joined_with s p m → wire_of s p (argument s j k) ≡ wire_of s p (argument s m k))
   unfolding argument
-  one-wire-right m k l = (
+  one_wire_right m k l = (
     λ t j i. each t j i ∙ sym (each t m (own m l)),
-    λ h. one-wire (wiresAt s p m k) some (λ w i. gives h w i ∙ sym (gives h (get_or (wiresAt s p m k) 0 0) (getD-in (wiresAt s p m k) 0 some))),
+    λ h. one_wire_lem (wires_at s p m k) some (λ w i. gives h w i ∙ sym (gives h (get_or (wires_at s p m k) 0 0) (get_or_in (wires_at s p m k) 0 some))),
   )
     where
-      some : 0 < length (wiresAt s p m k)
-      some = rw (length-map (joinedWith s p m) (λ j. wireOf s p (argument s j k))) (in_some (joinedWith s p m) m (own m l))
+      some : 0 < length (wires_at s p m k)
+      some = rw (length-map (joined_with s p m) (λ j. wire_of s p (argument s j k))) (in_some (joined_with s p m) m (own m l))
 
-      each : oneWire (wiresAt s p m k) ≡ true → (j : ℕ) → j ∈ joinedWith s p m → wireOf s p (argument s j k) ≡ get_or (wiresAt s p m k) 0 0
-      each t j i = one-wire-each (wiresAt s p m k) t (wireOf s p (argument s j k)) (in_map (λ j. wireOf s p (argument s j k)) j (joinedWith s p m) i)
+      each : one_wire (wires_at s p m k) ≡ true → (j : ℕ) → j ∈ joined_with s p m → wire_of s p (argument s j k) ≡ get_or (wires_at s p m k) 0 0
+      each t j i = one_wire_each (wires_at s p m k) t (wire_of s p (argument s j k)) (in_map (λ j. wire_of s p (argument s j k)) j (joined_with s p m) i)
 
-      gives : ((j : ℕ) → j ∈ joinedWith s p m → wireOf s p (argument s j k) ≡ wireOf s p (argument s m k)) → (w : ℕ) → w ∈ wiresAt s p m k → w ≡ wireOf s p (argument s m k)
-      gives h w i = let r = map-in (λ j. wireOf s p (argument s j k)) w (joinedWith s p m) i in r.2 ∙ h r.0 r.1
+      gives : ((j : ℕ) → j ∈ joined_with s p m → wire_of s p (argument s j k) ≡ wire_of s p (argument s m k)) → (w : ℕ) → w ∈ wires_at s p m k → w ≡ wire_of s p (argument s m k)
+      gives h w i = let r = map_in (λ j. wire_of s p (argument s j k)) w (joined_with s p m) i in r.2 ∙ h r.0 r.1
 
-  module _ (h : (planAnswer s p).number ≡ 0) where
-    module _ (m : ℕ) (l : m < gateCount s) (two : 2 ≤ length (joinedWith s p m)) where
+  module _ (h : (plan_answer s p).number ≡ 0) where
+    module _ (m : ℕ) (l : m < gate_count s) (two : 2 ≤ length (joined_with s p m)) where
       -- a group without a pick is its operation on the wires that all members have
-      module _ (first : oneWire (wiresAt s p m 0) ≡ true) (second : oneWire (wiresAt s p m 1) ≡ true) where
-        wire-of : (k : ℕ) → oneWire (wiresAt s p m k) ≡ true → get_or (wiresAt s p m k) 0 0 ≡ wireOf s p (argument s m k)
+      module _ (first : one_wire (wires_at s p m 0) ≡ true) (second : one_wire (wires_at s p m 1) ≡ true) where
+        wire_of_lem : (k : ℕ) → one_wire (wires_at s p m k) ≡ true → get_or (wires_at s p m k) 0 0 ≡ wire_of s p (argument s m k)
         unfolding argument
-        wire-of k t = sym (one-wire-each (wiresAt s p m k) t (wireOf s p (argument s m k)) (in_map (λ j. wireOf s p (argument s j k)) m (joinedWith s p m) (own m l)))
+        wire_of_lem k t = sym (one_wire_each (wires_at s p m k) t (wire_of s p (argument s m k)) (in_map (λ j. wire_of s p (argument s j k)) m (joined_with s p m) (own m l)))
 
-        reads : get_or (wiresAt s p m 0) 0 0 ∷ get_or (wiresAt s p m 1) 0 0 ∷ [] ≡ map (wireOf s p) (arguments (gateAt (gatesOf s) m))
+        reads : get_or (wires_at s p m 0) 0 0 ∷ get_or (wires_at s p m 1) 0 0 ∷ [] ≡ map (wire_of s p) (arguments (gate_at (gates_of s) m))
         unfolding argument
         reads =
-            ap₂ (λ (a b : ℕ). a ∷ b ∷ []) (wire-of 0 first) (wire-of 1 second)
-            ∙ ap (map (wireOf s p)) (two-of (arguments (gateAt (gatesOf s) m)) (planned-two s p h (group_of (groupsIn p) m) two m (own m l)))
+            ap₂ (λ (a b : ℕ). a ∷ b ∷ []) (wire_of_lem 0 first) (wire_of_lem 1 second)
+            ∙ ap (map (wire_of s p)) (two_of (arguments (gate_at (gates_of s) m)) (planned_two s p h (group_of (groups_in p) m) two m (own m l)))
 
-        pub unpicked-stands : Stands (recordsOf s p) (wireOf s p m)
-            (λ _. operation (gateOperation (gateAt (gatesOf s) m)) (map (wireOf s p) (arguments (gateAt (gatesOf s) m))) ∷ [])
-        unpicked-stands =
-            stands-as (recordsOf s p) (wireOf s p m) _ _
-            (λ n. none-picked n (gateOperation (gateAt (gatesOf s) m)) (guardsWith s p m) (wiresAt s p m 0) (wiresAt s p m 1) first second
-            ∙ ap (λ (r : List ℕ). operation (gateOperation (gateAt (gatesOf s) m)) r ∷ []) reads)
-            (joined-stands s p h m l two)
+        pub unpicked_stands : Stands (records_of s p) (wire_of s p m)
+            (λ _. operation (gate_operation (gate_at (gates_of s) m)) (map (wire_of s p) (arguments (gate_at (gates_of s) m))) ∷ [])
+        unpicked_stands =
+            stands_as (records_of s p) (wire_of s p m) _ _
+            (λ n. none_picked n (gate_operation (gate_at (gates_of s) m)) (guards_with s p m) (wires_at s p m 0) (wires_at s p m 1) first second
+            ∙ ap (λ (r : List ℕ). operation (gate_operation (gate_at (gates_of s) m)) r ∷ []) reads)
+            (joined_stands s p h m l two)
 
-        pub unpicked-record : recordIn (recordsOf s p) (wireOf s p m) ≡ operation (gateOperation (gateAt (gatesOf s) m)) (map (wireOf s p) (arguments (gateAt (gatesOf s) m)))
-        unpicked-record =
-            let g = unpicked-stands in
-            let r : Record = operation (gateOperation (gateAt (gatesOf s) m)) (map (wireOf s p) (arguments (gateAt (gatesOf s) m))) in
-            let w : wireOf s p m ≡ length g.before = g.last ∙ omega arith in
-            ap₂ (λ (R : List Record) (i : ℕ). recordIn R i) g.together w ∙ record-behind g.before r g.after
+        pub unpicked_record : record_in (records_of s p) (wire_of s p m) ≡ operation (gate_operation (gate_at (gates_of s) m)) (map (wire_of s p) (arguments (gate_at (gates_of s) m)))
+        unpicked_record =
+            let g = unpicked_stands in
+            let r : Record = operation (gate_operation (gate_at (gates_of s) m)) (map (wire_of s p) (arguments (gate_at (gates_of s) m))) in
+            let w : wire_of s p m ≡ length g.before = g.last ∙ omega arith in
+            ap₂ (λ (R : List Record) (i : ℕ). record_in R i) g.together w ∙ record_behind g.before r g.after
 
         -- its wire holds what its argument wires give, whatever the inputs and whether a member is needed or not
-        pub unpicked-figure : (inputs : List ℕ)
-            → wireFigure inputs (recordsOf s p) (wireOf s p m)
-            ≡ resultOn (gateOperation (gateAt (gatesOf s) m)) (map (λ a. wireFigure inputs (recordsOf s p) (wireOf s p a)) (arguments (gateAt (gatesOf s) m)))
-        unpicked-figure inputs =
-            wires-right inputs (recordsOf s p) (planned-earlier s p h) (wireOf s p m) (planned-wire s p h m l)
-            ∙ ap (recordFigure inputs (pickSum (wireKind (recordsOf s p))) (wireFigure inputs (recordsOf s p))) unpicked-record
-            ∙ ap (resultOn (gateOperation (gateAt (gatesOf s) m))) (map-map (wireFigure inputs (recordsOf s p)) (wireOf s p) (arguments (gateAt (gatesOf s) m)))
+        pub unpicked_figure : (inputs : List ℕ)
+            → wire_figure inputs (records_of s p) (wire_of s p m)
+            ≡ result_on (gate_operation (gate_at (gates_of s) m)) (map (λ a. wire_figure inputs (records_of s p) (wire_of s p a)) (arguments (gate_at (gates_of s) m)))
+        unpicked_figure inputs =
+            wires_right inputs (records_of s p) (planned_earlier s p h) (wire_of s p m) (planned_wire s p h m l)
+            ∙ ap (record_figure inputs (pick_sum (wire_kind (records_of s p))) (wire_figure inputs (records_of s p))) unpicked_record
+            ∙ ap (result_on (gate_operation (gate_at (gates_of s) m))) (map-map (wire_figure inputs (records_of s p)) (wire_of s p) (arguments (gate_at (gates_of s) m)))
 
       -- with or without guards, it comes after the conditions that a member rests on
-      pub condition-earlier : (c : ℕ) → c ∈ restsOf (gatesOf s) (rulePreconditions s) m → wireOf s p c < wireOf s p m
-      condition-earlier c k =
-          waited-earlier s p h m c l
-          (waits-rests (gatesOf s) (rulePreconditions s) (group_of (groupsIn p)) (group_of (groupsIn p) m) m c
+      pub condition_earlier : (c : ℕ) → c ∈ rests_of (gates_of s) (rule_preconditions s) m → wire_of s p c < wire_of s p m
+      condition_earlier c k =
+          waited_earlier s p h m c l
+          (waits_rests (gates_of s) (rule_preconditions s) (group_of (groups_in p)) (group_of (groups_in p) m) m c
           (own m l) two k)
 
 -- What the records of a group come to, by its picks.
 
 -- guards are written where there is a pick
-kept-some : (picks : List (List ℕ)) (guards : List Record) → 0 < length picks → guarded picks guards ≡ guards
-kept-some [] guards h = absurd (omega arith)
-kept-some (values ∷ picks) guards h = refl
+kept_some : (picks : List (List ℕ)) (guards : List Record) → 0 < length picks → guarded picks guards ≡ guards
+kept_some [] guards h = absurd (omega arith)
+kept_some (values ∷ picks) guards h = refl
 
-kept-none : (picks : List (List ℕ)) (guards : List Record) → length picks ≡ 0 → guarded picks guards ≡ []
-kept-none [] guards h = refl
-kept-none (values ∷ picks) guards h = absurd (omega (arith, h))
+kept_none : (picks : List (List ℕ)) (guards : List Record) → length picks ≡ 0 → guarded picks guards ≡ []
+kept_none [] guards h = refl
+kept_none (values ∷ picks) guards h = absurd (omega (arith, h))
 
 module _ (s p : List ℕ) (m n : ℕ) where
   abbrev op : Operation
-  op = gateOperation (gateAt (gatesOf s) m)
+  op = gate_operation (gate_at (gates_of s) m)
 
   abbrev places : List (List ℕ)
-  places = wiresAt s p m 0 ∷ wiresAt s p m 1 ∷ []
+  places = wires_at s p m 0 ∷ wires_at s p m 1 ∷ []
 
   abbrev k : ℕ
-  k = length (joinedWith s p m)
+  k = length (joined_with s p m)
 
   each : EachGroup (λ values. length values ≡ k) places
-  each = values-each s (gatesOf s) (rulePreconditions s) (wireOf s p) (joinedWith s p m) (0 ∷ 1 ∷ [])
+  each = values_each s (gates_of s) (rule_preconditions s) (wire_of s p) (joined_with s p m) (0 ∷ 1 ∷ [])
 
-  guards-many : length (guardsWith s p m) ≡ k
-  guards-many = length-map (joinedWith s p m) (guard_of s (gatesOf s) (rulePreconditions s) (wireOf s p))
+  guards_many : length (guards_with s p m) ≡ k
+  guards_many = length-map (joined_with s p m) (guard_of s (gates_of s) (rule_preconditions s) (wire_of s p))
 
-  guards-one : recordsCost (guardsWith s p m) ≡ k
-  guards-one = guards-cost s (gatesOf s) (rulePreconditions s) (wireOf s p) (joinedWith s p m)
+  guards_one : records_cost (guards_with s p m) ≡ k
+  guards_one = guards_cost s (gates_of s) (rule_preconditions s) (wire_of s p) (joined_with s p m)
 
   -- with no pick the operation alone
-  pub unpicked-sizes : picksWith s p m ≡ 0
-      → (length (recordsWith s p m n) ≡ 1) × (length (recordsBytes writtenVersion (recordsWith s p m n)) ≡ 5)
-      × (recordsCost (recordsWith s p m n) ≡ (entryOf (gateOperation (gateAt (gatesOf s) m))).cost)
-  unpicked-sizes e =
-      let kept = kept-none (picked places) (guardsWith s p m) e in (
-        joined-count n op (guardsWith s p m) places ∙ rw (kept, e),
-        joined-size n op (guardsWith s p m) places k each ∙ rw (kept, e) (omega arith),
-        joined-cost n op (guardsWith s p m) places k each ∙ rw (kept, e) (omega (arith, cost-none)),
+  pub unpicked_sizes : picks_with s p m ≡ 0
+      → (length (records_with s p m n) ≡ 1) × (length (records_bytes written_version (records_with s p m n)) ≡ 5)
+      × (records_cost (records_with s p m n) ≡ (entry_of (gate_operation (gate_at (gates_of s) m))).cost)
+  unpicked_sizes e =
+      let kept = kept_none (picked places) (guards_with s p m) e in (
+        joined_count n op (guards_with s p m) places ∙ rw (kept, e),
+        joined_size n op (guards_with s p m) places k each ∙ rw (kept, e) (omega arith),
+        joined_cost n op (guards_with s p m) places k each ∙ rw (kept, e) (omega (arith, cost_none)),
       )
 
   -- with picks all guards, so many picks of a pair for each member, and the operation
-  pub picked-sizes : 0 < picksWith s p m
-      → (length (recordsWith s p m n) ≡ length (joinedWith s p m) + picksWith s p m + 1)
-      × (length (recordsBytes writtenVersion (recordsWith s p m n))
-      ≡ length (recordsBytes writtenVersion (guardsWith s p m)) + picksWith s p m * (2 + 4 * length (joinedWith s p m)) + 5)
-      × (recordsCost (recordsWith s p m n)
-      ≡ (entryOf (gateOperation (gateAt (gatesOf s) m))).cost + length (joinedWith s p m) + picksWith s p m * (2 * length (joinedWith s p m)))
-  picked-sizes h =
-      let kept = kept-some (picked places) (guardsWith s p m) h in (
-        joined-count n op (guardsWith s p m) places ∙ rw kept (omega (arith, guards-many)),
-        joined-size n op (guardsWith s p m) places k each ∙ rw kept,
-        joined-cost n op (guardsWith s p m) places k each ∙ rw kept (omega (arith, guards-one)),
+  pub picked_sizes : 0 < picks_with s p m
+      → (length (records_with s p m n) ≡ length (joined_with s p m) + picks_with s p m + 1)
+      × (length (records_bytes written_version (records_with s p m n))
+      ≡ length (records_bytes written_version (guards_with s p m)) + picks_with s p m * (2 + 4 * length (joined_with s p m)) + 5)
+      × (records_cost (records_with s p m n)
+      ≡ (entry_of (gate_operation (gate_at (gates_of s) m))).cost + length (joined_with s p m) + picks_with s p m * (2 * length (joined_with s p m)))
+  picked_sizes h =
+      let kept = kept_some (picked places) (guards_with s p m) h in (
+        joined_count n op (guards_with s p m) places ∙ rw kept (omega (arith, guards_many)),
+        joined_size n op (guards_with s p m) places k each ∙ rw kept,
+        joined_cost n op (guards_with s p m) places k each ∙ rw kept (omega (arith, guards_one)),
       )
 
   -- so never more than with both picks
-  pub sizes-most :
-      (length (recordsWith s p m n) ≤ length (joinedWith s p m) + 3)
-      × (length (recordsBytes writtenVersion (recordsWith s p m n)) ≤ length (recordsBytes writtenVersion (guardsWith s p m)) + 2 * (2 + 4 * length (joinedWith s p m)) + 5)
-      × (recordsCost (recordsWith s p m n) ≤ (entryOf (gateOperation (gateAt (gatesOf s) m))).cost + 5 * length (joinedWith s p m))
-  sizes-most =
-      let most = joined-most n op (guardsWith s p m) places k each in
-      (omega (arith, most.0, guards-many), most.1, omega (arith, most.2, guards-one))
+  pub sizes_most :
+      (length (records_with s p m n) ≤ length (joined_with s p m) + 3)
+      × (length (records_bytes written_version (records_with s p m n)) ≤ length (records_bytes written_version (guards_with s p m)) + 2 * (2 + 4 * length (joined_with s p m)) + 5)
+      × (records_cost (records_with s p m n) ≤ (entry_of (gate_operation (gate_at (gates_of s) m))).cost + 5 * length (joined_with s p m))
+  sizes_most =
+      let most = joined_most n op (guards_with s p m) places k each in
+      (omega (arith, most.0, guards_many), most.1, omega (arith, most.2, guards_one))

@@ -6,99 +6,99 @@ use Rattle.std.proofs.Common.{sym, ap, ◌∙◌, inl, inr, arith}
 use Rattle.std.proofs.lemmas.Simd.{map-map}
 use Rattle.base.specs.Inputs.{FiguresFit}
 use Rattle.base.specs.Lists.{◌∈◌, upto}
-use Rattle.base.specs.MemberLaws.{map-in, from-below}
+use Rattle.base.specs.MemberLaws.{map_in, from_below}
 use Rattle.base.specs.Numbers.{Bytes}
 use Rattle.base.specs.TestLaws.{split}
 use Rattle.base.specs.declared.Answer.{Answer}
 use Rattle.file.specs.Records.{ReadsEarlier}
-use Rattle.file.specs.WireFigures.{wireFigure}
-use Rattle.file.specs.CircuitFile.{noWire}
-use Rattle.file.specs.FileFigures.{outputFigure, fileFigures}
-use Rattle.file.specs.NoWireLaws.{none-figure, some-figure}
-use Rattle.base.specs.Results.{isOne}
-use Rattle.rule.specs.Header.{variables, kindAt, workingAt}
-use Rattle.circuit.specs.Running.{runRule, writtenFor, runWrites}
-use Rattle.circuit.specs.Gates.{figureAt}
-use Rattle.circuit.specs.PlainCircuit.{gatesOf, outputsOf}
-use Rattle.circuit.specs.StartLaws.{read-run}
-use Rattle.circuit.specs.OutputLaws.{output-figure}
-use Rattle.circuit.specs.WrittenLaws.{written-result, written-working, writes-result, writes-map}
-use Rattle.circuit_needed.specs.Needed.{Needed, wantedOf, from_start}
-use Rattle.circuit_needed.specs.NeededLaws.{needed-inside}
-use Rattle.circuit_needed.specs.WantedLaws.{result-wanted}
-use Rattle.circuit_needed.specs.Pass.{rulePreconditions}
-use Rattle.plan.specs.PlanFile.{groupsIn}
+use Rattle.file.specs.WireFigures.{wire_figure}
+use Rattle.file.specs.CircuitFile.{no_wire}
+use Rattle.file.specs.FileFigures.{output_figure, file_figures}
+use Rattle.file.specs.NoWireLaws.{none_figure, some_figure}
+use Rattle.base.specs.Results.{is_one}
+use Rattle.rule.specs.Header.{variables, kind_at, working_at}
+use Rattle.circuit.specs.Running.{run_rule, written_for, run_writes}
+use Rattle.circuit.specs.Gates.{figure_at}
+use Rattle.circuit.specs.PlainCircuit.{gates_of, outputs_of}
+use Rattle.circuit.specs.StartLaws.{read_run}
+use Rattle.circuit.specs.OutputLaws.{output_figure_lem}
+use Rattle.circuit.specs.WrittenLaws.{written_result, written_working, writes_result, writes_map}
+use Rattle.circuit_needed.specs.Needed.{Needed, wanted_of, from_start}
+use Rattle.circuit_needed.specs.NeededLaws.{needed_inside}
+use Rattle.circuit_needed.specs.WantedLaws.{result_wanted}
+use Rattle.circuit_needed.specs.Pass.{rule_preconditions}
+use Rattle.plan.specs.PlanFile.{groups_in}
 use Rattle.plan.specs.Groups.{group_of}
 use Rattle.plan.specs.Order.{order}
-use Rattle.plan.specs.WaitLaws.{order-ordered, order-once}
-use Rattle.plan.specs.Rows.{planAnswer}
-use Rattle.fused.specs.FusedCircuit.{fused, recordsOf, wireOf, outputWire, outputWires, fusedFile}
-use Rattle.fused.specs.OutputLaws.{working-wire, result-wire}
-use Rattle.fused.specs.SizeBounds.{wires-bound}
-use Rattle.fused.specs.FitPlan.{fused-file-figures}
-use Rattle.fused.specs.RightLaws.{written-right}
-use Rattle.fused.specs.PickSums.{fused-figured}
-use Rattle.fused.specs.PlannedLaws.{planned-read, planned-gates, planned-wanted, planned-output, planned-few, planned-joined, planned-group, planned-earlier, planned-wire}
+use Rattle.plan.specs.WaitLaws.{order_ordered, order_once}
+use Rattle.plan.specs.Rows.{plan_answer}
+use Rattle.fused.specs.FusedCircuit.{fused, records_of, wire_of, output_wire, output_wires, fused_file}
+use Rattle.fused.specs.OutputLaws.{working_wire, result_wire}
+use Rattle.fused.specs.SizeBounds.{wires_bound}
+use Rattle.fused.specs.FitPlan.{fused_file_figures}
+use Rattle.fused.specs.RightLaws.{written_right}
+use Rattle.fused.specs.PickSums.{fused_figured}
+use Rattle.fused.specs.PlannedLaws.{planned_read, planned_gates, planned_wanted, planned_output, planned_few, planned_joined, planned_group, planned_earlier, planned_wire}
 
 -- every record reads only earlier wires
-pub reads-earlier : (s p : List ℕ) → (planAnswer s p).number ≡ 0 → ReadsEarlier (recordsOf s p)
-reads-earlier = planned-earlier
+pub reads_earlier : (s p : List ℕ) → (plan_answer s p).number ≡ 0 → ReadsEarlier (records_of s p)
+reads_earlier = planned_earlier
 
 -- a result variable's output is a record's wire
-pub result-earlier : (s p : List ℕ) → (planAnswer s p).number ≡ 0 → (x : ℕ) → x < variables s → workingAt s x ≡ false → outputWire s p x < length (recordsOf s p)
-result-earlier s p h x l t = rw (result-wire s p x t) (planned-wire s p h (get_or (outputsOf s) x 0) (planned-output s p h x l))
+pub result_earlier : (s p : List ℕ) → (plan_answer s p).number ≡ 0 → (x : ℕ) → x < variables s → working_at s x ≡ false → output_wire s p x < length (records_of s p)
+result_earlier s p h x l t = rw (result_wire s p x t) (planned_wire s p h (get_or (outputs_of s) x 0) (planned_output s p h x l))
 
 -- so every output is no wire, or a record's
-pub output-earlier : (s p : List ℕ) → (planAnswer s p).number ≡ 0 → (w : ℕ) → w ∈ outputWires s p → (w ≡ noWire) ⊎ (w < length (recordsOf s p))
-output-earlier s p h w m =
-    let r = map-in (outputWire s p) w (upto (variables s)) m in
-    let b = (from-below 0 (variables s) r.0 r.1).1 in
-    rw r.2 (split (workingAt s r.0) (λ t. inl (working-wire s p r.0 t)) (λ t. inr (result-earlier s p h r.0 (omega (arith, b)) t)))
+pub output_earlier : (s p : List ℕ) → (plan_answer s p).number ≡ 0 → (w : ℕ) → w ∈ output_wires s p → (w ≡ no_wire) ⊎ (w < length (records_of s p))
+output_earlier s p h w m =
+    let r = map_in (output_wire s p) w (upto (variables s)) m in
+    let b = (from_below 0 (variables s) r.0 r.1).1 in
+    rw r.2 (split (working_at s r.0) (λ t. inl (working_wire s p r.0 t)) (λ t. inr (result_earlier s p h r.0 (omega (arith, b)) t)))
 
 -- whatever the inputs, a working variable's output gives 0
-pub working-figure : (s p inputs : List ℕ) (x : ℕ) → workingAt s x ≡ true → outputFigure inputs (recordsOf s p) (outputWire s p x) ≡ 0
-working-figure s p inputs x t = ap (outputFigure inputs (recordsOf s p)) (working-wire s p x t) ∙ none-figure inputs (recordsOf s p)
+pub working_figure : (s p inputs : List ℕ) (x : ℕ) → working_at s x ≡ true → output_figure inputs (records_of s p) (output_wire s p x) ≡ 0
+working_figure s p inputs x t = ap (output_figure inputs (records_of s p)) (working_wire s p x t) ∙ none_figure inputs (records_of s p)
 
 -- on inputs that fit their variables' kinds
-module _ (s p : List ℕ) (bytes : Bytes s) (h : (planAnswer s p).number ≡ 0) (inputs : List ℕ) (fit : FiguresFit (variables s) (kindAt s) inputs) where
+module _ (s p : List ℕ) (bytes : Bytes s) (h : (plan_answer s p).number ≡ 0) (inputs : List ℕ) (fit : FiguresFit (variables s) (kind_at s) inputs) where
   -- the wire of a gate that is needed has the plain circuit's figure
-  pub needed-figure : (g : ℕ) → Needed (gatesOf s) (wantedOf s) (λ c. isOne (figureAt inputs (gatesOf s) c)) g
-      → wireFigure inputs (recordsOf s p) (wireOf s p g) ≡ figureAt inputs (gatesOf s) g
+  pub needed_figure : (g : ℕ) → Needed (gates_of s) (wanted_of s) (λ c. is_one (figure_at inputs (gates_of s) c)) g
+      → wire_figure inputs (records_of s p) (wire_of s p g) ≡ figure_at inputs (gates_of s) g
   unfolding fused
-  needed-figure g d =
-      let C = gatesOf s in
-      let group = group_of (groupsIn p) in
-      let earlier = planned-gates s p h in
-      let inside = planned-wanted s p h in
-      written-right s C (wantedOf s) earlier inside (planned-few s p h) group (planned-joined s p h) inputs (wireFigure inputs (recordsOf s p))
-      (order C (rulePreconditions s) group) (order-once C (rulePreconditions s) group) (order-ordered C (rulePreconditions s) group)
-      (fused-figured s p h bytes inputs fit) g
-      (planned-group s p h g (needed-inside C (wantedOf s) (λ c. isOne (figureAt inputs C c)) earlier inside g d)) d
+  needed_figure g d =
+      let C = gates_of s in
+      let group = group_of (groups_in p) in
+      let earlier = planned_gates s p h in
+      let inside = planned_wanted s p h in
+      written_right s C (wanted_of s) earlier inside (planned_few s p h) group (planned_joined s p h) inputs (wire_figure inputs (records_of s p))
+      (order C (rule_preconditions s) group) (order_once C (rule_preconditions s) group) (order_ordered C (rule_preconditions s) group)
+      (fused_figured s p h bytes inputs fit) g
+      (planned_group s p h g (needed_inside C (wanted_of s) (λ c. is_one (figure_at inputs C c)) earlier inside g d)) d
 
   -- there are V of them
   module _ (l : length inputs ≡ variables s) where
     -- a result variable's output has the figure that the direct run ends with
-    pub result-figure : (x : ℕ) → x < variables s → workingAt s x ≡ false → outputFigure inputs (recordsOf s p) (outputWire s p x) ≡ get_or (runRule s inputs) x 0
-    result-figure x v t =
-        let r = planned-read s p h in
-        let some : outputWire s p x ≡ noWire → ⊥ = λ e. omega (arith, e, result-earlier s p h x v t, wires-bound s p h) in
-        some-figure inputs (recordsOf s p) (outputWire s p x) some
-        ∙ rw (result-wire s p x t)
-        (needed-figure (get_or (outputsOf s) x 0) (from_start (result-wanted s x v t))
-        ∙ output-figure s r.0 r.1 r.2 inputs l x v
-        ∙ ap (λ (f : List ℕ). get_or f x 0) (sym (read-run s r.0 r.1 r.2 inputs)))
+    pub result_figure : (x : ℕ) → x < variables s → working_at s x ≡ false → output_figure inputs (records_of s p) (output_wire s p x) ≡ get_or (run_rule s inputs) x 0
+    result_figure x v t =
+        let r = planned_read s p h in
+        let some : output_wire s p x ≡ no_wire → ⊥ = λ e. omega (arith, e, result_earlier s p h x v t, wires_bound s p h) in
+        some_figure inputs (records_of s p) (output_wire s p x) some
+        ∙ rw (result_wire s p x t)
+        (needed_figure (get_or (outputs_of s) x 0) (from_start (result_wanted s x v t))
+        ∙ output_figure_lem s r.0 r.1 r.2 inputs l x v
+        ∙ ap (λ (f : List ℕ). get_or f x 0) (sym (read_run s r.0 r.1 r.2 inputs)))
 
     -- every output gives what the direct run writes
-    output-written : (x : ℕ) → x < variables s → outputFigure inputs (recordsOf s p) (outputWire s p x) ≡ writtenFor s x (get_or (runRule s inputs) x 0)
-    output-written x v = split (workingAt s x) (λ t. working-figure s p inputs x t ∙ sym (written-working s x _ t)) (λ t. result-figure x v t ∙ sym (written-result s x _ t))
+    output_written : (x : ℕ) → x < variables s → output_figure inputs (records_of s p) (output_wire s p x) ≡ written_for s x (get_or (run_rule s inputs) x 0)
+    output_written x v = split (working_at s x) (λ t. working_figure s p inputs x t ∙ sym (written_working s x _ t)) (λ t. result_figure x v t ∙ sym (written_result s x _ t))
 
     -- so the file's own bytes, worked out record by record, give what a direct run writes
-    pub file-run : fileFigures (fusedFile s p) inputs ≡ runWrites s inputs
-    file-run =
-        fused-file-figures s p h bytes (reads-earlier s p h) (output-earlier s p h) inputs
-        ∙ map-map (outputFigure inputs (recordsOf s p)) (outputWire s p) (upto (variables s))
-        ∙ writes-map s inputs (λ x. outputFigure inputs (recordsOf s p) (outputWire s p x)) output-written
+    pub file_run : file_figures (fused_file s p) inputs ≡ run_writes s inputs
+    file_run =
+        fused_file_figures s p h bytes (reads_earlier s p h) (output_earlier s p h) inputs
+        ∙ map-map (output_figure inputs (records_of s p)) (output_wire s p) (upto (variables s))
+        ∙ writes_map s inputs (λ x. output_figure inputs (records_of s p) (output_wire s p x)) output_written
 
     -- for a result variable its figure at the end of the direct run
-    pub file-result : (x : ℕ) → x < variables s → workingAt s x ≡ false → get_or (fileFigures (fusedFile s p) inputs) x 0 ≡ get_or (runRule s inputs) x 0
-    file-result x v t = ap (λ (f : List ℕ). get_or f x 0) file-run ∙ writes-result s inputs x v t
+    pub file_result : (x : ℕ) → x < variables s → working_at s x ≡ false → get_or (file_figures (fused_file s p) inputs) x 0 ≡ get_or (run_rule s inputs) x 0
+    file_result x v t = ap (λ (f : List ℕ). get_or f x 0) file_run ∙ writes_result s inputs x v t

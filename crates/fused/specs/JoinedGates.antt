@@ -2,37 +2,37 @@
 -- records stand in a circuit.
 use Rattle.std.specs.Prelude.{ℕ, ◌+◌, ◌-◌, ◌≡◌, List, [], ◌∷◌, ◌++◌, map, length, get_or}
 use Rattle.file.specs.Records.{Record}
-use Rattle.circuit.specs.Gates.{gateAt, arguments}
-use Rattle.circuit.specs.PlainCircuit.{gatesOf, gateCount}
-use Rattle.circuit_needed.specs.Pass.{rulePreconditions}
-use Rattle.plan.specs.PlanFile.{groupsIn}
+use Rattle.circuit.specs.Gates.{gate_at, arguments}
+use Rattle.circuit.specs.PlainCircuit.{gates_of, gate_count}
+use Rattle.circuit_needed.specs.Pass.{rule_preconditions}
+use Rattle.plan.specs.PlanFile.{groups_in}
 use Rattle.plan.specs.Groups.{group_of, members}
-use Rattle.fused.specs.Emission.{gateOperation, picked, joined, guard_of, valuesAt}
-use Rattle.fused.specs.FusedCircuit.{wireOf}
+use Rattle.fused.specs.Emission.{gate_operation, picked, joined, guard_of, values_at}
+use Rattle.fused.specs.FusedCircuit.{wire_of}
 
 -- argument k of gate m of a rule
 unfoldable pub argument : List ℕ → ℕ → ℕ → ℕ
-argument s m k = get_or (arguments (gateAt (gatesOf s) m)) k 0
+argument s m k = get_or (arguments (gate_at (gates_of s) m)) k 0
 
 -- the members of gate m's group, m among them
-abbrev pub joinedWith : List ℕ → List ℕ → ℕ → List ℕ
-joinedWith s p m = members (gateCount s) (group_of (groupsIn p)) (group_of (groupsIn p) m)
+abbrev pub joined_with : List ℕ → List ℕ → ℕ → List ℕ
+joined_with s p m = members (gate_count s) (group_of (groups_in p)) (group_of (groups_in p) m)
 
 -- their guards
-abbrev pub guardsWith : List ℕ → List ℕ → ℕ → List Record
-guardsWith s p m = map (guard_of s (gatesOf s) (rulePreconditions s) (wireOf s p)) (joinedWith s p m)
+abbrev pub guards_with : List ℕ → List ℕ → ℕ → List Record
+guards_with s p m = map (guard_of s (gates_of s) (rule_preconditions s) (wire_of s p)) (joined_with s p m)
 
 -- their wires at argument place k
-abbrev pub wiresAt : List ℕ → List ℕ → ℕ → ℕ → List ℕ
-wiresAt s p m k = valuesAt s (gatesOf s) (rulePreconditions s) (wireOf s p) (joinedWith s p m) k
+abbrev pub wires_at : List ℕ → List ℕ → ℕ → ℕ → List ℕ
+wires_at s p m k = values_at s (gates_of s) (rule_preconditions s) (wire_of s p) (joined_with s p m) k
 
 -- the records of its group, if it has two or more members, the first of them being wire n
-abbrev pub recordsWith : List ℕ → List ℕ → ℕ → ℕ → List Record
-recordsWith s p m n = joined n (gateOperation (gateAt (gatesOf s) m)) (guardsWith s p m) (wiresAt s p m 0 ∷ wiresAt s p m 1 ∷ [])
+abbrev pub records_with : List ℕ → List ℕ → ℕ → ℕ → List Record
+records_with s p m n = joined n (gate_operation (gate_at (gates_of s) m)) (guards_with s p m) (wires_at s p m 0 ∷ wires_at s p m 1 ∷ [])
 
 -- how many of its two places have a pick
-abbrev pub picksWith : List ℕ → List ℕ → ℕ → ℕ
-picksWith s p m = length (picked (wiresAt s p m 0 ∷ wiresAt s p m 1 ∷ []))
+abbrev pub picks_with : List ℕ → List ℕ → ℕ → ℕ
+picks_with s p m = length (picked (wires_at s p m 0 ∷ wires_at s p m 1 ∷ []))
 
 -- records stand together in R, and w is the wire of the last of them; what n: these records, if the first of them is wire n
 pub record Stands (R : List Record) (w : ℕ) (what : ℕ → List Record) : Type 0 where

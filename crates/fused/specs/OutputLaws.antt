@@ -3,22 +3,22 @@ use Rattle.std.specs.Prelude.{ℕ, ◌<◌, ◌≡◌, List, true, false, length
 use Rattle.std.proofs.Common.{◌∙◌}
 use Rattle.std.proofs.lemmas.List.{length-map}
 use Rattle.base.specs.Lists.{upto}
-use Rattle.base.specs.ListLaws.{length_from, getD-upto}
-use Rattle.file.specs.CircuitFile.{noWire}
-use Rattle.rule.specs.Header.{variables, workingAt}
-use Rattle.circuit.specs.PlainCircuit.{outputsOf}
-use Rattle.fused.specs.FusedCircuit.{wireOf, outputWire, outputWires}
+use Rattle.base.specs.ListLaws.{length_from, get_or_upto}
+use Rattle.file.specs.CircuitFile.{no_wire}
+use Rattle.rule.specs.Header.{variables, working_at}
+use Rattle.circuit.specs.PlainCircuit.{outputs_of}
+use Rattle.fused.specs.FusedCircuit.{wire_of, output_wire, output_wires}
 
 module _ (s p : List ℕ) where
-  pub outputs-length : length (outputWires s p) ≡ variables s
-  outputs-length = length-map (upto (variables s)) (outputWire s p) ∙ length_from 0 (variables s)
+  pub outputs_length : length (output_wires s p) ≡ variables s
+  outputs_length = length-map (upto (variables s)) (output_wire s p) ∙ length_from 0 (variables s)
 
   module _ (x : ℕ) where
-    pub output-at : x < variables s → get_or (outputWires s p) x 0 ≡ outputWire s p x
-    output-at l = getD-upto (outputWire s p) 0 (variables s) x l
+    pub output_at : x < variables s → get_or (output_wires s p) x 0 ≡ output_wire s p x
+    output_at l = get_or_upto (output_wire s p) 0 (variables s) x l
 
-    pub working-wire : workingAt s x ≡ true → outputWire s p x ≡ noWire
-    working-wire h = rw h
+    pub working_wire : working_at s x ≡ true → output_wire s p x ≡ no_wire
+    working_wire h = rw h
 
-    pub result-wire : workingAt s x ≡ false → outputWire s p x ≡ wireOf s p (get_or (outputsOf s) x 0)
-    result-wire h = rw h
+    pub result_wire : working_at s x ≡ false → output_wire s p x ≡ wire_of s p (get_or (outputs_of s) x 0)
+    result_wire h = rw h

@@ -8,102 +8,102 @@ use Rattle.base.specs.ListLaws.{length_from}
 use Rattle.base.specs.Settings.{Once}
 use Rattle.base.specs.declared.Answer.{Answer}
 use Rattle.base.specs.ParsingLaws.{is_read}
-use Rattle.file.specs.Versions.{writtenVersion}
-use Rattle.file.specs.Records.{recordsCost}
-use Rattle.file.specs.CircuitFile.{recordsBytes}
-use Rattle.file.specs.SizeLaws.{size-append, cost-none, cost-append, file-size}
-use Rattle.rule.specs.Limits.{mostVariables}
+use Rattle.file.specs.Versions.{written_version}
+use Rattle.file.specs.Records.{records_cost}
+use Rattle.file.specs.CircuitFile.{records_bytes}
+use Rattle.file.specs.SizeLaws.{size_append, cost_none, cost_append, file_size}
+use Rattle.rule.specs.Limits.{most_variables}
 use Rattle.rule.specs.Header.{variables}
-use Rattle.rule.specs.Rule.{readRule}
-use Rattle.rule.specs.FirstStatement.{rule-read}
+use Rattle.rule.specs.Rule.{read_rule}
+use Rattle.rule.specs.FirstStatement.{rule_read}
 use Rattle.circuit.specs.Gates.{Gates}
-use Rattle.circuit.specs.PlainCircuit.{gatesOf, outputsOf}
-use Rattle.circuit.specs.StartLaws.{plain-sound}
+use Rattle.circuit.specs.PlainCircuit.{gates_of, outputs_of}
+use Rattle.circuit.specs.StartLaws.{plain_sound}
 use Rattle.circuit_needed.specs.Held.{Shaped}
-use Rattle.circuit_needed.specs.ShapedLaws.{rule-shaped}
-use Rattle.circuit_needed.specs.Pass.{rulePreconditions}
+use Rattle.circuit_needed.specs.ShapedLaws.{rule_shaped}
+use Rattle.circuit_needed.specs.Pass.{rule_preconditions}
 use Rattle.circuit.specs.WholeLaws.{accepted}
-use Rattle.plan.specs.PlanFile.{groupsIn}
+use Rattle.plan.specs.PlanFile.{groups_in}
 use Rattle.plan.specs.Groups.{group_of, members}
 use Rattle.plan.specs.Order.{order}
-use Rattle.plan.specs.Rows.{planAnswer}
+use Rattle.plan.specs.Rows.{plan_answer}
 use Rattle.plan.specs.Accepted.{OneCostly}
-use Rattle.plan.specs.AcceptedLaws.{plan-accepted}
-use Rattle.plan.specs.JoinedLaws.{members-costly}
-use Rattle.plan.specs.WaitLaws.{order-once}
-use Rattle.fused.specs.FusedCircuit.{groupRecords, written, fused, recordsOf, outputWires, costAfter, fusedFile}
-use Rattle.fused.specs.OutputLaws.{outputs-length}
-use Rattle.fused.specs.SizeLimits.{mostBytesOfTwo, mostRecordBytes, mostFusedBytes}
-use Rattle.fused.specs.SizeEmit.{emit-most}
-use Rattle.fused.specs.SizeTotal.{total, total-le}
-use Rattle.file.specs.Limits.{mostFileBytes, mostWires}
+use Rattle.plan.specs.AcceptedLaws.{plan_accepted}
+use Rattle.plan.specs.JoinedLaws.{members_costly}
+use Rattle.plan.specs.WaitLaws.{order_once}
+use Rattle.fused.specs.FusedCircuit.{group_records, written, fused, records_of, output_wires, cost_after, fused_file}
+use Rattle.fused.specs.OutputLaws.{outputs_length}
+use Rattle.fused.specs.SizeLimits.{most_bytes_of_two, most_record_bytes, most_fused_bytes}
+use Rattle.fused.specs.SizeEmit.{emit_most}
+use Rattle.fused.specs.SizeTotal.{total, total_le}
+use Rattle.file.specs.Limits.{most_file_bytes, most_wires}
 
--- the groups written so far: five wires to two gates at most, `mostBytesOfTwo` bytes to two, 40 of cost to one
+-- the groups written so far: five wires to two gates at most, `most_bytes_of_two` bytes to two, 40 of cost to one
 module _ (s : List ℕ) (C : Gates) (shaped : Shaped C) (sets : List ℕ) (group : ℕ → ℕ)
     (costly : (q : ℕ) → 2 ≤ length (members (length C) group q) → OneCostly C (members (length C) group q)) where
-  by-group : (done : List ℕ)
+  by_group : (done : List ℕ)
       → (2 * length (written s C sets group done).records ≤ 5 * total group (upto (length C)) done)
-      × (2 * length (recordsBytes writtenVersion (written s C sets group done).records) ≤ mostBytesOfTwo * total group (upto (length C)) done)
-      × (recordsCost (written s C sets group done).records ≤ 40 * total group (upto (length C)) done)
+      × (2 * length (records_bytes written_version (written s C sets group done).records) ≤ most_bytes_of_two * total group (upto (length C)) done)
+      × (records_cost (written s C sets group done).records ≤ 40 * total group (upto (length C)) done)
   unfolding written
-  by-group [] = (omega arith, omega arith, omega (arith, cost-none))
-  by-group (q ∷ done) =
+  by_group [] = (omega arith, omega arith, omega (arith, cost_none))
+  by_group (q ∷ done) =
       let w = written s C sets group done in
-      let new = groupRecords s C sets group w q in
-      let ih = by-group done in
-      let e = emit-most s C sets (λ a. w.wire (group a)) (length w.records) shaped (members (length C) group q) (costly q) in (
+      let new = group_records s C sets group w q in
+      let ih = by_group done in
+      let e = emit_most s C sets (λ a. w.wire (group a)) (length w.records) shaped (members (length C) group q) (costly q) in (
         rw (length-append w.records new) (omega (arith, ih.0, e.0)),
-        rw (size-append writtenVersion w.records new) (omega (arith, ih.1, e.1)),
-        rw (cost-append w.records new) (omega (arith, ih.2, e.2)),
+        rw (size_append written_version w.records new) (omega (arith, ih.1, e.1)),
+        rw (cost_append w.records new) (omega (arith, ih.2, e.2)),
       )
 
-  pub written-most : (done : List ℕ) → Once done
+  pub written_most : (done : List ℕ) → Once done
       → (2 * length (written s C sets group done).records ≤ 5 * length C)
-      × (2 * length (recordsBytes writtenVersion (written s C sets group done).records) ≤ mostBytesOfTwo * length C)
-      × (recordsCost (written s C sets group done).records ≤ 40 * length C)
-  written-most done once =
-      let w = by-group done in
-      let t : total group (upto (length C)) done ≤ length C = rw (length_from 0 (length C)) at (total-le group (upto (length C)) done once) in
+      × (2 * length (records_bytes written_version (written s C sets group done).records) ≤ most_bytes_of_two * length C)
+      × (records_cost (written s C sets group done).records ≤ 40 * length C)
+  written_most done once =
+      let w = by_group done in
+      let t : total group (upto (length C)) done ≤ length C = rw (length_from 0 (length C)) at (total_le group (upto (length C)) done once) in
       (omega (arith, w.0, t), omega (arith, w.1, t), omega (arith, w.2, t))
 
 -- of an accepted plan, whatever groups are written, each once
-pub plan-written : (s p : List ℕ) → (planAnswer s p).number ≡ 0 → (done : List ℕ) → Once done
-    → let R = (written s (gatesOf s) (rulePreconditions s) (group_of (groupsIn p)) done).records in
-    (length R ≤ mostWires) × (length (recordsBytes writtenVersion R) ≤ mostRecordBytes) × (recordsCost R ≤ 10240)
-plan-written s p h done once =
-    let (r, x) = (plan-accepted s p).0 h in
+pub plan_written : (s p : List ℕ) → (plan_answer s p).number ≡ 0 → (done : List ℕ) → Once done
+    → let R = (written s (gates_of s) (rule_preconditions s) (group_of (groups_in p)) done).records in
+    (length R ≤ most_wires) × (length (records_bytes written_version R) ≤ most_record_bytes) × (records_cost R ≤ 10240)
+plan_written s p h done once =
+    let (r, x) = (plan_accepted s p).0 h in
     let a = accepted s r in
-    let (b, n, read) = is_read (readRule s) a.read in
-    let m = written-most s (gatesOf s) (rule-shaped s b n read) (rulePreconditions s) (group_of (groupsIn p)) (members-costly s p x) done once in
+    let (b, n, read) = is_read (read_rule s) a.read in
+    let m = written_most s (gates_of s) (rule_shaped s b n read) (rule_preconditions s) (group_of (groups_in p)) (members_costly s p x) done once in
     (omega (arith, m.0, a.gates), omega (arith, m.1, a.gates), omega (arith, m.2, a.gates))
 
-pub plan-most : (s p : List ℕ) → (planAnswer s p).number ≡ 0 → (length (recordsOf s p) ≤ mostWires) × (length (recordsBytes writtenVersion (recordsOf s p)) ≤ mostRecordBytes) × (costAfter s p ≤ 10240)
+pub plan_most : (s p : List ℕ) → (plan_answer s p).number ≡ 0 → (length (records_of s p) ≤ most_wires) × (length (records_bytes written_version (records_of s p)) ≤ most_record_bytes) × (cost_after s p ≤ 10240)
 unfolding fused
-plan-most s p h =
-    plan-written s p h (order (gatesOf s) (rulePreconditions s) (group_of (groupsIn p)))
-    (order-once (gatesOf s) (rulePreconditions s) (group_of (groupsIn p)))
+plan_most s p h =
+    plan_written s p h (order (gates_of s) (rule_preconditions s) (group_of (groups_in p)))
+    (order_once (gates_of s) (rule_preconditions s) (group_of (groups_in p)))
 
 -- at most 640 wires
-pub wires-bound : (s p : List ℕ) → (planAnswer s p).number ≡ 0 → length (recordsOf s p) ≤ mostWires
-wires-bound s p h = (plan-most s p h).0
+pub wires_bound : (s p : List ℕ) → (plan_answer s p).number ≡ 0 → length (records_of s p) ≤ most_wires
+wires_bound s p h = (plan_most s p h).0
 
 -- an output for each of at most 32 variables
-pub outputs-count : (s p : List ℕ) → (planAnswer s p).number ≡ 0 → (length (outputsOf s) ≡ variables s) × (variables s ≤ mostVariables)
-outputs-count s p h =
-    let a = accepted s ((plan-accepted s p).0 h).0 in
-    let (b, n, read) = is_read (readRule s) a.read in
-    ((plain-sound s b n read).count, (rule-read s a.read).header.few)
+pub outputs_count : (s p : List ℕ) → (plan_answer s p).number ≡ 0 → (length (outputs_of s) ≡ variables s) × (variables s ≤ most_variables)
+outputs_count s p h =
+    let a = accepted s ((plan_accepted s p).0 h).0 in
+    let (b, n, read) = is_read (read_rule s) a.read in
+    ((plain_sound s b n read).count, (rule_read s a.read).header.few)
 
 -- the file's bytes: 8, its records, two for each output
-pub fused-size : (s p : List ℕ) → (planAnswer s p).number ≡ 0 → length (fusedFile s p) ≡ 8 + length (recordsBytes writtenVersion (recordsOf s p)) + 2 * variables s
-unfolding fusedFile
-fused-size s p h =
-    file-size writtenVersion (variables s) (recordsOf s p) (outputWires s p)
-    ∙ ap (λ (k : ℕ). 8 + length (recordsBytes writtenVersion (recordsOf s p)) + 2 * k) (outputs-length s p)
+pub fused_size : (s p : List ℕ) → (plan_answer s p).number ≡ 0 → length (fused_file s p) ≡ 8 + length (records_bytes written_version (records_of s p)) + 2 * variables s
+unfolding fused_file
+fused_size s p h =
+    file_size written_version (variables s) (records_of s p) (output_wires s p)
+    ∙ ap (λ (k : ℕ). 8 + length (records_bytes written_version (records_of s p)) + 2 * k) (outputs_length s p)
 
 -- at most so many bytes, and so at most 16,384
-pub bytes_most : (s p : List ℕ) → (planAnswer s p).number ≡ 0 → length (fusedFile s p) ≤ mostFusedBytes
-bytes_most s p h = omega (arith, (plan-most s p h).1, fused-size s p h, (outputs-count s p h).1)
+pub bytes_most : (s p : List ℕ) → (plan_answer s p).number ≡ 0 → length (fused_file s p) ≤ most_fused_bytes
+bytes_most s p h = omega (arith, (plan_most s p h).1, fused_size s p h, (outputs_count s p h).1)
 
-pub bytes-bound : (s p : List ℕ) → (planAnswer s p).number ≡ 0 → length (fusedFile s p) ≤ mostFileBytes
-bytes-bound s p h = omega (arith, bytes_most s p h)
+pub bytes_bound : (s p : List ℕ) → (plan_answer s p).number ≡ 0 → length (fused_file s p) ≤ most_file_bytes
+bytes_bound s p h = omega (arith, bytes_most s p h)

@@ -4,16 +4,16 @@ ghost use Rattle.std.specs.Prelude.{◌≡◌, List, ◌∷◌, ◌++◌, map, �
 ghost use Rattle.base.specs.Lists.{upto};
 ghost use Rattle.base.specs.Numbers.{bytes_of};
 ghost use Rattle.base.specs.Buffers.{over};
-ghost use Rattle.file.specs.Versions.{writtenVersion};
-ghost use Rattle.file.specs.CircuitFile.{mark, wiresBytes, recordsBytes};
+ghost use Rattle.file.specs.Versions.{written_version};
+ghost use Rattle.file.specs.CircuitFile.{mark, wires_bytes, records_bytes};
 ghost use Rattle.rule.specs.Header.{variables, HasKinds};
-ghost use Rattle.fused_gate.specs.Emitted.{wireIn, Grouped};
-ghost use Rattle.fused_group.specs.Joined.{emitIn};
+ghost use Rattle.fused_gate.specs.Emitted.{wire_in, Grouped};
+ghost use Rattle.fused_group.specs.Joined.{emit_in};
 ghost use Rattle.fused_size.specs.Sizes.{Measured};
 ghost use Rattle.fused_file.specs.Staged.{members_of, stage, Turnable};
-ghost use Rattle.fused_file.specs.Turns.{Measurable, Puttable, Measures, Sum, OutputsPlaced, outputIn, fileIn};
-ghost use Rattle.base.specs.SetsHeld.{setsIn};
-ghost use Rattle.circuit.specs.Rooms.{gateRoom, variableRoom};
+ghost use Rattle.fused_file.specs.Turns.{Measurable, Puttable, Measures, Sum, OutputsPlaced, output_in, file_in};
+ghost use Rattle.base.specs.SetsHeld.{sets_in};
+ghost use Rattle.circuit.specs.Rooms.{gate_room, variable_room};
 
 use circuit::{CONDITION_ROOM, GATE_ROOM, GateId, NEED_WORDS, QUAD_ROOM, VARIABLE_ROOM};
 use file::WireId;
@@ -30,7 +30,7 @@ fn size_group(
     q: GateId,
 ) -> Size
     requires { Measurable quads.now plan.now group.now at q.0 }
-    ensures { Measured quads.now (setsIn needs.now) (wireIn group.now wires.now) (members_of plan.now at q.0)
+    ensures { Measured quads.now (sets_in needs.now) (wire_in group.now wires.now) (members_of plan.now at q.0)
         result.wires result.bytes result.cost }
 {
     if at == 0 {
@@ -50,10 +50,10 @@ pub fn measure(
     order: &[u16; GATE_ROOM],
     groups: usize,
 ) -> Size
-    requires { Measures plan.now quads.now (setsIn needs.now) group.now places.now order.now groups }
+    requires { Measures plan.now quads.now (sets_in needs.now) group.now places.now order.now groups }
     ensures { (count : ℕ) (conds : List ℕ)
-        → Turnable plan.now quads.now count (setsIn needs.now) group.now places.now conds order.now groups
-        → Sum plan.now quads.now count (setsIn needs.now) group.now places.now order.now groups result.wires result.bytes result.cost }
+        → Turnable plan.now quads.now count (sets_in needs.now) group.now places.now conds order.now groups
+        → Sum plan.now quads.now count (sets_in needs.now) group.now places.now order.now groups result.wires result.bytes result.cost }
 {
     let mut wires = [0u16; GATE_ROOM];
     let mut total: usize = 0;
@@ -99,14 +99,14 @@ fn put_group(
     group: &[u16; GATE_ROOM],
     wires: &[u16; GATE_ROOM],
 ) -> Put
-    requires { (length (recordsBytes writtenVersion (emitIn quads.now count (setsIn needs.now) (wireIn group.now wires.now) first.0 (members_of plan.now at q.0))) ≤ length out.old)
+    requires { (length (records_bytes written_version (emit_in quads.now count (sets_in needs.now) (wire_in group.now wires.now) first.0 (members_of plan.now at q.0))) ≤ length out.old)
         × Puttable quads.now plan.now conditions.now group.now count at q.0 first.0 }
-    ensures counted { result.bytes ≡ length (recordsBytes writtenVersion
-        (emitIn quads.now count (setsIn needs.now) (wireIn group.now wires.now) first.0 (members_of plan.now at q.0))) }
-    ensures wired { result.wires ≡ length (emitIn quads.now count (setsIn needs.now) (wireIn group.now wires.now) first.0
+    ensures counted { result.bytes ≡ length (records_bytes written_version
+        (emit_in quads.now count (sets_in needs.now) (wire_in group.now wires.now) first.0 (members_of plan.now at q.0))) }
+    ensures wired { result.wires ≡ length (emit_in quads.now count (sets_in needs.now) (wire_in group.now wires.now) first.0
         (members_of plan.now at q.0)) }
-    ensures written { out.new ≡ over (recordsBytes writtenVersion (emitIn quads.now count (setsIn needs.now)
-        (wireIn group.now wires.now) first.0 (members_of plan.now at q.0))) out.old }
+    ensures written { out.new ≡ over (records_bytes written_version (emit_in quads.now count (sets_in needs.now)
+        (wire_in group.now wires.now) first.0 (members_of plan.now at q.0))) out.old }
 {
     if at == 0 {
         let bytes = fused_gate::put_alone(out, quads, group, wires, q);
@@ -137,13 +137,13 @@ fn put_records(
     groups: usize,
     wires: &mut [u16; GATE_ROOM],
 ) -> usize
-    requires { (length (recordsBytes writtenVersion (stage plan.now quads.now count (setsIn needs.now) group.now places.now order.now groups).records) ≤ length out.old)
-        × (Turnable plan.now quads.now count (setsIn needs.now) group.now places.now conditions.now order.now groups × (wires.old ≡ replicate gateRoom 0)) }
-    ensures counted { result ≡ length (recordsBytes writtenVersion
-        (stage plan.now quads.now count (setsIn needs.now) group.now places.now order.now groups).records) }
-    ensures written { out.new ≡ over (recordsBytes writtenVersion
-        (stage plan.now quads.now count (setsIn needs.now) group.now places.now order.now groups).records) out.old }
-    ensures wired { wires.new ≡ (stage plan.now quads.now count (setsIn needs.now) group.now places.now
+    requires { (length (records_bytes written_version (stage plan.now quads.now count (sets_in needs.now) group.now places.now order.now groups).records) ≤ length out.old)
+        × (Turnable plan.now quads.now count (sets_in needs.now) group.now places.now conditions.now order.now groups × (wires.old ≡ replicate gate_room 0)) }
+    ensures counted { result ≡ length (records_bytes written_version
+        (stage plan.now quads.now count (sets_in needs.now) group.now places.now order.now groups).records) }
+    ensures written { out.new ≡ over (records_bytes written_version
+        (stage plan.now quads.now count (sets_in needs.now) group.now places.now order.now groups).records) out.old }
+    ensures wired { wires.new ≡ (stage plan.now quads.now count (sets_in needs.now) group.now places.now
         order.now groups).wires }
 {
     let mut at: usize = 0;
@@ -182,8 +182,8 @@ fn output_of(
     group: &[u16; GATE_ROOM],
     wires: &[u16; GATE_ROOM],
 ) -> WireId
-    requires { (6 + x < length rule.now) × (x < variableRoom) × Grouped group.now (get_or outputs.now x 0) }
-    ensures { result.0 ≡ outputIn rule.now outputs.now group.now wires.now x }
+    requires { (6 + x < length rule.now) × (x < variable_room) × Grouped group.now (get_or outputs.now x 0) }
+    ensures { result.0 ≡ output_in rule.now outputs.now group.now wires.now x }
 {
     if rule_reader::working_at(rule, x) {
         return WireId(file::NO_WIRE);
@@ -200,7 +200,7 @@ fn put_outputs(
     wires: &[u16; GATE_ROOM],
 )
     requires { (HasKinds rule.now × OutputsPlaced outputs.now (variables rule.now) group.now) × (2 * variables rule.now ≤ length out.old) }
-    ensures { out.new ≡ over (wiresBytes (map (outputIn rule.now outputs.now group.now wires.now)
+    ensures { out.new ≡ over (wires_bytes (map (output_in rule.now outputs.now group.now wires.now)
         (upto (variables rule.now)))) out.old }
 {
     let v = rule[5];
@@ -215,7 +215,7 @@ fn put_outputs(
 // "CIR", the version, the variables, the wires.
 fn put_head(out: &mut [u8], v: u8, count: u16)
     requires { 8 ≤ length out.old }
-    ensures { out.new ≡ over (mark writtenVersion ++ (v ∷ bytes_of 2 count)) out.old }
+    ensures { out.new ≡ over (mark written_version ++ (v ∷ bytes_of 2 count)) out.old }
 {
     out[0] = 0x43;
     out[1] = 0x49;
@@ -242,11 +242,11 @@ pub fn put_file(
     order: &[u16; GATE_ROOM],
     groups: usize,
 )
-    requires { (length (fileIn rule.now plan.now quads.now count (setsIn needs.now) group.now places.now order.now groups outputs.now) ≤ length out.old)
-        × (Turnable plan.now quads.now count (setsIn needs.now) group.now places.now conditions.now order.now groups
-        × ((wired ≡ length (stage plan.now quads.now count (setsIn needs.now) group.now places.now order.now groups).records)
+    requires { (length (file_in rule.now plan.now quads.now count (sets_in needs.now) group.now places.now order.now groups outputs.now) ≤ length out.old)
+        × (Turnable plan.now quads.now count (sets_in needs.now) group.now places.now conditions.now order.now groups
+        × ((wired ≡ length (stage plan.now quads.now count (sets_in needs.now) group.now places.now order.now groups).records)
         × (HasKinds rule.now × OutputsPlaced outputs.now (variables rule.now) group.now))) }
-    ensures { out.new ≡ over (fileIn rule.now plan.now quads.now count (setsIn needs.now) group.now places.now
+    ensures { out.new ≡ over (file_in rule.now plan.now quads.now count (sets_in needs.now) group.now places.now
         order.now groups outputs.now) out.old }
 {
     put_head(out, rule[5], wired);

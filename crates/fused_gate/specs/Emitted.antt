@@ -1,34 +1,34 @@
 -- Inner, for document 01, "The fused circuit file": the record of a gate alone, from a rule's gates as they lie in lent arrays.
 use Rattle.std.specs.Prelude.{ℕ, ◌≤◌, ◌<◌, List, map, get_or}
 use Rattle.base.specs.Lists.{◌∈◌}
-use Rattle.base.specs.Codes.{startKind}
+use Rattle.base.specs.Codes.{start_kind}
 use Rattle.circuit.specs.Gates.{Gate, arguments}
 use Rattle.circuit.specs.Gates as gate
-use Rattle.circuit.specs.Limits.{mostGates}
-use Rattle.circuit_needed.specs.Held.{code_at, gateIn}
+use Rattle.circuit.specs.Limits.{most_gates}
+use Rattle.circuit_needed.specs.Held.{code_at, gate_in}
 use Rattle.file.specs.Records.{Record, input, word, bit, operation, choice}
 
 -- the wire that stands for gate a: that of its group; group: each gate's group, wires: the wire of each group written
-abbrev pub wireIn : List ℕ → List ℕ → ℕ → ℕ
-wireIn group wires a = get_or wires (get_or group a 0) 0
+abbrev pub wire_in : List ℕ → List ℕ → ℕ → ℕ
+wire_in group wires a = get_or wires (get_or group a 0) 0
 
 -- a gate alone, by its code: of a starting value 00 says a word, 01 a bit
-abbrev pub aloneOf : ℕ → (ℕ → ℕ) → Gate → Record
-aloneOf code wire (gate.start x) = input (startKind code) x
-aloneOf code wire (gate.word n) = word n
-aloneOf code wire (gate.bit b) = bit b
-aloneOf code wire (gate.operation op l) = operation op (map wire l)
-aloneOf code wire (gate.choice c a b) = choice (wire c) (wire a) (wire b)
+abbrev pub alone_of : ℕ → (ℕ → ℕ) → Gate → Record
+alone_of code wire (gate.start x) = input (start_kind code) x
+alone_of code wire (gate.word n) = word n
+alone_of code wire (gate.bit b) = bit b
+alone_of code wire (gate.operation op l) = operation op (map wire l)
+alone_of code wire (gate.choice c a b) = choice (wire c) (wire a) (wire b)
 
 -- the record of gate g of the quads, alone
-abbrev pub aloneIn : List ℕ → (ℕ → ℕ) → ℕ → Record
-aloneIn quads wire g = aloneOf (code_at quads g) wire (gateIn quads g)
+abbrev pub alone_in : List ℕ → (ℕ → ℕ) → ℕ → Record
+alone_in quads wire g = alone_of (code_at quads g) wire (gate_in quads g)
 
 -- What the code asks of the arrays.
 
 -- gate a and its group have numbers of gates
 abbrev pub Grouped : List ℕ → ℕ → Type 0
-Grouped group a = (a < mostGates) × (get_or group a 0 < mostGates)
+Grouped group a = (a < most_gates) × (get_or group a 0 < most_gates)
 
 -- a starting value has code 00 or 01, its variable is a byte, and so is a bit constant
 abbrev pub FitsGate : ℕ → Gate → Type 0
@@ -40,10 +40,10 @@ FitsGate code (gate.choice c a b) = Unit {0}
 
 -- gate g can be measured
 pub record Coded (quads : List ℕ) (g : ℕ) : Type 0 where
-  pub inside : g < mostGates
-  pub fits : FitsGate (code_at quads g) (gateIn quads g)
+  pub inside : g < most_gates
+  pub fits : FitsGate (code_at quads g) (gate_in quads g)
 
 -- gate g can be written alone
 pub record Writable (quads group : List ℕ) (g : ℕ) : Type 0 where
   pub coded : Coded quads g
-  pub placed : (a : ℕ) → a ∈ arguments (gateIn quads g) → Grouped group a
+  pub placed : (a : ℕ) → a ∈ arguments (gate_in quads g) → Grouped group a

@@ -4,10 +4,10 @@ ghost use Rattle.std.specs.Prelude.{◌≡◌, ◌∷◌, [], ◌<◌, ◌≤◌
 ghost use Rattle.base.specs.Numbers.{bytes_of};
 ghost use Rattle.base.specs.Buffers.{over};
 ghost use Rattle.circuit_needed.specs.Held.{Applies, code_at};
-ghost use Rattle.file.specs.Versions.{writtenVersion};
-ghost use Rattle.file.specs.CircuitFile.{wiresBytes, recordBytes};
-ghost use Rattle.fused_gate.specs.Emitted.{wireIn, aloneIn, Grouped, Writable};
-ghost use Rattle.circuit.specs.Rooms.{quadRoom};
+ghost use Rattle.file.specs.Versions.{written_version};
+ghost use Rattle.file.specs.CircuitFile.{wires_bytes, record_bytes};
+ghost use Rattle.fused_gate.specs.Emitted.{wire_in, alone_in, Grouped, Writable};
+ghost use Rattle.circuit.specs.Rooms.{quad_room};
 
 use circuit::{GATE_ROOM, GateId, QUAD_ROOM};
 use file::WireId;
@@ -15,7 +15,7 @@ use file::WireId;
 // The wire that stands for gate g: that of its group.
 pub fn wire_of(group: &[u16; GATE_ROOM], wires: &[u16; GATE_ROOM], g: GateId) -> WireId
     requires { Grouped group.now g.0 }
-    ensures { result.0 ≡ wireIn group.now wires.now g.0 }
+    ensures { result.0 ≡ wire_in group.now wires.now g.0 }
 {
     let i = g.0 as usize;
     let p = base_words::wide16(group[i]);
@@ -29,8 +29,8 @@ pub fn wire_at(
     group: &[u16; GATE_ROOM],
     wires: &[u16; GATE_ROOM],
 ) -> WireId
-    requires { (at < quadRoom) × Grouped group.now (get_or quads.now at 0) }
-    ensures { result.0 ≡ wireIn group.now wires.now (get_or quads.now at 0) }
+    requires { (at < quad_room) × Grouped group.now (get_or quads.now at 0) }
+    ensures { result.0 ≡ wire_in group.now wires.now (get_or quads.now at 0) }
 {
     let a = circuit_quads::argument(quads, at);
     wire_of(group, wires, a)
@@ -63,7 +63,7 @@ fn put_word(out: &mut [u8], n: u32)
 // A code and one wire: not.
 fn put_unary(out: &mut [u8], code: u8, a: WireId)
     requires { 3 ≤ length out.old }
-    ensures { out.new ≡ over (code ∷ wiresBytes (a.0 ∷ [])) out.old }
+    ensures { out.new ≡ over (code ∷ wires_bytes (a.0 ∷ [])) out.old }
 {
     put_byte(out, code);
     base_words::put16(&mut out[1..], a.0);
@@ -72,7 +72,7 @@ fn put_unary(out: &mut [u8], code: u8, a: WireId)
 // A code and two wires: any other operation.
 pub fn put_binary(out: &mut [u8], code: u8, a: WireId, b: WireId)
     requires { 5 ≤ length out.old }
-    ensures { out.new ≡ over (code ∷ wiresBytes (a.0 ∷ b.0 ∷ [])) out.old }
+    ensures { out.new ≡ over (code ∷ wires_bytes (a.0 ∷ b.0 ∷ [])) out.old }
 {
     put_unary(out, code, a);
     base_words::put16(&mut out[3..], b.0);
@@ -80,7 +80,7 @@ pub fn put_binary(out: &mut [u8], code: u8, a: WireId, b: WireId)
 
 fn put_choice(out: &mut [u8], c: WireId, a: WireId, b: WireId)
     requires { 7 ≤ length out.old }
-    ensures { out.new ≡ over (0x30 ∷ wiresBytes (c.0 ∷ a.0 ∷ b.0 ∷ [])) out.old }
+    ensures { out.new ≡ over (0x30 ∷ wires_bytes (c.0 ∷ a.0 ∷ b.0 ∷ [])) out.old }
 {
     put_binary(out, circuit::CHOICE as u8, c, a);
     base_words::put16(&mut out[5..], b.0);
@@ -94,10 +94,10 @@ fn put_applied(
     wires: &[u16; GATE_ROOM],
     g: GateId,
 ) -> usize
-    requires { (length (recordBytes writtenVersion (aloneIn quads.now (wireIn group.now wires.now) g.0)) ≤ length out.old)
+    requires { (length (record_bytes written_version (alone_in quads.now (wire_in group.now wires.now) g.0)) ≤ length out.old)
         × (Writable quads.now group.now g.0 × Applies (code_at quads.now g.0)) }
-    ensures counted { result ≡ length (recordBytes writtenVersion (aloneIn quads.now (wireIn group.now wires.now) g.0)) }
-    ensures written { out.new ≡ over (recordBytes writtenVersion (aloneIn quads.now (wireIn group.now wires.now) g.0)) out.old }
+    ensures counted { result ≡ length (record_bytes written_version (alone_in quads.now (wire_in group.now wires.now) g.0)) }
+    ensures written { out.new ≡ over (record_bytes written_version (alone_in quads.now (wire_in group.now wires.now) g.0)) out.old }
 {
     let i = g.0 as usize;
     let code = quads[4 * i] as u8;
@@ -119,9 +119,9 @@ pub fn put_alone(
     wires: &[u16; GATE_ROOM],
     g: GateId,
 ) -> usize
-    requires { (length (recordBytes writtenVersion (aloneIn quads.now (wireIn group.now wires.now) g.0)) ≤ length out.old) × Writable quads.now group.now g.0 }
-    ensures counted { result ≡ length (recordBytes writtenVersion (aloneIn quads.now (wireIn group.now wires.now) g.0)) }
-    ensures written { out.new ≡ over (recordBytes writtenVersion (aloneIn quads.now (wireIn group.now wires.now) g.0)) out.old }
+    requires { (length (record_bytes written_version (alone_in quads.now (wire_in group.now wires.now) g.0)) ≤ length out.old) × Writable quads.now group.now g.0 }
+    ensures counted { result ≡ length (record_bytes written_version (alone_in quads.now (wire_in group.now wires.now) g.0)) }
+    ensures written { out.new ≡ over (record_bytes written_version (alone_in quads.now (wire_in group.now wires.now) g.0)) out.old }
 {
     let i = g.0 as usize;
     let code = quads[4 * i];

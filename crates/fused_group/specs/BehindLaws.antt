@@ -3,41 +3,41 @@ use Rattle.std.specs.Prelude.{ℕ, ◌+◌, ◌-◌, ◌≤◌, ◌≡◌, List,
 use Rattle.std.proofs.Common.{ap, ◌∙◌, arith}
 use borrow.Rule.Slice.PartMut.{put_mid}
 use Rattle.base.specs.Buffers.{over}
-use Rattle.base.specs.BufferLaws.{length_over, room-rest}
-use Rattle.file.specs.Versions.{writtenVersion}
+use Rattle.base.specs.BufferLaws.{length_over, room_rest}
+use Rattle.file.specs.Versions.{written_version}
 use Rattle.file.specs.Records.{Record}
-use Rattle.file.specs.CircuitFile.{recordsBytes}
-use Rattle.file.specs.SizeLaws.{bytes-append, size-append}
+use Rattle.file.specs.CircuitFile.{records_bytes}
+use Rattle.file.specs.SizeLaws.{bytes_append, size_append}
 use Rattle.fused_gate.specs.ByteLaws.{behind}
 
 -- the records A, and behind them B
-module _ (A B : List Record) (d : List ℕ) (room : length (recordsBytes writtenVersion (A ++ B)) ≤ length d) where
-  size : length (recordsBytes writtenVersion (A ++ B)) ≡ length (recordsBytes writtenVersion A) + length (recordsBytes writtenVersion B)
-  size = size-append writtenVersion A B
+module _ (A B : List Record) (d : List ℕ) (room : length (records_bytes written_version (A ++ B)) ≤ length d) where
+  size : length (records_bytes written_version (A ++ B)) ≡ length (records_bytes written_version A) + length (records_bytes written_version B)
+  size = size_append written_version A B
 
-  pub front-room : length (recordsBytes writtenVersion A) ≤ length d
-  front-room = omega (arith, size, room)
+  pub front_room : length (records_bytes written_version A) ≤ length d
+  front_room = omega (arith, size, room)
 
   -- A is written: e
-  module _ (k : ℕ) (e : List ℕ) (counted : k ≡ length (recordsBytes writtenVersion A)) (written : e ≡ over (recordsBytes writtenVersion A) d) where
+  module _ (k : ℕ) (e : List ℕ) (counted : k ≡ length (records_bytes written_version A)) (written : e ≡ over (records_bytes written_version A) d) where
     same : length e ≡ length d
-    same = ap (λ (x : List ℕ). length x) written ∙ length_over (recordsBytes writtenVersion A) d front-room
+    same = ap (λ (x : List ℕ). length x) written ∙ length_over (records_bytes written_version A) d front_room
 
-    pub behind-fits : k ≤ length e
-    behind-fits = omega (arith, counted, same, front-room)
+    pub behind_fits : k ≤ length e
+    behind_fits = omega (arith, counted, same, front_room)
 
-    pub behind-room : length (recordsBytes writtenVersion B) ≤ length (take (length e - k) (drop k e))
-    behind-room = rw (room-rest e k) (omega (arith, counted, same, size, room))
+    pub behind_room : length (records_bytes written_version B) ≤ length (take (length e - k) (drop k e))
+    behind_room = rw (room_rest e k) (omega (arith, counted, same, size, room))
 
     -- B is written behind it, in the rest: ys
-    module _ (r : ℕ) (more : r ≡ length (recordsBytes writtenVersion B)) where
-      pub behind-all : k + r ≤ length d
-      behind-all = omega (arith, counted, more, size, room)
+    module _ (r : ℕ) (more : r ≡ length (records_bytes written_version B)) where
+      pub behind_all : k + r ≤ length d
+      behind_all = omega (arith, counted, more, size, room)
 
-      pub behind-put : (ys : List ℕ) → ys ≡ over (recordsBytes writtenVersion B) (take (length e - k) (drop k e))
-          → (k + r ≡ length (recordsBytes writtenVersion (A ++ B))) × (put_mid k (length e - k) e ys ≡ over (recordsBytes writtenVersion (A ++ B)) d)
-      behind-put ys w = (
+      pub behind_put : (ys : List ℕ) → ys ≡ over (records_bytes written_version B) (take (length e - k) (drop k e))
+          → (k + r ≡ length (records_bytes written_version (A ++ B))) × (put_mid k (length e - k) e ys ≡ over (records_bytes written_version (A ++ B)) d)
+      behind_put ys w = (
         omega (arith, counted, more, size),
-        behind (recordsBytes writtenVersion A) (recordsBytes writtenVersion B) (recordsBytes writtenVersion (A ++ B)) d e ys k counted
-            (bytes-append writtenVersion A B) room written w,
+        behind (records_bytes written_version A) (records_bytes written_version B) (records_bytes written_version (A ++ B)) d e ys k counted
+            (bytes_append written_version A B) room written w,
       )

@@ -4,161 +4,161 @@ use Rattle.std.proofs.Common.{sym, ap, ◌∙◌, arith}
 use Rattle.std.proofs.lemmas.List.{length-map}
 use borrow.Rule.Slice.PartMut.{put_mid}
 use Rattle.base.specs.Numbers.{bytes_of}
-use Rattle.base.specs.NumberLaws.{length-bytes}
+use Rattle.base.specs.NumberLaws.{length_bytes}
 use Rattle.base.specs.Buffers.{over}
 use Rattle.base.specs.Sets.{rests}
-use Rattle.circuit.specs.Limits.{mostGates}
-use Rattle.plan.specs.PlanFile.{groupAt}
-use Rattle.file.specs.Versions.{writtenVersion}
-use Rattle.file.specs.Records.{pairWires}
-use Rattle.file.specs.CircuitFile.{wiresBytes, recordBytes, recordsBytes}
-use Rattle.file.specs.SizeLaws.{wires-size, pairs-size}
-use Rattle.fused_group.specs.Joined.{guardIn, guardsIn, pairsIn, argumentAt, Lies, Paired}
+use Rattle.circuit.specs.Limits.{most_gates}
+use Rattle.plan.specs.PlanFile.{group_at}
+use Rattle.file.specs.Versions.{written_version}
+use Rattle.file.specs.Records.{pair_wires}
+use Rattle.file.specs.CircuitFile.{wires_bytes, record_bytes, records_bytes}
+use Rattle.file.specs.SizeLaws.{wires_size, pairs_size}
+use Rattle.fused_group.specs.Joined.{guard_in, guards_in, pairs_in, argument_at, Lies, Paired}
 use Rattle.fused_gate.specs.Emitted.{Grouped}
-use Rattle.base.specs.FillLaws.{pieces, Filling, filling-start, filling-room, filling-fits, filling-length, filling_step, filling-end}
-use Rattle.plan.specs.NumberLaws.{length-group, member-in}
-use Rattle.fused_group.specs.PieceLaws.{wire-pieces, record-pieces, pair-pieces}
-use Rattle.fused_group.specs.GuardLaws.{rest-wires}
+use Rattle.base.specs.FillLaws.{pieces, Filling, filling_start, filling_room, filling_fits, filling_length, filling_step, filling_end}
+use Rattle.plan.specs.NumberLaws.{length_group, member_in}
+use Rattle.fused_group.specs.PieceLaws.{wire_pieces, record_pieces, pair_pieces}
+use Rattle.fused_group.specs.GuardLaws.{rest_wires}
 use Rattle.fused.specs.SizeJoined.{length_pairs}
 
 -- The wires of a guard: piece i is that of condition i of a list.
 
-unfoldable pub restPiece : List ℕ → (ℕ → ℕ) → List ℕ → ℕ → List ℕ
-restPiece conds wire ts i = bytes_of 2 (wire (get_or conds (get_or ts i 0) 0))
+unfoldable pub rest_piece : List ℕ → (ℕ → ℕ) → List ℕ → ℕ → List ℕ
+rest_piece conds wire ts i = bytes_of 2 (wire (get_or conds (get_or ts i 0) 0))
 
 module _ (conds : List ℕ) (wire : ℕ → ℕ) (ts : List ℕ) (k : ℕ) where
-  rest-pieces : k ≡ length ts → pieces (restPiece conds wire ts) k ≡ wiresBytes (map (λ t. wire (get_or conds t 0)) ts)
-  unfolding restPiece
-  rest-pieces e = rw e (wire-pieces (λ t. wire (get_or conds t 0)) ts)
+  rest_pieces : k ≡ length ts → pieces (rest_piece conds wire ts) k ≡ wires_bytes (map (λ t. wire (get_or conds t 0)) ts)
+  unfolding rest_piece
+  rest_pieces e = rw e (wire_pieces (λ t. wire (get_or conds t 0)) ts)
 
-  pub rests-start : (out : List ℕ) → k ≡ length ts → 2 * length ts ≤ length out → Filling (restPiece conds wire ts) out out k 0 0
-  rests-start out e h = filling-start (restPiece conds wire ts) out k (rw (rest-pieces e, rest-wires conds wire ts) h)
+  pub rests_start : (out : List ℕ) → k ≡ length ts → 2 * length ts ≤ length out → Filling (rest_piece conds wire ts) out out k 0 0
+  rests_start out e h = filling_start (rest_piece conds wire ts) out k (rw (rest_pieces e, rest_wires conds wire ts) h)
 
-  module _ (out out₀ : List ℕ) (at i : ℕ) (l : Filling (restPiece conds wire ts) out out₀ k at i) (h : i < k) where
-    size : length (restPiece conds wire ts i) ≡ 2
-    unfolding restPiece
-    size = length-bytes 2 (wire (get_or conds (get_or ts i 0) 0))
+  module _ (out out₀ : List ℕ) (at i : ℕ) (l : Filling (rest_piece conds wire ts) out out₀ k at i) (h : i < k) where
+    size : length (rest_piece conds wire ts i) ≡ 2
+    unfolding rest_piece
+    size = length_bytes 2 (wire (get_or conds (get_or ts i 0) 0))
 
-    pub rests-fits : (at + 2 ≤ length out) × (length out ≡ length out₀)
-    rests-fits = (
-      omega (arith, filling-fits (restPiece conds wire ts) out out₀ k at i l h, size),
-      filling-length (restPiece conds wire ts) out out₀ k at i l h,
+    pub rests_fits : (at + 2 ≤ length out) × (length out ≡ length out₀)
+    rests_fits = (
+      omega (arith, filling_fits (rest_piece conds wire ts) out out₀ k at i l h, size),
+      filling_length (rest_piece conds wire ts) out out₀ k at i l h,
     )
 
-    pub rests-room : 2 ≤ length (take (length out - at) (drop at out))
-    rests-room = omega (arith, filling-room (restPiece conds wire ts) out out₀ k at i l h, size)
+    pub rests_room : 2 ≤ length (take (length out - at) (drop at out))
+    rests_room = omega (arith, filling_room (rest_piece conds wire ts) out out₀ k at i l h, size)
 
-    pub rests-step : (t w : ℕ) (ys : List ℕ) → t ≡ get_or ts i 0 → w ≡ wire (get_or conds t 0)
-        → ys ≡ over (bytes_of 2 w) (take (length out - at) (drop at out)) → Filling (restPiece conds wire ts) (put_mid at (length out - at) out ys) out₀ k (at + 2) (i + 1)
-    unfolding restPiece
-    rests-step t w ys e q p =
+    pub rests_step : (t w : ℕ) (ys : List ℕ) → t ≡ get_or ts i 0 → w ≡ wire (get_or conds t 0)
+        → ys ≡ over (bytes_of 2 w) (take (length out - at) (drop at out)) → Filling (rest_piece conds wire ts) (put_mid at (length out - at) out ys) out₀ k (at + 2) (i + 1)
+    unfolding rest_piece
+    rests_step t w ys e q p =
         let v : w ≡ wire (get_or conds (get_or ts i 0) 0) = rw e at q in
-        filling_step (restPiece conds wire ts) out out₀ k at i l h 2 ys (sym size) (rw v at p)
+        filling_step (rest_piece conds wire ts) out out₀ k at i l h 2 ys (sym size) (rw v at p)
 
-  pub rests-end : (out out₀ : List ℕ) (at i : ℕ) → Filling (restPiece conds wire ts) out out₀ k at i → k ≤ i → k ≡ length ts
-      → out ≡ over (wiresBytes (map (λ t. wire (get_or conds t 0)) ts)) out₀
-  rests-end out out₀ at i l h e = (filling-end (restPiece conds wire ts) out out₀ k at i l h).1 ∙ ap (λ (b : List ℕ). over b out₀) (rest-pieces e)
+  pub rests_end : (out out₀ : List ℕ) (at i : ℕ) → Filling (rest_piece conds wire ts) out out₀ k at i → k ≤ i → k ≡ length ts
+      → out ≡ over (wires_bytes (map (λ t. wire (get_or conds t 0)) ts)) out₀
+  rests_end out out₀ at i l h e = (filling_end (rest_piece conds wire ts) out out₀ k at i l h).1 ∙ ap (λ (b : List ℕ). over b out₀) (rest_pieces e)
 
 -- The members of a group.
 
 -- member i is a gate
-pub member-inside : (p : List ℕ) (at i g : ℕ) → Lies p at → g ≡ get_or (groupAt p at) i 0 → i < get_or p at 0 → g < mostGates
-member-inside p at i g h e l = rw e (h.inside (get_or (groupAt p at) i 0) (member-in p at i l))
+pub member_inside : (p : List ℕ) (at i g : ℕ) → Lies p at → g ≡ get_or (group_at p at) i 0 → i < get_or p at 0 → g < most_gates
+member_inside p at i g h e l = rw e (h.inside (get_or (group_at p at) i 0) (member_in p at i l))
 
 -- and its arguments have wires
-pub member-placed : (quads p group : List ℕ) (k at i g : ℕ) → Paired quads p group k at → g ≡ get_or (groupAt p at) i 0 → i < get_or p at 0 → Grouped group
-    (argumentAt quads g k)
-member-placed quads p group k at i g h e l = rw e (h.placed (get_or (groupAt p at) i 0) (member-in p at i l))
+pub member_placed : (quads p group : List ℕ) (k at i g : ℕ) → Paired quads p group k at → g ≡ get_or (group_at p at) i 0 → i < get_or p at 0 → Grouped group
+    (argument_at quads g k)
+member_placed quads p group k at i g h e l = rw e (h.placed (get_or (group_at p at) i 0) (member_in p at i l))
 
 -- argument k of member i stands in the quads
-pub member-argument : (quads p group : List ℕ) (k at i g : ℕ) → Paired quads p group k at → g ≡ get_or (groupAt p at) i 0 → i < get_or p at 0
-    → (4 * g + 1 + k < 4 * mostGates) × Grouped group (argumentAt quads g k)
-member-argument quads p group k at i g h e l = (omega (arith, member-inside p at i g h.lies e l, h.few), member-placed quads p group k at i g h e l)
+pub member_argument : (quads p group : List ℕ) (k at i g : ℕ) → Paired quads p group k at → g ≡ get_or (group_at p at) i 0 → i < get_or p at 0
+    → (4 * g + 1 + k < 4 * most_gates) × Grouped group (argument_at quads g k)
+member_argument quads p group k at i g h e l = (omega (arith, member_inside p at i g h.lies e l, h.few), member_placed quads p group k at i g h e l)
 
 -- The guards of a group: piece i is that of member i.
 
-abbrev pub guardPiece : List ℕ → (ℕ → ℕ) → List ℕ → List ℕ → ℕ → List ℕ
-guardPiece conds wire sets ms i = recordBytes writtenVersion (guardIn conds wire (get_or sets (get_or ms i 0) 0))
+abbrev pub guard_piece : List ℕ → (ℕ → ℕ) → List ℕ → List ℕ → ℕ → List ℕ
+guard_piece conds wire sets ms i = record_bytes written_version (guard_in conds wire (get_or sets (get_or ms i 0) 0))
 
 -- loop invariant: the guards of i members are written
 pub record GuardFilling (conds : List ℕ) (wire : ℕ → ℕ) (sets p : List ℕ) (place : ℕ) (out out₀ : List ℕ) (at i : ℕ) : Type 0 where
-  pub filling : Filling (guardPiece conds wire sets (groupAt p place)) out out₀ (get_or p place 0) at i
+  pub filling : Filling (guard_piece conds wire sets (group_at p place)) out out₀ (get_or p place 0) at i
 
 module _ (conds : List ℕ) (wire : ℕ → ℕ) (sets p : List ℕ) (place : ℕ) where
-  whole : pieces (guardPiece conds wire sets (groupAt p place)) (get_or p place 0) ≡ recordsBytes writtenVersion (guardsIn conds wire sets (groupAt p place))
-  whole = ap (pieces (guardPiece conds wire sets (groupAt p place))) (sym (length-group p place)) ∙ record-pieces (λ m. guardIn conds wire (get_or sets m 0))
-      (groupAt p place)
+  whole : pieces (guard_piece conds wire sets (group_at p place)) (get_or p place 0) ≡ records_bytes written_version (guards_in conds wire sets (group_at p place))
+  whole = ap (pieces (guard_piece conds wire sets (group_at p place))) (sym (length_group p place)) ∙ record_pieces (λ m. guard_in conds wire (get_or sets m 0))
+      (group_at p place)
 
-  pub guards-start : (out : List ℕ) → length (recordsBytes writtenVersion (guardsIn conds wire sets (groupAt p place))) ≤ length out → GuardFilling conds wire sets p place out out 0 0
-  guards-start out h = record { filling = filling-start (guardPiece conds wire sets (groupAt p place)) out (get_or p place 0) (rw whole h) }
+  pub guards_start : (out : List ℕ) → length (records_bytes written_version (guards_in conds wire sets (group_at p place))) ≤ length out → GuardFilling conds wire sets p place out out 0 0
+  guards_start out h = record { filling = filling_start (guard_piece conds wire sets (group_at p place)) out (get_or p place 0) (rw whole h) }
 
-  module _ (out out₀ : List ℕ) (at i g : ℕ) (l : GuardFilling conds wire sets p place out out₀ at i) (h : i < get_or p place 0) (e : g ≡ get_or (groupAt p place) i 0) where
-    pub guards-fits : (at + length (recordBytes writtenVersion (guardIn conds wire (get_or sets g 0))) ≤ length out) × (length out ≡ length out₀)
-    guards-fits = (
-      rw e (filling-fits (guardPiece conds wire sets (groupAt p place)) out out₀ (get_or p place 0) at i l.filling h),
-      filling-length
-          (guardPiece conds wire sets (groupAt p place)) out out₀ (get_or p place 0) at i l.filling h,
+  module _ (out out₀ : List ℕ) (at i g : ℕ) (l : GuardFilling conds wire sets p place out out₀ at i) (h : i < get_or p place 0) (e : g ≡ get_or (group_at p place) i 0) where
+    pub guards_fits : (at + length (record_bytes written_version (guard_in conds wire (get_or sets g 0))) ≤ length out) × (length out ≡ length out₀)
+    guards_fits = (
+      rw e (filling_fits (guard_piece conds wire sets (group_at p place)) out out₀ (get_or p place 0) at i l.filling h),
+      filling_length
+          (guard_piece conds wire sets (group_at p place)) out out₀ (get_or p place 0) at i l.filling h,
     )
 
-    pub guards-room : length (recordBytes writtenVersion (guardIn conds wire (get_or sets g 0))) ≤ length (take (length out - at) (drop at out))
-    guards-room = rw e (filling-room (guardPiece conds wire sets (groupAt p place)) out out₀ (get_or p place 0) at i l.filling h)
+    pub guards_room : length (record_bytes written_version (guard_in conds wire (get_or sets g 0))) ≤ length (take (length out - at) (drop at out))
+    guards_room = rw e (filling_room (guard_piece conds wire sets (group_at p place)) out out₀ (get_or p place 0) at i l.filling h)
 
-    pub guards-step : (k : ℕ) (ys : List ℕ) → k ≡ length (recordBytes writtenVersion (guardIn conds wire (get_or sets g 0))) → ys ≡ over
-        (recordBytes writtenVersion (guardIn conds wire (get_or sets g 0))) (take (length out - at) (drop at out))
+    pub guards_step : (k : ℕ) (ys : List ℕ) → k ≡ length (record_bytes written_version (guard_in conds wire (get_or sets g 0))) → ys ≡ over
+        (record_bytes written_version (guard_in conds wire (get_or sets g 0))) (take (length out - at) (drop at out))
         → GuardFilling conds wire sets p place (put_mid at (length out - at) out ys) out₀ (at + k) (i + 1)
-    guards-step k ys q r = record
-        { filling = filling_step (guardPiece conds wire sets (groupAt p place)) out out₀ (get_or p place 0) at i l.filling h k ys (rw e at q) (rw e at r) }
+    guards_step k ys q r = record
+        { filling = filling_step (guard_piece conds wire sets (group_at p place)) out out₀ (get_or p place 0) at i l.filling h k ys (rw e at q) (rw e at r) }
 
-  pub guards-end : (out out₀ : List ℕ) (at i : ℕ) → GuardFilling conds wire sets p place out out₀ at i → get_or p place 0 ≤ i
-      → (at ≡ length (recordsBytes writtenVersion (guardsIn conds wire sets (groupAt p place)))) × (out ≡ over (recordsBytes writtenVersion (guardsIn conds wire sets (groupAt p place))) out₀)
-  guards-end out out₀ at i l h = rw whole at (filling-end (guardPiece conds wire sets (groupAt p place)) out out₀ (get_or p place 0) at i l.filling h)
+  pub guards_end : (out out₀ : List ℕ) (at i : ℕ) → GuardFilling conds wire sets p place out out₀ at i → get_or p place 0 ≤ i
+      → (at ≡ length (records_bytes written_version (guards_in conds wire sets (group_at p place)))) × (out ≡ over (records_bytes written_version (guards_in conds wire sets (group_at p place))) out₀)
+  guards_end out out₀ at i l h = rw whole at (filling_end (guard_piece conds wire sets (group_at p place)) out out₀ (get_or p place 0) at i l.filling h)
 
 -- The pairs of a pick: piece i is the pair of member i.
 
-abbrev pub pairPiece : List ℕ → (ℕ → ℕ) → ℕ → ℕ → List ℕ → ℕ → List ℕ
-pairPiece quads wire n k ms i = wiresBytes ((n + i) ∷ wire (argumentAt quads (get_or ms i 0) k) ∷ [])
+abbrev pub pair_piece : List ℕ → (ℕ → ℕ) → ℕ → ℕ → List ℕ → ℕ → List ℕ
+pair_piece quads wire n k ms i = wires_bytes ((n + i) ∷ wire (argument_at quads (get_or ms i 0) k) ∷ [])
 
 -- loop invariant: the pairs of i members are written
 pub record PairFilling (quads : List ℕ) (wire : ℕ → ℕ) (n k : ℕ) (p : List ℕ) (place : ℕ) (out out₀ : List ℕ) (at i : ℕ) : Type 0 where
-  pub filling : Filling (pairPiece quads wire n k (groupAt p place)) out out₀ (get_or p place 0) at i
+  pub filling : Filling (pair_piece quads wire n k (group_at p place)) out out₀ (get_or p place 0) at i
 
 module _ (quads : List ℕ) (wire : ℕ → ℕ) (n k : ℕ) (p : List ℕ) (place : ℕ) where
-  pairs-whole : pieces (pairPiece quads wire n k (groupAt p place)) (get_or p place 0) ≡ wiresBytes (pairWires (pairsIn quads wire n k (groupAt p place)))
-  pairs-whole = ap (pieces (pairPiece quads wire n k (groupAt p place))) (sym (length-group p place)) ∙ pair-pieces (λ m. wire (argumentAt quads m k)) n (groupAt p place)
+  pairs_whole : pieces (pair_piece quads wire n k (group_at p place)) (get_or p place 0) ≡ wires_bytes (pair_wires (pairs_in quads wire n k (group_at p place)))
+  pairs_whole = ap (pieces (pair_piece quads wire n k (group_at p place))) (sym (length_group p place)) ∙ pair_pieces (λ m. wire (argument_at quads m k)) n (group_at p place)
 
   -- a pair for each member
-  pub pairs-count : length (pairsIn quads wire n k (groupAt p place)) ≡ get_or p place 0
-  pairs-count = length_pairs n (map (λ m. wire (argumentAt quads m k)) (groupAt p place)) ∙ length-map (groupAt p place) (λ m. wire (argumentAt quads m k))
-      ∙ length-group p place
+  pub pairs_count : length (pairs_in quads wire n k (group_at p place)) ≡ get_or p place 0
+  pairs_count = length_pairs n (map (λ m. wire (argument_at quads m k)) (group_at p place)) ∙ length-map (group_at p place) (λ m. wire (argument_at quads m k))
+      ∙ length_group p place
 
-  pair-bytes : length (wiresBytes (pairWires (pairsIn quads wire n k (groupAt p place)))) ≡ 4 * get_or p place 0
-  pair-bytes = wires-size (pairWires (pairsIn quads wire n k (groupAt p place))) ∙ omega (arith, pairs-size (pairsIn quads wire n k (groupAt p place)), pairs-count)
+  pair_bytes : length (wires_bytes (pair_wires (pairs_in quads wire n k (group_at p place)))) ≡ 4 * get_or p place 0
+  pair_bytes = wires_size (pair_wires (pairs_in quads wire n k (group_at p place))) ∙ omega (arith, pairs_size (pairs_in quads wire n k (group_at p place)), pairs_count)
 
   pub pairs_start : (out : List ℕ) → 4 * get_or p place 0 ≤ length out → PairFilling quads wire n k p place out out 0 0
-  pairs_start out h = record { filling = filling-start (pairPiece quads wire n k (groupAt p place)) out (get_or p place 0) (rw (pairs-whole, pair-bytes) h) }
+  pairs_start out h = record { filling = filling_start (pair_piece quads wire n k (group_at p place)) out (get_or p place 0) (rw (pairs_whole, pair_bytes) h) }
 
   module _ (out out₀ : List ℕ) (at i : ℕ) (l : PairFilling quads wire n k p place out out₀ at i) (h : i < get_or p place 0) where
-    four : length (pairPiece quads wire n k (groupAt p place) i) ≡ 4
-    four = wires-size ((n + i) ∷ wire (argumentAt quads (get_or (groupAt p place) i 0) k) ∷ [])
+    four : length (pair_piece quads wire n k (group_at p place) i) ≡ 4
+    four = wires_size ((n + i) ∷ wire (argument_at quads (get_or (group_at p place) i 0) k) ∷ [])
 
-    pub pairs-fits : (at + 4 ≤ length out) × (length out ≡ length out₀)
-    pairs-fits = (
-      omega (arith, filling-fits (pairPiece quads wire n k (groupAt p place)) out out₀ (get_or p place 0) at i l.filling h, four),
-      filling-length
-          (pairPiece quads wire n k (groupAt p place)) out out₀ (get_or p place 0) at i l.filling h,
+    pub pairs_fits : (at + 4 ≤ length out) × (length out ≡ length out₀)
+    pairs_fits = (
+      omega (arith, filling_fits (pair_piece quads wire n k (group_at p place)) out out₀ (get_or p place 0) at i l.filling h, four),
+      filling_length
+          (pair_piece quads wire n k (group_at p place)) out out₀ (get_or p place 0) at i l.filling h,
     )
 
-    pub pairs-room : 4 ≤ length (take (length out - at) (drop at out))
-    pairs-room = omega (arith, filling-room (pairPiece quads wire n k (groupAt p place)) out out₀ (get_or p place 0) at i l.filling h, four)
+    pub pairs_room : 4 ≤ length (take (length out - at) (drop at out))
+    pairs_room = omega (arith, filling_room (pair_piece quads wire n k (group_at p place)) out out₀ (get_or p place 0) at i l.filling h, four)
 
-    pub pairs-step : (g w : ℕ) (ys : List ℕ) → g ≡ get_or (groupAt p place) i 0 → w ≡ wire (argumentAt quads g k)
-        → ys ≡ over (wiresBytes ((n + i) ∷ w ∷ [])) (take (length out - at) (drop at out)) → PairFilling quads wire n k p place (put_mid at (length out - at) out ys) out₀
+    pub pairs_step : (g w : ℕ) (ys : List ℕ) → g ≡ get_or (group_at p place) i 0 → w ≡ wire (argument_at quads g k)
+        → ys ≡ over (wires_bytes ((n + i) ∷ w ∷ [])) (take (length out - at) (drop at out)) → PairFilling quads wire n k p place (put_mid at (length out - at) out ys) out₀
         (at + 4) (i + 1)
-    pairs-step g w ys e q r =
-        let v : w ≡ wire (argumentAt quads (get_or (groupAt p place) i 0) k) = rw e at q in
-        record { filling = filling_step (pairPiece quads wire n k (groupAt p place)) out out₀ (get_or p place 0) at i l.filling h 4 ys (sym four) (rw v at r) }
+    pairs_step g w ys e q r =
+        let v : w ≡ wire (argument_at quads (get_or (group_at p place) i 0) k) = rw e at q in
+        record { filling = filling_step (pair_piece quads wire n k (group_at p place)) out out₀ (get_or p place 0) at i l.filling h 4 ys (sym four) (rw v at r) }
 
   pub pairs_end : (out out₀ : List ℕ) (at i : ℕ) → PairFilling quads wire n k p place out out₀ at i → get_or p place 0 ≤ i → out ≡ over
-      (wiresBytes (pairWires (pairsIn quads wire n k (groupAt p place)))) out₀
-  pairs_end out out₀ at i l h = (filling-end (pairPiece quads wire n k (groupAt p place)) out out₀ (get_or p place 0) at i l.filling h).1 ∙ ap
-      (λ (b : List ℕ). over b out₀) pairs-whole
+      (wires_bytes (pair_wires (pairs_in quads wire n k (group_at p place)))) out₀
+  pairs_end out out₀ at i l h = (filling_end (pair_piece quads wire n k (group_at p place)) out out₀ (get_or p place 0) at i l.filling h).1 ∙ ap
+      (λ (b : List ℕ). over b out₀) pairs_whole

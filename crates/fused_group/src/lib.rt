@@ -2,17 +2,17 @@
 // the operation. Document 02, C-18: no pick where the members' wires are equal, no guards where no pick remains.
 ghost use Rattle.std.specs.Prelude.{◌≡◌, cond, ◌∷◌, [], map, ◌+◌, ◌*◌, ◌<◌, ◌≤◌, length, get_or};
 ghost use Rattle.base.specs.Buffers.{over};
-ghost use Rattle.base.specs.SettingLists.{conditionsIn, Lists};
-ghost use Rattle.plan.specs.PlanFile.{groupAt};
-ghost use Rattle.file.specs.Versions.{writtenVersion};
-ghost use Rattle.file.specs.Records.{pick, pairWires};
-ghost use Rattle.file.specs.CircuitFile.{wiresBytes, recordBytes, recordsBytes};
-ghost use Rattle.fused_gate.specs.Emitted.{wireIn};
-ghost use Rattle.fused_group.specs.Joined.{emitIn, guardIn, guardsIn, valuesIn, pairsIn, Lies, Guarded, Paired, Joinable, Fusing, JoinWritable};
-ghost use Rattle.fused_group.specs.Decisions.{Decided, hasPick, countIn, keptIn, place_in, picksIn, readIn, operationIn, fusedIn};
-ghost use Rattle.fused.specs.Emission.{oneWire};
-ghost use Rattle.file.specs.Limits.{mostWires};
-ghost use Rattle.base.specs.SetsHeld.{setsIn, setOf};
+ghost use Rattle.base.specs.SettingLists.{conditions_in, Lists};
+ghost use Rattle.plan.specs.PlanFile.{group_at};
+ghost use Rattle.file.specs.Versions.{written_version};
+ghost use Rattle.file.specs.Records.{pick, pair_wires};
+ghost use Rattle.file.specs.CircuitFile.{wires_bytes, record_bytes, records_bytes};
+ghost use Rattle.fused_gate.specs.Emitted.{wire_in};
+ghost use Rattle.fused_group.specs.Joined.{emit_in, guard_in, guards_in, values_in, pairs_in, Lies, Guarded, Paired, Joinable, Fusing, JoinWritable};
+ghost use Rattle.fused_group.specs.Decisions.{Decided, has_pick, count_in, kept_in, place_in, picks_in, read_in, operation_in, fused_in};
+ghost use Rattle.fused.specs.Emission.{one_wire};
+ghost use Rattle.file.specs.Limits.{most_wires};
+ghost use Rattle.base.specs.SetsHeld.{sets_in, set_of};
 
 use base::{ConditionList, Set};
 use circuit::{CONDITION_ROOM, GATE_ROOM, GateId, NEED_WORDS, QUAD_ROOM};
@@ -31,8 +31,8 @@ fn put_rested(
     group: &[u16; GATE_ROOM],
     wires: &[u16; GATE_ROOM],
 )
-    requires { ((2 * length (conditionsIn list) ≤ length out.old) × Guarded conditions.now group.now) × Lists list }
-    ensures { out.new ≡ over (wiresBytes (map (λ t. wireIn group.now wires.now (get_or conditions.now t 0)) (conditionsIn list))) out.old }
+    requires { ((2 * length (conditions_in list) ≤ length out.old) × Guarded conditions.now group.now) × Lists list }
+    ensures { out.new ≡ over (wires_bytes (map (λ t. wire_in group.now wires.now (get_or conditions.now t 0)) (conditions_in list))) out.old }
 {
     let count = list.count as usize;
     let mut n: usize = 0;
@@ -54,9 +54,9 @@ fn put_guard(
     group: &[u16; GATE_ROOM],
     wires: &[u16; GATE_ROOM],
 ) -> usize
-    requires { (length (recordBytes writtenVersion (guardIn conditions.now (wireIn group.now wires.now) (setOf s))) ≤ length out.old) × Guarded conditions.now group.now }
-    ensures counted { result ≡ length (recordBytes writtenVersion (guardIn conditions.now (wireIn group.now wires.now) (setOf s))) }
-    ensures written { out.new ≡ over (recordBytes writtenVersion (guardIn conditions.now (wireIn group.now wires.now) (setOf s))) out.old }
+    requires { (length (record_bytes written_version (guard_in conditions.now (wire_in group.now wires.now) (set_of s))) ≤ length out.old) × Guarded conditions.now group.now }
+    ensures counted { result ≡ length (record_bytes written_version (guard_in conditions.now (wire_in group.now wires.now) (set_of s))) }
+    ensures written { out.new ≡ over (record_bytes written_version (guard_in conditions.now (wire_in group.now wires.now) (set_of s))) out.old }
 {
     let r = base_settings::rested(s);
     let d = r.count;
@@ -77,12 +77,12 @@ fn put_guards(
     group: &[u16; GATE_ROOM],
     wires: &[u16; GATE_ROOM],
 ) -> usize
-    requires { (length (recordsBytes writtenVersion (guardsIn conditions.now (wireIn group.now wires.now) (setsIn needs.now) (groupAt plan.now at))) ≤ length out.old)
+    requires { (length (records_bytes written_version (guards_in conditions.now (wire_in group.now wires.now) (sets_in needs.now) (group_at plan.now at))) ≤ length out.old)
         × (Lies plan.now at × Guarded conditions.now group.now) }
-    ensures counted { result ≡ length (recordsBytes writtenVersion
-        (guardsIn conditions.now (wireIn group.now wires.now) (setsIn needs.now) (groupAt plan.now at))) }
-    ensures written { out.new ≡ over (recordsBytes writtenVersion
-        (guardsIn conditions.now (wireIn group.now wires.now) (setsIn needs.now) (groupAt plan.now at))) out.old }
+    ensures counted { result ≡ length (records_bytes written_version
+        (guards_in conditions.now (wire_in group.now wires.now) (sets_in needs.now) (group_at plan.now at))) }
+    ensures written { out.new ≡ over (records_bytes written_version
+        (guards_in conditions.now (wire_in group.now wires.now) (sets_in needs.now) (group_at plan.now at))) out.old }
 {
     let size = plan[at] as usize;
     let mut n: usize = 0;
@@ -106,7 +106,7 @@ fn put_guards(
 // A pair of a pick: the wire of the guard and the wire of the value.
 fn put_pair(out: &mut [u8], guarding: WireId, value: WireId)
     requires { 4 ≤ length out.old }
-    ensures { out.new ≡ over (wiresBytes (guarding.0 ∷ value.0 ∷ [])) out.old }
+    ensures { out.new ≡ over (wires_bytes (guarding.0 ∷ value.0 ∷ [])) out.old }
 {
     base_words::put16(out, guarding.0);
     base_words::put16(&mut out[2..], value.0);
@@ -123,9 +123,9 @@ fn put_pairs(
     group: &[u16; GATE_ROOM],
     wires: &[u16; GATE_ROOM],
 )
-    requires { (4 * get_or plan.now at 0 ≤ length out.old) × (Paired quads.now plan.now group.now k at × (first.0 ≤ mostWires)) }
-    ensures { out.new ≡ over (wiresBytes (pairWires
-        (pairsIn quads.now (wireIn group.now wires.now) first.0 k (groupAt plan.now at)))) out.old }
+    requires { (4 * get_or plan.now at 0 ≤ length out.old) × (Paired quads.now plan.now group.now k at × (first.0 ≤ most_wires)) }
+    ensures { out.new ≡ over (wires_bytes (pair_wires
+        (pairs_in quads.now (wire_in group.now wires.now) first.0 k (group_at plan.now at)))) out.old }
 {
     let size = plan[at] as usize;
     let mut n: usize = 0;
@@ -151,10 +151,10 @@ fn put_pick(
     group: &[u16; GATE_ROOM],
     wires: &[u16; GATE_ROOM],
 ) -> usize
-    requires { (2 + 4 * get_or plan.now at 0 ≤ length out.old) × (Paired quads.now plan.now group.now k at × (first.0 ≤ mostWires)) }
+    requires { (2 + 4 * get_or plan.now at 0 ≤ length out.old) × (Paired quads.now plan.now group.now k at × (first.0 ≤ most_wires)) }
     ensures counted { result ≡ 2 + 4 * get_or plan.now at 0 }
-    ensures written { out.new ≡ over (recordBytes writtenVersion
-        (pick (pairsIn quads.now (wireIn group.now wires.now) first.0 k (groupAt plan.now at)))) out.old }
+    ensures written { out.new ≡ over (record_bytes written_version
+        (pick (pairs_in quads.now (wire_in group.now wires.now) first.0 k (group_at plan.now at)))) out.old }
 {
     fused_gate::put_short(out, PICK, plan[at]);
     put_pairs(&mut out[2..], plan, at, first, quads, k, group, wires);
@@ -179,7 +179,7 @@ fn one_wire(
     wires: &[u16; GATE_ROOM],
 ) -> bool
     requires { Paired quads.now plan.now group.now k at × (0 < get_or plan.now at 0) }
-    ensures { result ≡ oneWire (valuesIn quads.now (wireIn group.now wires.now) k (groupAt plan.now at)) }
+    ensures { result ≡ one_wire (values_in quads.now (wire_in group.now wires.now) k (group_at plan.now at)) }
 {
     let size = plan[at] as usize;
     let m = plan_member::member(plan, at, 0);
@@ -207,7 +207,7 @@ pub fn picks_of(
     wires: &[u16; GATE_ROOM],
 ) -> Picks
     requires { Joinable quads.now plan.now group.now at }
-    ensures { Decided quads.now (wireIn group.now wires.now) (groupAt plan.now at) result }
+    ensures { Decided quads.now (wire_in group.now wires.now) (group_at plan.now at) result }
 {
     let first = one_wire(plan, at, quads, 0, group, wires);
     let second = one_wire(plan, at, quads, 1, group, wires);
@@ -219,7 +219,7 @@ pub fn picks_of(
 
 // Whether a joined group has a pick, and so guards.
 pub fn has_pick(picks: Picks) -> bool
-    ensures { result ≡ hasPick picks }
+    ensures { result ≡ has_pick picks }
 {
     picks.first || picks.second
 }
@@ -234,7 +234,7 @@ fn picks_at(picked: bool) -> u16
 // How many records a joined group has: the operation, its picks, and a guard for each member where it has a pick.
 pub fn records_in(plan: &[u8], at: usize, picks: Picks) -> u16
     requires { at < length plan.now }
-    ensures { result ≡ countIn (get_or plan.now at 0) picks }
+    ensures { result ≡ count_in (get_or plan.now at 0) picks }
 {
     if has_pick(picks) {
         return (plan[at] as u16) + picks_at(picks.first) + picks_at(picks.second) + 1;
@@ -253,12 +253,12 @@ fn put_kept(
     wires: &[u16; GATE_ROOM],
     picks: Picks,
 ) -> usize
-    requires { (length (recordsBytes writtenVersion (keptIn conditions.now (wireIn group.now wires.now) (setsIn needs.now) (groupAt plan.now at) picks)) ≤ length out.old)
+    requires { (length (records_bytes written_version (kept_in conditions.now (wire_in group.now wires.now) (sets_in needs.now) (group_at plan.now at) picks)) ≤ length out.old)
         × (Lies plan.now at × Guarded conditions.now group.now) }
-    ensures counted { result ≡ length (recordsBytes writtenVersion
-        (keptIn conditions.now (wireIn group.now wires.now) (setsIn needs.now) (groupAt plan.now at) picks)) }
-    ensures written { out.new ≡ over (recordsBytes writtenVersion
-        (keptIn conditions.now (wireIn group.now wires.now) (setsIn needs.now) (groupAt plan.now at) picks)) out.old }
+    ensures counted { result ≡ length (records_bytes written_version
+        (kept_in conditions.now (wire_in group.now wires.now) (sets_in needs.now) (group_at plan.now at) picks)) }
+    ensures written { out.new ≡ over (records_bytes written_version
+        (kept_in conditions.now (wire_in group.now wires.now) (sets_in needs.now) (group_at plan.now at) picks)) out.old }
 {
     if has_pick(picks) {
         return put_guards(out, plan, at, needs, conditions, group, wires);
@@ -278,12 +278,12 @@ fn put_place(
     wires: &[u16; GATE_ROOM],
     picked: bool,
 ) -> usize
-    requires { (length (recordsBytes writtenVersion (place_in quads.now (wireIn group.now wires.now) first.0 k (groupAt plan.now at) picked)) ≤ length out.old)
-        × (Paired quads.now plan.now group.now k at × (first.0 ≤ mostWires)) }
-    ensures counted { result ≡ length (recordsBytes writtenVersion
-        (place_in quads.now (wireIn group.now wires.now) first.0 k (groupAt plan.now at) picked)) }
-    ensures written { out.new ≡ over (recordsBytes writtenVersion
-        (place_in quads.now (wireIn group.now wires.now) first.0 k (groupAt plan.now at) picked)) out.old }
+    requires { (length (records_bytes written_version (place_in quads.now (wire_in group.now wires.now) first.0 k (group_at plan.now at) picked)) ≤ length out.old)
+        × (Paired quads.now plan.now group.now k at × (first.0 ≤ most_wires)) }
+    ensures counted { result ≡ length (records_bytes written_version
+        (place_in quads.now (wire_in group.now wires.now) first.0 k (group_at plan.now at) picked)) }
+    ensures written { out.new ≡ over (records_bytes written_version
+        (place_in quads.now (wire_in group.now wires.now) first.0 k (group_at plan.now at) picked)) out.old }
 {
     if picked {
         return put_pick(out, plan, at, first, quads, k, group, wires);
@@ -302,12 +302,12 @@ fn put_picks(
     wires: &[u16; GATE_ROOM],
     picks: Picks,
 ) -> usize
-    requires { (length (recordsBytes writtenVersion (picksIn quads.now (wireIn group.now wires.now) first.0 (groupAt plan.now at) picks)) ≤ length out.old)
-        × (Fusing quads.now plan.now group.now at × (first.0 ≤ mostWires)) }
-    ensures counted { result ≡ length (recordsBytes writtenVersion
-        (picksIn quads.now (wireIn group.now wires.now) first.0 (groupAt plan.now at) picks)) }
-    ensures written { out.new ≡ over (recordsBytes writtenVersion
-        (picksIn quads.now (wireIn group.now wires.now) first.0 (groupAt plan.now at) picks)) out.old }
+    requires { (length (records_bytes written_version (picks_in quads.now (wire_in group.now wires.now) first.0 (group_at plan.now at) picks)) ≤ length out.old)
+        × (Fusing quads.now plan.now group.now at × (first.0 ≤ most_wires)) }
+    ensures counted { result ≡ length (records_bytes written_version
+        (picks_in quads.now (wire_in group.now wires.now) first.0 (group_at plan.now at) picks)) }
+    ensures written { out.new ≡ over (records_bytes written_version
+        (picks_in quads.now (wire_in group.now wires.now) first.0 (group_at plan.now at) picks)) out.old }
 {
     let n = put_place(out, plan, at, first, quads, 0, group, wires, picks.first);
     n + put_place(
@@ -335,7 +335,7 @@ fn argument_wire(
     wires: &[u16; GATE_ROOM],
 ) -> WireId
     requires { Paired quads.now plan.now group.now k at × (0 < get_or plan.now at 0) }
-    ensures { result.0 ≡ readIn quads.now (wireIn group.now wires.now) k (groupAt plan.now at) picked next.0 }
+    ensures { result.0 ≡ read_in quads.now (wire_in group.now wires.now) k (group_at plan.now at) picked next.0 }
 {
     if picked {
         return next;
@@ -356,12 +356,12 @@ fn put_operation(
     wires: &[u16; GATE_ROOM],
     picks: Picks,
 ) -> usize
-    requires { (length (recordsBytes writtenVersion (operationIn quads.now (wireIn group.now wires.now) first.0 (groupAt plan.now at) picks ∷ [])) ≤ length out.old)
-        × (Fusing quads.now plan.now group.now at × (first.0 ≤ mostWires)) }
-    ensures counted { result ≡ length (recordsBytes writtenVersion
-        (operationIn quads.now (wireIn group.now wires.now) first.0 (groupAt plan.now at) picks ∷ [])) }
-    ensures written { out.new ≡ over (recordsBytes writtenVersion
-        (operationIn quads.now (wireIn group.now wires.now) first.0 (groupAt plan.now at) picks ∷ [])) out.old }
+    requires { (length (records_bytes written_version (operation_in quads.now (wire_in group.now wires.now) first.0 (group_at plan.now at) picks ∷ [])) ≤ length out.old)
+        × (Fusing quads.now plan.now group.now at × (first.0 ≤ most_wires)) }
+    ensures counted { result ≡ length (records_bytes written_version
+        (operation_in quads.now (wire_in group.now wires.now) first.0 (group_at plan.now at) picks ∷ [])) }
+    ensures written { out.new ≡ over (records_bytes written_version
+        (operation_in quads.now (wire_in group.now wires.now) first.0 (group_at plan.now at) picks ∷ [])) out.old }
 {
     let m = plan_member::member(plan, at, 0);
     let i = m.0 as usize;
@@ -393,12 +393,12 @@ fn put_fused(
     wires: &[u16; GATE_ROOM],
     picks: Picks,
 ) -> usize
-    requires { (length (recordsBytes writtenVersion (fusedIn quads.now (wireIn group.now wires.now) first.0 (groupAt plan.now at) picks)) ≤ length out.old)
-        × (Fusing quads.now plan.now group.now at × (first.0 ≤ mostWires)) }
-    ensures counted { result ≡ length (recordsBytes writtenVersion
-        (fusedIn quads.now (wireIn group.now wires.now) first.0 (groupAt plan.now at) picks)) }
-    ensures written { out.new ≡ over (recordsBytes writtenVersion
-        (fusedIn quads.now (wireIn group.now wires.now) first.0 (groupAt plan.now at) picks)) out.old }
+    requires { (length (records_bytes written_version (fused_in quads.now (wire_in group.now wires.now) first.0 (group_at plan.now at) picks)) ≤ length out.old)
+        × (Fusing quads.now plan.now group.now at × (first.0 ≤ most_wires)) }
+    ensures counted { result ≡ length (records_bytes written_version
+        (fused_in quads.now (wire_in group.now wires.now) first.0 (group_at plan.now at) picks)) }
+    ensures written { out.new ≡ over (records_bytes written_version
+        (fused_in quads.now (wire_in group.now wires.now) first.0 (group_at plan.now at) picks)) out.old }
 {
     let n = put_picks(out, plan, at, first, quads, group, wires, picks);
     n + put_operation(&mut out[n..], plan, at, first, quads, group, wires, picks)
@@ -419,13 +419,13 @@ pub fn put_joined(
     wires: &[u16; GATE_ROOM],
     picks: Picks,
 ) -> usize
-    requires { (length (recordsBytes writtenVersion (emitIn quads.now count (setsIn needs.now) (wireIn group.now wires.now) first.0 (groupAt plan.now at))) ≤ length out.old)
-        × (JoinWritable quads.now plan.now conditions.now group.now count at × (first.0 ≤ mostWires)
-        × Decided quads.now (wireIn group.now wires.now) (groupAt plan.now at) picks) }
-    ensures counted { result ≡ length (recordsBytes writtenVersion
-        (emitIn quads.now count (setsIn needs.now) (wireIn group.now wires.now) first.0 (groupAt plan.now at))) }
-    ensures written { out.new ≡ over (recordsBytes writtenVersion
-        (emitIn quads.now count (setsIn needs.now) (wireIn group.now wires.now) first.0 (groupAt plan.now at))) out.old }
+    requires { (length (records_bytes written_version (emit_in quads.now count (sets_in needs.now) (wire_in group.now wires.now) first.0 (group_at plan.now at))) ≤ length out.old)
+        × (JoinWritable quads.now plan.now conditions.now group.now count at × (first.0 ≤ most_wires)
+        × Decided quads.now (wire_in group.now wires.now) (group_at plan.now at) picks) }
+    ensures counted { result ≡ length (records_bytes written_version
+        (emit_in quads.now count (sets_in needs.now) (wire_in group.now wires.now) first.0 (group_at plan.now at))) }
+    ensures written { out.new ≡ over (records_bytes written_version
+        (emit_in quads.now count (sets_in needs.now) (wire_in group.now wires.now) first.0 (group_at plan.now at))) out.old }
 {
     let n = put_kept(out, plan, at, needs, conditions, group, wires, picks);
     n + put_fused(&mut out[n..], plan, at, first, quads, group, wires, picks)

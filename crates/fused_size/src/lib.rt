@@ -1,11 +1,11 @@
 // Document 01, "The fused circuit file": what the records of one group come to, before they are written.
 ghost use Rattle.std.specs.Prelude.{◌≡◌, List, ◌∷◌, [], ℕ, ◌<◌};
-ghost use Rattle.plan.specs.PlanFile.{groupAt};
-ghost use Rattle.fused_size.specs.Sizes.{restedBy, GuardsSized, PlaceSized, Measured};
-ghost use Rattle.fused_gate.specs.Emitted.{wireIn, Coded};
+ghost use Rattle.plan.specs.PlanFile.{group_at};
+ghost use Rattle.fused_size.specs.Sizes.{rested_by, GuardsSized, PlaceSized, Measured};
+ghost use Rattle.fused_gate.specs.Emitted.{wire_in, Coded};
 ghost use Rattle.fused_group.specs.Joined.{Lies, Joinable};
-ghost use Rattle.base.specs.SetsHeld.{setsIn};
-ghost use Rattle.circuit.specs.Rooms.{gateRoom};
+ghost use Rattle.base.specs.SetsHeld.{sets_in};
+ghost use Rattle.circuit.specs.Rooms.{gate_room};
 
 use circuit::{GATE_ROOM, GateId, NEED_WORDS, QUAD_ROOM};
 use fused_group::Picks;
@@ -57,7 +57,7 @@ pub fn size_alone(quads: &[u32; QUAD_ROOM], g: GateId) -> Size
 // How many wires the guards of a group read.
 fn rested_by(plan: &[u8], at: usize, needs: &[u64; NEED_WORDS]) -> usize
     requires { Lies plan.now at }
-    ensures { result ≡ restedBy (setsIn needs.now) (groupAt plan.now at) }
+    ensures { result ≡ rested_by (sets_in needs.now) (group_at plan.now at) }
 {
     let size = plan[at] as usize;
     let mut n: usize = 0;
@@ -84,7 +84,7 @@ const GUARD_BYTES: usize = 2 + file::WRITTEN_TABLE;
 // The guards of a joined group, members rising; nothing where no pick remains: then the conditions are not even counted.
 fn size_kept(plan: &[u8], at: usize, needs: &[u64; NEED_WORDS], picks: Picks) -> Part
     requires { Lies plan.now at }
-    ensures { GuardsSized (setsIn needs.now) plan.now at picks result.bytes result.cost }
+    ensures { GuardsSized (sets_in needs.now) plan.now at picks result.bytes result.cost }
 {
     if fused_group::has_pick(picks) {
         let size = plan[at] as usize;
@@ -99,7 +99,7 @@ fn size_kept(plan: &[u8], at: usize, needs: &[u64; NEED_WORDS], picks: Picks) ->
 
 // The pick of one argument place, of so many pairs; nothing where the place has none.
 fn size_place(size: usize, picked: bool) -> Part
-    requires { size < gateRoom }
+    requires { size < gate_room }
     ensures { PlaceSized size picked result.bytes result.cost }
 {
     if picked {
@@ -121,7 +121,7 @@ pub fn size_joined(
     wires: &[u16; GATE_ROOM],
 ) -> Size
     requires { Joinable quads.now plan.now group.now at }
-    ensures { Measured quads.now (setsIn needs.now) (wireIn group.now wires.now) (groupAt plan.now at) result.wires result.bytes result.cost }
+    ensures { Measured quads.now (sets_in needs.now) (wire_in group.now wires.now) (group_at plan.now at) result.wires result.bytes result.cost }
 {
     let picks = fused_group::picks_of(plan, at, quads, group, wires);
     let records = fused_group::records_in(plan, at, picks);

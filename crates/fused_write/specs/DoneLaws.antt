@@ -4,71 +4,71 @@ use Rattle.std.proofs.Common.{sym, ap, subst, ◌∙◌, inl, inr, take-append-d
 use Rattle.std.proofs.lemmas.List.{reverse-append, reverse-reverse}
 use Rattle.std.proofs.Math.Seq.{take-length}
 use Rattle.base.specs.Lists.{◌∈◌}
-use Rattle.base.specs.MemberLaws.{in-append}
+use Rattle.base.specs.MemberLaws.{in_append}
 use Rattle.base.specs.Settings.{Once}
-use Rattle.circuit.specs.PlainCircuit.{gatesOf, gateCount}
-use Rattle.circuit_needed.specs.Pass.{rulePreconditions}
-use Rattle.plan.specs.PlanFile.{groupsIn}
+use Rattle.circuit.specs.PlainCircuit.{gates_of, gate_count}
+use Rattle.circuit_needed.specs.Pass.{rule_preconditions}
+use Rattle.plan.specs.PlanFile.{groups_in}
 use Rattle.plan.specs.Groups.{group_of, waits_for}
-use Rattle.plan.specs.GroupLaws.{group-of}
+use Rattle.plan.specs.GroupLaws.{group_of_lem}
 use Rattle.plan.specs.Order.{order, Ordered}
-use Rattle.plan.specs.WaitLaws.{order-ordered, order_from, order-once}
-use Rattle.plan_check.specs.Checked.{writingOrder}
+use Rattle.plan.specs.WaitLaws.{order_ordered, order_from, order_once}
+use Rattle.plan_check.specs.Checked.{writing_order}
 
 -- what holds of a list holds of its end
-once-end : (a b : List ℕ) → Once (a ++ b) → Once b
-once-end [] b o = o
-once-end (x ∷ a) b (n, o) = once-end a b o
+once_end : (a b : List ℕ) → Once (a ++ b) → Once b
+once_end [] b o = o
+once_end (x ∷ a) b (n, o) = once_end a b o
 
 ordered_end : (waits : ℕ → List ℕ) (a b : List ℕ) → Ordered waits (a ++ b) → Ordered waits b
 ordered_end waits [] b o = o
 ordered_end waits (x ∷ a) b (n, o) = ordered_end waits a b o
 
 -- the first i of the order, the last first
-abbrev pub doneAt : List ℕ → List ℕ → ℕ → List ℕ
-doneAt s p i = reverse (take i (writingOrder s p))
+abbrev pub done_at : List ℕ → List ℕ → ℕ → List ℕ
+done_at s p i = reverse (take i (writing_order s p))
 
 module _ (s p : List ℕ) where
   abbrev group : ℕ → ℕ
-  group = group_of (groupsIn p)
+  group = group_of (groups_in p)
 
   abbrev placed : List ℕ
-  placed = order (gatesOf s) (rulePreconditions s) group
+  placed = order (gates_of s) (rule_preconditions s) group
 
-  pub done_next : (i : ℕ) → i < length (writingOrder s p) → doneAt s p (suc i) ≡ get_or (writingOrder s p) i 0 ∷ doneAt s p i
-  done_next i l = ap reverse (take-suc (writingOrder s p) i 0 l) ∙ reverse-append (take i (writingOrder s p)) (get_or (writingOrder s p) i 0 ∷ [])
+  pub done_next : (i : ℕ) → i < length (writing_order s p) → done_at s p (suc i) ≡ get_or (writing_order s p) i 0 ∷ done_at s p i
+  done_next i l = ap reverse (take-suc (writing_order s p) i 0 l) ∙ reverse-append (take i (writing_order s p)) (get_or (writing_order s p) i 0 ∷ [])
 
-  pub done_all : doneAt s p (length (writingOrder s p)) ≡ placed
-  done_all = ap reverse (take-length (writingOrder s p)) ∙ reverse-reverse placed
+  pub done_all : done_at s p (length (writing_order s p)) ≡ placed
+  done_all = ap reverse (take-length (writing_order s p)) ∙ reverse-reverse placed
 
   -- the order ends with them
-  order-ends : (i : ℕ) → reverse (drop i (writingOrder s p)) ++ doneAt s p i ≡ placed
-  order-ends i =
-      sym (reverse-append (take i (writingOrder s p)) (drop i (writingOrder s p))) ∙ ap reverse (take-append-drop i (writingOrder s p)) ∙ reverse-reverse placed
+  order_ends : (i : ℕ) → reverse (drop i (writing_order s p)) ++ done_at s p i ≡ placed
+  order_ends i =
+      sym (reverse-append (take i (writing_order s p)) (drop i (writing_order s p))) ∙ ap reverse (take-append-drop i (writing_order s p)) ∙ reverse-reverse placed
 
-  pub done-once : (i : ℕ) → Once (doneAt s p i)
-  done-once i =
-      once-end (reverse (drop i (writingOrder s p))) (doneAt s p i) (subst Once (sym (order-ends i)) (order-once (gatesOf s) (rulePreconditions s) group))
+  pub done_once : (i : ℕ) → Once (done_at s p i)
+  done_once i =
+      once_end (reverse (drop i (writing_order s p))) (done_at s p i) (subst Once (sym (order_ends i)) (order_once (gates_of s) (rule_preconditions s) group))
 
-  pub done-ordered : (i : ℕ) → Ordered (waits_for (gatesOf s) (rulePreconditions s) group) (doneAt s p i)
-  done-ordered i =
-      ordered_end (waits_for (gatesOf s) (rulePreconditions s) group) (reverse (drop i (writingOrder s p))) (doneAt s p i)
-      (subst (Ordered (waits_for (gatesOf s) (rulePreconditions s) group)) (sym (order-ends i)) (order-ordered (gatesOf s) (rulePreconditions s) group))
+  pub done_ordered : (i : ℕ) → Ordered (waits_for (gates_of s) (rule_preconditions s) group) (done_at s p i)
+  done_ordered i =
+      ordered_end (waits_for (gates_of s) (rule_preconditions s) group) (reverse (drop i (writing_order s p))) (done_at s p i)
+      (subst (Ordered (waits_for (gates_of s) (rule_preconditions s) group)) (sym (order_ends i)) (order_ordered (gates_of s) (rule_preconditions s) group))
 
-  pub done-placed : (i q : ℕ) → q ∈ doneAt s p i → q ∈ placed
-  done-placed i q m = rw (sym (order-ends i)) (in-append q (reverse (drop i (writingOrder s p))) (doneAt s p i) (inr m))
+  pub done_placed : (i q : ℕ) → q ∈ done_at s p i → q ∈ placed
+  done_placed i q m = rw (sym (order_ends i)) (in_append q (reverse (drop i (writing_order s p))) (done_at s p i) (inr m))
 
   -- the group of turn i
-  pub next-group : (i : ℕ) → i < length (writingOrder s p) → (get_or (writingOrder s p) i 0 < gateCount s) ×
-      (group (get_or (writingOrder s p) i 0) ≡ get_or (writingOrder s p) i 0)
-  next-group i l =
-      let q = get_or (writingOrder s p) i 0 in
-      let m : q ∈ doneAt s p (suc i) = rw (done_next i l) (inl refl) in
-      group-of (gateCount s) group q (order_from (gatesOf s) (rulePreconditions s) group q (done-placed (suc i) q m))
+  pub next_group : (i : ℕ) → i < length (writing_order s p) → (get_or (writing_order s p) i 0 < gate_count s) ×
+      (group (get_or (writing_order s p) i 0) ≡ get_or (writing_order s p) i 0)
+  next_group i l =
+      let q = get_or (writing_order s p) i 0 in
+      let m : q ∈ done_at s p (suc i) = rw (done_next i l) (inl refl) in
+      group_of_lem (gate_count s) group q (order_from (gates_of s) (rule_preconditions s) group q (done_placed (suc i) q m))
 
-  pub next-waits : (i : ℕ) → i < length (writingOrder s p)
-      → (q : ℕ) → q ∈ waits_for (gatesOf s) (rulePreconditions s) group (get_or (writingOrder s p) i 0) → q ∈ doneAt s p i
-  next-waits i l = (subst (Ordered (waits_for (gatesOf s) (rulePreconditions s) group)) (done_next i l) (done-ordered (suc i))).0
+  pub next_waits : (i : ℕ) → i < length (writing_order s p)
+      → (q : ℕ) → q ∈ waits_for (gates_of s) (rule_preconditions s) group (get_or (writing_order s p) i 0) → q ∈ done_at s p i
+  next_waits i l = (subst (Ordered (waits_for (gates_of s) (rule_preconditions s) group)) (done_next i l) (done_ordered (suc i))).0
 
-  pub next-once : (i : ℕ) → i < length (writingOrder s p) → Once (get_or (writingOrder s p) i 0 ∷ doneAt s p i)
-  next-once i l = subst Once (done_next i l) (done-once (suc i))
+  pub next_once : (i : ℕ) → i < length (writing_order s p) → Once (get_or (writing_order s p) i 0 ∷ done_at s p i)
+  next_once i l = subst Once (done_next i l) (done_once (suc i))

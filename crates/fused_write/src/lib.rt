@@ -2,11 +2,11 @@
 ghost use Rattle.std.specs.Prelude.{◌≡◌, ◌≤◌, length, replicate};
 ghost use Rattle.base.specs.Buffers.{over};
 ghost use Rattle.base.specs.Answers.{success};
-ghost use Rattle.fused.specs.FusedCircuit.{fusedFile};
-ghost use Rattle.fused.specs.Answers.{fusedAnswer, writeAnswer, writtenOver};
+ghost use Rattle.fused.specs.FusedCircuit.{fused_file};
+ghost use Rattle.fused.specs.Answers.{fused_answer, write_answer, written_over};
 ghost use Rattle.fused_write.specs.Ready.{Ready};
-ghost use Rattle.base.specs.SetsHeld.{setsIn};
-ghost use Rattle.circuit.specs.Rooms.{gateRoom, quadRoom, variableRoom, conditionRoom};
+ghost use Rattle.base.specs.SetsHeld.{sets_in};
+ghost use Rattle.circuit.specs.Rooms.{gate_room, quad_room, variable_room, condition_room};
 
 use base::Answer;
 use circuit::{CONDITION_ROOM, GATE_ROOM, NEED_WORDS, QUAD_ROOM, VARIABLE_ROOM};
@@ -46,9 +46,9 @@ pub fn prepare(
     places: &mut [u16; GATE_ROOM],
     order: &mut [u16; GATE_ROOM],
 ) -> Prepared
-    requires { ((quads.old ≡ replicate quadRoom 0) × ((setsIn needs.old ≡ replicate gateRoom 0) × ((outputs.old ≡ replicate variableRoom 0) × (conditions.old ≡ replicate conditionRoom 0))))
-        × ((group.old ≡ replicate gateRoom 0) × ((places.old ≡ replicate gateRoom 0) × (order.old ≡ replicate gateRoom 0))) }
-    ensures { Ready rule.now plan.now result quads.new (setsIn needs.new) outputs.new conditions.new
+    requires { ((quads.old ≡ replicate quad_room 0) × ((sets_in needs.old ≡ replicate gate_room 0) × ((outputs.old ≡ replicate variable_room 0) × (conditions.old ≡ replicate condition_room 0))))
+        × ((group.old ≡ replicate gate_room 0) × ((places.old ≡ replicate gate_room 0) × (order.old ≡ replicate gate_room 0))) }
+    ensures { Ready rule.now plan.now result quads.new (sets_in needs.new) outputs.new conditions.new
         group.new places.new order.new }
 {
     let checked = plan_check::check(
@@ -83,8 +83,8 @@ pub fn put(
     order: &[u16; GATE_ROOM],
 )
     requires { ((prepared.answer.number ≡ 0) × (prepared.answer.bytes ≤ length out.old))
-        × Ready rule.now plan.now prepared quads.now (setsIn needs.now) outputs.now conditions.now group.now places.now order.now }
-    ensures { out.new ≡ over (fusedFile rule.now plan.now) out.old }
+        × Ready rule.now plan.now prepared quads.now (sets_in needs.now) outputs.now conditions.now group.now places.now order.now }
+    ensures { out.new ≡ over (fused_file rule.now plan.now) out.old }
 {
     let answer = prepared.answer;
     fused_file::put_file(
@@ -106,7 +106,7 @@ pub fn put(
 
 // Counts the fused circuit of a rule and a plan, and writes it nowhere: the answer with all five counts that writing it has.
 pub fn count(rule: &[u8], plan: &[u8]) -> Answer
-    ensures { result ≡ fusedAnswer rule.now plan.now }
+    ensures { result ≡ fused_answer rule.now plan.now }
 {
     let mut quads = [0u32; QUAD_ROOM];
     let mut needs = [0u64; NEED_WORDS];
@@ -132,8 +132,8 @@ pub fn count(rule: &[u8], plan: &[u8]) -> Answer
 // Writes the fused circuit of a rule and a plan into the buffer: the file and nothing after it. A refused plan, or a buffer that is
 // shorter than the file, leaves every byte as it was.
 pub fn write(rule: &[u8], plan: &[u8], out: &mut [u8]) -> Answer
-    ensures answer { result ≡ writeAnswer rule.now plan.now (length out.old) }
-    ensures file { out.new ≡ writtenOver rule.now plan.now out.old }
+    ensures answer { result ≡ write_answer rule.now plan.now (length out.old) }
+    ensures file { out.new ≡ written_over rule.now plan.now out.old }
 {
     let mut quads = [0u32; QUAD_ROOM];
     let mut needs = [0u64; NEED_WORDS];

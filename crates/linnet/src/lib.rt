@@ -1,14 +1,14 @@
 // The tool as C and Rust call it: each operation passed on, with the promise that it has, and with what the demands say of the very bytes and words that it is lent.
 ghost use Rattle.std.specs.Prelude.{◌≡◌, length, take, drop};
-ghost use Rattle.base.specs.SetsHeld.{setsIn};
-ghost use Rattle.circuit.specs.Whole.{ruleAnswer};
-ghost use Rattle.circuit_needed.specs.Built.{builtQuads, builtNeeds};
-ghost use Rattle.plan.specs.Rows.{planAnswer};
-ghost use Rattle.fused.specs.Answers.{fusedAnswer, writeAnswer, writtenOver};
-ghost use Rattle.run.specs.FusedRun.{fusedResults};
-ghost use Rattle.run.specs.Direct.{runAnswer, runResults};
-ghost use Rattle.file.specs.Answers.{circuitAnswer, partStart, partLength, recordPart, circuitRunAnswer, circuitRunResults};
-ghost use Rattle.demands.specs.Table.{AnsweredBy, AnsweredAfter, RuleAnswered, planRows, runRows, bufferRows, circuitRows, fileRunRows};
+ghost use Rattle.base.specs.SetsHeld.{sets_in};
+ghost use Rattle.circuit.specs.Whole.{rule_answer};
+ghost use Rattle.circuit_needed.specs.Built.{built_quads, built_needs};
+ghost use Rattle.plan.specs.Rows.{plan_answer};
+ghost use Rattle.fused.specs.Answers.{fused_answer, write_answer, written_over};
+ghost use Rattle.run.specs.FusedRun.{fused_results};
+ghost use Rattle.run.specs.Direct.{run_answer, run_results};
+ghost use Rattle.file.specs.Answers.{circuit_answer, part_start, part_length, record_part, circuit_run_answer, circuit_run_results};
+ghost use Rattle.demands.specs.Table.{AnsweredBy, AnsweredAfter, RuleAnswered, plan_rows, run_rows, buffer_rows, circuit_rows, file_run_rows};
 ghost use Rattle.demands.specs.Promises.{RunWritten, FileWritten, AcceptedExactly, FileReadsEarlier, FileGives, FusedAsDirect, OwnAsDirect, OneArray};
 
 use base::Answer;
@@ -19,7 +19,7 @@ use file_reader::Part;
 // Reads a rule: its refusal by rows 1 to 11, or its gates and their cost.
 #[unsafe(no_mangle)]
 pub extern "C" fn linnet_read_rule(rule: &[u8]) -> Answer
-    ensures answer { result ≡ ruleAnswer rule.now }
+    ensures answer { result ≡ rule_answer rule.now }
     ensures table { RuleAnswered rule.now result }
 {
     circuit_build::read_rule(rule)
@@ -28,9 +28,9 @@ pub extern "C" fn linnet_read_rule(rule: &[u8]) -> Answer
 // A direct run of a rule on its inputs: each variable's figure at its end, 0 for a working one, in the first V results. A refusal writes nothing.
 #[unsafe(no_mangle)]
 pub extern "C" fn linnet_run_rule(rule: &[u8], inputs: &[u32], results: &mut [u32]) -> Answer
-    ensures answer { result ≡ runAnswer (ruleAnswer rule.now) rule.now inputs.now (length results.old) }
-    ensures results { results.new ≡ runResults (ruleAnswer rule.now) rule.now inputs.now results.old }
-    ensures table { AnsweredAfter (ruleAnswer rule.now) (runRows rule.now inputs.now (length results.old)) result }
+    ensures answer { result ≡ run_answer (rule_answer rule.now) rule.now inputs.now (length results.old) }
+    ensures results { results.new ≡ run_results (rule_answer rule.now) rule.now inputs.now results.old }
+    ensures table { AnsweredAfter (rule_answer rule.now) (run_rows rule.now inputs.now (length results.old)) result }
     ensures written { result.number ≡ 0 → RunWritten rule.now inputs.now results.old results.new }
 {
     run_direct::run(rule, inputs, results)
@@ -48,11 +48,11 @@ pub struct Shown {
 // Shows the plain circuit of a rule: the answer of reading it, four numbers a gate, and each gate's precondition; zeros after the gates.
 #[unsafe(no_mangle)]
 pub extern "C" fn linnet_show_plain(rule: &[u8]) -> Shown
-    ensures answer { result.answer ≡ ruleAnswer rule.now }
-    ensures rows { result.rows ≡ builtQuads rule.now }
-    ensures needs { setsIn result.needs ≡ builtNeeds rule.now }
+    ensures answer { result.answer ≡ rule_answer rule.now }
+    ensures rows { result.rows ≡ built_quads rule.now }
+    ensures needs { sets_in result.needs ≡ built_needs rule.now }
     ensures table { RuleAnswered rule.now result.answer }
-    ensures once { OneArray (builtNeeds rule.now) }
+    ensures once { OneArray (built_needs rule.now) }
 {
     let mut shown = Shown {
         answer: base_answers::refused(0, 0),
@@ -77,8 +77,8 @@ pub extern "C" fn linnet_show_plain(rule: &[u8]) -> Shown
 // Operation 03: checks a plan for a rule.
 #[unsafe(no_mangle)]
 pub extern "C" fn linnet_check_plan(rule: &[u8], plan: &[u8]) -> Answer
-    ensures answer { result ≡ planAnswer rule.now plan.now }
-    ensures table { AnsweredAfter (ruleAnswer rule.now) (planRows rule.now plan.now) result }
+    ensures answer { result ≡ plan_answer rule.now plan.now }
+    ensures table { AnsweredAfter (rule_answer rule.now) (plan_rows rule.now plan.now) result }
     ensures accepted { AcceptedExactly rule.now plan.now result }
 {
     plan_check::check_plan(rule, plan)
@@ -87,9 +87,9 @@ pub extern "C" fn linnet_check_plan(rule: &[u8], plan: &[u8]) -> Answer
 // Operation 04: writes the fused circuit into the buffer.
 #[unsafe(no_mangle)]
 pub extern "C" fn linnet_write_fused(rule: &[u8], plan: &[u8], out: &mut [u8]) -> Answer
-    ensures answer { result ≡ writeAnswer rule.now plan.now (length out.old) }
-    ensures file { out.new ≡ writtenOver rule.now plan.now out.old }
-    ensures table { AnsweredAfter (planAnswer rule.now plan.now) (bufferRows rule.now plan.now (length out.old)) result }
+    ensures answer { result ≡ write_answer rule.now plan.now (length out.old) }
+    ensures file { out.new ≡ written_over rule.now plan.now out.old }
+    ensures table { AnsweredAfter (plan_answer rule.now plan.now) (buffer_rows rule.now plan.now (length out.old)) result }
     ensures earlier { result.number ≡ 0 → FileReadsEarlier (take result.bytes out.new) }
     ensures figures { result.number ≡ 0 → FileGives rule.now (take result.bytes out.new) }
 {
@@ -104,10 +104,10 @@ pub extern "C" fn linnet_run_fused(
     inputs: &[u32],
     results: &mut [u32],
 ) -> Answer
-    ensures answer { result ≡ runAnswer (fusedAnswer rule.now plan.now) rule.now inputs.now (length results.old) }
-    ensures results { results.new ≡ fusedResults rule.now plan.now inputs.now results.old }
-    ensures table { AnsweredAfter (planAnswer rule.now plan.now)
-        (runRows rule.now inputs.now (length results.old)) result }
+    ensures answer { result ≡ run_answer (fused_answer rule.now plan.now) rule.now inputs.now (length results.old) }
+    ensures results { results.new ≡ fused_results rule.now plan.now inputs.now results.old }
+    ensures table { AnsweredAfter (plan_answer rule.now plan.now)
+        (run_rows rule.now inputs.now (length results.old)) result }
     ensures direct { FusedAsDirect rule.now plan.now inputs.now results.old result results.new }
 {
     run_fused::run(rule, plan, inputs, results)
@@ -116,8 +116,8 @@ pub extern "C" fn linnet_run_fused(
 // Operation 07: reads a circuit file of any house.
 #[unsafe(no_mangle)]
 pub extern "C" fn linnet_read_circuit(file: &[u8]) -> Answer
-    ensures answer { result ≡ circuitAnswer file.now }
-    ensures table { AnsweredBy (circuitRows file.now) 0 result }
+    ensures answer { result ≡ circuit_answer file.now }
+    ensures table { AnsweredBy (circuit_rows file.now) 0 result }
 {
     file_reader::read(file)
 }
@@ -125,9 +125,9 @@ pub extern "C" fn linnet_read_circuit(file: &[u8]) -> Answer
 // Operation 08: where a wire's record lies in the caller's file; C cannot be handed the part itself.
 #[unsafe(no_mangle)]
 pub extern "C" fn linnet_record(file: &[u8], wire: usize) -> Part
-    ensures start { result.start ≡ partStart file.now wire }
-    ensures length { result.length ≡ partLength file.now wire }
-    ensures bytes { take result.length (drop result.start file.now) ≡ recordPart file.now wire }
+    ensures start { result.start ≡ part_start file.now wire }
+    ensures length { result.length ≡ part_length file.now wire }
+    ensures bytes { take result.length (drop result.start file.now) ≡ record_part file.now wire }
 {
     // Here a number of C's becomes a wire's or none: one of more than two bytes is no wire.
     if 65535 < wire {
@@ -142,9 +142,9 @@ pub extern "C" fn linnet_record(file: &[u8], wire: usize) -> Part
 // Operation 09: runs a circuit file on inputs.
 #[unsafe(no_mangle)]
 pub extern "C" fn linnet_run_circuit(file: &[u8], inputs: &[u32], results: &mut [u32]) -> Answer
-    ensures answer { result ≡ circuitRunAnswer file.now inputs.now (length results.old) }
-    ensures results { results.new ≡ circuitRunResults file.now inputs.now results.old }
-    ensures table { AnsweredAfter (circuitAnswer file.now) (fileRunRows file.now inputs.now (length results.old)) result }
+    ensures answer { result ≡ circuit_run_answer file.now inputs.now (length results.old) }
+    ensures results { results.new ≡ circuit_run_results file.now inputs.now results.old }
+    ensures table { AnsweredAfter (circuit_answer file.now) (file_run_rows file.now inputs.now (length results.old)) result }
     ensures written { result.number ≡ 0 → FileWritten file.now inputs.now results.old results.new }
     ensures own { OwnAsDirect file.now inputs.now results.old result results.new }
 {

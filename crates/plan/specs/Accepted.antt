@@ -3,23 +3,23 @@ use Rattle.std.specs.Prelude.{ℕ, ◌≤◌, ◌<◌, ◌≡◌, List, map, tru
 use Rattle.base.specs.Lists.{◌∈◌}
 use Rattle.base.specs.Codes.{costly}
 use Rattle.base.specs.declared.Operation.{Operation}
-use Rattle.circuit.specs.Gates.{Gates, gateAt, operation}
-use Rattle.circuit.specs.PlainCircuit.{gatesOf, gateCount}
-use Rattle.circuit_needed.specs.Needed.{wantedOf, Exclude}
-use Rattle.plan.specs.PlanFile.{mark, gatesCounted, groupsCounted, Plan, groupsIn, EachGroup, Rising, Apart, Ends}
-use Rattle.plan.specs.Limits.{leastPlanBytes, mostPlanBytes}
+use Rattle.circuit.specs.Gates.{Gates, gate_at, operation}
+use Rattle.circuit.specs.PlainCircuit.{gates_of, gate_count}
+use Rattle.circuit_needed.specs.Needed.{wanted_of, Exclude}
+use Rattle.plan.specs.PlanFile.{mark, gates_counted, groups_counted, Plan, groups_in, EachGroup, Rising, Apart, Ends}
+use Rattle.plan.specs.Limits.{least_plan_bytes, most_plan_bytes}
 use Rattle.plan.specs.Groups.{smallest, group_of, Waits, Chain}
 
 -- "A plan is laid out when it has 9 to 1,024 bytes, this mark and version, the plain circuit's gate count, and as many groups as it counts,
 -- ending where the file ends, each of size 2 or more with rising numbers."
 pub record LaidOut (s p : List ℕ) : Type 0 where
-  pub least : leastPlanBytes ≤ length p
-  pub most : length p ≤ mostPlanBytes
+  pub least : least_plan_bytes ≤ length p
+  pub most : length p ≤ most_plan_bytes
   pub marked : take 5 p ≡ mark
-  pub counted : gatesCounted p ≡ gateCount s
-  pub ended : Ends (groupsCounted p) p leastPlanBytes
-  pub joins : EachGroup (λ G. 2 ≤ length G) (groupsIn p)
-  pub rising : EachGroup Rising (groupsIn p)
+  pub counted : gates_counted p ≡ gate_count s
+  pub ended : Ends (groups_counted p) p least_plan_bytes
+  pub joins : EachGroup (λ G. 2 ≤ length G) (groups_in p)
+  pub rising : EachGroup Rising (groups_in p)
 
 -- every gate that the group names exists, of n gates
 abbrev pub Exist : ℕ → List ℕ → Type 0
@@ -31,7 +31,7 @@ GroupsRise Gs = Rising (map smallest Gs)
 
 -- the group's members are one costly operation
 abbrev pub OneCostly : Gates → List ℕ → Type 0
-OneCostly C G = (op : Operation) × (costly op ≡ true) × ((g : ℕ) → g ∈ G → (l : List ℕ) × (gateAt C g ≡ operation op l))
+OneCostly C G = (op : Operation) × (costly op ≡ true) × ((g : ℕ) → g ∈ G → (l : List ℕ) × (gate_at C g ≡ operation op l))
 
 -- no setting of the conditions needs two of the group's members together
 abbrev pub NoTwoNeeded : Gates → List ℕ → List ℕ → Type 0
@@ -45,9 +45,9 @@ NoCircle C wanted group = (p : ℕ) → Chain (Waits C wanted group) p p → ⊥
 -- group one costly operation only, joins no two gates that some setting of the conditions needs together, and leaves no group waiting for itself by a chain
 pub record Acceptable (s p : List ℕ) : Type 0 where
   pub laid_out : LaidOut s p
-  pub exist : EachGroup (Exist (gateCount s)) (groupsIn p)
-  pub once : Apart (groupsIn p)
-  pub in_order : GroupsRise (groupsIn p)
-  pub one-costly : EachGroup (OneCostly (gatesOf s)) (groupsIn p)
-  pub exclude : EachGroup (NoTwoNeeded (gatesOf s) (wantedOf s)) (groupsIn p)
-  pub no-circle : NoCircle (gatesOf s) (wantedOf s) (group_of (groupsIn p))
+  pub exist : EachGroup (Exist (gate_count s)) (groups_in p)
+  pub once : Apart (groups_in p)
+  pub in_order_lem : GroupsRise (groups_in p)
+  pub one_costly : EachGroup (OneCostly (gates_of s)) (groups_in p)
+  pub exclude : EachGroup (NoTwoNeeded (gates_of s) (wanted_of s)) (groups_in p)
+  pub no_circle : NoCircle (gates_of s) (wanted_of s) (group_of (groups_in p))

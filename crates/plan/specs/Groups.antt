@@ -3,8 +3,8 @@ use Rattle.std.specs.Prelude.{ℕ, ◌≤◌, ◌≡◌, List, [], ◌∷◌, �
 use Rattle.base.specs.Lists.{◌∈◌, elem, keep, upto, flat}
 use Rattle.base.specs.Settings.{Setting, flip}
 use Rattle.base.specs.Sets.{rests}
-use Rattle.circuit.specs.Gates.{Gates, gateAt, arguments, conditions}
-use Rattle.circuit.specs.Limits.{mostConditions}
+use Rattle.circuit.specs.Gates.{Gates, gate_at, arguments, conditions}
+use Rattle.circuit.specs.Limits.{most_conditions}
 use Rattle.circuit_needed.specs.Needed.{Needed}
 use Rattle.plan.specs.PlanFile.{Plan}
 
@@ -40,7 +40,7 @@ RestsOn C wanted m c = (c ∈ conditions C) × (σ : Setting) × Needed C wanted
 abbrev pub Waits : Gates → List ℕ → (ℕ → ℕ) → ℕ → ℕ → Type 0
 Waits C wanted group p q =
     (m : ℕ) × (m ∈ members (length C) group p) × (a : ℕ) × (q ≡ group a)
-    × ((a ∈ arguments (gateAt C m)) ⊎ ((2 ≤ length (members (length C) group p)) × RestsOn C wanted m a))
+    × ((a ∈ arguments (gate_at C m)) ⊎ ((2 ≤ length (members (length C) group p)) × RestsOn C wanted m a))
 
 -- a chain of one or more steps of a relation, its transitive closure; one that returns to its start is a circle, a cycle
 pub data Chain (R : ℕ → ℕ → Type 0) : ℕ → ℕ → Type 0 where
@@ -48,12 +48,12 @@ pub data Chain (R : ℕ → ℕ → Type 0) : ℕ → ℕ → Type 0 where
   more : {p q r : ℕ} → R p q → Chain R q r → Chain R p r
 
 -- the waits as lists, from the preconditions held as numbers: the condition gates that gate m rests on, rising
-unfoldable pub restsOf : Gates → List ℕ → ℕ → List ℕ
-restsOf C sets m = map (λ t. get_or (conditions C) t 0) (rests mostConditions (get_or sets m 0))
+unfoldable pub rests_of : Gates → List ℕ → ℕ → List ℕ
+rests_of C sets m = map (λ t. get_or (conditions C) t 0) (rests most_conditions (get_or sets m 0))
 
 -- what a group of these members reads on account of m
 abbrev pub reads_of : Gates → List ℕ → List ℕ → ℕ → List ℕ
-reads_of C sets ms m = arguments (gateAt C m) ++ cond (leb 2 (length ms)) (restsOf C sets m) []
+reads_of C sets ms m = arguments (gate_at C m) ++ cond (leb 2 (length ms)) (rests_of C sets m) []
 
 -- the groups that group p waits for
 unfoldable pub waits_for : Gates → List ℕ → (ℕ → ℕ) → ℕ → List ℕ

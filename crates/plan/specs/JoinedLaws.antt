@@ -6,28 +6,28 @@ use Rattle.base.specs.Lists.{◌∈◌, elem, upto}
 use Rattle.base.specs.MemberLaws.{elem→∈, ∈→elem}
 use Rattle.base.specs.TestLaws.{split, same?}
 use Rattle.base.specs.Settings.{Once}
-use Rattle.base.specs.SettingListLaws.{from-once, keep-once}
-use Rattle.circuit.specs.PlainCircuit.{gatesOf, gateCount}
-use Rattle.circuit_needed.specs.Needed.{wantedOf}
-use Rattle.plan.specs.PlanFile.{Plan, groupsIn, EachGroup, Listed, Apart}
+use Rattle.base.specs.SettingListLaws.{from_once, keep_once}
+use Rattle.circuit.specs.PlainCircuit.{gates_of, gate_count}
+use Rattle.circuit_needed.specs.Needed.{wanted_of}
+use Rattle.plan.specs.PlanFile.{Plan, groups_in, EachGroup, Listed, Apart}
 use Rattle.plan.specs.Groups.{smallest, group_of, members}
 use Rattle.plan.specs.Accepted.{OneCostly, NoTwoNeeded, Acceptable}
-use Rattle.plan.specs.GroupLaws.{smallest-in, groupOf-kind, of-member}
+use Rattle.plan.specs.GroupLaws.{smallest_in, group_of_kind, of_member}
 
 -- the name of a listed group is the name of no gate outside it
 pub foreign : (G : List ℕ) (Gs : Plan) → 2 ≤ length G → ((g : ℕ) → g ∈ G → Listed Gs g → ⊥) → EachGroup (λ H. 2 ≤ length H) Gs → (b : ℕ) → elem b G ≡ false
     → group_of Gs b ≡ smallest G → ⊥
-foreign G Gs s d o b t e = go (groupOf-kind Gs o b)
+foreign G Gs s d o b t e = go (group_of_kind Gs o b)
   where
     go : (group_of Gs b ≡ b) ⊎ Listed Gs (group_of Gs b) → ⊥
-    go (inl q) = true≢false (sym (∈→elem b G (rw (sym e ∙ q) at (smallest-in G s))) ∙ t)
-    go (inr h) = d (smallest G) (smallest-in G s) (rw e at h)
+    go (inl q) = true≢false (sym (∈→elem b G (rw (sym e ∙ q) at (smallest_in G s))) ∙ t)
+    go (inr h) = d (smallest G) (smallest_in G s) (rw e at h)
 
 -- the gates of group q lie in one listed group, or are q alone
-pub group-lies : (P : List ℕ → Type 0) (Gs : Plan) → EachGroup (λ G. 2 ≤ length G) Gs → Apart Gs → EachGroup P Gs → (q : ℕ)
+pub group_lies : (P : List ℕ → Type 0) (Gs : Plan) → EachGroup (λ G. 2 ≤ length G) Gs → Apart Gs → EachGroup P Gs → (q : ℕ)
     → ((g : ℕ) → group_of Gs g ≡ q → g ≡ q) ⊎ ((G : List ℕ) × P G × ((g : ℕ) → group_of Gs g ≡ q → g ∈ G))
-group-lies P [] s a e q = inl (λ g h. h)
-group-lies P (G ∷ Gs) (s, u) (d, a) (e, f) q = go (same? (smallest G) q) (group-lies P Gs u a f q)
+group_lies P [] s a e q = inl (λ g h. h)
+group_lies P (G ∷ Gs) (s, u) (d, a) (e, f) q = go (same? (smallest G) q) (group_lies P Gs u a f q)
   where
     here : smallest G ≡ q → (g : ℕ) → group_of (G ∷ Gs) g ≡ q → g ∈ G
     here y g h = split (elem g G) (elem→∈ g G) (λ t. absurd (foreign G Gs s d u g t (rw t at h ∙ sym y)))
@@ -43,35 +43,35 @@ group-lies P (G ∷ Gs) (s, u) (d, a) (e, f) q = go (same? (smallest G) q) (grou
     go (inr n) (inr (H, x, r)) = inr (H, x, λ g h. r g (later n g h))
 
 -- two distinct gates are not both q
-two-apart : (q : ℕ) (l : List ℕ) → Once l → 2 ≤ length l → ((g : ℕ) → g ∈ l → g ≡ q) → ⊥
-two-apart q [] o h f = omega arith
-two-apart q (m ∷ []) o h f = omega arith
-two-apart q (m ∷ k ∷ l) (n, o) h f = n (inl (f m (inl refl) ∙ sym (f k (inr (inl refl)))))
+two_apart : (q : ℕ) (l : List ℕ) → Once l → 2 ≤ length l → ((g : ℕ) → g ∈ l → g ≡ q) → ⊥
+two_apart q [] o h f = omega arith
+two_apart q (m ∷ []) o h f = omega arith
+two_apart q (m ∷ k ∷ l) (n, o) h f = n (inl (f m (inl refl) ∙ sym (f k (inr (inl refl)))))
 
-module _ (s p : List ℕ) (a : Acceptable s p) (q : ℕ) (many : 2 ≤ length (members (gateCount s) (group_of (groupsIn p)) q)) where
+module _ (s p : List ℕ) (a : Acceptable s p) (q : ℕ) (many : 2 ≤ length (members (gate_count s) (group_of (groups_in p)) q)) where
   abbrev ms : List ℕ
-  ms = members (gateCount s) (group_of (groupsIn p)) q
+  ms = members (gate_count s) (group_of (groups_in p)) q
 
-  within : (P : List ℕ → Type 0) → EachGroup P (groupsIn p) → (G : List ℕ) × P G × ((g : ℕ) → g ∈ ms → g ∈ G)
-  within P e = go (group-lies P (groupsIn p) a.laid_out.joins a.once e q)
+  within : (P : List ℕ → Type 0) → EachGroup P (groups_in p) → (G : List ℕ) × P G × ((g : ℕ) → g ∈ ms → g ∈ G)
+  within P e = go (group_lies P (groups_in p) a.laid_out.joins a.once e q)
     where
-      names : (g : ℕ) → g ∈ ms → group_of (groupsIn p) g ≡ q
-      names g m = (of-member (gateCount s) (group_of (groupsIn p)) g q m).1
+      names : (g : ℕ) → g ∈ ms → group_of (groups_in p) g ≡ q
+      names g m = (of_member (gate_count s) (group_of (groups_in p)) g q m).1
 
-      go : ((g : ℕ) → group_of (groupsIn p) g ≡ q → g ≡ q) ⊎ ((G : List ℕ) × P G × ((g : ℕ) → group_of (groupsIn p) g ≡ q → g ∈ G))
+      go : ((g : ℕ) → group_of (groups_in p) g ≡ q → g ≡ q) ⊎ ((G : List ℕ) × P G × ((g : ℕ) → group_of (groups_in p) g ≡ q → g ∈ G))
           → (G : List ℕ) × P G × ((g : ℕ) → g ∈ ms → g ∈ G)
       go (inl r) =
-          absurd (two-apart q ms (keep-once (λ g. eqb (group_of (groupsIn p) g) q) (upto (gateCount s)) (from-once 0 (gateCount s))) many (λ g m. r g (names g m)))
+          absurd (two_apart q ms (keep_once (λ g. eqb (group_of (groups_in p) g) q) (upto (gate_count s)) (from_once 0 (gate_count s))) many (λ g m. r g (names g m)))
       go (inr (G, x, r)) = (G, x, λ g m. r g (names g m))
 
   -- they are one costly operation
-  pub members-costly : OneCostly (gatesOf s) (members (gateCount s) (group_of (groupsIn p)) q)
-  members-costly =
-      let (G, (op, c, f), r) = within (OneCostly (gatesOf s)) a.one-costly in
+  pub members_costly : OneCostly (gates_of s) (members (gate_count s) (group_of (groups_in p)) q)
+  members_costly =
+      let (G, (op, c, f), r) = within (OneCostly (gates_of s)) a.one_costly in
       (op, c, λ g m. f g (r g m))
 
   -- and no setting needs two of them
-  pub members-exclude : NoTwoNeeded (gatesOf s) (wantedOf s) (members (gateCount s) (group_of (groupsIn p)) q)
-  members-exclude g h m k =
-      let w = within (NoTwoNeeded (gatesOf s) (wantedOf s)) a.exclude in
+  pub members_exclude : NoTwoNeeded (gates_of s) (wanted_of s) (members (gate_count s) (group_of (groups_in p)) q)
+  members_exclude g h m k =
+      let w = within (NoTwoNeeded (gates_of s) (wanted_of s)) a.exclude in
       w.1 g h (w.2 g m) (w.2 h k)

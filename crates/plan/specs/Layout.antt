@@ -10,10 +10,10 @@ Small [] = Unit {0}
 Small (g ∷ G) = (g < 256 ^ 2) × Small G
 
 -- groups: one byte size, then the gate numbers, two bytes each
-abbrev pub groupsBytes : Plan → List ℕ
-groupsBytes [] = []
-groupsBytes (G ∷ Gs) = length G ∷ (flat (bytes_of 2) G ++ groupsBytes Gs)
+abbrev pub groups_bytes : Plan → List ℕ
+groups_bytes [] = []
+groups_bytes (G ∷ Gs) = length G ∷ (flat (bytes_of 2) G ++ groups_bytes Gs)
 
 -- the plan of these groups for a circuit of so many gates
-abbrev pub planBytes : ℕ → Plan → List ℕ
-planBytes gates Gs = mark ++ (bytes_of 2 gates ++ (bytes_of 2 (length Gs) ++ groupsBytes Gs))
+abbrev pub plan_bytes : ℕ → Plan → List ℕ
+plan_bytes gates Gs = mark ++ (bytes_of 2 gates ++ (bytes_of 2 (length Gs) ++ groups_bytes Gs))

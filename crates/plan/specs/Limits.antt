@@ -2,8 +2,8 @@
 use Rattle.std.specs.Prelude.{ℕ}
 
 -- a plan has 9 to 1,024 bytes
-abbrev pub leastPlanBytes : ℕ
-leastPlanBytes = 9
+abbrev pub least_plan_bytes : ℕ
+least_plan_bytes = 9
 
-abbrev pub mostPlanBytes : ℕ
-mostPlanBytes = 1024
+abbrev pub most_plan_bytes : ℕ
+most_plan_bytes = 1024

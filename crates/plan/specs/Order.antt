@@ -7,25 +7,25 @@ use Rattle.circuit.specs.Gates.{Gates}
 use Rattle.plan.specs.Groups.{groups, waits_for}
 
 -- every number of l stands in done
-abbrev pub allIn : List ℕ → List ℕ → Bool
-allIn [] done = true
-allIn (q ∷ l) done = cond (elem q done) (allIn l done) false
+abbrev pub all_in : List ℕ → List ℕ → Bool
+all_in [] done = true
+all_in (q ∷ l) done = cond (elem q done) (all_in l done) false
 
 -- over any table of waits; done: the groups written, the last first
 module _ (waits : ℕ → List ℕ) where
   -- not yet written and waiting for no unwritten group: in-degree 0 of what is left
   abbrev pub ready : List ℕ → ℕ → Bool
-  ready done p = cond (elem p done) false (allIn (waits p) done)
+  ready done p = cond (elem p done) false (all_in (waits p) done)
 
   -- the first such group of the list; none: each of them is written or waits
-  abbrev pub firstReady : List ℕ → List ℕ → Option ℕ
-  firstReady done [] = none
-  firstReady done (p ∷ l) = cond (ready done p) (some p) (firstReady done l)
+  abbrev pub first_ready : List ℕ → List ℕ → Option ℕ
+  first_ready done [] = none
+  first_ready done (p ∷ l) = cond (ready done p) (some p) (first_ready done l)
 
   -- again and again the first ready group of gs, at most n times; none is left ready when it stops sooner
   abbrev pub schedule : List ℕ → ℕ → List ℕ → List ℕ
   schedule gs zero done = done
-  schedule gs (suc n) done = elim (firstReady done gs) [ none ↦ done | some p ↦ schedule gs n (p ∷ done) ]
+  schedule gs (suc n) done = elim (first_ready done gs) [ none ↦ done | some p ↦ schedule gs n (p ∷ done) ]
 
   -- groups written, the last first: each waits only for groups written before it
   abbrev pub Ordered : List ℕ → Type 0

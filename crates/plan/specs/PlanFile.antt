@@ -2,39 +2,39 @@
 use Rattle.std.specs.Prelude.{ℕ, zero, suc, ◌+◌, ◌*◌, ◌≤◌, ◌<◌, ◌≡◌, List, [], ◌∷◌, Bool, ◌&&◌, eqb, leb, length, get_or, ◌⊎◌}
 use Rattle.base.specs.Lists.{◌∈◌}
 use Rattle.base.specs.Numbers.{number_at}
-use Rattle.plan.specs.Limits.{leastPlanBytes}
+use Rattle.plan.specs.Limits.{least_plan_bytes}
 
 -- "PLN" and the version
 abbrev pub mark : List ℕ
 mark = 0x50 ∷ 0x4C ∷ 0x4E ∷ 0x00 ∷ 0x01 ∷ []
 
 -- the gate count and the group count, as the file gives them
-abbrev pub gatesCounted : List ℕ → ℕ
-gatesCounted p = number_at 2 p 5
+abbrev pub gates_counted : List ℕ → ℕ
+gates_counted p = number_at 2 p 5
 
-abbrev pub groupsCounted : List ℕ → ℕ
-groupsCounted p = number_at 2 p 7
+abbrev pub groups_counted : List ℕ → ℕ
+groups_counted p = number_at 2 p 7
 
 -- a plan, taken apart: its groups in file order, each a list of gate numbers
 abbrev pub Plan : Type 0
 Plan = List (List ℕ)
 
 -- n two-byte gate numbers from the place at on
-abbrev pub numbersAt : ℕ → List ℕ → ℕ → List ℕ
-numbersAt zero p at = []
-numbersAt (suc n) p at = number_at 2 p at ∷ numbersAt n p (at + 2)
+abbrev pub numbers_at : ℕ → List ℕ → ℕ → List ℕ
+numbers_at zero p at = []
+numbers_at (suc n) p at = number_at 2 p at ∷ numbers_at n p (at + 2)
 
 -- the group that begins at a place: one byte size, then its gate numbers; and the place after it
-abbrev pub groupAt : List ℕ → ℕ → List ℕ
-groupAt p at = numbersAt (get_or p at 0) p (at + 1)
+abbrev pub group_at : List ℕ → ℕ → List ℕ
+group_at p at = numbers_at (get_or p at 0) p (at + 1)
 
 abbrev pub after : List ℕ → ℕ → ℕ
 after p at = at + 1 + 2 * get_or p at 0
 
 -- n groups from the place at on
-abbrev pub groupsFrom : ℕ → List ℕ → ℕ → Plan
-groupsFrom zero p at = []
-groupsFrom (suc n) p at = groupAt p at ∷ groupsFrom n p (after p at)
+abbrev pub groups_from : ℕ → List ℕ → ℕ → Plan
+groups_from zero p at = []
+groups_from (suc n) p at = group_at p at ∷ groups_from n p (after p at)
 
 -- n groups from the place at on lie in the file and end where it ends
 abbrev pub Ends : ℕ → List ℕ → ℕ → Type 0
@@ -47,8 +47,8 @@ ends zero p at = eqb at (length p)
 ends (suc n) p at = leb (after p at) (length p) && ends n p (after p at)
 
 -- the groups of a plan: as many as it counts, from byte 9 on
-unfoldable pub groupsIn : List ℕ → Plan
-groupsIn p = groupsFrom (groupsCounted p) p leastPlanBytes
+unfoldable pub groups_in : List ℕ → Plan
+groups_in p = groups_from (groups_counted p) p least_plan_bytes
 
 -- every group of a plan is so
 abbrev pub EachGroup : (List ℕ → Type 0) → Plan → Type 0

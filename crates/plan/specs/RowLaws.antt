@@ -3,27 +3,27 @@ use Rattle.std.specs.Prelude.{◌≡◌, refl, Bool, true, false, not, List, [],
 use Rattle.std.proofs.lemmas.Bool.{false≢true}
 use Rattle.std.proofs.Common.{inl, inr, eqb-true, eq-eqb, leb-true, le-leb, ltb-true, lt-ltb}
 use Rattle.base.specs.Lists.{elem, every}
-use Rattle.base.specs.MemberLaws.{elem→∈, ∈→elem, every-right, inside-right}
+use Rattle.base.specs.MemberLaws.{elem→∈, ∈→elem, every_right, inside_right}
 use Rattle.base.specs.TestLaws.{split, both, and}
 use Rattle.plan.specs.PlanFile.{Plan, after, EachGroup, Above, Rising, Listed, Apart, Ends, ends}
-use Rattle.plan.specs.Rows.{everyGroup, above, rises, listed, apart}
+use Rattle.plan.specs.Rows.{every_group, above, rises, listed, apart}
 use Rattle.plan.specs.Accepted.{Exist}
 
 -- of all groups
-pub each_right : (t : List ℕ → Bool) (P : List ℕ → Type 0) → ((G : List ℕ) → (t G ≡ true) ↔ P G) → (Gs : Plan) → (everyGroup t Gs ≡ true) ↔ EachGroup P Gs
+pub each_right : (t : List ℕ → Bool) (P : List ℕ → Type 0) → ((G : List ℕ) → (t G ≡ true) ↔ P G) → (Gs : Plan) → (every_group t Gs ≡ true) ↔ EachGroup P Gs
 each_right t P f Gs = (to Gs, back Gs)
   where
-    to : (Gs : Plan) → everyGroup t Gs ≡ true → EachGroup P Gs
+    to : (Gs : Plan) → every_group t Gs ≡ true → EachGroup P Gs
     to [] h = tt
     to (G ∷ Gs) h = let r = both (t G) _ h in ((f G).0 r.0, to Gs r.1)
 
-    back : (Gs : Plan) → EachGroup P Gs → everyGroup t Gs ≡ true
+    back : (Gs : Plan) → EachGroup P Gs → every_group t Gs ≡ true
     back [] h = refl
     back (G ∷ Gs) (p, h) = and ((f G).1 p) (back Gs h)
 
 -- 23
-pub ends-right : (n : ℕ) (p : List ℕ) (at : ℕ) → (ends n p at ≡ true) ↔ Ends n p at
-ends-right n p at = (to n at, back n at)
+pub ends_right : (n : ℕ) (p : List ℕ) (at : ℕ) → (ends n p at ≡ true) ↔ Ends n p at
+ends_right n p at = (to n at, back n at)
   where
     to : (n at : ℕ) → ends n p at ≡ true → Ends n p at
     to zero at h = eqb-true at (length p) h
@@ -34,20 +34,20 @@ ends-right n p at = (to n at, back n at)
     back (suc n) at (l, h) = and (le-leb (after p at) (length p) l) (back n (after p at) h)
 
 -- 24
-pub joins-right : (G : List ℕ) → (leb 2 (length G) ≡ true) ↔ (2 ≤ length G)
-joins-right G = (leb-true 2 (length G), le-leb 2 (length G))
+pub joins_right : (G : List ℕ) → (leb 2 (length G) ≡ true) ↔ (2 ≤ length G)
+joins_right G = (leb-true 2 (length G), le-leb 2 (length G))
 
 -- 25 and 32
-pub rises-right : (G : List ℕ) → (rises G ≡ true) ↔ Rising G
-rises-right G = (to G, back G)
+pub rises_right : (G : List ℕ) → (rises G ≡ true) ↔ Rising G
+rises_right G = (to G, back G)
   where
-    to-above : (m : ℕ) (l : List ℕ) → above m l ≡ true → Above m l
-    to-above m [] h = tt
-    to-above m (k ∷ l) h = ltb-true m k h
+    to_above : (m : ℕ) (l : List ℕ) → above m l ≡ true → Above m l
+    to_above m [] h = tt
+    to_above m (k ∷ l) h = ltb-true m k h
 
     to : (G : List ℕ) → rises G ≡ true → Rising G
     to [] h = tt
-    to (m ∷ l) h = let r = both (above m l) _ h in (to-above m l r.0, to l r.1)
+    to (m ∷ l) h = let r = both (above m l) _ h in (to_above m l r.0, to l r.1)
 
     back_above : (m : ℕ) (l : List ℕ) → Above m l → above m l ≡ true
     back_above m [] h = refl
@@ -57,12 +57,12 @@ rises-right G = (to G, back G)
     back [] h = refl
     back (m ∷ l) (a, h) = and (back_above m l a) (back l h)
 
-pub exist-right : (n : ℕ) (G : List ℕ) → (every (λ g. ltb g n) G ≡ true) ↔ Exist n G
-exist-right = inside-right
+pub exist_right : (n : ℕ) (G : List ℕ) → (every (λ g. ltb g n) G ≡ true) ↔ Exist n G
+exist_right = inside_right
 
 -- 26
-listed-right : (Gs : Plan) (g : ℕ) → (listed Gs g ≡ true) ↔ Listed Gs g
-listed-right Gs g = (to Gs, back Gs)
+listed_right : (Gs : Plan) (g : ℕ) → (listed Gs g ≡ true) ↔ Listed Gs g
+listed_right Gs g = (to Gs, back Gs)
   where
     to : (Gs : Plan) → listed Gs g ≡ true → Listed Gs g
     to [] h = false≢true h
@@ -73,8 +73,8 @@ listed-right Gs g = (to Gs, back Gs)
     back (G ∷ Gs) (inl m) = rw (∈→elem g G m)
     back (G ∷ Gs) (inr h) = split (elem g G) (λ t. rw t) (λ t. rw t (back Gs h))
 
-pub apart-right : (Gs : Plan) → (apart Gs ≡ true) ↔ Apart Gs
-apart-right Gs = (to Gs, back Gs)
+pub apart_right : (Gs : Plan) → (apart Gs ≡ true) ↔ Apart Gs
+apart_right Gs = (to Gs, back Gs)
   where
     no : (b : Bool) → not b ≡ true → b ≡ true → ⊥
     no true h e = false≢true h
@@ -88,8 +88,8 @@ apart-right Gs = (to Gs, back Gs)
     to [] h = tt
     to (G ∷ Gs) h =
         let r = both (every (λ g. not (listed Gs g)) G) _ h in
-        (λ g m l. no (listed Gs g) ((every-right (λ k. not (listed Gs k)) G).0 r.0 g m) ((listed-right Gs g).1 l), to Gs r.1)
+        (λ g m l. no (listed Gs g) ((every_right (λ k. not (listed Gs k)) G).0 r.0 g m) ((listed_right Gs g).1 l), to Gs r.1)
 
     back : (Gs : Plan) → Apart Gs → apart Gs ≡ true
     back [] h = refl
-    back (G ∷ Gs) (d, h) = and ((every-right (λ k. not (listed Gs k)) G).1 (λ g m. yes (listed Gs g) (λ t. d g m ((listed-right Gs g).0 t)))) (back Gs h)
+    back (G ∷ Gs) (d, h) = and ((every_right (λ k. not (listed Gs k)) G).1 (λ g m. yes (listed Gs g) (λ t. d g m ((listed_right Gs g).0 t)))) (back Gs h)

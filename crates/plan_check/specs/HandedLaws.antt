@@ -7,90 +7,90 @@ use Rattle.base.specs.TestLaws.{same?}
 use Rattle.base.specs.Answers.{refusal}
 use Rattle.base.specs.declared.Answer.{Answer}
 use Rattle.circuit.specs.Gates.{conditions}
-use Rattle.circuit.specs.Limits.{mostGates}
+use Rattle.circuit.specs.Limits.{most_gates}
 use Rattle.base.specs.Buffers.{padded}
-use Rattle.circuit_needed.specs.Built.{builtQuads, builtNeeds, builtOutputs, builtConditions}
-use Rattle.plan.specs.PlanFile.{groupsIn, Apart}
+use Rattle.circuit_needed.specs.Built.{built_quads, built_needs, built_outputs, built_conditions}
+use Rattle.plan.specs.PlanFile.{groups_in, Apart}
 use Rattle.plan.specs.Groups.{group_of, Named, groups, members}
 use Rattle.plan.specs.Order.{order}
-use Rattle.plan.specs.Rows.{layoutRows, firstFailing, planAnswer}
-use Rattle.plan.specs.RowLaws.{apart-right}
-use Rattle.plan.specs.FailingLaws.{none-fails}
-use Rattle.plan.specs.GroupLaws.{groupOf-named}
-use Rattle.plan.specs.ListedLaws.{unlisted-name}
+use Rattle.plan.specs.Rows.{layout_rows, first_failing, plan_answer}
+use Rattle.plan.specs.RowLaws.{apart_right}
+use Rattle.plan.specs.FailingLaws.{none_fails}
+use Rattle.plan.specs.GroupLaws.{group_of_named}
+use Rattle.plan.specs.ListedLaws.{unlisted_name}
 use Rattle.plan.specs.Places.{place_of}
-use Rattle.plan.specs.PlaceLaws.{unplaced, place-alone, place-members, place-name, place-two}
-use Rattle.plan.specs.SameLaws.{members-same}
+use Rattle.plan.specs.PlaceLaws.{unplaced, place_alone, place_members, place_name, place_two}
+use Rattle.plan.specs.SameLaws.{members_same}
 use Rattle.plan_groups.specs.Walks.{Readable}
-use Rattle.plan_groups.specs.Tables.{groupTable, placeTable}
-use Rattle.plan_groups.specs.TableLaws.{group_at, place_at}
-use Rattle.plan_groups.specs.RowLaws.{layout-readable}
-use Rattle.plan_check.specs.CheckedLaws.{refused-lists}
+use Rattle.plan_groups.specs.Tables.{group_table, place_table}
+use Rattle.plan_groups.specs.TableLaws.{group_at_lem, place_at}
+use Rattle.plan_groups.specs.RowLaws.{layout_readable}
+use Rattle.plan_check.specs.CheckedLaws.{refused_lists}
 use Rattle.plan_check.specs.Handed.{Handed}
-use Rattle.plan_check.specs.Checked.{checkedGroups, checkedOrder, checkedPlaces}
+use Rattle.plan_check.specs.Checked.{checked_groups, checked_order, checked_places}
 
 -- a refused plan hands up the circuit, and no groups
 module _ (s p quads needs outputs conds : List ℕ)
-    (b : (quads ≡ builtQuads s) × ((needs ≡ builtNeeds s) × ((outputs ≡ builtOutputs s) × (conds ≡ builtConditions s)))) (group places order : List ℕ)
+    (b : (quads ≡ built_quads s) × ((needs ≡ built_needs s) × ((outputs ≡ built_outputs s) × (conds ≡ built_conditions s)))) (group places order : List ℕ)
     (clear : (group ≡ replicate 256 0) × ((places ≡ replicate 256 0) × (order ≡ replicate 256 0))) (groups : ℕ) (zero : groups ≡ 0) where
-  pub refused-handed : (a : Answer) → a ≡ planAnswer s p → (a.number ≡ 0 → ⊥)
-      → (a ≡ planAnswer s p) × Handed s p quads needs outputs conds group places order groups
-  unfolding checkedGroups checkedOrder checkedPlaces
-  refused-handed a e h =
-      let n : (planAnswer s p).number ≡ 0 → ⊥ = λ z. h (ap (λ (b : Answer). b.number) e ∙ z) in
-      let none = refused-lists s p n in (
+  pub refused_handed : (a : Answer) → a ≡ plan_answer s p → (a.number ≡ 0 → ⊥)
+      → (a ≡ plan_answer s p) × Handed s p quads needs outputs conds group places order groups
+  unfolding checked_groups checked_order checked_places
+  refused_handed a e h =
+      let n : (plan_answer s p).number ≡ 0 → ⊥ = λ z. h (ap (λ (b : Answer). b.number) e ∙ z) in
+      let none = refused_lists s p n in (
         e,
         record {
-          quads-are = b.0;
-          needs-are = b.1.0;
-          outputs-are = b.1.1.0;
-          conditions-are = b.1.1.1;
-          group-is = clear.0 ∙ ap (padded mostGates) (sym (none _));
-          places-are = clear.1.0 ∙ ap (padded mostGates) (sym (none _));
-          order_is = clear.1.1 ∙ ap (padded mostGates) (sym (none _));
-          groups-are = zero ∙ ap length (sym (none _));
+          quads_are = b.0;
+          needs_are = b.1.0;
+          outputs_are = b.1.1.0;
+          conditions_are = b.1.1.1;
+          group_is = clear.0 ∙ ap (padded most_gates) (sym (none _));
+          places_are = clear.1.0 ∙ ap (padded most_gates) (sym (none _));
+          order_is = clear.1.1 ∙ ap (padded most_gates) (sym (none _));
+          groups_are = zero ∙ ap length (sym (none _));
         },
       )
 
   -- so does one that a row refuses
-  pub row-handed : (n : ℕ) → refusal n 0 ≡ planAnswer s p → (n ≡ 0 → ⊥) → (a : Answer) → a ≡ refusal n 0
-      → (a ≡ planAnswer s p) × Handed s p quads needs outputs conds group places order groups
-  row-handed n e h a q = refused-handed a (q ∙ e) (λ z. h (ap (λ (b : Answer). b.number) (sym q) ∙ z))
+  pub row_handed : (n : ℕ) → refusal n 0 ≡ plan_answer s p → (n ≡ 0 → ⊥) → (a : Answer) → a ≡ refusal n 0
+      → (a ≡ plan_answer s p) × Handed s p quads needs outputs conds group places order groups
+  row_handed n e h a q = refused_handed a (q ∙ e) (λ z. h (ap (λ (b : Answer). b.number) (sym q) ∙ z))
 
 -- the tables of a plan that is laid out, of n gates
-module _ (n : ℕ) (p : List ℕ) (room : n ≤ mostGates) (none : firstFailing (layoutRows n p) ≡ 0) where
+module _ (n : ℕ) (p : List ℕ) (room : n ≤ most_gates) (none : first_failing (layout_rows n p) ≡ 0) where
   readable : Readable n p
-  readable = layout-readable n p room none
+  readable = layout_readable n p room none
 
-  once : Apart (groupsIn p)
-  once = (apart-right (groupsIn p)).0 ((none-fails (layoutRows n p) refl).0 none).1.1.1.1.1.1.0
+  once : Apart (groups_in p)
+  once = (apart_right (groups_in p)).0 ((none_fails (layout_rows n p) refl).0 none).1.1.1.1.1.1.0
 
-  named : Named (group_of (groupsIn p))
-  named = groupOf-named (groupsIn p) readable.joins readable.rising once
+  named : Named (group_of (groups_in p))
+  named = group_of_named (groups_in p) readable.joins readable.rising once
 
   abbrev group : ℕ → ℕ
-  group g = get_or (groupTable n (groupsIn p)) g 0
+  group g = get_or (group_table n (groups_in p)) g 0
 
-  pub table-named : (x : ℕ) → x < n → (group x ≤ x) × (group (group x) ≡ group x)
-  table-named x l =
-      let e = group_at n p x l in
-      let r : (group_of (groupsIn p) x ≤ x) × (group_of (groupsIn p) (group_of (groupsIn p) x) ≡ group_of (groupsIn p) x) = named x in
-      (rw e r.0, rw e (group_at n p (group_of (groupsIn p) x) (omega (arith, r.0)) ∙ r.1))
+  pub table_named : (x : ℕ) → x < n → (group x ≤ x) × (group (group x) ≡ group x)
+  table_named x l =
+      let e = group_at_lem n p x l in
+      let r : (group_of (groups_in p) x ≤ x) × (group_of (groups_in p) (group_of (groups_in p) x) ≡ group_of (groups_in p) x) = named x in
+      (rw e r.0, rw e (group_at_lem n p (group_of (groups_in p) x) (omega (arith, r.0)) ∙ r.1))
 
   -- a gate has a place in the plan exactly when its group has two or more members
-  pub table-many : (m : ℕ) → m < n → leb 2 (length (members n group (group m))) ≡ not (eqb (get_or (placeTable n p) m 0) 0)
-  table-many m l = go (same? (place_of p m) 0)
+  pub table_many : (m : ℕ) → m < n → leb 2 (length (members n group (group m))) ≡ not (eqb (get_or (place_table n p) m 0) 0)
+  table_many m l = go (same? (place_of p m) 0)
     where
-      as-table : members n group (group m) ≡ members n (group_of (groupsIn p)) (group_of (groupsIn p) m)
-      as-table = members-same n group (group_of (groupsIn p)) (λ x k. group_at n p x k) (group m) ∙ ap (members n (group_of (groupsIn p))) (group_at n p m l)
+      as_table : members n group (group m) ≡ members n (group_of (groups_in p)) (group_of (groups_in p) m)
+      as_table = members_same n group (group_of (groups_in p)) (λ x k. group_at_lem n p x k) (group m) ∙ ap (members n (group_of (groups_in p))) (group_at_lem n p m l)
 
-      place : get_or (placeTable n p) m 0 ≡ place_of p m
+      place : get_or (place_table n p) m 0 ≡ place_of p m
       place = place_at n p m l
 
-      go : (place_of p m ≡ 0) ⊎ (place_of p m ≡ 0 → ⊥) → leb 2 (length (members n group (group m))) ≡ not (eqb (get_or (placeTable n p) m 0) 0)
+      go : (place_of p m ≡ 0) ⊎ (place_of p m ≡ 0 → ⊥) → leb 2 (length (members n group (group m))) ≡ not (eqb (get_or (place_table n p) m 0) 0)
       go (inl z) =
-          rw (as-table, unlisted-name (groupsIn p) m (unplaced p m z), place-alone n p readable.joins readable.rising once m l z, place, eq-eqb (place_of p m) 0 z)
+          rw (as_table, unlisted_name (groups_in p) m (unplaced p m z), place_alone n p readable.joins readable.rising once m l z, place, eq-eqb (place_of p m) 0 z)
       go (inr z) =
-          let e = place-name n p readable.joins readable.rising once m readable.ended z in
-          let f = place-members n p readable.joins readable.rising once m readable.exist readable.ended z in
-          rw (as-table, e, f, place, le-leb _ _ (place-two n p readable.joins readable.rising once m readable.ended z), ne_eqb (place_of p m) 0 z)
+          let e = place_name n p readable.joins readable.rising once m readable.ended z in
+          let f = place_members n p readable.joins readable.rising once m readable.exist readable.ended z in
+          rw (as_table, e, f, place, le-leb _ _ (place_two n p readable.joins readable.rising once m readable.ended z), ne_eqb (place_of p m) 0 z)

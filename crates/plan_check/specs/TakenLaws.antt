@@ -9,136 +9,136 @@ use Rattle.base.specs.Buffers.{over, padded}
 use Rattle.base.specs.Answers.{refusal}
 use Rattle.base.specs.declared.Answer.{Answer}
 use Rattle.circuit.specs.Gates.{Gates, Earlier, conditions}
-use Rattle.circuit.specs.Limits.{mostGates}
-use Rattle.circuit.specs.PlainCircuit.{gatesOf}
-use Rattle.circuit_needed.specs.Held.{gatesIn}
-use Rattle.circuit_needed.specs.Pass.{rulePreconditions}
+use Rattle.circuit.specs.Limits.{most_gates}
+use Rattle.circuit.specs.PlainCircuit.{gates_of}
+use Rattle.circuit_needed.specs.Held.{gates_in}
+use Rattle.circuit_needed.specs.Pass.{rule_preconditions}
 use Rattle.circuit_build.specs.BuiltLaws.{over_zeros}
-use Rattle.circuit_build.specs.BuiltParts.{built-earlier, built-condition}
-use Rattle.plan.specs.PlanFile.{groupsIn}
+use Rattle.circuit_build.specs.BuiltParts.{built_earlier, built_condition}
+use Rattle.plan.specs.PlanFile.{groups_in}
 use Rattle.plan.specs.Groups.{group_of, groups}
 use Rattle.plan.specs.Order.{order}
-use Rattle.plan.specs.Rows.{layoutRows, joinRows, firstFailing, placed, planAnswer}
+use Rattle.plan.specs.Rows.{layout_rows, join_rows, first_failing, placed, plan_answer}
 use Rattle.plan.specs.Places.{place_of}
-use Rattle.plan.specs.SameLaws.{order_same, placed_same, order-sets-same, placed-sets-same}
-use Rattle.plan.specs.CountLaws.{placed-count}
-use Rattle.plan_groups.specs.Tables.{groupTable, placeTable}
-use Rattle.plan_groups.specs.TableLaws.{group_at}
+use Rattle.plan.specs.SameLaws.{order_same, placed_same, order_sets_same, placed_sets_same}
+use Rattle.plan.specs.CountLaws.{placed_count}
+use Rattle.plan_groups.specs.Tables.{group_table, place_table}
+use Rattle.plan_groups.specs.TableLaws.{group_at_lem}
 use Rattle.plan_waits.specs.Reads.{Orderable}
-use Rattle.plan_order.specs.Row.{order_of, orderRow}
-use Rattle.plan_order.specs.AnswerLaws.{answer-placed, order_row}
+use Rattle.plan_order.specs.Row.{order_of, order_row}
+use Rattle.plan_order.specs.AnswerLaws.{answer_placed, order_row_lem}
 use Rattle.plan_order.specs.declared.Order.{Order}
 use Rattle.plan_order.specs.declared.Order.TheVariants.{Placed, Circle}
-use Rattle.plan_check.specs.Checked.{ifChecked, writingOrder, checkedGroups, checkedPlaces, checkedOrder}
+use Rattle.plan_check.specs.Checked.{if_checked, writing_order, checked_groups, checked_places, checked_order}
 use Rattle.plan_check.specs.Handed.{Handed}
-use Rattle.plan_check.specs.CheckedLaws.{accepted-lists}
+use Rattle.plan_check.specs.CheckedLaws.{accepted_lists}
 use Rattle.plan_check.specs.InHand.{IsBuilt}
-use Rattle.plan_check.specs.AnswerLaws.{accepted-rule, gates-are, gates-room, gates-in, needs-in, circle-refused, plan-taken}
-use Rattle.plan_check.specs.HandedLaws.{row-handed, table-named, table-many}
+use Rattle.plan_check.specs.AnswerLaws.{accepted_rule, gates_are, gates_room, gates_in_lem, needs_in, circle_refused, plan_taken}
+use Rattle.plan_check.specs.HandedLaws.{row_handed, table_named, table_many}
 
 module _ (s p : List ℕ) (a : Answer) (quads needs outputs conds : List ℕ) (sh : IsBuilt s a quads needs outputs conds) (zero : a.number ≡ 0)
-    (laid : ℕ) (e : laid ≡ firstFailing (layoutRows a.gates p)) (none : laid ≡ 0) (group places : List ℕ)
-    (g : group ≡ groupTable a.gates (groupsIn p)) (j : places ≡ placeTable a.gates p) where
+    (laid : ℕ) (e : laid ≡ first_failing (layout_rows a.gates p)) (none : laid ≡ 0) (group places : List ℕ)
+    (g : group ≡ group_table a.gates (groups_in p)) (j : places ≡ place_table a.gates p) where
   abbrev n : ℕ
   n = a.gates
 
-  rule : Earlier (gatesOf s)
-  rule = built-earlier s (accepted-rule s p a quads needs outputs conds sh zero)
+  rule : Earlier (gates_of s)
+  rule = built_earlier s (accepted_rule s p a quads needs outputs conds sh zero)
 
   -- what the order of the groups is worked out from
-  pub tables-orderable : Orderable quads a.gates conds group places
-  tables-orderable =
-      let room = gates-room s p a quads needs outputs conds sh zero in
-      let gates = gates-in s p a quads needs outputs conds sh zero in
-      let laid_out : firstFailing (layoutRows n p) ≡ 0 = sym e ∙ none in
+  pub tables_orderable : Orderable quads a.gates conds group places
+  tables_orderable =
+      let room = gates_room s p a quads needs outputs conds sh zero in
+      let gates = gates_in_lem s p a quads needs outputs conds sh zero in
+      let laid_out : first_failing (layout_rows n p) ≡ 0 = sym e ∙ none in
       record {
         room = room;
         earlier = subst⁻¹ Earlier gates rule;
         listed = λ t l.
-            ap (λ (d : List ℕ). get_or d t 0) sh.1.1.1.1 ∙ built-condition s (accepted-rule s p a quads needs outputs conds sh zero) t ∙ ap (λ (C : Gates). get_or (conditions C) t 0)
+            ap (λ (d : List ℕ). get_or d t 0) sh.1.1.1.1 ∙ built_condition s (accepted_rule s p a quads needs outputs conds sh zero) t ∙ ap (λ (C : Gates). get_or (conditions C) t 0)
             (sym gates);
-        named = λ x l. rw g (table-named n p room laid_out x l);
-        many = λ m l. rw (g, j) (table-many n p room laid_out m l);
+        named = λ x l. rw g (table_named n p room laid_out x l);
+        many = λ m l. rw (g, j) (table_many n p room laid_out m l);
       }
 
   abbrev tabled : ℕ → ℕ
   tabled x = get_or group x 0
 
-  as-plan : (x : ℕ) → x < length (gatesOf s) → tabled x ≡ group_of (groupsIn p) x
-  as-plan x l = ap (λ (t : List ℕ). get_or t x 0) g ∙ group_at n p x (rw (gates-are s p a quads needs outputs conds sh zero) l)
+  as_plan : (x : ℕ) → x < length (gates_of s) → tabled x ≡ group_of (groups_in p) x
+  as_plan x l = ap (λ (t : List ℕ). get_or t x 0) g ∙ group_at_lem n p x (rw (gates_are s p a quads needs outputs conds sh zero) l)
 
   -- the order that is found is the plan's
-  order_is : order (gatesIn quads n) needs tabled ≡ order (gatesOf s) (rulePreconditions s) (group_of (groupsIn p))
+  order_is : order (gates_in quads n) needs tabled ≡ order (gates_of s) (rule_preconditions s) (group_of (groups_in p))
   order_is =
-      ap (λ (C : Gates). order C needs tabled) (gates-in s p a quads needs outputs conds sh zero)
-      ∙ order-sets-same (gatesOf s) needs (rulePreconditions s) (needs-in s p a quads needs outputs conds sh zero) tabled
-      ∙ order_same (gatesOf s) rule (rulePreconditions s) tabled (group_of (groupsIn p)) as-plan
+      ap (λ (C : Gates). order C needs tabled) (gates_in_lem s p a quads needs outputs conds sh zero)
+      ∙ order_sets_same (gates_of s) needs (rule_preconditions s) (needs_in s p a quads needs outputs conds sh zero) tabled
+      ∙ order_same (gates_of s) rule (rule_preconditions s) tabled (group_of (groups_in p)) as_plan
 
-  placed-is : placed (gatesIn quads n) needs tabled ≡ placed (gatesOf s) (rulePreconditions s) (group_of (groupsIn p))
-  placed-is =
-      ap (λ (C : Gates). placed C needs tabled) (gates-in s p a quads needs outputs conds sh zero)
-      ∙ placed-sets-same (gatesOf s) needs (rulePreconditions s) (needs-in s p a quads needs outputs conds sh zero) tabled
-      ∙ placed_same (gatesOf s) rule (rulePreconditions s) tabled (group_of (groupsIn p)) as-plan
+  placed_is : placed (gates_in quads n) needs tabled ≡ placed (gates_of s) (rule_preconditions s) (group_of (groups_in p))
+  placed_is =
+      ap (λ (C : Gates). placed C needs tabled) (gates_in_lem s p a quads needs outputs conds sh zero)
+      ∙ placed_sets_same (gates_of s) needs (rule_preconditions s) (needs_in s p a quads needs outputs conds sh zero) tabled
+      ∙ placed_same (gates_of s) rule (rule_preconditions s) tabled (group_of (groups_in p)) as_plan
 
-  module _ (join : ℕ) (f : join ≡ firstFailing (joinRows (gatesIn quads n) needs p)) (gone : join ≡ 0) where
+  module _ (join : ℕ) (f : join ≡ first_failing (join_rows (gates_in quads n) needs p)) (gone : join ≡ 0) where
     -- a circle remains: a refused plan hands up no groups
-    pub circle-handed : (o : Order) → o ≡ Circle → o ≡ order_of (gatesIn quads n) needs tabled → (row : ℕ) → row ≡ orderRow o
+    pub circle_handed : (o : Order) → o ≡ Circle → o ≡ order_of (gates_in quads n) needs tabled → (row : ℕ) → row ≡ order_row o
         → (group' places' found' : List ℕ) → (group' ≡ replicate 256 0) × ((places' ≡ replicate 256 0) × (found' ≡ replicate 256 0))
-        → (b : Answer) (groups : ℕ) → (b ≡ refusal row 0) × (groups ≡ 0) → (b ≡ planAnswer s p) × Handed s p quads needs outputs conds group' places' found' groups
-    circle-handed o i h row w group' places' found' clear b groups q =
-        let x = w ∙ ap orderRow h ∙ order_row (gatesIn quads n) needs tabled ∙ ap (λ (b : Bool). cond b 0 30) placed-is in
-        let y : row ≡ 30 = w ∙ ap orderRow i in
+        → (b : Answer) (groups : ℕ) → (b ≡ refusal row 0) × (groups ≡ 0) → (b ≡ plan_answer s p) × Handed s p quads needs outputs conds group' places' found' groups
+    circle_handed o i h row w group' places' found' clear b groups q =
+        let x = w ∙ ap order_row h ∙ order_row_lem (gates_in quads n) needs tabled ∙ ap (λ (b : Bool). cond b 0 30) placed_is in
+        let y : row ≡ 30 = w ∙ ap order_row i in
         let some : row ≡ 0 → ⊥ = λ z. omega arith in
-        row-handed s p quads needs outputs conds sh.1 group' places' found' clear groups q.1 row
-        (circle-refused s p a quads needs outputs conds sh zero laid e none join f gone row x some) some b q.0
+        row_handed s p quads needs outputs conds sh.1 group' places' found' clear groups q.1 row
+        (circle_refused s p a quads needs outputs conds sh zero laid e none join f gone row x some) some b q.0
 
   -- every group is placed
-  module _ (join : ℕ) (f : join ≡ firstFailing (joinRows (gatesIn quads n) needs p)) (gone : join ≡ 0)
-      (k : ℕ) (h : Placed k ≡ order_of (gatesIn quads n) needs tabled)
-      (before found : List ℕ) (clear : before ≡ replicate 256 0) (o : found ≡ over (reverse (order (gatesIn quads n) needs tabled)) before) where
-    all : placed (gatesOf s) (rulePreconditions s) (group_of (groupsIn p)) ≡ true
-    all = sym placed-is ∙ (answer-placed (gatesIn quads n) needs tabled k h).0
+  module _ (join : ℕ) (f : join ≡ first_failing (join_rows (gates_in quads n) needs p)) (gone : join ≡ 0)
+      (k : ℕ) (h : Placed k ≡ order_of (gates_in quads n) needs tabled)
+      (before found : List ℕ) (clear : before ≡ replicate 256 0) (o : found ≡ over (reverse (order (gates_in quads n) needs tabled)) before) where
+    all : placed (gates_of s) (rule_preconditions s) (group_of (groups_in p)) ≡ true
+    all = sym placed_is ∙ (answer_placed (gates_in quads n) needs tabled k h).0
 
-    taken-answer : a ≡ planAnswer s p
-    taken-answer = plan-taken s p a quads needs outputs conds sh zero laid e none join f gone all
+    taken_answer : a ≡ plan_answer s p
+    taken_answer = plan_taken s p a quads needs outputs conds sh zero laid e none join f gone all
 
-    accepted : (planAnswer s p).number ≡ 0
-    accepted = ap (λ (a : Answer). a.number) (sym taken-answer) ∙ zero
+    accepted : (plan_answer s p).number ≡ 0
+    accepted = ap (λ (a : Answer). a.number) (sym taken_answer) ∙ zero
 
-    taken-group : group ≡ checkedGroups s p
-    unfolding groupTable checkedGroups
-    taken-group =
-        g ∙ ap (λ (m : ℕ). padded mostGates (map (group_of (groupsIn p)) (upto m))) (gates-are s p a quads needs outputs conds sh zero) ∙ ap (padded mostGates) (sym (accepted-lists s p accepted _))
+    taken_group : group ≡ checked_groups s p
+    unfolding group_table checked_groups
+    taken_group =
+        g ∙ ap (λ (m : ℕ). padded most_gates (map (group_of (groups_in p)) (upto m))) (gates_are s p a quads needs outputs conds sh zero) ∙ ap (padded most_gates) (sym (accepted_lists s p accepted _))
 
-    taken-joined : places ≡ checkedPlaces s p
-    unfolding placeTable checkedPlaces
-    taken-joined =
-        j ∙ ap (λ (m : ℕ). padded mostGates (map (place_of p) (upto m))) (gates-are s p a quads needs outputs conds sh zero) ∙ ap (padded mostGates) (sym (accepted-lists s p accepted _))
+    taken_joined : places ≡ checked_places s p
+    unfolding place_table checked_places
+    taken_joined =
+        j ∙ ap (λ (m : ℕ). padded most_gates (map (place_of p) (upto m))) (gates_are s p a quads needs outputs conds sh zero) ∙ ap (padded most_gates) (sym (accepted_lists s p accepted _))
 
-    taken-order : found ≡ checkedOrder s p
-    unfolding checkedOrder
-    taken-order =
-        o ∙ ap (over (reverse (order (gatesIn quads n) needs tabled))) clear ∙ over_zeros (reverse (order (gatesIn quads n) needs tabled)) mostGates
-        ∙ ap (λ (l : List ℕ). padded mostGates (reverse l)) order_is ∙ ap (padded mostGates) (sym (accepted-lists s p accepted _))
+    taken_order : found ≡ checked_order s p
+    unfolding checked_order
+    taken_order =
+        o ∙ ap (over (reverse (order (gates_in quads n) needs tabled))) clear ∙ over_zeros (reverse (order (gates_in quads n) needs tabled)) most_gates
+        ∙ ap (λ (l : List ℕ). padded most_gates (reverse l)) order_is ∙ ap (padded most_gates) (sym (accepted_lists s p accepted _))
 
-    taken-groups : k ≡ length (ifChecked s p (writingOrder s p))
-    taken-groups =
-        let t = answer-placed (gatesIn quads n) needs tabled k h in
-        t.1 ∙ sym (placed-count (gatesIn quads n) needs tabled t.0) ∙ ap length order_is
-        ∙ sym (length-reverse (order (gatesOf s) (rulePreconditions s) (group_of (groupsIn p)))) ∙ ap length (sym (accepted-lists s p accepted _))
+    taken_groups : k ≡ length (if_checked s p (writing_order s p))
+    taken_groups =
+        let t = answer_placed (gates_in quads n) needs tabled k h in
+        t.1 ∙ sym (placed_count (gates_in quads n) needs tabled t.0) ∙ ap length order_is
+        ∙ sym (length-reverse (order (gates_of s) (rule_preconditions s) (group_of (groups_in p)))) ∙ ap length (sym (accepted_lists s p accepted _))
 
     -- all that is handed up
-    pub taken-handed : (a ≡ planAnswer s p) × Handed s p quads needs outputs conds group places found k
-    taken-handed = (
-      taken-answer,
+    pub taken_handed : (a ≡ plan_answer s p) × Handed s p quads needs outputs conds group places found k
+    taken_handed = (
+      taken_answer,
       record {
-        quads-are = sh.1.0;
-        needs-are = sh.1.1.0;
-        outputs-are = sh.1.1.1.0;
-        conditions-are = sh.1.1.1.1;
-        group-is = taken-group;
-        places-are = taken-joined;
-        order_is = taken-order;
-        groups-are = taken-groups;
+        quads_are = sh.1.0;
+        needs_are = sh.1.1.0;
+        outputs_are = sh.1.1.1.0;
+        conditions_are = sh.1.1.1.1;
+        group_is = taken_group;
+        places_are = taken_joined;
+        order_is = taken_order;
+        groups_are = taken_groups;
       },
     )

@@ -1,10 +1,10 @@
 // Checking a plan for a rule, rows 20 to 26, 32 and 27 to 30 after the rule's own, and what the layers above need of an accepted plan.
 ghost use Rattle.std.specs.Prelude.{◌≡◌, replicate};
 ghost use Rattle.base.specs.Answers.{refusal};
-ghost use Rattle.plan.specs.Rows.{planAnswer};
+ghost use Rattle.plan.specs.Rows.{plan_answer};
 ghost use Rattle.plan_check.specs.Handed.{Handed};
-ghost use Rattle.base.specs.SetsHeld.{setsIn};
-ghost use Rattle.circuit.specs.Rooms.{gateRoom, quadRoom, variableRoom, conditionRoom};
+ghost use Rattle.base.specs.SetsHeld.{sets_in};
+ghost use Rattle.circuit.specs.Rooms.{gate_room, quad_room, variable_room, condition_room};
 
 use base::Answer;
 use circuit::{CONDITION_ROOM, GATE_ROOM, NEED_WORDS, QUAD_ROOM, VARIABLE_ROOM};
@@ -20,7 +20,7 @@ pub struct Checked {
 // A plan that a row refuses after its gates were grouped: the groups are cleared again.
 fn ungrouped(row: u8, group: &mut [u16; GATE_ROOM], places: &mut [u16; GATE_ROOM]) -> Checked
     ensures answer { (result.answer ≡ refusal row 0) × (result.groups ≡ 0) }
-    ensures clear { (group.new ≡ replicate gateRoom 0) × (places.new ≡ replicate gateRoom 0) }
+    ensures clear { (group.new ≡ replicate gate_room 0) × (places.new ≡ replicate gate_room 0) }
 {
     *group = [0u16; GATE_ROOM];
     *places = [0u16; GATE_ROOM];
@@ -44,10 +44,10 @@ pub fn check(
     places: &mut [u16; GATE_ROOM],
     order: &mut [u16; GATE_ROOM],
 ) -> Checked
-    requires { ((quads.old ≡ replicate quadRoom 0) × ((setsIn needs.old ≡ replicate gateRoom 0) × ((outputs.old ≡ replicate variableRoom 0) × (conditions.old ≡ replicate conditionRoom 0))))
-        × ((group.old ≡ replicate gateRoom 0) × ((places.old ≡ replicate gateRoom 0) × (order.old ≡ replicate gateRoom 0))) }
-    ensures answer { result.answer ≡ planAnswer rule.now plan.now }
-    ensures handed { Handed rule.now plan.now quads.new (setsIn needs.new) outputs.new conditions.new
+    requires { ((quads.old ≡ replicate quad_room 0) × ((sets_in needs.old ≡ replicate gate_room 0) × ((outputs.old ≡ replicate variable_room 0) × (conditions.old ≡ replicate condition_room 0))))
+        × ((group.old ≡ replicate gate_room 0) × ((places.old ≡ replicate gate_room 0) × (order.old ≡ replicate gate_room 0))) }
+    ensures answer { result.answer ≡ plan_answer rule.now plan.now }
+    ensures handed { Handed rule.now plan.now quads.new (sets_in needs.new) outputs.new conditions.new
         group.new places.new order.new result.groups }
 {
     let read = circuit_build::build(rule, quads, needs, outputs, conditions);
@@ -84,7 +84,7 @@ pub fn check(
 
 // Checks a plan for a rule: the answer alone.
 pub fn check_plan(rule: &[u8], plan: &[u8]) -> Answer
-    ensures { result ≡ planAnswer rule.now plan.now }
+    ensures { result ≡ plan_answer rule.now plan.now }
 {
     let mut quads = [0u32; QUAD_ROOM];
     let mut needs = [0u64; NEED_WORDS];

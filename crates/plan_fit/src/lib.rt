@@ -2,13 +2,13 @@
 // order and the members of each fit together. Each row is a pass over the whole file; the groups are known to lie in the file.
 ghost use Rattle.std.specs.Prelude.{◌≡◌, ℕ, ◌<◌, ltb};
 ghost use Rattle.base.specs.Codes.{code_of};
-ghost use Rattle.circuit_needed.specs.Held.{code_at, gateIn, gatesIn};
+ghost use Rattle.circuit_needed.specs.Held.{code_at, gate_in, gates_in};
 ghost use Rattle.plan.specs.PlanFile as file;
 ghost use Rattle.plan.specs.Rows as checks;
-ghost use Rattle.plan_groups.specs.Tests.{memberTest, membersTest, joinTest, rowTest, operationCode};
+ghost use Rattle.plan_groups.specs.Tests.{member_test, members_test, join_test, row_test, operation_code};
 ghost use Rattle.plan_groups.specs.Walks.{ReadableGroup, Readable};
-ghost use Rattle.base.specs.SetsHeld.{setsIn};
-ghost use Rattle.circuit.specs.Rooms.{gateRoom};
+ghost use Rattle.base.specs.SetsHeld.{sets_in};
+ghost use Rattle.circuit.specs.Rooms.{gate_room};
 
 use circuit::{GateId, NEED_WORDS, QUAD_ROOM};
 
@@ -24,7 +24,7 @@ const PARTED: u8 = 29;
 // 32: the groups stand in rising order of their smallest member. The numbers of a group rise, so it is the first.
 fn groups_rise(plan: &[u8]) -> bool
     requires { (n : ℕ) × Readable n plan.now }
-    ensures { result ≡ checks.groupsRise (file.groupsIn plan.now) }
+    ensures { result ≡ checks.groups_rise (file.groups_in plan.now) }
 {
     let mut left = plan_groups::groups_counted(plan);
     if left == 0 {
@@ -54,7 +54,7 @@ fn costly(code: u32) -> bool
 }
 
 fn operation_code(code: u32) -> u32
-    ensures { result ≡ operationCode code }
+    ensures { result ≡ operation_code code }
 {
     if code < 0x20 {
         return 0;
@@ -66,7 +66,7 @@ fn operation_code(code: u32) -> u32
 }
 
 fn code_at(quads: &[u32; QUAD_ROOM], g: GateId) -> u32
-    requires { g.0 < gateRoom }
+    requires { g.0 < gate_room }
     ensures { result ≡ code_at quads.now g.0 }
 {
     let i = g.0 as usize;
@@ -75,8 +75,8 @@ fn code_at(quads: &[u32; QUAD_ROOM], g: GateId) -> u32
 
 // 27 or 28 of a member, by the first member.
 fn member_holds(row: u8, quads: &[u32; QUAD_ROOM], first: GateId, g: GateId) -> bool
-    requires { (first.0 < gateRoom) × (g.0 < gateRoom) }
-    ensures { result ≡ memberTest row (gateIn quads.now first.0) (gateIn quads.now g.0) }
+    requires { (first.0 < gate_room) × (g.0 < gate_room) }
+    ensures { result ≡ member_test row (gate_in quads.now first.0) (gate_in quads.now g.0) }
 {
     let code = code_at(quads, g);
     if row == COSTLY {
@@ -89,7 +89,7 @@ fn member_holds(row: u8, quads: &[u32; QUAD_ROOM], first: GateId, g: GateId) -> 
 // 27 or 28 of the group that begins at a place.
 fn members_hold(row: u8, plan: &[u8], at: usize, quads: &[u32; QUAD_ROOM], count: usize) -> bool
     requires { ReadableGroup count plan.now at }
-    ensures { result ≡ membersTest (gatesIn quads.now count) row (file.groupAt plan.now at) }
+    ensures { result ≡ members_test (gates_in quads.now count) row (file.group_at plan.now at) }
 {
     let size = plan_groups::size_at(plan, at);
     let first = plan_member::member(plan, at, 0);
@@ -107,7 +107,7 @@ fn members_hold(row: u8, plan: &[u8], at: usize, quads: &[u32; QUAD_ROOM], count
 // 29 of the group that begins at a place: numbers rise, so a member met later is another one.
 fn members_part(plan: &[u8], at: usize, count: usize, needs: &[u64; NEED_WORDS]) -> bool
     requires { ReadableGroup count plan.now at }
-    ensures { result ≡ checks.parted (setsIn needs.now) (file.groupAt plan.now at) }
+    ensures { result ≡ checks.parted (sets_in needs.now) (file.group_at plan.now at) }
 {
     let size = plan_groups::size_at(plan, at);
     let mut seen = base_settings::empty();
@@ -135,7 +135,7 @@ fn join_holds(
     needs: &[u64; NEED_WORDS],
 ) -> bool
     requires { ReadableGroup count plan.now at }
-    ensures { result ≡ joinTest (gatesIn quads.now count) (setsIn needs.now) row (file.groupAt plan.now at) }
+    ensures { result ≡ join_test (gates_in quads.now count) (sets_in needs.now) row (file.group_at plan.now at) }
 {
     if row == PARTED {
         members_part(plan, at, count, needs)
@@ -153,7 +153,7 @@ fn every_join(
     needs: &[u64; NEED_WORDS],
 ) -> bool
     requires { Readable count plan.now }
-    ensures { result ≡ checks.everyGroup (joinTest (gatesIn quads.now count) (setsIn needs.now) row) (file.groupsIn plan.now) }
+    ensures { result ≡ checks.every_group (join_test (gates_in quads.now count) (sets_in needs.now) row) (file.groups_in plan.now) }
 {
     let mut unchecked = plan_groups::groups_counted(plan);
     let mut at = plan::LEAST_PLAN_BYTES;
@@ -176,7 +176,7 @@ fn row_holds(
     needs: &[u64; NEED_WORDS],
 ) -> bool
     requires { Readable count plan.now }
-    ensures { result ≡ rowTest (gatesIn quads.now count) (setsIn needs.now) row (file.groupsIn plan.now) }
+    ensures { result ≡ row_test (gates_in quads.now count) (sets_in needs.now) row (file.groups_in plan.now) }
 {
     if row == ORDER {
         groups_rise(plan)
@@ -194,7 +194,7 @@ pub fn check_groups(
     needs: &[u64; NEED_WORDS],
 ) -> u8
     requires { Readable count plan.now }
-    ensures { result ≡ checks.firstFailing (checks.joinRows (gatesIn quads.now count) (setsIn needs.now) plan.now) }
+    ensures { result ≡ checks.first_failing (checks.join_rows (gates_in quads.now count) (sets_in needs.now) plan.now) }
 {
     if !row_holds(ORDER, plan, quads, count, needs) {
         return ORDER;

@@ -2,15 +2,15 @@
 // Each row is a pass over the whole file, in the order of their numbers; from row 24 on the groups are known to lie in the file.
 ghost use Rattle.std.specs.Prelude.{◌≡◌, ◌&&◌, true, ◌<◌, ◌≤◌, eqb, leb, ltb, length, get_or, take, replicate};
 ghost use Rattle.base.specs.Lists.{every, same};
-ghost use Rattle.circuit.specs.Limits.{mostGates};
+ghost use Rattle.circuit.specs.Limits.{most_gates};
 ghost use Rattle.plan.specs.PlanFile as file;
 ghost use Rattle.plan.specs.Groups.{smallest};
 ghost use Rattle.plan.specs.Rows as checks;
-ghost use Rattle.plan_groups.specs.Tables.{groupTable, placeTable, eachAlone};
-ghost use Rattle.plan_groups.specs.Tests.{shapeTest, put_all};
+ghost use Rattle.plan_groups.specs.Tables.{group_table, place_table, each_alone};
+ghost use Rattle.plan_groups.specs.Tests.{shape_test, put_all};
 ghost use Rattle.plan_groups.specs.Walks.{Lie, ReadableGroup, Readable};
-ghost use Rattle.circuit.specs.Rooms.{gateRoom};
-ghost use Rattle.plan.specs.Limits.{leastPlanBytes, mostPlanBytes};
+ghost use Rattle.circuit.specs.Rooms.{gate_room};
+ghost use Rattle.plan.specs.Limits.{least_plan_bytes, most_plan_bytes};
 
 use base::Step;
 use circuit::GATE_ROOM;
@@ -30,7 +30,7 @@ pub fn size_at(plan: &[u8], at: usize) -> usize
 
 // The place after that group.
 pub fn after(plan: &[u8], at: usize) -> usize
-    requires { (at < length plan.now) × (length plan.now ≤ mostPlanBytes) }
+    requires { (at < length plan.now) × (length plan.now ≤ most_plan_bytes) }
     ensures { result ≡ file.after plan.now at }
 {
     at + 1 + 2 * size_at(plan, at)
@@ -38,22 +38,22 @@ pub fn after(plan: &[u8], at: usize) -> usize
 
 // The gate count and the group count that the plan gives.
 fn gates_counted(plan: &[u8]) -> usize
-    requires { leastPlanBytes ≤ length plan.now }
-    ensures { result ≡ file.gatesCounted plan.now }
+    requires { least_plan_bytes ≤ length plan.now }
+    ensures { result ≡ file.gates_counted plan.now }
 {
     base_words::wide16(base_words::read16(plan, 5))
 }
 
 pub fn groups_counted(plan: &[u8]) -> usize
-    requires { leastPlanBytes ≤ length plan.now }
-    ensures { result ≡ file.groupsCounted plan.now }
+    requires { least_plan_bytes ≤ length plan.now }
+    ensures { result ≡ file.groups_counted plan.now }
 {
     base_words::wide16(base_words::read16(plan, 7))
 }
 
 // 20: the plan's size.
 fn size_fits(plan: &[u8]) -> bool
-    ensures { result ≡ (leb leastPlanBytes (length plan.now) && leb (length plan.now) mostPlanBytes) }
+    ensures { result ≡ (leb least_plan_bytes (length plan.now) && leb (length plan.now) most_plan_bytes) }
 {
     if plan.len() < plan::LEAST_PLAN_BYTES {
         return false;
@@ -63,7 +63,7 @@ fn size_fits(plan: &[u8]) -> bool
 
 // 21: the mark and version.
 fn marked(plan: &[u8]) -> bool
-    requires { leastPlanBytes ≤ length plan.now }
+    requires { least_plan_bytes ≤ length plan.now }
     ensures { result ≡ same (take 5 plan.now) file.mark }
 {
     match base_answers::read_mark(plan, b"PLN\x00\x01", 21) {
@@ -74,8 +74,8 @@ fn marked(plan: &[u8]) -> bool
 
 // 23: as many groups as the plan counts lie in the file and end where it ends.
 fn groups_end(plan: &[u8]) -> bool
-    requires { (leastPlanBytes ≤ length plan.now) × (length plan.now ≤ mostPlanBytes) }
-    ensures { result ≡ file.ends (file.groupsCounted plan.now) plan.now leastPlanBytes }
+    requires { (least_plan_bytes ≤ length plan.now) × (length plan.now ≤ most_plan_bytes) }
+    ensures { result ≡ file.ends (file.groups_counted plan.now) plan.now least_plan_bytes }
 {
     let mut left = groups_counted(plan);
     let mut at = plan::LEAST_PLAN_BYTES;
@@ -94,8 +94,8 @@ fn groups_end(plan: &[u8]) -> bool
 
 // 25: the numbers of the group rise, and are gates: each is at least `least`, one above the number before it, and below the gate count.
 fn numbers_rise(plan: &[u8], at: usize, count: usize) -> bool
-    requires { (file.after plan.now at ≤ length plan.now) × (length plan.now ≤ mostPlanBytes) }
-    ensures { result ≡ (checks.rises (file.groupAt plan.now at) && every (λ g. ltb g count) (file.groupAt plan.now at)) }
+    requires { (file.after plan.now at ≤ length plan.now) × (length plan.now ≤ most_plan_bytes) }
+    ensures { result ≡ (checks.rises (file.group_at plan.now at) && every (λ g. ltb g count) (file.group_at plan.now at)) }
 {
     let size = size_at(plan, at);
     let mut least: usize = 0;
@@ -117,8 +117,8 @@ fn numbers_rise(plan: &[u8], at: usize, count: usize) -> bool
 
 // 24 or 25 of the group that begins at a place.
 fn shape_holds(row: u8, plan: &[u8], at: usize, count: usize) -> bool
-    requires { (file.after plan.now at ≤ length plan.now) × (length plan.now ≤ mostPlanBytes) }
-    ensures { result ≡ shapeTest row count (file.groupAt plan.now at) }
+    requires { (file.after plan.now at ≤ length plan.now) × (length plan.now ≤ most_plan_bytes) }
+    ensures { result ≡ shape_test row count (file.group_at plan.now at) }
 {
     if row == SIZES {
         2 <= size_at(plan, at)
@@ -129,8 +129,8 @@ fn shape_holds(row: u8, plan: &[u8], at: usize, count: usize) -> bool
 
 // 24 or 25 of every group.
 fn every_shape(row: u8, plan: &[u8], count: usize) -> bool
-    requires { (leastPlanBytes ≤ length plan.now) × Lie plan.now (file.groupsCounted plan.now) 9 }
-    ensures { result ≡ checks.everyGroup (shapeTest row count) (file.groupsIn plan.now) }
+    requires { (least_plan_bytes ≤ length plan.now) × Lie plan.now (file.groups_counted plan.now) 9 }
+    ensures { result ≡ checks.every_group (shape_test row count) (file.groups_in plan.now) }
 {
     let mut left = groups_counted(plan);
     let mut at = plan::LEAST_PLAN_BYTES;
@@ -146,7 +146,7 @@ fn every_shape(row: u8, plan: &[u8], count: usize) -> bool
 
 // The rows 20 to 25.
 fn layout_row(plan: &[u8], count: usize) -> u8
-    ensures { result ≡ checks.firstFailing (take 6 (checks.layoutRows count plan.now)) }
+    ensures { result ≡ checks.first_failing (take 6 (checks.layout_rows count plan.now)) }
 {
     if !size_fits(plan) {
         return 20;
@@ -171,8 +171,8 @@ fn layout_row(plan: &[u8], count: usize) -> u8
 
 // Each gate alone, in a table that is lent clear: a group that its own number names.
 fn number_gates(count: usize, group: &mut [u16; GATE_ROOM])
-    requires { (count ≤ mostGates) × (group.old ≡ replicate gateRoom 0) }
-    ensures { group.new ≡ eachAlone count }
+    requires { (count ≤ most_gates) × (group.old ≡ replicate gate_room 0) }
+    ensures { group.new ≡ each_alone count }
 {
     let mut g: usize = 0;
     while g < count {
@@ -190,9 +190,9 @@ fn join_members(
     places: &mut [u16; GATE_ROOM],
 ) -> bool
     requires { ReadableGroup count plan.now at }
-    ensures free { result ≡ every (λ g. eqb (get_or places.old g 0) 0) (file.groupAt plan.now at) }
-    ensures groups { result ≡ true → group.new ≡ put_all (file.groupAt plan.now at) (smallest (file.groupAt plan.now at)) group.old }
-    ensures places { result ≡ true → places.new ≡ put_all (file.groupAt plan.now at) at places.old }
+    ensures free { result ≡ every (λ g. eqb (get_or places.old g 0) 0) (file.group_at plan.now at) }
+    ensures groups { result ≡ true → group.new ≡ put_all (file.group_at plan.now at) (smallest (file.group_at plan.now at)) group.old }
+    ensures places { result ≡ true → places.new ≡ put_all (file.group_at plan.now at) at places.old }
 {
     let size = size_at(plan, at);
     let first = plan_member::member(plan, at, 0);
@@ -217,10 +217,10 @@ fn join_groups(
     group: &mut [u16; GATE_ROOM],
     places: &mut [u16; GATE_ROOM],
 ) -> bool
-    requires { Readable count plan.now × ((group.old ≡ replicate gateRoom 0) × (places.old ≡ replicate gateRoom 0)) }
-    ensures once { result ≡ checks.apart (file.groupsIn plan.now) }
-    ensures groups { result ≡ true → group.new ≡ groupTable count (file.groupsIn plan.now) }
-    ensures places { result ≡ true → places.new ≡ placeTable count plan.now }
+    requires { Readable count plan.now × ((group.old ≡ replicate gate_room 0) × (places.old ≡ replicate gate_room 0)) }
+    ensures once { result ≡ checks.apart (file.groups_in plan.now) }
+    ensures groups { result ≡ true → group.new ≡ group_table count (file.groups_in plan.now) }
+    ensures places { result ≡ true → places.new ≡ place_table count plan.now }
 {
     number_gates(count, group);
     let mut unjoined = groups_counted(plan);
@@ -243,11 +243,11 @@ pub fn group_gates(
     group: &mut [u16; GATE_ROOM],
     places: &mut [u16; GATE_ROOM],
 ) -> u8
-    requires { (count ≤ mostGates) × ((group.old ≡ replicate gateRoom 0) × (places.old ≡ replicate gateRoom 0)) }
-    ensures number { result ≡ checks.firstFailing (checks.layoutRows count plan.now) }
-    ensures groups { result ≡ 0 → group.new ≡ groupTable count (file.groupsIn plan.now) }
-    ensures places { result ≡ 0 → places.new ≡ placeTable count plan.now }
-    ensures refused { (result ≡ 0 → ⊥) → (group.new ≡ replicate gateRoom 0) × (places.new ≡ replicate gateRoom 0) }
+    requires { (count ≤ most_gates) × ((group.old ≡ replicate gate_room 0) × (places.old ≡ replicate gate_room 0)) }
+    ensures number { result ≡ checks.first_failing (checks.layout_rows count plan.now) }
+    ensures groups { result ≡ 0 → group.new ≡ group_table count (file.groups_in plan.now) }
+    ensures places { result ≡ 0 → places.new ≡ place_table count plan.now }
+    ensures refused { (result ≡ 0 → ⊥) → (group.new ≡ replicate gate_room 0) × (places.new ≡ replicate gate_room 0) }
 {
     let row = layout_row(plan, count);
     if row != 0 {

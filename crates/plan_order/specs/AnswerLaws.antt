@@ -7,14 +7,14 @@ use Rattle.std.proofs.Math.ListN.{length}
 use Rattle.circuit.specs.Gates.{Gates}
 use Rattle.plan.specs.Groups.{groups}
 use Rattle.plan.specs.Rows.{placed}
-use Rattle.plan_order.specs.Row.{order_of, orderRow}
+use Rattle.plan_order.specs.Row.{order_of, order_row}
 use Rattle.plan_order.specs.declared.Order.TheVariants.{Placed, Circle}
 
 module _ (C : Gates) (sets : List ℕ) (group : ℕ → ℕ) where
   -- all are placed, so many
-  pub answer-placed : (k : ℕ) → Placed k ≡ order_of C sets group → (placed C sets group ≡ true) × (k ≡ length (groups (length C) group))
+  pub answer_placed : (k : ℕ) → Placed k ≡ order_of C sets group → (placed C sets group ≡ true) × (k ≡ length (groups (length C) group))
   unfolding order_of
-  answer-placed k e = go (placed C sets group) refl e
+  answer_placed k e = go (placed C sets group) refl e
     where
       go : (t : Bool) → placed C sets group ≡ t → Placed k ≡ cond t (Placed (length (groups (length C) group))) Circle
           → (placed C sets group ≡ true) × (k ≡ length (groups (length C) group))
@@ -22,10 +22,10 @@ module _ (C : Gates) (sets : List ℕ) (group : ℕ → ℕ) where
       go false h f = let z : ◌≡◌ {A = ℕ} 0 1 = cc in absurd (omega arith)
 
   -- its number
-  pub order_row : orderRow (order_of C sets group) ≡ cond (placed C sets group) 0 30
+  pub order_row_lem : order_row (order_of C sets group) ≡ cond (placed C sets group) 0 30
   unfolding order_of
-  order_row = go (placed C sets group)
+  order_row_lem = go (placed C sets group)
     where
-      go : (t : Bool) → ◌≡◌ {A = ℕ} (orderRow (cond t (Placed (length (groups (length C) group))) Circle)) (cond t 0 30)
+      go : (t : Bool) → ◌≡◌ {A = ℕ} (order_row (cond t (Placed (length (groups (length C) group))) Circle)) (cond t 0 30)
       go true = refl
       go false = refl

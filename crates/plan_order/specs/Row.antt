@@ -11,6 +11,6 @@ unfoldable pub order_of : Gates → List ℕ → (ℕ → ℕ) → Order
 order_of C sets group = cond (placed C sets group) (Placed (length (groups (length C) group))) Circle
 
 -- the row that refuses: 30 for a circle, 0 for none
-abbrev pub orderRow : Order → ℕ
-orderRow (Placed k) = 0
-orderRow Circle = 30
+abbrev pub order_row : Order → ℕ
+order_row (Placed k) = 0
+order_row Circle = 30

@@ -2,33 +2,33 @@
 use Rattle.std.specs.Prelude.{ℕ, zero, suc, ◌+◌, ◌-◌, ◌*◌, ◌≤◌, ◌<◌, ◌≡◌, Bool, true, false, cond, List, ltb, length, get_or, set}
 use Rattle.std.proofs.Math.Option.{Option, none, some}
 use Rattle.base.specs.Sets.{excludes}
-use Rattle.base.specs.BitWords.{bitIn}
+use Rattle.base.specs.BitWords.{bit_in}
 use Rattle.plan_order.specs.declared.Next.{Next}
 use Rattle.plan_order.specs.declared.Next.TheVariants.{Group, Circle}
-use Rattle.circuit.specs.Rooms.{gateRoom}
+use Rattle.circuit.specs.Rooms.{gate_room}
 
 -- p waits for no group that is left: k of its words from w on have none in common with what is left
-unfoldable pub freeFrom : List ℕ → List ℕ → ℕ → ℕ → ℕ → Bool
-freeFrom waits left p w zero = true
-freeFrom waits left p w (suc k) = cond (excludes (get_or waits (4 * p + w) 0) (get_or left w 0)) (freeFrom waits left p (w + 1) k) false
+unfoldable pub free_from : List ℕ → List ℕ → ℕ → ℕ → ℕ → Bool
+free_from waits left p w zero = true
+free_from waits left p w (suc k) = cond (excludes (get_or waits (4 * p + w) 0) (get_or left w 0)) (free_from waits left p (w + 1) k) false
 
 -- p is left, and waits for none that is
-unfoldable pub readyIn : List ℕ → List ℕ → ℕ → Bool
-readyIn waits left p = cond (bitIn 0 left p) (freeFrom waits left p 0 4) false
+unfoldable pub ready_in : List ℕ → List ℕ → ℕ → Bool
+ready_in waits left p = cond (bit_in 0 left p) (free_from waits left p 0 4) false
 
 -- the first such of the k groups from p on
-unfoldable pub searchFrom : List ℕ → List ℕ → ℕ → ℕ → Next
-searchFrom waits left p zero = Circle
-searchFrom waits left p (suc k) = cond (readyIn waits left p) (Group (record { 0 = p })) (searchFrom waits left (p + 1) k)
+unfoldable pub search_from : List ℕ → List ℕ → ℕ → ℕ → Next
+search_from waits left p zero = Circle
+search_from waits left p (suc k) = cond (ready_in waits left p) (Group (record { 0 = p })) (search_from waits left (p + 1) k)
 
 -- the first from `from` on, below count
-unfoldable pub nextReady : List ℕ → List ℕ → ℕ → ℕ → Next
-nextReady waits left first count = searchFrom waits left first (count - first)
+unfoldable pub next_ready : List ℕ → List ℕ → ℕ → ℕ → Next
+next_ready waits left first count = search_from waits left first (count - first)
 
 -- what a search over the list of groups gives, as the code yields it
-abbrev pub asNext : Option ℕ → Next
-asNext none = Circle
-asNext (some p) = Group (record { 0 = p })
+abbrev pub as_next : Option ℕ → Next
+as_next none = Circle
+as_next (some p) = Group (record { 0 = p })
 
 -- the place that a search stopped at
 abbrev pub place_of : Next → ℕ → ℕ
@@ -41,9 +41,9 @@ lowered q p watch = cond (ltb p (get_or watch q 0)) (set watch q p) watch
 
 -- q waits for a group that is left, at which q or a lower one is noted
 abbrev pub HeldUp : List ℕ → List ℕ → List ℕ → ℕ → Type 0
-HeldUp waits left watch q = (g : ℕ) × (g < gateRoom) × (bitIn (4 * q) waits g ≡ true) × (bitIn 0 left g ≡ true) × (get_or watch g 0 ≤ q)
+HeldUp waits left watch q = (g : ℕ) × (g < gate_room) × (bit_in (4 * q) waits g ≡ true) × (bit_in 0 left g ≡ true) × (get_or watch g 0 ≤ q)
 
 -- what the search remembers: each group below p that is left is held up
 pub record Holding (waits left watch : List ℕ) (p : ℕ) : Type 0 where
-  pub size : length watch ≡ gateRoom
-  pub passed : (q : ℕ) → q < p → bitIn 0 left q ≡ true → HeldUp waits left watch q
+  pub size : length watch ≡ gate_room
+  pub passed : (q : ℕ) → q < p → bit_in 0 left q ≡ true → HeldUp waits left watch q

@@ -9,9 +9,9 @@ use Rattle.std.specs.Int.Bits.{bit_and}
 use borrow.Author.Tests.{eq-eqb, ne_eqb}
 use Rattle.base.specs.Bits.{bit}
 use Rattle.circuit.specs.declared.GateId.{GateId}
-use Rattle.base.specs.BitWords.{bitIn}
-use Rattle.plan_order.specs.Search.{freeFrom, readyIn, searchFrom, nextReady, asNext, lowered, Holding}
-use Rattle.plan_order.specs.HoldLaws.{holding-pass, holding-more}
+use Rattle.base.specs.BitWords.{bit_in}
+use Rattle.plan_order.specs.Search.{free_from, ready_in, search_from, next_ready, as_next, lowered, Holding}
+use Rattle.plan_order.specs.HoldLaws.{holding_pass, holding_more}
 use Rattle.plan_order.specs.declared.Next.TheVariants.{Group, Circle}
 
 less : (n p : ℕ) → p < n → n - p ≡ suc (n - (p + 1))
@@ -24,82 +24,82 @@ pub record Searching (waits left : List ℕ) (first count : ℕ) (held : List �
   pub lefts : length left ≡ 4
   pub holding : Holding waits left held p
   pub below : p ≤ count
-  pub here : nextReady waits left first count ≡ searchFrom waits left p (count - p)
+  pub here : next_ready waits left first count ≡ search_from waits left p (count - p)
 
 -- p is left, and waits for none that is left as far as its words below w say
 pub record TestingWords (waits left : List ℕ) (first count : ℕ) (held : List ℕ) (p w : ℕ) : Type 0 where
   pub search : Searching waits left first count held p
   pub inside : p < count
-  pub isLeft : bitIn 0 left p ≡ true
+  pub is_left : bit_in 0 left p ≡ true
   pub below : w ≤ 4
-  pub tested : freeFrom waits left p 0 4 ≡ freeFrom waits left p w (4 - w)
+  pub tested : free_from waits left p 0 4 ≡ free_from waits left p w (4 - w)
 
 module _ (waits left : List ℕ) (first count : ℕ) where
-  pub searching-start : (held : List ℕ) → count ≤ 256 → 4 * count ≤ length waits → length left ≡ 4 → first ≤ count → Holding waits left held first
+  pub searching_start : (held : List ℕ) → count ≤ 256 → 4 * count ≤ length waits → length left ≡ 4 → first ≤ count → Holding waits left held first
       → Searching waits left first count held first
-  unfolding nextReady
-  searching-start held h a b l s = record { room = h; wide = a; lefts = b; holding = s; below = l; here = refl }
+  unfolding next_ready
+  searching_start held h a b l s = record { room = h; wide = a; lefts = b; holding = s; below = l; here = refl }
 
-  step : (held new : List ℕ) (p : ℕ) → Searching waits left first count held p → p < count → readyIn waits left p ≡ false → Holding waits left new (p + 1)
+  step : (held new : List ℕ) (p : ℕ) → Searching waits left first count held p → p < count → ready_in waits left p ≡ false → Holding waits left new (p + 1)
       → Searching waits left first count new (p + 1)
-  unfolding searchFrom
+  unfolding search_from
   step held new p s l e h =
       record { room = s.room; wide = s.wide; lefts = s.lefts; holding = h; below = omega arith; here = s.here ∙ rw (less count p l, e) }
 
   -- past a gate that names no group left
-  pub searching-past : (held new : List ℕ) (p : ℕ) → Searching waits left first count held p → p < count → bitIn 0 left p ≡ false → new ≡ held
+  pub searching_past : (held new : List ℕ) (p : ℕ) → Searching waits left first count held p → p < count → bit_in 0 left p ≡ false → new ≡ held
       → Searching waits left first count new (p + 1)
-  unfolding readyIn
-  searching-past held new p s l e f = step held new p s l (rw e) (rw f (holding-pass waits left held p s.holding e))
+  unfolding ready_in
+  searching_past held new p s l e f = step held new p s l (rw e) (rw f (holding_pass waits left held p s.holding e))
 
   -- past a group that waits
-  pub searching-held : (held new : List ℕ) (p w j : ℕ) → TestingWords waits left first count held p w → w < 4
+  pub searching_held : (held new : List ℕ) (p w j : ℕ) → TestingWords waits left first count held p w → w < 4
       → (bit_and (get_or waits (4 * p + w) 0) (get_or left w 0) ≡ 0 → ⊥) → (j < 64) × (bit (bit_and (get_or waits (4 * p + w) 0) (get_or left w 0)) j ≡ true)
       → new ≡ lowered (64 * w + j) p held → Searching waits left first count new (p + 1)
-  unfolding readyIn
-  searching-held held new p w j t l e x f =
-      step held new p t.search t.inside (rw t.isLeft (t.tested ∙ waiting)) (rw f (holding-more waits left held p t.search.holding w j l x.0 x.1))
+  unfolding ready_in
+  searching_held held new p w j t l e x f =
+      step held new p t.search t.inside (rw t.is_left (t.tested ∙ waiting)) (rw f (holding_more waits left held p t.search.holding w j l x.0 x.1))
     where
-      waiting : freeFrom waits left p w (4 - w) ≡ false
-      waiting = unfold freeFrom in rw (less 4 w l, ne_eqb (bit_and (get_or waits (4 * p + w) 0) (get_or left w 0)) 0 e)
+      waiting : free_from waits left p w (4 - w) ≡ false
+      waiting = unfold free_from in rw (less 4 w l, ne_eqb (bit_and (get_or waits (4 * p + w) 0) (get_or left w 0)) 0 e)
 
   module _ (held : List ℕ) where
-    pub testing-start : (p : ℕ) → Searching waits left first count held p → p < count → bitIn 0 left p ≡ true → TestingWords waits left first count held p 0
-    testing-start p s l e = record { search = s; inside = l; isLeft = e; below = omega arith; tested = refl }
+    pub testing_start : (p : ℕ) → Searching waits left first count held p → p < count → bit_in 0 left p ≡ true → TestingWords waits left first count held p 0
+    testing_start p s l e = record { search = s; inside = l; is_left = e; below = omega arith; tested = refl }
 
-    pub testing-next : (p w : ℕ) → TestingWords waits left first count held p w → w < 4 → bit_and (get_or waits (4 * p + w) 0) (get_or left w 0) ≡ 0
+    pub testing_next : (p w : ℕ) → TestingWords waits left first count held p w → w < 4 → bit_and (get_or waits (4 * p + w) 0) (get_or left w 0) ≡ 0
         → TestingWords waits left first count held p (w + 1)
-    unfolding freeFrom
-    testing-next p w t l e =
+    unfolding free_from
+    testing_next p w t l e =
         record {
           search = t.search;
           inside = t.inside;
-          isLeft = t.isLeft;
+          is_left = t.is_left;
           below = omega arith;
           tested = t.tested ∙ rw (less 4 w l, eq-eqb (bit_and (get_or waits (4 * p + w) 0) (get_or left w 0)) 0 e);
         }
 
     -- a group left that waits for none that is
-    pub testing-end : (p w : ℕ) → TestingWords waits left first count held p w → 4 ≤ w → Group (record { 0 = p }) ≡ nextReady waits left first count
-    unfolding searchFrom readyIn
-    testing-end p w t l = sym (t.search.here ∙ rw (less count p t.inside, t.isLeft, t.tested ∙ free))
+    pub testing_end : (p w : ℕ) → TestingWords waits left first count held p w → 4 ≤ w → Group (record { 0 = p }) ≡ next_ready waits left first count
+    unfolding search_from ready_in
+    testing_end p w t l = sym (t.search.here ∙ rw (less count p t.inside, t.is_left, t.tested ∙ free))
       where
-        free : freeFrom waits left p w (4 - w) ≡ true
-        free = unfold freeFrom in let e : 4 - w ≡ 0 = omega arith in rw e
+        free : free_from waits left p w (4 - w) ≡ true
+        free = unfold free_from in let e : 4 - w ≡ 0 = omega arith in rw e
 
-    pub searching-end : (p : ℕ) → Searching waits left first count held p → count ≤ p
-        → (Circle ≡ nextReady waits left first count) × Holding waits left held count
-    unfolding searchFrom
-    searching-end p s l =
+    pub searching_end : (p : ℕ) → Searching waits left first count held p → count ≤ p
+        → (Circle ≡ next_ready waits left first count) × Holding waits left held count
+    unfolding search_from
+    searching_end p s l =
         let e : count - p ≡ 0 = omega arith in
         let f : count ≡ p = omega (arith, s.below) in
         (sym (s.here ∙ rw e), rw f s.holding)
 
 -- what the code yields, back in the list's terms
-pub as_none : (o : Option ℕ) → Circle ≡ asNext o → o ≡ none
+pub as_none : (o : Option ℕ) → Circle ≡ as_next o → o ≡ none
 as_none none e = refl
 as_none (some p) e = let z : ◌≡◌ {A = ℕ} 0 1 = cc in absurd (omega arith)
 
-pub as_some : (o : Option ℕ) (p : GateId) → Group p ≡ asNext o → o ≡ some p.0
+pub as_some : (o : Option ℕ) (p : GateId) → Group p ≡ as_next o → o ≡ some p.0
 as_some none p e = let z : ◌≡◌ {A = ℕ} 0 1 = cc in absurd (omega arith)
 as_some (some q) p e = let z : p ≡ record { 0 = q } = cc in ap (λ (x : GateId). some x.0) (sym z)

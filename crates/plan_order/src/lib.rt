@@ -3,13 +3,13 @@
 ghost use Rattle.std.specs.Prelude.{◌≡◌, true, reverse, ◌*◌, ◌<◌, ◌≤◌, length, get_or, replicate};
 ghost use Rattle.base.specs.Buffers.{over};
 ghost use Rattle.base.specs.Bits.{bit};
-ghost use Rattle.circuit_needed.specs.Held.{gatesIn};
+ghost use Rattle.circuit_needed.specs.Held.{gates_in};
 ghost use Rattle.plan.specs.Order as plan;
 ghost use Rattle.plan_waits.specs.Reads.{Orderable};
-ghost use Rattle.plan_order.specs.Row.{order_of, orderRow};
-ghost use Rattle.plan_order.specs.Search.{nextReady, place_of, lowered, Holding};
-ghost use Rattle.base.specs.SetsHeld.{setsIn};
-ghost use Rattle.circuit.specs.Rooms.{gateRoom};
+ghost use Rattle.plan_order.specs.Row.{order_of, order_row};
+ghost use Rattle.plan_order.specs.Search.{next_ready, place_of, lowered, Holding};
+ghost use Rattle.base.specs.SetsHeld.{sets_in};
+ghost use Rattle.circuit.specs.Rooms.{gate_room};
 
 use circuit::{CONDITION_ROOM, GATE_ROOM, GateId, NEED_WORDS, QUAD_ROOM};
 
@@ -40,7 +40,7 @@ pub enum Order {
 
 // The row that refuses the plan: 30 for a circle, 0 for none.
 pub fn refusal_row(order: Order) -> u8
-    ensures { result ≡ orderRow order }
+    ensures { result ≡ order_row order }
 {
     match order {
         Order::Placed(_) => 0,
@@ -64,7 +64,7 @@ fn highest(x: u64) -> usize
 
 // Group p is held up by group q: it is noted there, unless a lower one is.
 fn hold(watch: &mut [u8; GATE_ROOM], q: GateId, p: GateId)
-    requires { (q.0 < gateRoom) × ((p.0 < gateRoom) × (length watch.old ≡ gateRoom)) }
+    requires { (q.0 < gate_room) × ((p.0 < gate_room) × (length watch.old ≡ gate_room)) }
     ensures { watch.new ≡ lowered q.0 p.0 watch.old }
 {
     let i = q.0 as usize;
@@ -83,8 +83,8 @@ fn next_ready(
     from: GateId,
     count: usize,
 ) -> Next
-    requires { (count ≤ gateRoom) × ((4 * count ≤ length waits.now) × ((length left.now ≡ 4) × ((from.0 ≤ count) × Holding waits.now left.now watch.old from.0))) }
-    ensures next { result ≡ nextReady waits.now left.now from.0 count }
+    requires { (count ≤ gate_room) × ((4 * count ≤ length waits.now) × ((length left.now ≡ 4) × ((from.0 ≤ count) × Holding waits.now left.now watch.old from.0))) }
+    ensures next { result ≡ next_ready waits.now left.now from.0 count }
     ensures held { Holding waits.now left.now watch.new (place_of result count) }
 {
     let first = from.0 as usize;
@@ -133,10 +133,10 @@ fn order_in(
     order: &mut [u16; GATE_ROOM],
 ) -> Order
     requires { Orderable quads.now count conditions.now group.now places.now
-        × ((length order.old ≡ gateRoom) × ((waits.old ≡ replicate (length waits.old) 0) × (4 * count ≤ length waits.old))) }
-    ensures answer { result ≡ order_of (gatesIn quads.now count) (setsIn needs.now) (λ x. get_or group.now x 0) }
+        × ((length order.old ≡ gate_room) × ((waits.old ≡ replicate (length waits.old) 0) × (4 * count ≤ length waits.old))) }
+    ensures answer { result ≡ order_of (gates_in quads.now count) (sets_in needs.now) (λ x. get_or group.now x 0) }
     ensures written { order.new
-        ≡ over (reverse (plan.order (gatesIn quads.now count) (setsIn needs.now) (λ x. get_or group.now x 0))) order.old }
+        ≡ over (reverse (plan.order (gates_in quads.now count) (sets_in needs.now) (λ x. get_or group.now x 0))) order.old }
 {
     plan_waits::find_waits(quads, count, needs, conditions, group, places, waits);
     let mut left = [0u64; base::SET_WORDS];
@@ -177,10 +177,10 @@ pub fn order_groups(
     places: &[u16; GATE_ROOM],
     order: &mut [u16; GATE_ROOM],
 ) -> Order
-    requires { Orderable quads.now count conditions.now group.now places.now × (length order.old ≡ gateRoom) }
-    ensures answer { result ≡ order_of (gatesIn quads.now count) (setsIn needs.now) (λ x. get_or group.now x 0) }
+    requires { Orderable quads.now count conditions.now group.now places.now × (length order.old ≡ gate_room) }
+    ensures answer { result ≡ order_of (gates_in quads.now count) (sets_in needs.now) (λ x. get_or group.now x 0) }
     ensures written { order.new
-        ≡ over (reverse (plan.order (gatesIn quads.now count) (setsIn needs.now) (λ x. get_or group.now x 0))) order.old }
+        ≡ over (reverse (plan.order (gates_in quads.now count) (sets_in needs.now) (λ x. get_or group.now x 0))) order.old }
 {
     if count <= FEW {
         let mut few = [0u64; FEW_WORDS];

@@ -3,28 +3,28 @@ use Rattle.std.specs.Prelude.{ℕ, ◌≤◌, ◌<◌, ◌≡◌, not, cond, Lis
 use Rattle.base.specs.Lists.{◌∈◌}
 use Rattle.base.specs.Codes.{code_of}
 use Rattle.circuit.specs.Gates.{Earlier, conditions}
-use Rattle.circuit.specs.Limits.{mostGates, mostConditions}
-use Rattle.circuit_needed.specs.Held.{choiceCode, code_at, first_at, secondAt, thirdAt, gatesIn}
+use Rattle.circuit.specs.Limits.{most_gates, most_conditions}
+use Rattle.circuit_needed.specs.Held.{choice_code, code_at, first_at, second_at, third_at, gates_in}
 use Rattle.plan.specs.Groups.{members}
-use Rattle.circuit.specs.Rooms.{gateRoom}
+use Rattle.circuit.specs.Rooms.{gate_room}
 
 -- the arguments of a gate by its code: a choice has three, an operation what the table says, any other none
-unfoldable pub arityOf : ℕ → ℕ
-arityOf code = cond (eqb code choiceCode) 3 (code_of code).arity
+unfoldable pub arity_of : ℕ → ℕ
+arity_of code = cond (eqb code choice_code) 3 (code_of code).arity
 
 -- the arguments of gate i of the quads
-unfoldable pub argumentsAt : List ℕ → ℕ → List ℕ
-argumentsAt quads i = take (arityOf (code_at quads i)) (first_at quads i ∷ secondAt quads i ∷ thirdAt quads i ∷ [])
+unfoldable pub arguments_at : List ℕ → ℕ → List ℕ
+arguments_at quads i = take (arity_of (code_at quads i)) (first_at quads i ∷ second_at quads i ∷ third_at quads i ∷ [])
 
 -- the numbers of l are places of the array of groups, and so are their groups
 abbrev pub Into : List ℕ → List ℕ → Type 0
-Into group l = (a : ℕ) → a ∈ l → (a < gateRoom) × (get_or group a 0 < gateRoom)
+Into group l = (a : ℕ) → a ∈ l → (a < gate_room) × (get_or group a 0 < gate_room)
 
 -- what the order is worked out from: gates in quads, arguments before their gates, the conditions, each gate's group by its smallest member,
 -- and a mark at the members of a group of two or more
 pub record Orderable (quads : List ℕ) (count : ℕ) (conds group places : List ℕ) : Type 0 where
-  pub room : count ≤ mostGates
-  pub earlier : Earlier (gatesIn quads count)
-  pub listed : (t : ℕ) → t < mostConditions → get_or conds t 0 ≡ get_or (conditions (gatesIn quads count)) t 0
+  pub room : count ≤ most_gates
+  pub earlier : Earlier (gates_in quads count)
+  pub listed : (t : ℕ) → t < most_conditions → get_or conds t 0 ≡ get_or (conditions (gates_in quads count)) t 0
   pub named : (x : ℕ) → x < count → (get_or group x 0 ≤ x) × (get_or group (get_or group x 0) 0 ≡ get_or group x 0)
   pub many : (m : ℕ) → m < count → leb 2 (length (members count (λ x. get_or group x 0) (get_or group m 0))) ≡ not (eqb (get_or places m 0) 0)

@@ -2,9 +2,9 @@
 use Rattle.std.specs.Prelude.{ℕ}
 
 -- no line of an answer has more bytes: `accepted`, four numbers of 20 digits behind spaces, a line feed
-abbrev pub mostLine : ℕ
-mostLine = 93
+abbrev pub most_line : ℕ
+most_line = 93
 
 -- no last line of a report: `total`, five numbers of 20 digits behind spaces, a sign, a line feed
-abbrev pub mostTotal : ℕ
-mostTotal = 112
+abbrev pub most_total : ℕ
+most_total = 112

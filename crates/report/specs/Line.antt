@@ -48,5 +48,5 @@ unfoldable pub put_over : List ℕ → List ℕ → List ℕ
 put_over text d = cond (leb (length text) (length d)) (over text d) d
 
 -- how many bytes of text d then holds: all of them, or none
-unfoldable pub putCount : List ℕ → List ℕ → ℕ
-putCount text d = cond (leb (length text) (length d)) (length text) 0
+unfoldable pub put_count : List ℕ → List ℕ → ℕ
+put_count text d = cond (leb (length text) (length d)) (length text) 0

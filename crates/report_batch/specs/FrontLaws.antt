@@ -6,7 +6,7 @@ use Rattle.std.proofs.Common.{◌∙◌, add_comm, arith, length-drop, length-ta
 use Rattle.std.proofs.Math.ListN.{drop, get_or}
 use Rattle.std.proofs.Math.Seq.{get_or-append-add, get_or-drop}
 use Rattle.base.specs.Buffers.{over}
-use Rattle.base.specs.BufferLaws.{over-nil, length_over, copy_more}
+use Rattle.base.specs.BufferLaws.{over_nil, length_over, copy_more}
 
 -- the first i of them are moved
 pub record Moved (b : List ℕ) (from n : ℕ) (e : List ℕ) (i : ℕ) : Type 0 where
@@ -14,8 +14,8 @@ pub record Moved (b : List ℕ) (from n : ℕ) (e : List ℕ) (i : ℕ) : Type 0
   pub some : i ≤ n
   pub held : e ≡ over (take i (drop from b)) b
 
-pub moved-start : (b : List ℕ) (from n : ℕ) → from + n ≤ length b → Moved b from n b 0
-moved-start b from n h = record { inside = h; some = omega arith; held = sym (over-nil b) }
+pub moved_start : (b : List ℕ) (from n : ℕ) → from + n ≤ length b → Moved b from n b 0
+moved_start b from n h = record { inside = h; some = omega arith; held = sym (over_nil b) }
 
 module _ (b : List ℕ) (from n : ℕ) (e : List ℕ) (i : ℕ) (m : Moved b from n e i) where
   front : length (take i (drop from b)) ≡ i

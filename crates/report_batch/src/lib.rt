@@ -2,11 +2,11 @@
 ghost use Rattle.std.specs.Prelude.{◌≡◌, true, cond, ◌+◌, ◌-◌, ◌≤◌, ◌<◌, length, take, drop};
 ghost use Rattle.base.specs.Lists.{same};
 ghost use Rattle.base.specs.Buffers.{over};
-ghost use Rattle.report.specs.Line.{put_over, putCount};
-ghost use Rattle.report.specs.Batch.{batchMark, headBytes, hasPart, partSize, hasEntry, entrySize, entryAnswer, plus};
-ghost use Rattle.report.specs.Steps.{headStep, entryStep, step, hasStopped, ending};
-ghost use Rattle.report.specs.Limits.{mostLine};
-ghost use Rattle.report.specs.Bounds.{Sized, Costs, Within, mostPart, mostHeld, Nears, Few};
+ghost use Rattle.report.specs.Line.{put_over, put_count};
+ghost use Rattle.report.specs.Batch.{batch_mark, head_bytes, has_part, part_size, has_entry, entry_size, entry_answer, plus};
+ghost use Rattle.report.specs.Steps.{head_step, entry_step, step, has_stopped, ending};
+ghost use Rattle.report.specs.Limits.{most_line};
+ghost use Rattle.report.specs.Bounds.{Sized, Costs, Within, most_part, most_held, Nears, Few};
 ghost use Rattle.report.specs.declared.Progress.TheVariants.{Head, Entries};
 ghost use Rattle.report.specs.Promised.{took, Quiet, Does, Drains};
 
@@ -29,8 +29,8 @@ fn quiet(progress: Progress, bytes: usize) -> Taken
 
 // The mark and the version stand at the start.
 fn marked(s: &[u8]) -> bool
-    requires { headBytes ≤ length s.now }
-    ensures { result ≡ same (take 5 s.now) batchMark }
+    requires { head_bytes ≤ length s.now }
+    ensures { result ≡ same (take 5 s.now) batch_mark }
 {
     match base_answers::read_mark(s, b"BAT\x00\x01", 75) {
         Step::Past(_) => true,
@@ -39,7 +39,7 @@ fn marked(s: &[u8]) -> bool
 }
 
 fn take_head(s: &[u8]) -> Taken
-    ensures done { Quiet (headStep s.now) result }
+    ensures done { Quiet (head_step s.now) result }
     ensures kept { Within result.progress × Nears Head result }
     ensures few { Few result (length s.now) }
 {
@@ -63,9 +63,9 @@ fn take_head(s: &[u8]) -> Taken
 
 // The bytes of the part at the start, or 0 where it is not whole.
 fn part_size(s: &[u8]) -> usize
-    ensures size { result ≡ cond (hasPart s.now) (partSize s.now) 0 }
-    ensures small { result ≤ mostPart }
-    ensures short { result ≡ 0 → length s.now < mostPart }
+    ensures size { result ≡ cond (has_part s.now) (part_size s.now) 0 }
+    ensures small { result ≤ most_part }
+    ensures short { result ≡ 0 → length s.now < most_part }
 {
     if s.len() < 2 {
         return 0;
@@ -79,9 +79,9 @@ fn part_size(s: &[u8]) -> usize
 
 // The bytes of the entry at the start, or 0 where it is not whole.
 fn entry_size(s: &[u8]) -> usize
-    ensures size { result ≡ cond (hasEntry s.now) (entrySize s.now) 0 }
-    ensures small { result ≤ mostHeld }
-    ensures short { result ≡ 0 → length s.now < mostHeld }
+    ensures size { result ≡ cond (has_entry s.now) (entry_size s.now) 0 }
+    ensures small { result ≤ most_held }
+    ensures short { result ≡ 0 → length s.now < most_held }
 {
     let rule = part_size(s);
     if rule == 0 {
@@ -96,8 +96,8 @@ fn entry_size(s: &[u8]) -> usize
 
 // What the tool answers for the entry at the start, which is whole.
 fn answer_entry(s: &[u8]) -> Answer
-    requires { hasEntry s.now ≡ true }
-    ensures { result ≡ entryAnswer s.now }
+    requires { has_entry s.now ≡ true }
+    ensures { result ≡ entry_answer s.now }
 {
     let rule = part_size(s);
     let plan = part_size(&s[rule..]);
@@ -127,8 +127,8 @@ fn add(sums: Sums, answer: Answer) -> Sums
 
 // One of the entries to come, if it is whole, and its line.
 fn take_entry(left: usize, sums: Sums, s: &[u8], out: &mut [u8]) -> Taken
-    requires { (Sized left sums × (1 ≤ left)) × (mostLine ≤ length out.old) }
-    ensures done { Does (entryStep left sums s.now) result out.old out.new }
+    requires { (Sized left sums × (1 ≤ left)) × (most_line ≤ length out.old) }
+    ensures done { Does (entry_step left sums s.now) result out.old out.new }
     ensures kept { Within result.progress × Nears (Entries left sums) result }
     ensures few { Few result (length s.now) }
 {
@@ -148,7 +148,7 @@ fn take_entry(left: usize, sums: Sums, s: &[u8], out: &mut [u8]) -> Taken
 // Nothing may be left behind the last entry.
 fn take_end(sums: Sums, s: &[u8]) -> Taken
     requires { Sized 0 sums }
-    ensures done { Quiet (entryStep 0 sums s.now) result }
+    ensures done { Quiet (entry_step 0 sums s.now) result }
     ensures kept { Within result.progress × Nears (Entries 0 sums) result }
     ensures few { Few result (length s.now) }
 {
@@ -160,7 +160,7 @@ fn take_end(sums: Sums, s: &[u8]) -> Taken
 
 // One step with the bytes at hand.
 fn step(progress: Progress, s: &[u8], out: &mut [u8]) -> Taken
-    requires { Within progress × (mostLine ≤ length out.old) }
+    requires { Within progress × (most_line ≤ length out.old) }
     ensures done { Does (step progress s.now) result out.old out.new }
     ensures kept { Within result.progress × Nears progress result }
     ensures few { Few result (length s.now) }
@@ -182,7 +182,7 @@ pub fn take_entries(progress: Progress, s: &[u8], out: &mut [u8]) -> Taken
     requires { Within progress }
     ensures done { Drains progress s.now result out.old out.new }
     ensures kept { Within result.progress × Nears progress result }
-    ensures few { mostLine ≤ length out.old → Few result (length s.now) }
+    ensures few { most_line ≤ length out.old → Few result (length s.now) }
 {
     let mut reached = progress;
     let mut bytes: usize = 0;
@@ -208,7 +208,7 @@ pub fn take_entries(progress: Progress, s: &[u8], out: &mut [u8]) -> Taken
 
 // Writes the last line, when the batch has ended and no step is left. Answers how many bytes it wrote.
 pub fn finish(progress: Progress, out: &mut [u8]) -> usize
-    ensures counted { result ≡ putCount (ending progress) out.old }
+    ensures counted { result ≡ put_count (ending progress) out.old }
     ensures written { out.new ≡ put_over (ending progress) out.old }
 {
     match progress {
@@ -231,7 +231,7 @@ pub fn finish(progress: Progress, out: &mut [u8]) -> usize
 
 // The report is refused with 75, whatever comes.
 pub fn has_stopped(progress: Progress) -> bool
-    ensures { result ≡ hasStopped progress }
+    ensures { result ≡ has_stopped progress }
 {
     match progress {
         Progress::Head => false,

@@ -2,8 +2,8 @@
 ghost use Rattle.std.specs.Prelude.{◌≡◌, ◌++◌, ◌≤◌, length};
 ghost use Rattle.base.specs.Buffers.{over};
 ghost use Rattle.base.specs.Lists.{flat};
-ghost use Rattle.report.specs.Line.{decimal, spaced, line, line_of, put_over, putCount};
-ghost use Rattle.report.specs.Total.{spacedLess, totalLine};
+ghost use Rattle.report.specs.Line.{decimal, spaced, line, line_of, put_over, put_count};
+ghost use Rattle.report.specs.Total.{spaced_less, total_line};
 
 use base::Answer;
 
@@ -90,9 +90,9 @@ fn put_answer(answer: Answer, out: &mut [u8]) -> usize
 
 // Before less after, with its sign where it is negative.
 fn put_less(before: usize, after: usize, out: &mut [u8]) -> usize
-    requires { length (spacedLess before after) ≤ length out.old }
-    ensures counted { result ≡ length (spacedLess before after) }
-    ensures written { out.new ≡ over (spacedLess before after) out.old }
+    requires { length (spaced_less before after) ≤ length out.old }
+    ensures counted { result ≡ length (spaced_less before after) }
+    ensures written { out.new ≡ over (spaced_less before after) out.old }
 {
     if after <= before {
         return put_spaced(before - after, out);
@@ -103,9 +103,9 @@ fn put_less(before: usize, after: usize, out: &mut [u8]) -> usize
 }
 
 fn put_total(accepted: usize, refused: usize, before: usize, after: usize, out: &mut [u8]) -> usize
-    requires { length (totalLine accepted refused before after) ≤ length out.old }
-    ensures counted { result ≡ length (totalLine accepted refused before after) }
-    ensures written { out.new ≡ over (totalLine accepted refused before after) out.old }
+    requires { length (total_line accepted refused before after) ≤ length out.old }
+    ensures counted { result ≡ length (total_line accepted refused before after) }
+    ensures written { out.new ≡ over (total_line accepted refused before after) out.old }
 {
     let counts = [accepted, refused, before, after];
     let n = put_front(b"total", &counts, out);
@@ -116,7 +116,7 @@ fn put_total(accepted: usize, refused: usize, before: usize, after: usize, out: 
 
 // All of the text or nothing: a buffer that is shorter than it is not touched.
 fn put_whole(text: &[u8], out: &mut [u8]) -> usize
-    ensures counted { result ≡ putCount text.now out.old }
+    ensures counted { result ≡ put_count text.now out.old }
     ensures written { out.new ≡ put_over text.now out.old }
 {
     if out.len() < text.len() {
@@ -127,7 +127,7 @@ fn put_whole(text: &[u8], out: &mut [u8]) -> usize
 
 // Writes n in decimal digits; no number has more than 20. Answers how many bytes it wrote.
 pub fn write_decimal(n: usize, out: &mut [u8]) -> usize
-    ensures counted { result ≡ putCount (decimal n) out.old }
+    ensures counted { result ≡ put_count (decimal n) out.old }
     ensures written { out.new ≡ put_over (decimal n) out.old }
 {
     let mut text = [0u8; 20];
@@ -137,7 +137,7 @@ pub fn write_decimal(n: usize, out: &mut [u8]) -> usize
 
 // Writes the line of an answer. Answers how many bytes it wrote.
 pub fn write_line(answer: Answer, out: &mut [u8]) -> usize
-    ensures counted { result ≡ putCount (line_of answer) out.old }
+    ensures counted { result ≡ put_count (line_of answer) out.old }
     ensures written { out.new ≡ put_over (line_of answer) out.old }
 {
     let mut text = [0u8; report::MOST_LINE];
@@ -153,8 +153,8 @@ pub fn write_total(
     after: usize,
     out: &mut [u8],
 ) -> usize
-    ensures counted { result ≡ putCount (totalLine accepted refused before after) out.old }
-    ensures written { out.new ≡ put_over (totalLine accepted refused before after) out.old }
+    ensures counted { result ≡ put_count (total_line accepted refused before after) out.old }
+    ensures written { out.new ≡ put_over (total_line accepted refused before after) out.old }
 {
     let mut text = [0u8; report::MOST_TOTAL];
     let n = put_total(accepted, refused, before, after, &mut text);

@@ -9,21 +9,21 @@ use borrow.Author.Tests.{lt-ltb, le-leb}
 use Rattle.std.proofs.Math.ListN.{length, drop, length-append}
 use Rattle.std.proofs.Math.Seq.{drop-append_seam, take_at}
 use Rattle.base.specs.Numbers.{number_at, bytes_of}
-use Rattle.base.specs.NumberLaws.{length-bytes, number-written}
-use Rattle.base.specs.Codes.{code_of, entryOf, byte_of, sameKind}
-use Rattle.base.specs.CodeLaws.{entry-form, code-back}
+use Rattle.base.specs.NumberLaws.{length_bytes, number_written}
+use Rattle.base.specs.Codes.{code_of, entry_of, byte_of, same_kind}
+use Rattle.base.specs.CodeLaws.{entry_form, code_back}
 use Rattle.base.specs.declared.Kind.{Kind}
 use Rattle.base.specs.declared.Kind.TheVariants as kind
 use Rattle.base.specs.declared.Operation.{Operation}
 use Rattle.base.specs.declared.Form.TheVariants as form
 use Rattle.base.specs.Parsing.{parsed}
-use Rattle.rule.specs.Header.{variables, kindAt}
+use Rattle.rule.specs.Header.{variables, kind_at}
 use Rattle.rule.specs.Tree.{Expr, variable, word, bit, one, two}
-use Rattle.rule.specs.Expressions.{readVariable, readWord, readBit, argumentsWith, readExpr}
-use Rattle.rule.specs.ExpressionLaws.{expr-as, expr-arguments}
-use Rattle.rule.specs.FirstByte.{arguments-one, arguments-two}
+use Rattle.rule.specs.Expressions.{read_variable, read_word, read_bit, arguments_with, read_expr}
+use Rattle.rule.specs.ExpressionLaws.{expr_as, expr_arguments}
+use Rattle.rule.specs.FirstByte.{arguments_one, arguments_two}
 use Rattle.rule.specs.Kinds.{Typed, WordsFit}
-use Rattle.rule.specs.Format.{exprBytes, depth}
+use Rattle.rule.specs.Format.{expr_bytes, depth}
 
 -- the bytes that stand at a place
 pub record ByteAt (s : List ℕ) (at x : ℕ) (rest : List ℕ) : Type 0 where
@@ -42,7 +42,7 @@ byte_at s at x rest h =
 pub bytes_after : (s : List ℕ) (at : ℕ) (a rest : List ℕ) → drop at s ≡ a ++ rest → drop (at + length a) s ≡ rest
 bytes_after s at a rest h = sym (drop-drop (length a) at s) ∙ ap (drop (length a)) h ∙ drop-append_seam a rest
 
-same_self : (k want : Kind) → k ≡ want → sameKind k want ≡ true
+same_self : (k want : Kind) → k ≡ want → same_kind k want ≡ true
 same_self k kind.Word e = rw e
 same_self k kind.Bit e = rw e
 
@@ -51,62 +51,62 @@ module _ (s : List ℕ) where
   coded : (at x : ℕ) → get_or s at 0 ≡ x → code_of x ≡ code_of (get_or s at 0)
   coded at x e = ap code_of (sym e)
 
-  variable-back : (x deep : ℕ) (want : Kind) (at : ℕ) (rest : List ℕ) → x < variables s → kindAt s x ≡ want → 1 ≤ deep → drop at s ≡ 0x10 ∷ (x ∷ rest)
-      → readExpr deep s want at ≡ parsed (variable x) (at + 2)
-  unfolding code_of readVariable
-  variable-back x deep want at rest v k d h =
+  variable_back : (x deep : ℕ) (want : Kind) (at : ℕ) (rest : List ℕ) → x < variables s → kind_at s x ≡ want → 1 ≤ deep → drop at s ≡ 0x10 ∷ (x ∷ rest)
+      → read_expr deep s want at ≡ parsed (variable x) (at + 2)
+  unfolding code_of read_variable
+  variable_back x deep want at rest v k d h =
       let c = byte_at s at 0x10 (x ∷ rest) h in
       let y = byte_at s (at + 1) x rest c.next in
-      expr-as deep s want at (code_of 0x10) c.inside (coded at 0x10 c.byte) form.Variable refl
+      expr_as deep s want at (code_of 0x10) c.inside (coded at 0x10 c.byte) form.Variable refl
       ∙ rw (lt-ltb 0 deep d, lt-ltb _ _ y.inside, y.byte, lt-ltb _ _ v, same_self _ _ k)
 
   word_back : (n deep : ℕ) (at : ℕ) (rest : List ℕ) → n < 4294967296 → 1 ≤ deep → drop at s ≡ 0x11 ∷ (bytes_of 4 n ++ rest)
-      → readExpr deep s kind.Word at ≡ parsed (word n) (at + 5)
-  unfolding code_of readWord
+      → read_expr deep s kind.Word at ≡ parsed (word n) (at + 5)
+  unfolding code_of read_word
   word_back n deep at rest f d h =
       let c = byte_at s at 0x11 (bytes_of 4 n ++ rest) h in
-      let e : number_at 4 s (at + 1) ≡ n = rw (c.next, take_at (bytes_of 4 n) rest 4 (length-bytes 4 n)) (number-written 4 n f) in
-      let room : 5 ≤ length s - at = omega (arith, sym (length-drop at s) ∙ ap length h, length-append (bytes_of 4 n) rest, length-bytes 4 n) in
-      expr-as deep s kind.Word at (code_of 0x11) c.inside (coded at 0x11 c.byte) form.Word refl
+      let e : number_at 4 s (at + 1) ≡ n = rw (c.next, take_at (bytes_of 4 n) rest 4 (length_bytes 4 n)) (number_written 4 n f) in
+      let room : 5 ≤ length s - at = omega (arith, sym (length-drop at s) ∙ ap length h, length-append (bytes_of 4 n) rest, length_bytes 4 n) in
+      expr_as deep s kind.Word at (code_of 0x11) c.inside (coded at 0x11 c.byte) form.Word refl
       ∙ rw (lt-ltb 0 deep d, le-leb _ _ room, e)
 
-  bit-back : (x deep : ℕ) (at : ℕ) (rest : List ℕ) → x ≤ 1 → 1 ≤ deep → drop at s ≡ 0x12 ∷ (x ∷ rest)
-      → readExpr deep s kind.Bit at ≡ parsed (bit x) (at + 2)
-  unfolding code_of readBit
-  bit-back x deep at rest v d h =
+  bit_back : (x deep : ℕ) (at : ℕ) (rest : List ℕ) → x ≤ 1 → 1 ≤ deep → drop at s ≡ 0x12 ∷ (x ∷ rest)
+      → read_expr deep s kind.Bit at ≡ parsed (bit x) (at + 2)
+  unfolding code_of read_bit
+  bit_back x deep at rest v d h =
       let c = byte_at s at 0x12 (x ∷ rest) h in
       let y = byte_at s (at + 1) x rest c.next in
-      expr-as deep s kind.Bit at (code_of 0x12) c.inside (coded at 0x12 c.byte) form.Bit refl
+      expr_as deep s kind.Bit at (code_of 0x12) c.inside (coded at 0x12 c.byte) form.Bit refl
       ∙ rw (lt-ltb 0 deep d, lt-ltb _ _ y.inside, y.byte, le-leb _ _ v)
 
-  operation-back : (op : Operation) (deep : ℕ) (want : Kind) (at : ℕ) (rest : List ℕ) → (entryOf op).gives ≡ want → 1 ≤ deep → drop at s ≡ byte_of op ∷ rest
-      → readExpr deep s want at ≡ argumentsWith (readExpr (deep - 1) s) op (at + 1)
-  operation-back op deep want at rest k d h =
+  operation_back : (op : Operation) (deep : ℕ) (want : Kind) (at : ℕ) (rest : List ℕ) → (entry_of op).gives ≡ want → 1 ≤ deep → drop at s ≡ byte_of op ∷ rest
+      → read_expr deep s want at ≡ arguments_with (read_expr (deep - 1) s) op (at + 1)
+  operation_back op deep want at rest k d h =
       let c = byte_at s at (byte_of op) rest h in
-      expr-arguments deep s want at (entryOf op) c.inside (sym (code-back op) ∙ coded at (byte_of op) c.byte) op (entry-form op) (same_self _ _ k) (λ z. omega arith)
+      expr_arguments deep s want at (entry_of op) c.inside (sym (code_back op) ∙ coded at (byte_of op) c.byte) op (entry_form op) (same_self _ _ k) (λ z. omega arith)
 
-  pub expr-back : (e : Expr) (deep : ℕ) (want : Kind) (at : ℕ) (rest : List ℕ) → Typed (variables s) (kindAt s) e want → WordsFit e want → depth e ≤ deep
-      → drop at s ≡ exprBytes e ++ rest → readExpr deep s want at ≡ parsed e (at + length (exprBytes e))
-  unfolding depth exprBytes
-  expr-back (variable x) deep want at rest t w d h = variable-back x deep want at rest t.0 t.1 d h
-  expr-back (word n) deep want at rest t w d h =
-      let l : at + 5 ≡ at + suc (length (bytes_of 4 n)) = rw (length-bytes 4 n) in
+  pub expr_back : (e : Expr) (deep : ℕ) (want : Kind) (at : ℕ) (rest : List ℕ) → Typed (variables s) (kind_at s) e want → WordsFit e want → depth e ≤ deep
+      → drop at s ≡ expr_bytes e ++ rest → read_expr deep s want at ≡ parsed e (at + length (expr_bytes e))
+  unfolding depth expr_bytes
+  expr_back (variable x) deep want at rest t w d h = variable_back x deep want at rest t.0 t.1 d h
+  expr_back (word n) deep want at rest t w d h =
+      let l : at + 5 ≡ at + suc (length (bytes_of 4 n)) = rw (length_bytes 4 n) in
       rw (← t) (word_back n deep at rest w d h ∙ ap (parsed (word n)) l)
-  expr-back (bit x) deep want at rest t w d h = rw (← t.1) (bit-back x deep at rest t.0 d h)
-  expr-back (one op e) deep want at rest t w d h =
-      let q : at + 1 + length (exprBytes e) ≡ at + suc (length (exprBytes e)) = omega arith in
-      let c = byte_at s at (byte_of op) (exprBytes e ++ rest) h in
-      let r = expr-back e (deep - 1) (entryOf op).takes (at + 1) rest t.2 w (omega arith) c.next in
-      operation-back op deep want at (exprBytes e ++ rest) t.1 (omega arith) h
-      ∙ arguments-one (readExpr (deep - 1) s) op (at + 1) e (at + 1 + length (exprBytes e)) r t.0 ∙ ap (parsed (one op e)) q
-  expr-back (two op x y) deep want at rest t w d h =
-      let q : at + 1 + length (exprBytes x) + length (exprBytes y) ≡ at + suc (length (exprBytes x ++ exprBytes y)) = rw length-append (omega arith) in
-      let h' : drop at s ≡ byte_of op ∷ (exprBytes x ++ (exprBytes y ++ rest)) = h ∙ ap (λ (l : List ℕ). byte_of op ∷ l) (append_assoc (exprBytes x) (exprBytes y) rest) in
-      let c = byte_at s at (byte_of op) (exprBytes x ++ (exprBytes y ++ rest)) h' in
-      let r = expr-back x (deep - 1) (entryOf op).takes (at + 1) (exprBytes y ++ rest) t.2 w.0 (omega arith) c.next in
-      let p = expr-back y (deep - 1) (entryOf op).takes (at + 1 + length (exprBytes x)) rest t.3 w.1 (omega arith)
-      (bytes_after s (at + 1) (exprBytes x) (exprBytes y ++ rest) c.next) in
-      operation-back op deep want at (exprBytes x ++ (exprBytes y ++ rest)) t.1 (omega arith) h'
-      ∙ arguments-two (readExpr (deep - 1) s) op (at + 1) x (at + 1 + length (exprBytes x)) r (λ z. omega (arith, z, t.0)) y
-      (at + 1 + length (exprBytes x) + length (exprBytes y)) p
+  expr_back (bit x) deep want at rest t w d h = rw (← t.1) (bit_back x deep at rest t.0 d h)
+  expr_back (one op e) deep want at rest t w d h =
+      let q : at + 1 + length (expr_bytes e) ≡ at + suc (length (expr_bytes e)) = omega arith in
+      let c = byte_at s at (byte_of op) (expr_bytes e ++ rest) h in
+      let r = expr_back e (deep - 1) (entry_of op).takes (at + 1) rest t.2 w (omega arith) c.next in
+      operation_back op deep want at (expr_bytes e ++ rest) t.1 (omega arith) h
+      ∙ arguments_one (read_expr (deep - 1) s) op (at + 1) e (at + 1 + length (expr_bytes e)) r t.0 ∙ ap (parsed (one op e)) q
+  expr_back (two op x y) deep want at rest t w d h =
+      let q : at + 1 + length (expr_bytes x) + length (expr_bytes y) ≡ at + suc (length (expr_bytes x ++ expr_bytes y)) = rw length-append (omega arith) in
+      let h' : drop at s ≡ byte_of op ∷ (expr_bytes x ++ (expr_bytes y ++ rest)) = h ∙ ap (λ (l : List ℕ). byte_of op ∷ l) (append_assoc (expr_bytes x) (expr_bytes y) rest) in
+      let c = byte_at s at (byte_of op) (expr_bytes x ++ (expr_bytes y ++ rest)) h' in
+      let r = expr_back x (deep - 1) (entry_of op).takes (at + 1) (expr_bytes y ++ rest) t.2 w.0 (omega arith) c.next in
+      let p = expr_back y (deep - 1) (entry_of op).takes (at + 1 + length (expr_bytes x)) rest t.3 w.1 (omega arith)
+      (bytes_after s (at + 1) (expr_bytes x) (expr_bytes y ++ rest) c.next) in
+      operation_back op deep want at (expr_bytes x ++ (expr_bytes y ++ rest)) t.1 (omega arith) h'
+      ∙ arguments_two (read_expr (deep - 1) s) op (at + 1) x (at + 1 + length (expr_bytes x)) r (λ z. omega (arith, z, t.0)) y
+      (at + 1 + length (expr_bytes x) + length (expr_bytes y)) p
       ∙ ap (parsed (two op x y)) q

@@ -1,7 +1,7 @@
 -- The relations on trees: a fact of every expression follows from another, and only the kinds of the variables count.
 use Rattle.std.specs.Prelude.{ℕ, ◌<◌, ◌≡◌}
 use Rattle.std.proofs.Common.{sym, subst, ◌∙◌}
-use Rattle.base.specs.Codes.{entryOf}
+use Rattle.base.specs.Codes.{entry_of}
 use Rattle.base.specs.declared.Kind.{Kind}
 use Rattle.base.specs.declared.Kind.TheVariants as kind
 use Rattle.rule.specs.Tree.{Expr, variable, word, bit, one, two, Statement, assign, skip, branch, Block, end, then}
@@ -20,9 +20,9 @@ module _ (v : ℕ) (kinds other : ℕ → Kind) (same : (x : ℕ) → x < v → 
       each_same end h = tt
       each_same (then t b) h = (each_in t h.0, each_same b h.1)
 
-  pub typed-same : (e : Expr) (k : Kind) → Typed v kinds e k → Typed v other e k
-  typed-same (variable x) k h = (h.0, sym (same x h.0) ∙ h.1)
-  typed-same (word n) k h = h
-  typed-same (bit b) k h = h
-  typed-same (one op e) k h = (h.0, h.1, typed-same e (entryOf op).takes h.2)
-  typed-same (two op d e) k h = (h.0, h.1, typed-same d (entryOf op).takes h.2, typed-same e (entryOf op).takes h.3)
+  pub typed_same : (e : Expr) (k : Kind) → Typed v kinds e k → Typed v other e k
+  typed_same (variable x) k h = (h.0, sym (same x h.0) ∙ h.1)
+  typed_same (word n) k h = h
+  typed_same (bit b) k h = h
+  typed_same (one op e) k h = (h.0, h.1, typed_same e (entry_of op).takes h.2)
+  typed_same (two op d e) k h = (h.0, h.1, typed_same d (entry_of op).takes h.2, typed_same e (entry_of op).takes h.3)

@@ -3,44 +3,44 @@ use Rattle.std.specs.Prelude.{ℕ, suc, ◌≤◌, ◌<◌, max, List, [], ◌�
 use Rattle.base.specs.Numbers.{bytes_of}
 use Rattle.base.specs.Codes.{byte_of}
 use Rattle.base.specs.declared.Kind.{Kind}
-use Rattle.rule.specs.Limits.{mostRuleBytes, mostVariables, lastKind, deepest, nested}
+use Rattle.rule.specs.Limits.{most_rule_bytes, most_variables, last_kind, deepest, nested}
 use Rattle.rule.specs.Header.{kind_of, mark, variables}
 use Rattle.rule.specs.Tree.{Expr, variable, word, bit, one, two, Statement, assign, skip, branch, Block, end, then}
 use Rattle.rule.specs.Kinds.{EachExpr, TypedBlock, WordsBlock}
 
 -- in prefix form: 10 variable; 11 and four bytes, a word constant; 12 and 00 or 01, a bit constant; else an operation and its arguments
-unfoldable pub exprBytes : Expr → List ℕ
-exprBytes (variable x) = 0x10 ∷ x ∷ []
-exprBytes (word n) = 0x11 ∷ bytes_of 4 n
-exprBytes (bit b) = 0x12 ∷ b ∷ []
-exprBytes (one op e) = byte_of op ∷ exprBytes e
-exprBytes (two op d e) = byte_of op ∷ (exprBytes d ++ exprBytes e)
+unfoldable pub expr_bytes : Expr → List ℕ
+expr_bytes (variable x) = 0x10 ∷ x ∷ []
+expr_bytes (word n) = 0x11 ∷ bytes_of 4 n
+expr_bytes (bit b) = 0x12 ∷ b ∷ []
+expr_bytes (one op e) = byte_of op ∷ expr_bytes e
+expr_bytes (two op d e) = byte_of op ∷ (expr_bytes d ++ expr_bytes e)
 
 -- 01 variable expression (assign); 02 (skip); 03 expression block block (if). A block is statements closed by 00.
 unfoldable mutual
-  pub statementBytes : Statement → List ℕ
-  statementBytes (assign x e) = 0x01 ∷ x ∷ exprBytes e
-  statementBytes skip = 0x02 ∷ []
-  statementBytes (branch c b d) = 0x03 ∷ (exprBytes c ++ (blockBytes b ++ blockBytes d))
+  pub statement_bytes : Statement → List ℕ
+  statement_bytes (assign x e) = 0x01 ∷ x ∷ expr_bytes e
+  statement_bytes skip = 0x02 ∷ []
+  statement_bytes (branch c b d) = 0x03 ∷ (expr_bytes c ++ (block_bytes b ++ block_bytes d))
 
-  pub blockBytes : Block → List ℕ
-  blockBytes end = 0x00 ∷ []
-  blockBytes (then t b) = statementBytes t ++ blockBytes b
+  pub block_bytes : Block → List ℕ
+  block_bytes end = 0x00 ∷ []
+  block_bytes (then t b) = statement_bytes t ++ block_bytes b
 
 -- "RUL" and the version, V, V kind bytes
-abbrev pub headerBytes : List ℕ → List ℕ
-headerBytes kinds = mark ++ (length kinds ∷ kinds)
+abbrev pub header_bytes : List ℕ → List ℕ
+header_bytes kinds = mark ++ (length kinds ∷ kinds)
 
 -- a rule file: its header, then its block
-abbrev pub ruleBytes : List ℕ → Block → List ℕ
-ruleBytes kinds b = headerBytes kinds ++ blockBytes b
+abbrev pub rule_bytes : List ℕ → Block → List ℕ
+rule_bytes kinds b = header_bytes kinds ++ block_bytes b
 
 -- the kind bytes of a file, and the kind that they give variable x
-abbrev pub kindBytes : List ℕ → List ℕ
-kindBytes s = take (variables s) (drop 6 s)
+abbrev pub kind_bytes : List ℕ → List ℕ
+kind_bytes s = take (variables s) (drop 6 s)
 
-abbrev pub kindIn : List ℕ → ℕ → Kind
-kindIn kinds x = kind_of (get_or kinds x 0)
+abbrev pub kind_in : List ℕ → ℕ → Kind
+kind_in kinds x = kind_of (get_or kinds x 0)
 
 -- a variable or constant alone is 1 deep
 unfoldable pub depth : Expr → ℕ
@@ -56,28 +56,28 @@ Shallow e k = depth e ≤ deepest
 
 -- how deep ifs nest
 unfoldable mutual
-  pub nestingIn : Statement → ℕ
-  nestingIn (assign x e) = 0
-  nestingIn skip = 0
-  nestingIn (branch c b d) = suc (max (nesting b) (nesting d))
+  pub nesting_in : Statement → ℕ
+  nesting_in (assign x e) = 0
+  nesting_in skip = 0
+  nesting_in (branch c b d) = suc (max (nesting b) (nesting d))
 
   pub nesting : Block → ℕ
   nesting end = 0
-  nesting (then t b) = max (nestingIn t) (nesting b)
+  nesting (then t b) = max (nesting_in t) (nesting b)
 
 -- a rule that reading takes: each field is a sentence of "The rule file"
 pub record WellFormed (kinds : List ℕ) (b : Block) : Type 0 where
   -- V is 1 to 32
   pub some : 1 ≤ length kinds
-  pub few : length kinds ≤ mostVariables
+  pub few : length kinds ≤ most_variables
   -- every kind byte is 00 word or 01 bit, or 02 or 03 of a working one (C-13)
-  pub known : (x : ℕ) → x < length kinds → get_or kinds x 0 ≤ lastKind
+  pub known : (x : ℕ) → x < length kinds → get_or kinds x 0 ≤ last_kind
   -- every variable is one of V, every bit constant is 0 or 1, and the kinds of arguments and results fit
-  pub typed : TypedBlock (length kinds) (kindIn kinds) b
+  pub typed : TypedBlock (length kinds) (kind_in kinds) b
   -- a word is 32 bits
-  pub words : WordsBlock (length kinds) (kindIn kinds) b
+  pub words : WordsBlock (length kinds) (kind_in kinds) b
   -- expressions are at most 8 deep, ifs nest at most 8 deep (C-17)
-  pub shallow : EachExpr (length kinds) (kindIn kinds) Shallow b
+  pub shallow : EachExpr (length kinds) (kind_in kinds) Shallow b
   pub nests : nesting b ≤ nested
   -- at most 4,096 bytes
-  pub size : length (ruleBytes kinds b) ≤ mostRuleBytes
+  pub size : length (rule_bytes kinds b) ≤ most_rule_bytes

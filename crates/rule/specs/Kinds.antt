@@ -1,6 +1,6 @@
 -- Document 01, "The rule file": "arguments to result" of the operation table, as a relation on trees.
 use Rattle.std.specs.Prelude.{ℕ, ◌<◌, ◌≡◌}
-use Rattle.base.specs.Codes.{Fits, entryOf}
+use Rattle.base.specs.Codes.{Fits, entry_of}
 use Rattle.base.specs.declared.Kind.{Kind}
 use Rattle.base.specs.declared.Kind.TheVariants as kind
 use Rattle.rule.specs.Tree.{Expr, variable, word, bit, one, two, Statement, assign, skip, branch, Block, end, then}
@@ -10,8 +10,8 @@ abbrev pub WordsFit : Expr → Kind → Type 0
 WordsFit (variable x) k = Unit {0}
 WordsFit (word n) k = Fits kind.Word n
 WordsFit (bit b) k = Unit {0}
-WordsFit (one op e) k = WordsFit e (entryOf op).takes
-WordsFit (two op d e) k = WordsFit d (entryOf op).takes × WordsFit e (entryOf op).takes
+WordsFit (one op e) k = WordsFit e (entry_of op).takes
+WordsFit (two op d e) k = WordsFit d (entry_of op).takes × WordsFit e (entry_of op).takes
 
 -- over v variables of these kinds
 module _ (v : ℕ) (kinds : ℕ → Kind) where
@@ -20,8 +20,8 @@ module _ (v : ℕ) (kinds : ℕ → Kind) where
   Typed (variable x) k = (x < v) × (kinds x ≡ k)
   Typed (word n) k = kind.Word ≡ k
   Typed (bit b) k = Fits kind.Bit b × (kind.Bit ≡ k)
-  Typed (one op e) k = ((entryOf op).arity ≡ 1) × ((entryOf op).gives ≡ k) × Typed e (entryOf op).takes
-  Typed (two op d e) k = ((entryOf op).arity ≡ 2) × ((entryOf op).gives ≡ k) × Typed d (entryOf op).takes × Typed e (entryOf op).takes
+  Typed (one op e) k = ((entry_of op).arity ≡ 1) × ((entry_of op).gives ≡ k) × Typed e (entry_of op).takes
+  Typed (two op d e) k = ((entry_of op).arity ≡ 2) × ((entry_of op).gives ≡ k) × Typed d (entry_of op).takes × Typed e (entry_of op).takes
 
   -- P holds of every expression and its kind: an assign is of its variable's kind, an if asks a bit
   module _ (P : Expr → Kind → Type 0) where

@@ -6,14 +6,14 @@ use Rattle.base.specs.Parsing.{Parsed, parsed, refused}
 use Rattle.rule.specs.Header.{variables}
 use Rattle.rule.specs.Tree.{Expr, variable, one, two, Statement, Block}
 use Rattle.rule.specs.Tree as tree
-use Rattle.rule.specs.Rule.{readRule}
+use Rattle.rule.specs.Rule.{read_rule}
 
 -- two expressions: the same; or the variables x and y against y and x, under an operation that commutes; or such in their arguments
 pub data ExprUpToOrder : Expr → Expr → Type 0 where
   same : {e : Expr} → ExprUpToOrder e e
   turned : {op : Operation} {x y : ℕ} → commutes op ≡ true → ExprUpToOrder (two op (variable x) (variable y)) (two op (variable y) (variable x))
-  inOne : {op : Operation} {d e : Expr} → ExprUpToOrder d e → ExprUpToOrder (one op d) (one op e)
-  inTwo : {op : Operation} {d e d' e' : Expr} → ExprUpToOrder d d' → ExprUpToOrder e e' → ExprUpToOrder (two op d e) (two op d' e')
+  in_one : {op : Operation} {d e : Expr} → ExprUpToOrder d e → ExprUpToOrder (one op d) (one op e)
+  in_two : {op : Operation} {d e d' e' : Expr} → ExprUpToOrder d d' → ExprUpToOrder e e' → ExprUpToOrder (two op d e) (two op d' e')
 
 -- two statements, two blocks: the same but for such expressions
 mutual
@@ -36,4 +36,4 @@ ReadUpToOrder (refused number place) r = ⊥
 -- two rule files: the same header, kinds and all, and blocks that differ only so
 pub record OnlyOrder (s t : List ℕ) : Type 0 where
   pub headers : take (6 + variables s) s ≡ take (6 + variables s) t
-  pub blocks : ReadUpToOrder (readRule s) (readRule t)
+  pub blocks : ReadUpToOrder (read_rule s) (read_rule t)

@@ -6,16 +6,16 @@ use Rattle.std.proofs.Math.Path.{refl, subst⁻¹}
 use Rattle.std.proofs.Math.Bool.{and-eq-true_iff}
 use Rattle.std.proofs.lemmas.Bool.{eqb-false}
 use Rattle.base.specs.TestLaws.{split}
-use Rattle.base.specs.Codes.{code_of, entryOf, sameKind}
+use Rattle.base.specs.Codes.{code_of, entry_of, same_kind}
 use Rattle.base.specs.declared.Kind.{Kind}
 use Rattle.base.specs.declared.Kind.TheVariants as kind
 use Rattle.base.specs.declared.Operation.{Operation}
 use Rattle.base.specs.declared.Form.{Form}
 use Rattle.base.specs.declared.Form.TheVariants.{End, Assign, Skip, Branch, Variable, Word, Bit, Apply, Unknown}
 use Rattle.base.specs.Parsing.{Parsed, parsed, refused, unless, ◌>>=◌}
-use Rattle.rule.specs.Header.{variables, kindAt}
+use Rattle.rule.specs.Header.{variables, kind_at}
 use Rattle.rule.specs.Tree.{Expr}
-use Rattle.rule.specs.Expressions.{readVariable, readWord, readBit, secondWith, operationWith, exprForm, exprWith, readExpr}
+use Rattle.rule.specs.Expressions.{read_variable, read_word, read_bit, second_with, operation_with, expr_form, expr_with, read_expr}
 
 -- it was read, or is refused by a number and place of which R holds
 module _ (R : ℕ → ℕ → Type 0) where
@@ -32,9 +32,9 @@ module _ (R : ℕ → ℕ → Type 0) where
   after (refused k p) f h g = h
 
 -- of one relation follows another
-pub refuses-too : (R Q : ℕ → ℕ → Type 0) → ((k p : ℕ) → R k p → Q k p) → {A : Type 0} (m : Parsed A) → Refuses R m → Refuses Q m
-refuses-too R Q to (parsed a n) h = tt
-refuses-too R Q to (refused k p) h = to k p h
+pub refuses_too : (R Q : ℕ → ℕ → Type 0) → ((k p : ℕ) → R k p → Q k p) → {A : Type 0} (m : Parsed A) → Refuses R m → Refuses Q m
+refuses_too R Q to (parsed a n) h = tt
+refuses_too R Q to (refused k p) h = to k p h
 
 module _ (s : List ℕ) where
   -- what is said of an expression's refusals
@@ -55,61 +55,61 @@ module _ (s : List ℕ) where
     levelled : {A : Type 0} (deep : ℕ) (m : Parsed A) → (0 < deep → Refuses InExpr m) → Refuses InExpr (unless (ltb 0 deep) 8 at m)
     levelled deep m h = test InExpr (ltb 0 deep) 8 at m (λ e. record { least = omega arith; deep = λ z b. other b }) (λ e. h (ltb-true 0 deep e))
 
-    variable-row : (want : Kind) (deep : ℕ) → Refuses InExpr (readVariable s want deep at)
-    unfolding readVariable
-    variable-row want deep =
+    variable_row : (want : Kind) (deep : ℕ) → Refuses InExpr (read_variable s want deep at)
+    unfolding read_variable
+    variable_row want deep =
         levelled deep _
         (λ l. tested (ltb (at + 1) (length s)) 4 (length s) _ refl
-        (tested (ltb (get_or s (at + 1) 0) (variables s)) 6 (at + 1) _ refl (tested (sameKind (kindAt s (get_or s (at + 1) 0)) want) 7 (at + 1) _ refl tt)))
+        (tested (ltb (get_or s (at + 1) 0) (variables s)) 6 (at + 1) _ refl (tested (same_kind (kind_at s (get_or s (at + 1) 0)) want) 7 (at + 1) _ refl tt)))
 
-    word_row : (want : Kind) (deep : ℕ) → Refuses InExpr (readWord s want deep at)
-    unfolding readWord
-    word_row want deep = tested (sameKind kind.Word want) 7 at _ refl (levelled deep _ (λ l. tested (leb 5 (length s - at)) 4 (length s) _ refl tt))
+    word_row : (want : Kind) (deep : ℕ) → Refuses InExpr (read_word s want deep at)
+    unfolding read_word
+    word_row want deep = tested (same_kind kind.Word want) 7 at _ refl (levelled deep _ (λ l. tested (leb 5 (length s - at)) 4 (length s) _ refl tt))
 
-    bit-row : (want : Kind) (deep : ℕ) → Refuses InExpr (readBit s want deep at)
-    unfolding readBit
-    bit-row want deep =
-        tested (sameKind kind.Bit want) 7 at _ refl
+    bit_row : (want : Kind) (deep : ℕ) → Refuses InExpr (read_bit s want deep at)
+    unfolding read_bit
+    bit_row want deep =
+        tested (same_kind kind.Bit want) 7 at _ refl
         (levelled deep _ (λ l. tested (ltb (at + 1) (length s)) 4 (length s) _ refl (tested (leb (get_or s (at + 1) 0) 1) 5 (at + 1) _ refl tt)))
 
     -- where a level is left, arguments are read
     module _ (argument : Kind → ℕ → Parsed Expr) (deep : ℕ) (rows : 0 < deep → (k : Kind) (a : ℕ) → Refuses InExpr (argument k a)) where
-      second-row : 0 < deep → (t : Bool) (op : Operation) (x : Expr) (n : ℕ) → Refuses InExpr (secondWith t argument op x n)
-      second-row l true op x n = tt
-      second-row l false op x n = after InExpr (argument (entryOf op).takes n) _ (rows l (entryOf op).takes n) (λ y m e. tt)
+      second_row : 0 < deep → (t : Bool) (op : Operation) (x : Expr) (n : ℕ) → Refuses InExpr (second_with t argument op x n)
+      second_row l true op x n = tt
+      second_row l false op x n = after InExpr (argument (entry_of op).takes n) _ (rows l (entry_of op).takes n) (λ y m e. tt)
 
-      operation-row : (op : Operation) (want : Kind) → Refuses InExpr (operationWith argument op want deep at)
-      unfolding operationWith
-      operation-row op want =
-          tested (sameKind (entryOf op).gives want) 7 at _ refl
+      operation_row : (op : Operation) (want : Kind) → Refuses InExpr (operation_with argument op want deep at)
+      unfolding operation_with
+      operation_row op want =
+          tested (same_kind (entry_of op).gives want) 7 at _ refl
           (levelled deep _
-          (λ l. after InExpr (argument (entryOf op).takes (at + 1)) _ (rows l (entryOf op).takes (at + 1)) (λ x n e. second-row l (eqb (entryOf op).arity 1) op x n)))
+          (λ l. after InExpr (argument (entry_of op).takes (at + 1)) _ (rows l (entry_of op).takes (at + 1)) (λ x n e. second_row l (eqb (entry_of op).arity 1) op x n)))
 
-      form-row : (f : Form) (want : Kind) → Refuses InExpr (exprForm f s argument want deep at)
-      form-row End want = low 5 at refl
-      form-row Assign want = low 5 at refl
-      form-row Skip want = low 5 at refl
-      form-row Branch want = low 5 at refl
-      form-row Variable want = variable-row want deep
-      form-row Word want = word_row want deep
-      form-row Bit want = bit-row want deep
-      form-row (Apply op) want = operation-row op want
-      form-row Unknown want = low 5 at refl
+      form_row : (f : Form) (want : Kind) → Refuses InExpr (expr_form f s argument want deep at)
+      form_row End want = low 5 at refl
+      form_row Assign want = low 5 at refl
+      form_row Skip want = low 5 at refl
+      form_row Branch want = low 5 at refl
+      form_row Variable want = variable_row want deep
+      form_row Word want = word_row want deep
+      form_row Bit want = bit_row want deep
+      form_row (Apply op) want = operation_row op want
+      form_row Unknown want = low 5 at refl
 
   -- 03 is the code of no expression
-  if-row : (argument : Kind → ℕ → Parsed Expr) (want : Kind) (deep at : ℕ) → get_or s at 0 ≡ 0x03 → Refuses InExpr (exprForm (code_of (get_or s at 0)).form s argument want deep at)
+  if_row : (argument : Kind → ℕ → Parsed Expr) (want : Kind) (deep at : ℕ) → get_or s at 0 ≡ 0x03 → Refuses InExpr (expr_form (code_of (get_or s at 0)).form s argument want deep at)
   unfolding code_of
-  if-row argument want deep at e = subst⁻¹ (λ (b : ℕ). Refuses InExpr (exprForm (code_of b).form s argument want deep at)) e (low 5 at refl)
+  if_row argument want deep at e = subst⁻¹ (λ (b : ℕ). Refuses InExpr (expr_form (code_of b).form s argument want deep at)) e (low 5 at refl)
 
   with_row : (argument : Kind → ℕ → Parsed Expr) (deep : ℕ) → (0 < deep → (k : Kind) (a : ℕ) → Refuses InExpr (argument k a)) → (want : Kind) (at : ℕ)
-      → Refuses InExpr (exprWith argument s want deep at)
-  unfolding exprWith
+      → Refuses InExpr (expr_with argument s want deep at)
+  unfolding expr_with
   with_row argument deep rows want at =
       tested (ltb at (length s)) 4 (length s) _ refl
-      (split (eqb (get_or s at 0) 0x03) (λ t. if-row argument want deep at (eqb-true _ _ t))
-      (λ t. form-row at (eqb-false _ _ t) argument deep rows (code_of (get_or s at 0)).form want))
+      (split (eqb (get_or s at 0) 0x03) (λ t. if_row argument want deep at (eqb-true _ _ t))
+      (λ t. form_row at (eqb-false _ _ t) argument deep rows (code_of (get_or s at 0)).form want))
 
-  pub expr-row : (deep : ℕ) (want : Kind) (at : ℕ) → Refuses InExpr (readExpr deep s want at)
-  unfolding readExpr
-  expr-row zero want at = with_row (λ k a. refused 8 a) 0 (λ l k a. absurd (omega arith)) want at
-  expr-row (suc deep) want at = with_row (readExpr deep s) (suc deep) (λ l k a. expr-row deep k a) want at
+  pub expr_row : (deep : ℕ) (want : Kind) (at : ℕ) → Refuses InExpr (read_expr deep s want at)
+  unfolding read_expr
+  expr_row zero want at = with_row (λ k a. refused 8 a) 0 (λ l k a. absurd (omega arith)) want at
+  expr_row (suc deep) want at = with_row (read_expr deep s) (suc deep) (λ l k a. expr_row deep k a) want at

@@ -5,22 +5,22 @@ use Rattle.base.specs.Numbers.{Bytes}
 use Rattle.base.specs.Parsing.{parsed, IsRead}
 use Rattle.base.specs.ParsingLaws.{is_read}
 use Rattle.rule.specs.Tree.{Block}
-use Rattle.rule.specs.Rule.{readRule}
-use Rattle.rule.specs.Format.{ruleBytes, kindBytes, WellFormed}
-use Rattle.rule.specs.FoundRuleLaws.{read-bytes, read-well}
-use Rattle.rule.specs.BackRuleLaws.{well-back}
+use Rattle.rule.specs.Rule.{read_rule}
+use Rattle.rule.specs.Format.{rule_bytes, kind_bytes, WellFormed}
+use Rattle.rule.specs.FoundRuleLaws.{read_bytes, read_well}
+use Rattle.rule.specs.BackRuleLaws.{well_back}
 
 -- a well-formed rule's bytes are read, to the rule itself and to their end
-pub rule-back : (kinds : List ℕ) (b : Block) → WellFormed kinds b → readRule (ruleBytes kinds b) ≡ parsed b (length (ruleBytes kinds b))
-rule-back kinds b w = well-back kinds b w
+pub rule_back : (kinds : List ℕ) (b : Block) → WellFormed kinds b → read_rule (rule_bytes kinds b) ≡ parsed b (length (rule_bytes kinds b))
+rule_back kinds b w = well_back kinds b w
 
 -- what is read is the tree of the file's bytes, and well-formed
-pub rule_found : (s : List ℕ) → Bytes s → (b : Block) (n : ℕ) → readRule s ≡ parsed b n → (s ≡ ruleBytes (kindBytes s) b) × WellFormed (kindBytes s) b
-rule_found s bytes b n h = (read-bytes s b n h bytes, read-well s b n h bytes)
+pub rule_found : (s : List ℕ) → Bytes s → (b : Block) (n : ℕ) → read_rule s ≡ parsed b n → (s ≡ rule_bytes (kind_bytes s) b) × WellFormed (kind_bytes s) b
+rule_found s bytes b n h = (read_bytes s b n h bytes, read_well s b n h bytes)
 
 -- so a file is read exactly when it is a well-formed rule's
-pub rule-format : (s : List ℕ) → Bytes s → IsRead (readRule s) ↔ ((kinds : List ℕ) × (b : Block) × WellFormed kinds b × (s ≡ ruleBytes kinds b))
-rule-format s bytes = (
-  λ h. let r = is_read (readRule s) h in let f = rule_found s bytes r.0 r.1 r.2 in (kindBytes s, r.0, f.1, f.0),
-  λ w. subst⁻¹ (λ (t : List ℕ). IsRead (readRule t)) w.3 (subst⁻¹ IsRead (rule-back w.0 w.1 w.2) tt),
+pub rule_format : (s : List ℕ) → Bytes s → IsRead (read_rule s) ↔ ((kinds : List ℕ) × (b : Block) × WellFormed kinds b × (s ≡ rule_bytes kinds b))
+rule_format s bytes = (
+  λ h. let r = is_read (read_rule s) h in let f = rule_found s bytes r.0 r.1 r.2 in (kind_bytes s, r.0, f.1, f.0),
+  λ w. subst⁻¹ (λ (t : List ℕ). IsRead (read_rule t)) w.3 (subst⁻¹ IsRead (rule_back w.0 w.1 w.2) tt),
 )

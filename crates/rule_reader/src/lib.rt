@@ -3,18 +3,18 @@ ghost use Rattle.std.specs.Prelude.{◌≡◌, true, ◌+◌, ◌≤◌, ◌<◌
 ghost use Rattle.base.specs.Answers.{answer_of};
 ghost use Rattle.base.specs.Parsing.{step_of};
 ghost use Rattle.base.specs.declared.Step.TheVariants.{Past};
-ghost use Rattle.rule.specs.Header.{HasKinds, kindAt, workingAt, readKinds, readHeader};
-ghost use Rattle.rule.specs.Expressions.{readVariable, readWord, readBit, readExpr};
-ghost use Rattle.rule.specs.Blocks.{readAssign, readStatement, readBlock};
-ghost use Rattle.rule.specs.Rule.{readRule};
-ghost use Rattle.rule.specs.Limits.{leastRuleBytes, mostRuleBytes, mostVariables};
+ghost use Rattle.rule.specs.Header.{HasKinds, kind_at, working_at, read_kinds, read_header};
+ghost use Rattle.rule.specs.Expressions.{read_variable, read_word, read_bit, read_expr};
+ghost use Rattle.rule.specs.Blocks.{read_assign, read_statement, read_block};
+ghost use Rattle.rule.specs.Rule.{read_rule};
+ghost use Rattle.rule.specs.Limits.{least_rule_bytes, most_rule_bytes, most_variables};
 
 use base::{Answer, Form, Kind, Step};
 
 // The kind of variable x, which the header has.
 pub fn kind_at(s: &[u8], x: u8) -> Kind
     requires { 6 + x < length s.now }
-    ensures { result ≡ kindAt s.now x }
+    ensures { result ≡ kind_at s.now x }
 {
     if s[6 + x as usize] % 2 == 1 {
         Kind::Bit
@@ -26,7 +26,7 @@ pub fn kind_at(s: &[u8], x: u8) -> Kind
 // Whether variable x, which the header has, is a working one.
 pub fn working_at(s: &[u8], x: u8) -> bool
     requires { 6 + x < length s.now }
-    ensures { result ≡ workingAt s.now x }
+    ensures { result ≡ working_at s.now x }
 {
     s[6 + x as usize] / 2 % 2 == 1
 }
@@ -34,7 +34,7 @@ pub fn working_at(s: &[u8], x: u8) -> bool
 // 10 variable, its code at `at`.
 fn read_variable(s: &[u8], at: usize, want: Kind, deep: u8) -> Step
     requires { HasKinds s.now × (at < length s.now) }
-    ensures { result ≡ step_of (readVariable s.now want deep at) }
+    ensures { result ≡ step_of (read_variable s.now want deep at) }
 {
     if deep == 0 {
         return Step::Refused(8, at);
@@ -55,7 +55,7 @@ fn read_variable(s: &[u8], at: usize, want: Kind, deep: u8) -> Step
 // 11 and four bytes, its code at `at`.
 fn read_word(s: &[u8], at: usize, want: Kind, deep: u8) -> Step
     requires { at < length s.now }
-    ensures { result ≡ step_of (readWord s.now want deep at) }
+    ensures { result ≡ step_of (read_word s.now want deep at) }
 {
     if !base_codes::same_kind(Kind::Word, want) {
         return Step::Refused(7, at);
@@ -72,7 +72,7 @@ fn read_word(s: &[u8], at: usize, want: Kind, deep: u8) -> Step
 // 12 and 00 or 01, its code at `at`.
 fn read_bit(s: &[u8], at: usize, want: Kind, deep: u8) -> Step
     requires { at < length s.now }
-    ensures { result ≡ step_of (readBit s.now want deep at) }
+    ensures { result ≡ step_of (read_bit s.now want deep at) }
 {
     if !base_codes::same_kind(Kind::Bit, want) {
         return Step::Refused(7, at);
@@ -92,7 +92,7 @@ fn read_bit(s: &[u8], at: usize, want: Kind, deep: u8) -> Step
 // Is a variable of the kind wanted read at `at`? Most arguments are one, and take no further call.
 fn is_variable(s: &[u8], at: usize, want: Kind, deep: u8) -> bool
     requires { HasKinds s.now }
-    ensures { result ≡ true → (at + 1 < length s.now) × (Past (at + 2) ≡ step_of (readExpr deep s.now want at)) }
+    ensures { result ≡ true → (at + 1 < length s.now) × (Past (at + 2) ≡ step_of (read_expr deep s.now want at)) }
 {
     if deep == 0 {
         return false;
@@ -115,7 +115,7 @@ fn is_variable(s: &[u8], at: usize, want: Kind, deep: u8) -> bool
 // one piece, whose two words its callers stored apart, and each call waits for both.
 fn read_expr(s: &[u8], at: usize, want: Kind, deep: u8) -> Step
     requires { HasKinds s.now }
-    ensures { result ≡ step_of (readExpr deep s.now want at) }
+    ensures { result ≡ step_of (read_expr deep s.now want at) }
 {
     if s.len() <= at {
         return Step::Refused(4, s.len());
@@ -161,7 +161,7 @@ fn read_expr(s: &[u8], at: usize, want: Kind, deep: u8) -> Step
 // 01 variable expression, its code at `at`.
 fn read_assign(s: &[u8], at: usize) -> Step
     requires { HasKinds s.now × (at < length s.now) }
-    ensures { result ≡ step_of (readAssign s.now at) }
+    ensures { result ≡ step_of (read_assign s.now at) }
 {
     if s.len() <= at + 1 {
         return Step::Refused(4, s.len());
@@ -181,7 +181,7 @@ fn read_assign(s: &[u8], at: usize) -> Step
 #[cycle(read_block_read_statement)]
 fn read_statement(s: &[u8], at: usize, nest: u8) -> Step
     requires { HasKinds s.now × (at < length s.now) }
-    ensures { result ≡ step_of (readStatement s.now nest at) }
+    ensures { result ≡ step_of (read_statement s.now nest at) }
 {
     let c = base_codes::code_of(s[at]);
     let form = c.form;
@@ -208,7 +208,7 @@ fn read_statement(s: &[u8], at: usize, nest: u8) -> Step
 #[cycle(read_block_read_statement)]
 pub fn read_block(s: &[u8], at: usize, nest: u8) -> Step
     requires { HasKinds s.now }
-    ensures { result ≡ step_of (readBlock s.now nest at) }
+    ensures { result ≡ step_of (read_block s.now nest at) }
 {
     let mut here = at;
     loop {
@@ -231,8 +231,8 @@ pub fn read_block(s: &[u8], at: usize, nest: u8) -> Step
 
 // The kind bytes of `count` variables, from `from` on.
 fn read_kinds(s: &[u8], from: usize, count: usize) -> Step
-    requires { (from ≤ length s.now) × (count ≤ mostVariables) }
-    ensures { result ≡ step_of (readKinds count s.now from) }
+    requires { (from ≤ length s.now) × (count ≤ most_variables) }
+    ensures { result ≡ step_of (read_kinds count s.now from) }
 {
     let mut at = from;
     let mut left = count;
@@ -251,8 +251,8 @@ fn read_kinds(s: &[u8], from: usize, count: usize) -> Step
 
 // The mark and version, V and the kind bytes.
 fn read_header(s: &[u8]) -> Step
-    requires { leastRuleBytes ≤ length s.now }
-    ensures { result ≡ step_of (readHeader s.now) }
+    requires { least_rule_bytes ≤ length s.now }
+    ensures { result ≡ step_of (read_header s.now) }
 {
     match base_answers::read_mark(s, b"RUL\x00\x01", 2) {
         Step::Past(_) => {
@@ -271,8 +271,8 @@ fn read_header(s: &[u8]) -> Step
 
 // What follows the size: the header, a block, and nothing after it.
 fn read_bytes(s: &[u8]) -> Step
-    requires { (leastRuleBytes ≤ length s.now) × (length s.now ≤ mostRuleBytes) }
-    ensures { result ≡ step_of (readRule s.now) }
+    requires { (least_rule_bytes ≤ length s.now) × (length s.now ≤ most_rule_bytes) }
+    ensures { result ≡ step_of (read_rule s.now) }
 {
     match read_header(s) {
         Step::Past(body) => match read_block(s, body, rule::NESTED) {
@@ -290,7 +290,7 @@ fn read_bytes(s: &[u8]) -> Step
 
 // Rows 1 to 9: the rule is taken, or refused by a number and a place.
 pub fn read_rule(rule: &[u8]) -> Answer
-    ensures { result ≡ answer_of (step_of (readRule rule.now)) }
+    ensures { result ≡ answer_of (step_of (read_rule rule.now)) }
 {
     if rule.len() < rule::LEAST_RULE_BYTES {
         return base_answers::refused(1, 0);

@@ -1,8 +1,8 @@
 -- Document 01, "Refusals by place": inputs, those of a rule.
 use Rattle.std.specs.Prelude.{ℕ, List}
-use Rattle.base.specs.Inputs.{inputsRow}
-use Rattle.rule.specs.Header.{variables, kindAt}
+use Rattle.base.specs.Inputs.{inputs_row}
+use Rattle.rule.specs.Header.{variables, kind_at}
 
 -- 40 to 42 of the inputs of the rule's V variables, each of its kind
-unfoldable pub inputRow : List ℕ → List ℕ → ℕ → ℕ
-inputRow s inputs room = inputsRow (variables s) (kindAt s) inputs room
+unfoldable pub input_row : List ℕ → List ℕ → ℕ → ℕ
+input_row s inputs room = inputs_row (variables s) (kind_at s) inputs room

@@ -3,21 +3,21 @@ ghost use Rattle.std.specs.Prelude.{◌≡◌, ◌≤◌, map, length, get_or};
 ghost use Rattle.base.specs.Lists.{upto};
 ghost use Rattle.base.specs.Buffers.{over};
 ghost use Rattle.base.specs.Parsing.{IsRead};
-ghost use Rattle.rule.specs.Limits.{mostVariables};
+ghost use Rattle.rule.specs.Limits.{most_variables};
 ghost use Rattle.rule.specs.Header.{variables, HasKinds};
-ghost use Rattle.rule.specs.Rule.{readRule};
-ghost use Rattle.circuit.specs.Running.{writtenFor, runWrites};
-ghost use Rattle.circuit.specs.Whole.{ruleAnswer};
-ghost use Rattle.run.specs.Inputs.{inputRow};
-ghost use Rattle.run.specs.Direct.{runAnswer, runResults};
+ghost use Rattle.rule.specs.Rule.{read_rule};
+ghost use Rattle.circuit.specs.Running.{written_for, run_writes};
+ghost use Rattle.circuit.specs.Whole.{rule_answer};
+ghost use Rattle.run.specs.Inputs.{input_row};
+ghost use Rattle.run.specs.Direct.{run_answer, run_results};
 
 use base::{Answer, Kind};
 use circuit::VARIABLE_ROOM;
 
 // What a run writes of the figures at its end, into the first V results: 0 for a working variable.
 fn write_results(rule: &[u8], figures: &[u32; VARIABLE_ROOM], results: &mut [u32])
-    requires { HasKinds rule.now × (variables rule.now ≤ mostVariables) × (variables rule.now ≤ length results.old) }
-    ensures { results.new ≡ over (map (λ x. writtenFor rule.now x (get_or figures.now x 0)) (upto (variables rule.now))) results.old }
+    requires { HasKinds rule.now × (variables rule.now ≤ most_variables) × (variables rule.now ≤ length results.old) }
+    ensures { results.new ≡ over (map (λ x. written_for rule.now x (get_or figures.now x 0)) (upto (variables rule.now))) results.old }
 {
     let v = rule[5];
     let mut x: u8 = 0;
@@ -36,10 +36,10 @@ fn write_results(rule: &[u8], figures: &[u32; VARIABLE_ROOM], results: &mut [u32
 
 // The run of an accepted rule on V inputs, its working figures kept to its end, and what it writes into the first V results.
 fn run_checked(rule: &[u8], inputs: &[u32], results: &mut [u32])
-    requires { IsRead (readRule rule.now)
+    requires { IsRead (read_rule rule.now)
         × (length inputs.now ≡ variables rule.now)
         × (variables rule.now ≤ length results.old) }
-    ensures { results.new ≡ over (runWrites rule.now inputs.now) results.old }
+    ensures { results.new ≡ over (run_writes rule.now inputs.now) results.old }
 {
     let v = rule[5] as usize;
     let mut figures = [0u32; VARIABLE_ROOM];
@@ -51,7 +51,7 @@ fn run_checked(rule: &[u8], inputs: &[u32], results: &mut [u32])
 // Rows 40 to 42 of the inputs, the lowest first; 0 when none of them applies. `room` is how many results there is place for.
 pub fn inputs_refusal(rule: &[u8], inputs: &[u32], room: usize) -> u8
     requires { HasKinds rule.now }
-    ensures { result ≡ inputRow rule.now inputs.now room }
+    ensures { result ≡ input_row rule.now inputs.now room }
 {
     let count = rule[5];
     if inputs.len() != count as usize {
@@ -74,8 +74,8 @@ pub fn inputs_refusal(rule: &[u8], inputs: &[u32], room: usize) -> u8
 
 // A direct run of a rule on its inputs: the answer, and in the first V results every variable's figure at its end, 0 for a working one. A refusal writes nothing.
 pub fn run(rule: &[u8], inputs: &[u32], results: &mut [u32]) -> Answer
-    ensures answer { result ≡ runAnswer (ruleAnswer rule.now) rule.now inputs.now (length results.old) }
-    ensures results { results.new ≡ runResults (ruleAnswer rule.now) rule.now inputs.now results.old }
+    ensures answer { result ≡ run_answer (rule_answer rule.now) rule.now inputs.now (length results.old) }
+    ensures results { results.new ≡ run_results (rule_answer rule.now) rule.now inputs.now results.old }
 {
     let a = circuit_build::read_rule(rule);
     if a.number != 0 {

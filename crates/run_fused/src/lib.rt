@@ -1,14 +1,14 @@
 // Runs the fused circuit of a rule and a plan: writes it, then works its figures out from its own bytes.
 ghost use Rattle.std.specs.Prelude.{◌≡◌, length};
 ghost use Rattle.base.specs.Buffers.{over};
-ghost use Rattle.run.specs.Inputs.{inputRow};
-ghost use Rattle.run.specs.Direct.{runAnswer};
-ghost use Rattle.fused.specs.FusedCircuit.{fusedFile};
-ghost use Rattle.file.specs.FileFigures.{fileFigures};
-ghost use Rattle.fused.specs.Answers.{fusedAnswer};
+ghost use Rattle.run.specs.Inputs.{input_row};
+ghost use Rattle.run.specs.Direct.{run_answer};
+ghost use Rattle.fused.specs.FusedCircuit.{fused_file};
+ghost use Rattle.file.specs.FileFigures.{file_figures};
+ghost use Rattle.fused.specs.Answers.{fused_answer};
 ghost use Rattle.fused_write.specs.Ready.{Ready};
-ghost use Rattle.run.specs.FusedRun.{fusedResults};
-ghost use Rattle.base.specs.SetsHeld.{setsIn};
+ghost use Rattle.run.specs.FusedRun.{fused_results};
+ghost use Rattle.base.specs.SetsHeld.{sets_in};
 
 use base::Answer;
 use circuit::{CONDITION_ROOM, GATE_ROOM, NEED_WORDS, QUAD_ROOM, VARIABLE_ROOM};
@@ -31,9 +31,9 @@ fn run_prepared(
     inputs: &[u32],
     results: &mut [u32],
 )
-    requires { ((prepared.answer.number ≡ 0) × (inputRow rule.now inputs.now (length results.old) ≡ 0))
-        × Ready rule.now plan.now prepared quads.now (setsIn needs.now) outputs.now conditions.now group.now places.now order.now }
-    ensures { results.new ≡ over (fileFigures (fusedFile rule.now plan.now) inputs.now) results.old }
+    requires { ((prepared.answer.number ≡ 0) × (input_row rule.now inputs.now (length results.old) ≡ 0))
+        × Ready rule.now plan.now prepared quads.now (sets_in needs.now) outputs.now conditions.now group.now places.now order.now }
+    ensures { results.new ≡ over (file_figures (fused_file rule.now plan.now) inputs.now) results.old }
 {
     let answer = prepared.answer;
     let bytes = answer.bytes;
@@ -57,8 +57,8 @@ fn run_prepared(
 // Runs the fused circuit of a rule and a plan on inputs: the answer with all five counts, and in the first V results every variable's figure, 0 for a working one.
 // A refusal of rule, plan or inputs writes nothing.
 pub fn run(rule: &[u8], plan: &[u8], inputs: &[u32], results: &mut [u32]) -> Answer
-    ensures answer { result ≡ runAnswer (fusedAnswer rule.now plan.now) rule.now inputs.now (length results.old) }
-    ensures results { results.new ≡ fusedResults rule.now plan.now inputs.now results.old }
+    ensures answer { result ≡ run_answer (fused_answer rule.now plan.now) rule.now inputs.now (length results.old) }
+    ensures results { results.new ≡ fused_results rule.now plan.now inputs.now results.old }
 {
     let mut quads = [0u32; QUAD_ROOM];
     let mut needs = [0u64; NEED_WORDS];

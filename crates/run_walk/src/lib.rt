@@ -1,11 +1,11 @@
 // Runs the blocks of an accepted rule over its bytes: statement by statement, on the variables' figures.
 ghost use Rattle.std.specs.Prelude.{◌≡◌, ◌+◌, ◌<◌, length, get_or};
 ghost use Rattle.base.specs.Parsing.{IsRead};
-ghost use Rattle.rule.specs.Expressions.{readExpr};
-ghost use Rattle.rule.specs.Blocks.{readAssign, readStatement, readBlock};
-ghost use Rattle.circuit.specs.Running.{runStatement, runBlock};
+ghost use Rattle.rule.specs.Expressions.{read_expr};
+ghost use Rattle.rule.specs.Blocks.{read_assign, read_statement, read_block};
+ghost use Rattle.circuit.specs.Running.{run_statement, run_block};
 ghost use Rattle.run_walk.specs.Walking.{VariablesFit, WorkedOut, Ran, Passed};
-ghost use Rattle.circuit.specs.Rooms.{variableRoom};
+ghost use Rattle.circuit.specs.Rooms.{variable_room};
 
 use base::{Form, Kind, Step};
 use circuit::VARIABLE_ROOM;
@@ -19,7 +19,7 @@ struct Value {
 
 // The figure of the variable at `at`.
 fn run_variable(s: &[u8], at: usize, figures: &[u32; VARIABLE_ROOM]) -> Value
-    requires { (at + 1 < length s.now) × (get_or s.now (at + 1) 0 < variableRoom) }
+    requires { (at + 1 < length s.now) × (get_or s.now (at + 1) 0 < variable_room) }
     ensures { result ≡ record { figure = get_or figures.now (get_or s.now (at + 1) 0) 0; next = at + 2 } }
 {
     let x = s[at + 1] as usize;
@@ -32,8 +32,8 @@ fn run_variable(s: &[u8], at: usize, figures: &[u32; VARIABLE_ROOM]) -> Value
 // The figure of the expression at `at`, of the kind wanted, worked out from the variables' figures.
 #[cycle(run_argument_run_expr)]
 fn run_expr(s: &[u8], at: usize, want: Kind, deep: u8, figures: &[u32; VARIABLE_ROOM]) -> Value
-    requires { VariablesFit s.now × IsRead (readExpr deep s.now want at) }
-    ensures { WorkedOut figures.now (readExpr deep s.now want at) result }
+    requires { VariablesFit s.now × IsRead (read_expr deep s.now want at) }
+    ensures { WorkedOut figures.now (read_expr deep s.now want at) result }
 {
     let c = base_codes::code_of(s[at]);
     let form = c.form;
@@ -89,8 +89,8 @@ fn run_expr(s: &[u8], at: usize, want: Kind, deep: u8, figures: &[u32; VARIABLE_
 // The same for an argument or a value, most of which are variables: no further call for one.
 #[cycle(run_argument_run_expr)]
 fn run_argument(s: &[u8], at: usize, want: Kind, deep: u8, figures: &[u32; VARIABLE_ROOM]) -> Value
-    requires { VariablesFit s.now × IsRead (readExpr deep s.now want at) }
-    ensures { WorkedOut figures.now (readExpr deep s.now want at) result }
+    requires { VariablesFit s.now × IsRead (read_expr deep s.now want at) }
+    ensures { WorkedOut figures.now (read_expr deep s.now want at) result }
 {
     if s[at] == base_codes::VARIABLE {
         return run_variable(s, at, figures);
@@ -100,8 +100,8 @@ fn run_argument(s: &[u8], at: usize, want: Kind, deep: u8, figures: &[u32; VARIA
 
 // 01 variable expression, its code at `at`: works out, then stores.
 fn run_assign(s: &[u8], at: usize, figures: &mut [u32; VARIABLE_ROOM]) -> usize
-    requires { VariablesFit s.now × IsRead (readAssign s.now at) }
-    ensures { Ran runStatement (readAssign s.now at) figures.old result figures.new }
+    requires { VariablesFit s.now × IsRead (read_assign s.now at) }
+    ensures { Ran run_statement (read_assign s.now at) figures.old result figures.new }
 {
     let x = s[at + 1];
     let want = rule_reader::kind_at(s, x);
@@ -112,8 +112,8 @@ fn run_assign(s: &[u8], at: usize, figures: &mut [u32; VARIABLE_ROOM]) -> usize
 
 // Past the block at `at`, which does not run.
 fn pass_block(s: &[u8], at: usize, nest: u8) -> usize
-    requires { VariablesFit s.now × IsRead (readBlock s.now nest at) }
-    ensures { Passed (readBlock s.now nest at) result }
+    requires { VariablesFit s.now × IsRead (read_block s.now nest at) }
+    ensures { Passed (read_block s.now nest at) result }
 {
     match rule_reader::read_block(s, at, nest) {
         Step::Past(next) => next,
@@ -124,8 +124,8 @@ fn pass_block(s: &[u8], at: usize, nest: u8) -> usize
 // The statement at `at`. An if works out its bit once, and only the block that the bit names runs.
 #[cycle(run_block_run_statement)]
 fn run_statement(s: &[u8], at: usize, nest: u8, figures: &mut [u32; VARIABLE_ROOM]) -> usize
-    requires { VariablesFit s.now × (at < length s.now) × IsRead (readStatement s.now nest at) }
-    ensures { Ran runStatement (readStatement s.now nest at) figures.old result figures.new }
+    requires { VariablesFit s.now × (at < length s.now) × IsRead (read_statement s.now nest at) }
+    ensures { Ran run_statement (read_statement s.now nest at) figures.old result figures.new }
 {
     let c = base_codes::code_of(s[at]);
     let form = c.form;
@@ -154,8 +154,8 @@ fn run_statement(s: &[u8], at: usize, nest: u8, figures: &mut [u32; VARIABLE_ROO
 // The block at `at`: its statements in file order. A loop over them, so that only nesting takes stack.
 #[cycle(run_block_run_statement)]
 pub fn run_block(s: &[u8], at: usize, nest: u8, figures: &mut [u32; VARIABLE_ROOM]) -> usize
-    requires { VariablesFit s.now × IsRead (readBlock s.now nest at) }
-    ensures { Ran runBlock (readBlock s.now nest at) figures.old result figures.new }
+    requires { VariablesFit s.now × IsRead (read_block s.now nest at) }
+    ensures { Ran run_block (read_block s.now nest at) figures.old result figures.new }
 {
     let mut here = at;
     while s[here] != 0 {

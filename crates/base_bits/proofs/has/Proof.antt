@@ -1,10 +1,10 @@
 use borrow.Author.Rules.{rules}
-use Rattle.base.specs.BitWords.{bitIn}
+use Rattle.base.specs.BitWords.{bit_in}
 use Rattle.base_bits.proofs.has.Statement.{statement}
 use Rattle.base_bits.proofs.has.Tie as tie
 
 returns : tie.Need-returns
-unfolding bitIn
+unfolding bit_in
 returns c = c.bit-of.ensures
 
 pub has-spec : {M : Type 1} → statement M

@@ -1,8 +1,8 @@
 use mathlib.Core.Logic.{⊎_elim, inl, inr}
 use native.Mathlib.Omega.{arith}
 use mathlib.Core.Path.{ap, sym, ◌∙◌}
-use Rattle.base.specs.Codes.{entryOf, code_of}
-use Rattle.base.specs.CodeLaws.{code-operation, code-unknown}
+use Rattle.base.specs.Codes.{entry_of, code_of}
+use Rattle.base.specs.CodeLaws.{code_operation, code_unknown}
 use borrow.Author.Rules.{rules}
 use Rattle.base_codes.proofs.code_of.Statement.{statement}
 use Rattle.base_codes.proofs.code_of.Tie as tie
@@ -36,14 +36,14 @@ unfolding code_of
 returns-7 c = rw c.before.match.keys7 c.plain-code7.ensures
 
 returns-8 : tie.Need-returns-8
-returns-8 c = c.entry_of.ensures ∙ ap entryOf c.before.operation-of.ensures ∙ sym
-    (code-operation _ c.before.before.before.if1.false (omega (arith, c.before.before.if2.true)))
+returns-8 c = c.entry_of.ensures ∙ ap entry_of c.before.operation-of.ensures ∙ sym
+    (code_operation _ c.before.before.before.if1.false (omega (arith, c.before.before.if2.true)))
 
 returns-9 : tie.Need-returns-9
 returns-9 c =
     let r = c.before.before.match.rest in
     c.plain-code8.ensures ∙ sym
-    (code-unknown _ r.0.0.0.0.0.0.1 r.0.0.0.0.0.1 r.0.0.0.0.1 r.0.0.0.1 r.0.0.1 r.0.1 r.1
+    (code_unknown _ r.0.0.0.0.0.0.1 r.0.0.0.0.0.1 r.0.0.0.0.1 r.0.0.0.1 r.0.0.1 r.0.1 r.1
     (⊎_elim (λ w. inl w.taken) (λ w. inr w.1.left) c.before.if1.branch))
 
 pub code-of-spec : {M : Type 1} → statement M

@@ -1,38 +1,38 @@
 use borrow.Author.Tests.{ne_eqb}
-use Rattle.base.specs.Codes.{operationOf}
+use Rattle.base.specs.Codes.{operation_of}
 use Rattle.base_codes.proofs.operation_of.Statement.{statement}
 use Rattle.base_codes.proofs.operation_of.Tie as tie
 
 returns : tie.Need-returns
-unfolding operationOf
+unfolding operation_of
 returns c = rw c.match.keys1
 
 returns-2 : tie.Need-returns-2
-unfolding operationOf
+unfolding operation_of
 returns-2 c = rw c.match.keys2
 
 returns-3 : tie.Need-returns-3
-unfolding operationOf
+unfolding operation_of
 returns-3 c = rw c.match.keys3
 
 returns-4 : tie.Need-returns-4
-unfolding operationOf
+unfolding operation_of
 returns-4 c = rw c.match.keys4
 
 returns-5 : tie.Need-returns-5
-unfolding operationOf
+unfolding operation_of
 returns-5 c = rw c.match.keys5
 
 returns-6 : tie.Need-returns-6
-unfolding operationOf
+unfolding operation_of
 returns-6 c = rw c.match.keys6
 
 returns-7 : tie.Need-returns-7
-unfolding operationOf
+unfolding operation_of
 returns-7 c = rw c.match.keys7
 
 returns-8 : tie.Need-returns-8
-unfolding operationOf
+unfolding operation_of
 returns-8 c =
     let r = c.match.rest in
     simp (

@@ -1,10 +1,10 @@
 use mathlib.Core.Path.{refl}
-use Rattle.base.specs.SetsHeld.{setOf}
+use Rattle.base.specs.SetsHeld.{set_of}
 use Rattle.base_settings.proofs.each.Statement.{statement}
 use Rattle.base_settings.proofs.each.Tie as tie
 
 returns : tie.Need-returns
-unfolding setOf
+unfolding set_of
 returns c = refl
 
 pub each_spec : {M : Type 1} → statement M

@@ -4,9 +4,9 @@ use native.Mathlib.Omega.{arith}
 use borrow.Author.Rules.{rules}
 use Rattle.base.specs.Bits.{collect}
 use Rattle.base.specs.BitWords.{joined}
-use Rattle.base.specs.SetLimits.{setSettings}
+use Rattle.base.specs.SetLimits.{set_settings}
 use Rattle.base.specs.Sets.{giving}
-use Rattle.base.specs.SetsHeld.{setOf}
+use Rattle.base.specs.SetsHeld.{set_of}
 use Rattle.base_settings.proofs.giving.Statement.{statement}
 use Rattle.base_settings.proofs.giving.Tie as tie
 
@@ -18,8 +18,8 @@ last : (t : ℕ) → 4 ≤ t → t < 8 → (t ≡ 4 → ⊥) → (t ≡ 5 → �
 last t h l a b c = omega arith
 
 -- the masks of condition k, worked out from their definition, are those of t where t is k
-mask : (t k : ℕ) {m : ℕ} → t ≡ k → giving setSettings k ≡ m → m ≡ giving setSettings t
-mask t k e g = sym g ∙ ap (giving setSettings) (sym e)
+mask : (t k : ℕ) {m : ℕ} → t ≡ k → giving set_settings k ≡ m → m ≡ giving set_settings t
+mask t k e g = sym g ∙ ap (giving set_settings) (sym e)
 
 returns : tie.Need-returns
 unfolding collect joined
@@ -46,11 +46,11 @@ unfolding collect joined
 returns-6 c = c.each6.ensures ∙ mask c.before.before.args.t 5 (omega arith) refl
 
 returns-7 : tie.Need-returns-7
-unfolding collect joined setOf
+unfolding collect joined set_of
 returns-7 c = mask c.before.args.t 6 (omega arith) refl
 
 returns-8 : tie.Need-returns-8
-unfolding collect joined setOf
+unfolding collect joined set_of
 returns-8 c =
     let t = c.before.args.t in
     let r = c.match.rest in

@@ -4,14 +4,14 @@ use Prim.Native.Nat.{ℕ}
 use native.Mathlib.Omega.{arith}
 use borrow.Author.Rules.{rules}
 use Rattle.base.specs.Buffers.{over}
-use Rattle.base.specs.SetsHeld.{words_of, setOf}
+use Rattle.base.specs.SetsHeld.{words_of, set_of}
 use Rattle.base_settings.proofs.Fits.{fits}
 use Rattle.base_settings.proofs.Bytes.{word_more, written_all}
 use Rattle.base_settings.proofs.put_bytes.Statement.{statement}
 use Rattle.base_settings.proofs.put_bytes.Tie as tie
 
 returns : tie.Need-returns
-unfolding setOf
+unfolding set_of
 returns c =
     let c3 = c.before.before in
     let c2 = c3.before.before.before.before in

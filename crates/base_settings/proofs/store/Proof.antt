@@ -3,9 +3,9 @@ use Prim.Native.Nat.{ℕ, suc, ◌+◌, ◌*◌}
 use native.Mathlib.Omega.{arith}
 use lib.ListN.{length-set}
 use borrow.Author.Rules.{rules}
-use Rattle.base.specs.SetLimits.{setWords}
-use Rattle.base.specs.SetsHeld.{words_of, setOf}
-use Rattle.base.specs.SetsHeldLaws.{sets-store}
+use Rattle.base.specs.SetLimits.{set_words}
+use Rattle.base.specs.SetsHeld.{words_of, set_of}
+use Rattle.base.specs.SetsHeldLaws.{sets_store}
 use Rattle.base_settings.proofs.store.Statement.{statement}
 use Rattle.base_settings.proofs.store.Tie as tie
 
@@ -20,13 +20,13 @@ slice-write-words-4 c = simp length-set (omega (arith, c.requires))
 
 -- the four stores are a run of stores from the set's first word on
 returns : tie.Need-returns
-unfolding setOf
+unfolding set_of
 returns c =
-    let at : ℕ = setWords * c.args.i in
+    let at : ℕ = set_words * c.args.i in
     let one : at + 1 ≡ suc at = omega arith in
     let two : at + 2 ≡ suc (suc at) = omega arith in
     let three : at + 3 ≡ suc (suc (suc at)) = omega arith in
-    rw (one, two, three) (sets-store c.args.words.now (words_of c.args.s) c.args.i c.requires refl)
+    rw (one, two, three) (sets_store c.args.words.now (words_of c.args.s) c.args.i c.requires refl)
 
 pub store_spec : {M : Type 1} → statement M
 store_spec =

@@ -1,6 +1,6 @@
 use Rattle.std.proofs.Common.{◌≡◌, ℕ, ◌-◌, ◌≤◌, List, length, get_or, take, set, sym, refl, ap, ◌∙◌, length-set, rules}
 use Rattle.base.specs.Buffers.{over}
-use Rattle.base.specs.BufferLaws.{over-nil, copy_more, copy-all}
+use Rattle.base.specs.BufferLaws.{over_nil, copy_more, copy_all}
 use Rattle.base_words.proofs.copy32.Statement.{statement}
 use Rattle.base_words.proofs.copy32.Tie as tie
 
@@ -11,7 +11,7 @@ abbrev decreases-loop : tie.decreases-loop
 decreases-loop from to₀ i₀ to i = length from - i
 
 loop-holds : tie.Need-loop-init invariant-loop decreases-loop
-loop-holds c = (search rules, refl, sym (over-nil _))
+loop-holds c = (search rules, refl, sym (over_nil _))
 
 loop-again : tie.Need-loop-preserved invariant-loop decreases-loop
 loop-again c =
@@ -26,7 +26,7 @@ returns : tie.Need-returns invariant-loop decreases-loop
 returns c =
     let a = c.before.before.args in
     let l = c.before.loop in
-    l.invariant.2 ∙ copy-all a.from.now a.to.now l.i c.loop-test.false
+    l.invariant.2 ∙ copy_all a.from.now a.to.now l.i c.loop-test.false
 
 pub copy32-spec : {M : Type 1} → statement M
 copy32-spec =

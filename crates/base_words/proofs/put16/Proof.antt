@@ -1,6 +1,6 @@
 -- Two stores from the start, which are the two bytes of the number.
 use Rattle.std.proofs.Common.{◌/◌, ◌%◌, arith, rules}
-use Rattle.base.specs.NumberLaws.{bytes-append, bytes_one}
+use Rattle.base.specs.NumberLaws.{bytes_append, bytes_one}
 use Rattle.base.specs.BufferLaws.{sets_over}
 use Rattle.base_words.proofs.put16.Statement.{statement}
 use Rattle.base_words.proofs.put16.Tie as tie
@@ -23,7 +23,7 @@ same_length c = search rules
 returns : tie.Need-returns
 returns c =
     let x = c.args.x in
-    rw (bytes-append 1 1 x, bytes_one (x / 256) (omega arith), bytes_one (x % 256) (omega arith)) (sets_over _ _ c.requires)
+    rw (bytes_append 1 1 x, bytes_one (x / 256) (omega arith), bytes_one (x % 256) (omega arith)) (sets_over _ _ c.requires)
 
 pub put16-spec : {M : Type 1} → statement M
 put16-spec =

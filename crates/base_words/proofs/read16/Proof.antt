@@ -1,6 +1,6 @@
--- Two bytes are the number of two bytes, by `number-split` at widths 1 and 1.
+-- Two bytes are the number of two bytes, by `number_split` at widths 1 and 1.
 use Rattle.std.proofs.Common.{◌+◌, sym, arith, rules}
-use Rattle.base.specs.NumberLaws.{number-split, number-one}
+use Rattle.base.specs.NumberLaws.{number_split, number_one}
 use Rattle.base_words.proofs.read16.Statement.{statement}
 use Rattle.base_words.proofs.read16.Tie as tie
 
@@ -29,8 +29,8 @@ returns : tie.Need-returns
 returns c =
     let s = c.before.before.before.before.before.args.s.now in
     let at = c.before.before.before.before.before.args.at in
-    rw (c.before.before.wide.ensures.0, c.wide2.ensures.0, ← number-one s at (omega arith), ← number-one s (at + 1) (omega arith))
-    (sym (number-split 1 1 s at c.before.before.before.before.before.requires))
+    rw (c.before.before.wide.ensures.0, c.wide2.ensures.0, ← number_one s at (omega arith), ← number_one s (at + 1) (omega arith))
+    (sym (number_split 1 1 s at c.before.before.before.before.before.requires))
 
 pub read16-spec : {M : Type 1} → statement M
 read16-spec =

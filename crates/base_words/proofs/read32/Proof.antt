@@ -1,6 +1,6 @@
--- Two numbers of 16 bits are one of 32, by `number-split`.
+-- Two numbers of 16 bits are one of 32, by `number_split`.
 use Rattle.std.proofs.Common.{sym, rules}
-use Rattle.base.specs.NumberLaws.{number-split}
+use Rattle.base.specs.NumberLaws.{number_split}
 use Rattle.base_words.proofs.read32.Statement.{statement}
 use Rattle.base_words.proofs.read32.Tie as tie
 
@@ -27,7 +27,7 @@ add-result c = search rules
 
 returns : tie.Need-returns
 returns c =
-    rw (c.before.read16.ensures, c.read162.ensures) (sym (number-split 2 2 _ _ c.before.before.before.requires))
+    rw (c.before.read16.ensures, c.read162.ensures) (sym (number_split 2 2 _ _ c.before.before.before.requires))
 
 pub read32-spec : {M : Type 1} → statement M
 read32-spec =

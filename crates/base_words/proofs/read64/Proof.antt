@@ -1,6 +1,6 @@
--- Two numbers of 32 bits are one of 64, by `number-split`.
+-- Two numbers of 32 bits are one of 64, by `number_split`.
 use Rattle.std.proofs.Common.{sym, rules}
-use Rattle.base.specs.NumberLaws.{number-split}
+use Rattle.base.specs.NumberLaws.{number_split}
 use Rattle.base_words.proofs.read64.Statement.{statement}
 use Rattle.base_words.proofs.read64.Tie as tie
 
@@ -27,7 +27,7 @@ add-result c = search rules
 
 returns : tie.Need-returns
 returns c =
-    rw (c.before.read32.ensures, c.read322.ensures) (sym (number-split 4 4 _ _ c.before.before.before.requires))
+    rw (c.before.read32.ensures, c.read322.ensures) (sym (number_split 4 4 _ _ c.before.before.before.requires))
 
 pub read64-spec : {M : Type 1} → statement M
 read64-spec =

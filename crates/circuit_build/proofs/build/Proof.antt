@@ -1,25 +1,25 @@
 use borrow.Author.Rules.{rules}
 use mathlib.Core.Path.{refl}
-use Rattle.circuit.specs.WholeLaws.{answer-refused, answer-read}
-use Rattle.circuit_build.specs.MakingLaws.{made-earlier, whole-answer, whole-few, whole_ready}
-use Rattle.circuit_build.specs.BuiltLaws.{built-nothing, ready-variables, ready-passable, ready-wanted, ready-few, ready-quads, ready-needs, ready-outputs, ready-conditions}
+use Rattle.circuit.specs.WholeLaws.{answer_refused, answer_read}
+use Rattle.circuit_build.specs.MakingLaws.{made_earlier, whole_answer, whole_few, whole_ready}
+use Rattle.circuit_build.specs.BuiltLaws.{built_nothing, ready_variables, ready_passable, ready_wanted, ready_few, ready_quads, ready_needs, ready_outputs, ready_conditions}
 use Rattle.circuit_build.proofs.build.Statement.{statement}
 use Rattle.circuit_build.proofs.build.Tie as tie
 
 returns : tie.Need-returns
 returns c =
     let s = c.before.before.before.before.args.rule.now in
-    built-nothing s _ _ _ _ _ (answer-refused s _ c.before.before.read-rule.ensures c.if1.true) c.if1.true c.before.before.before.before.requires
+    built_nothing s _ _ _ _ _ (answer_refused s _ c.before.before.read-rule.ensures c.if1.true) c.if1.true c.before.before.before.before.requires
 
 make-rule-requires : tie.Need-make-rule-requires
 make-rule-requires c κs =
     let p = c.before.before.before.before.before.before.requires in
-    (answer-read c.before.before.before.before.before.before.args.rule.now _ c.before.before.before.before.read-rule.ensures c.before.before.if1.false, (p.0, p.1.1.0))
+    (answer_read c.before.before.before.before.before.before.args.rule.now _ c.before.before.before.before.read-rule.ensures c.before.before.if1.false, (p.0, p.1.1.0))
 
 whole-requires : tie.Need-whole-requires
 whole-requires c κs =
     let s = c.before.before.before.before.before.before.before.before.before.args.rule.now in (
-      made-earlier s _ _ _ (answer-read s _ c.before.before.before.before.before.before.before.read-rule.ensures c.before.before.before.before.before.if1.false)
+      made_earlier s _ _ _ (answer_read s _ c.before.before.before.before.before.before.before.read-rule.ensures c.before.before.before.before.before.if1.false)
           c.before.before.make-rule.ensures,
       refl,
     )
@@ -30,7 +30,7 @@ returns-2 c =
     let x = c.before.before in
     let s = x.before.before.before.before.before.before.before.before.before.before.before.before.args.rule.now in
     let p = x.before.before.before.before.before.before.before.before.before.before.before.before.requires in
-    built-nothing s _ _ _ _ _ (whole-answer s _ x.before.before.before.before.before.before.before.before.before.before.read-rule.ensures
+    built_nothing s _ _ _ _ _ (whole_answer s _ x.before.before.before.before.before.before.before.before.before.before.read-rule.ensures
     x.before.before.before.before.before.before.before.before.if1.false _ _ _ x.before.before.before.before.before.make-rule.ensures _
     x.before.before.whole.ensures.0) x.if2.true
     (refl, (p.1.0, (refl, p.1.1.1)))
@@ -39,7 +39,7 @@ number-marked-requires : tie.Need-number-marked-requires
 number-marked-requires c κs =
     let x = c.before in
     let s = x.before.before.before.before.before.before.before.before.before.before.before.before.args.rule.now in
-    let h = whole-few s _ x.before.before.before.before.before.before.before.before.before.before.read-rule.ensures
+    let h = whole_few s _ x.before.before.before.before.before.before.before.before.before.before.read-rule.ensures
     x.before.before.before.before.before.before.before.before.if1.false _ _ _ x.before.before.before.before.before.make-rule.ensures _
     x.before.before.whole.ensures.0 x.if2.false in
     (h, (x.before.before.whole.ensures.1 h).size)
@@ -51,7 +51,7 @@ rule-needs-requires c κs =
     let r = whole_ready s _ x.before.before.before.before.before.before.before.before.before.before.read-rule.ensures
     x.before.before.before.before.before.before.before.before.if1.false _ _ _ x.before.before.before.before.before.make-rule.ensures _
     x.before.before.whole.ensures.0 x.if2.false _ _ x.before.before.whole.ensures.1 c.before.before.before.before.number-marked.ensures in (
-      (ready-variables _ _ _ _ _ r, (ready-passable _ _ _ _ _ r, ready-wanted _ _ _ _ _ r)),
+      (ready_variables _ _ _ _ _ r, (ready_passable _ _ _ _ _ r, ready_wanted _ _ _ _ _ r)),
       x.before.before.before.before.before.before.before.before.before.before.before.before.requires.1.0,
     )
 
@@ -62,7 +62,7 @@ condition-gates-requires c κs =
     let r = whole_ready s _ x.before.before.before.before.before.before.before.before.before.before.read-rule.ensures
     x.before.before.before.before.before.before.before.before.if1.false _ _ _ x.before.before.before.before.before.make-rule.ensures _
     x.before.before.whole.ensures.0 x.if2.false _ _ x.before.before.whole.ensures.1 c.before.before.before.before.before.before.before.number-marked.ensures in
-    (ready-few _ _ _ _ _ r, x.before.before.before.before.before.before.before.before.before.before.before.before.requires.1.1.1)
+    (ready_few _ _ _ _ _ r, x.before.before.before.before.before.before.before.before.before.before.before.before.requires.1.1.1)
 
 returns-3 : tie.Need-returns-3
 returns-3 c =
@@ -72,11 +72,11 @@ returns-3 c =
     let r = whole_ready s _ x.before.before.before.before.before.before.before.before.before.before.read-rule.ensures
     x.before.before.before.before.before.before.before.before.if1.false _ _ _ m _ x.before.before.whole.ensures.0 x.if2.false _ _ x.before.before.whole.ensures.1
     c.before.before.before.before.before.before.before.before.number-marked.ensures in (
-      whole-answer s _ x.before.before.before.before.before.before.before.before.before.before.read-rule.ensures
+      whole_answer s _ x.before.before.before.before.before.before.before.before.before.before.read-rule.ensures
           x.before.before.before.before.before.before.before.before.if1.false _ _ _ m _ x.before.before.whole.ensures.0,
       (
-        ready-quads _ _ _ _ _ r,
-        (ready-needs _ _ _ _ _ r _ c.before.before.before.rule-needs.ensures, (ready-outputs _ _ _ _ _ r, ready-conditions _ _ _ _ _ r _ c.condition-gates.ensures)),
+        ready_quads _ _ _ _ _ r,
+        (ready_needs _ _ _ _ _ r _ c.before.before.before.rule-needs.ensures, (ready_outputs _ _ _ _ _ r, ready_conditions _ _ _ _ _ r _ c.condition-gates.ensures)),
       ),
     )
 

@@ -3,7 +3,7 @@ use native.Mathlib.Omega.{arith}
 use mathlib.Core.Logic.{⊎_elim}
 use Prim.Native.Nat.{◌-◌, ◌≤◌}
 use Rattle.rule.specs.Header.{variables}
-use Rattle.circuit_build.specs.WantingLaws.{Listing, listing_start, listing-working, listing-result, listing-end}
+use Rattle.circuit_build.specs.WantingLaws.{Listing, listing_start, listing_working, listing_result, listing_end}
 use Rattle.circuit_build.proofs.list_wanted.Statement.{statement}
 use Rattle.circuit_build.proofs.list_wanted.Tie as tie
 
@@ -43,12 +43,12 @@ loop-again c =
     let l = c.before.before.before.before.loop-test.true in
     let e = c.before.before.working-at.ensures in
     ⊎_elim
-    (λ w. listing-working _ _ _ _ _ _ _ i l e w.0.taken w.1)
-    (λ f. listing-result _ _ _ _ _ _ _ i l e f.0.left f.1)
+    (λ w. listing_working _ _ _ _ _ _ _ i l e w.0.taken w.1)
+    (λ f. listing_result _ _ _ _ _ _ _ i l e f.0.left f.1)
     c.before.if1.branch
 
 returns : tie.Need-returns invariant-loop decreases-loop
-returns c = listing-end _ _ _ _ _ c.before.loop.invariant c.loop-test.false
+returns c = listing_end _ _ _ _ _ c.before.loop.invariant c.loop-test.false
 
 pub list-wanted-spec : {M : Type 1} → statement M
 list-wanted-spec =

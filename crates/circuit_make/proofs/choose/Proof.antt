@@ -1,6 +1,6 @@
 use mathlib.Core.Path.{refl}
 use Rattle.circuit.specs.Gates.{choice}
-use Rattle.circuit_make.specs.ChoiceLaws.{pushed-chose}
+use Rattle.circuit_make.specs.ChoiceLaws.{pushed_chose}
 use borrow.Author.Rules.{rules}
 use Rattle.circuit_make.proofs.choose.Statement.{statement}
 use Rattle.circuit_make.proofs.choose.Tie as tie
@@ -8,7 +8,7 @@ use Rattle.circuit_make.proofs.choose.Tie as tie
 returns : tie.Need-returns
 returns c =
     let a = c.before.before.before.before.before.args in
-    pushed-chose (choice a.condition.0 a.first.0 a.second.0) 0x30 a.condition.0 a.first.0 a.second.0 a.x a.quads.now a.present.now
+    pushed_chose (choice a.condition.0 a.first.0 a.second.0) 0x30 a.condition.0 a.first.0 a.second.0 a.x a.quads.now a.present.now
     a.count _ c.push.result c.before.before.before.before.before.requires (λ s. refl) c.push.ensures
 
 pub choose_spec : {M : Type 1} → statement M

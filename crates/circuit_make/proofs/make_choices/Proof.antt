@@ -3,7 +3,7 @@ use mathlib.Core.Logic.{⊎_elim}
 use Prim.Native.Nat.{◌-◌}
 use borrow.Author.Rules.{rules}
 use Rattle.circuit_make.specs.Holding.{ChosenTo}
-use Rattle.circuit_make.specs.ChoiceLaws.{chosen_none, chosen-not, chosen-one, chosen-all}
+use Rattle.circuit_make.specs.ChoiceLaws.{chosen_none, chosen_not, chosen_one, chosen_all}
 use Rattle.circuit_make.proofs.make_choices.Statement.{statement}
 use Rattle.circuit_make.proofs.make_choices.Tie as tie
 
@@ -24,10 +24,10 @@ loop-again c =
     let a = c.before.before.before.before.args in let l = c.before.before.before.loop in
     ⊎_elim
     (λ w. rw (w.8, w.7, w.6)
-    (chosen-one a.condition.0 a.first.now a.second.now a.assigned a.v a.quads.now a.present.now a.count l.x l.n l.quads
+    (chosen_one a.condition.0 a.first.now a.second.now a.assigned a.v a.quads.now a.present.now a.count l.x l.n l.quads
     l.present l.invariant c.before.before.loop-test.true (sym c.before.among.ensures ∙ w.0.taken) _ _ _ w.5.ensures))
     (λ w. rw (w.3, w.2, w.1)
-    (chosen-not a.condition.0 a.first.now a.second.now a.assigned a.v a.quads.now a.present.now a.count l.x l.n l.quads
+    (chosen_not a.condition.0 a.first.now a.second.now a.assigned a.v a.quads.now a.present.now a.count l.x l.n l.quads
     l.present l.invariant c.before.before.loop-test.true (sym c.before.among.ensures ∙ w.0.left)))
     c.if1.branch
 
@@ -35,7 +35,7 @@ returns : tie.Need-returns invariant-loop decreases-loop
 returns c =
     let a = c.before.before.args in
     let l = c.before.loop in
-    chosen-all a.condition.0 a.first.now a.second.now a.assigned a.v a.quads.now a.present.now a.count l.x l.n l.quads
+    chosen_all a.condition.0 a.first.now a.second.now a.assigned a.v a.quads.now a.present.now a.count l.x l.n l.quads
     l.present l.invariant c.loop-test.false
 
 pub make-choices-spec : {M : Type 1} → statement M

@@ -1,5 +1,5 @@
 use borrow.Author.Rules.{rules}
-use Rattle.circuit_needed.specs.PassingLaws.{wanted_room, found-needed}
+use Rattle.circuit_needed.specs.PassingLaws.{wanted_room, found_needed}
 use Rattle.circuit_pass.proofs.find_needed.Statement.{statement}
 use Rattle.circuit_pass.proofs.find_needed.Tie as tie
 
@@ -9,7 +9,7 @@ want-all-requires c κs = let d = c.before.before in wanted_room _ _ d.args.want
 returns : tie.Need-returns
 returns c =
     let d = c.before.before.before.before.before in
-    found-needed _ _ _ _ _ _ _ d.requires.0.0 d.requires.0.1 d.requires.1 c.before.before.want-all.ensures c.pass.ensures.0
+    found_needed _ _ _ _ _ _ _ d.requires.0.0 d.requires.0.1 d.requires.1 c.before.before.want-all.ensures c.pass.ensures.0
 
 pub find-needed-spec : {M : Type 1} → statement M
 find-needed-spec =

@@ -1,7 +1,7 @@
 use mathlib.Core.Path.{sym, ◌∙◌}
 use Rattle.base.specs.Sets.{whole}
-use Rattle.base.specs.SetsHeld.{setOf}
-use Rattle.circuit.specs.Limits.{mostSettings}
+use Rattle.base.specs.SetsHeld.{set_of}
+use Rattle.circuit.specs.Limits.{most_settings}
 use borrow.Author.Tests.{eqb-true}
 use borrow.Author.Rules.{rules}
 use Rattle.circuit_pass.proofs.hand_to.Statement.{statement}
@@ -9,7 +9,7 @@ use Rattle.circuit_pass.proofs.hand_to.Tie as tie
 
 returns : tie.Need-returns
 returns c =
-    let e = eqb-true (setOf c.before.before.before.before.args.s) (whole mostSettings) (sym c.before.before.before.is_whole.ensures ∙ c.before.before.if1.true) in
+    let e = eqb-true (set_of c.before.before.before.before.args.s) (whole most_settings) (sym c.before.before.before.is_whole.ensures ∙ c.before.before.if1.true) in
     rw e c.add-whole.ensures
 
 pub hand-to-spec : {M : Type 1} → statement M

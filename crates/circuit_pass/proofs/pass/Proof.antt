@@ -1,12 +1,12 @@
 use borrow.Author.Rules.{rules}
 use native.Mathlib.Omega.{arith}
-use Rattle.base.specs.SetsHeld.{setsIn}
-use Rattle.circuit_needed.specs.PassingLaws.{WalkingBack, walking_start, walking-final, walking-step, walking-end}
+use Rattle.base.specs.SetsHeld.{sets_in}
+use Rattle.circuit_needed.specs.PassingLaws.{WalkingBack, walking_start, walking_final, walking_step, walking_end}
 use Rattle.circuit_pass.proofs.pass.Statement.{statement}
 use Rattle.circuit_pass.proofs.pass.Tie as tie
 
 abbrev invariant-loop : tie.invariant-loop
-invariant-loop quads count ranks sets₀ i₀ sets i = WalkingBack quads ranks (setsIn sets₀) (setsIn sets) count i
+invariant-loop quads count ranks sets₀ i₀ sets i = WalkingBack quads ranks (sets_in sets₀) (sets_in sets) count i
 
 abbrev decreases-loop : tie.decreases-loop
 decreases-loop quads count ranks sets₀ i₀ sets i = i
@@ -21,10 +21,10 @@ hand-requires c κs = (c.before.before.loop.invariant.passable, omega (arith, c.
 loop-again : tie.Need-loop-preserved invariant-loop decreases-loop
 loop-again c =
     let w = c.before.before.before.loop.invariant in
-    walking-step _ _ _ _ _ _ _ w c.before.before.loop-test.true (walking-final _ _ _ _ _ _ w _ (omega arith)) c.hand.ensures
+    walking_step _ _ _ _ _ _ _ w c.before.before.loop-test.true (walking_final _ _ _ _ _ _ w _ (omega arith)) c.hand.ensures
 
 returns : tie.Need-returns invariant-loop decreases-loop
-returns c = walking-end _ _ _ _ _ _ c.before.loop.invariant c.loop-test.false
+returns c = walking_end _ _ _ _ _ _ c.before.loop.invariant c.loop-test.false
 
 pub pass_spec : {M : Type 1} → statement M
 pass_spec =

@@ -5,9 +5,9 @@ use Prim.Native.Nat.{◌+◌}
 use Rattle.base.specs.declared.Form.TheVariants.{End, Assign, Skip, Branch, Unknown}
 use Rattle.base.specs.Parsing.{parsed}
 use Rattle.rule.specs.Tree.{word}
-use Rattle.rule.specs.Expressions.{readExpr}
-use Rattle.rule.specs.FirstByte.{VariableRead, WordRead, BitRead, expr-inside, byte-variable, as-variable, as-word, as-bit, expr-taken}
-use Rattle.circuit_make.specs.ExprLaws.{level, first_taken, second-taken, made-variable, made_word, made-bit, made_one, made-two}
+use Rattle.rule.specs.Expressions.{read_expr}
+use Rattle.rule.specs.FirstByte.{VariableRead, WordRead, BitRead, expr_inside, byte_variable, as_variable, as_word, as_bit, expr_taken}
+use Rattle.circuit_make.specs.ExprLaws.{level, first_taken, second_taken, made_variable, made_word, made_bit, made_one, made_two}
 use borrow.Author.Rules.{rules}
 use Prim.Native.Nat.{ℕ, ◌*◌, ◌<◌}
 use borrow.Fn.Kinds.{In}
@@ -71,19 +71,19 @@ make-expr-claims t = (
 
 -- what was read, by the form of its code
 inside : (t : ℕ) (d : make-expr-lts.Start (make-expr-claims t) (make-expr-at t) make-expr.Post) → d.args.at < length d.args.s.now
-inside t d = let a = d.args in expr-inside a.deep a.s.now a.want a.at d.requires.1.1
+inside t d = let a = d.args in expr_inside a.deep a.s.now a.want a.at d.requires.1.1
 
 the-variable : (t : ℕ) (c : make-expr-lts.After-enum-told (make-expr-claims t) (make-expr-at t) make-expr.Post)
-    → let a = c.before.before.before.before.before.args in VariableRead a.s.now a.want a.at (readExpr a.deep a.s.now a.want a.at)
-the-variable t c = as-variable _ _ _ _ c.before.before.before.before.before.requires.1.1 _ c.before.before.code_of_lem.ensures c.enum_told.given.1
+    → let a = c.before.before.before.before.before.args in VariableRead a.s.now a.want a.at (read_expr a.deep a.s.now a.want a.at)
+the-variable t c = as_variable _ _ _ _ c.before.before.before.before.before.requires.1.1 _ c.before.before.code_of_lem.ensures c.enum_told.given.1
 
 the_word : (t : ℕ) (c : make-expr-lts.After-enum-told2 (make-expr-claims t) (make-expr-at t) make-expr.Post)
-    → let a = c.before.before.before.before.before.args in WordRead a.s.now a.want a.at (readExpr a.deep a.s.now a.want a.at)
-the_word t c = as-word _ _ _ _ c.before.before.before.before.before.requires.1.1 _ c.before.before.code_of_lem.ensures c.enum-told2.given.1
+    → let a = c.before.before.before.before.before.args in WordRead a.s.now a.want a.at (read_expr a.deep a.s.now a.want a.at)
+the_word t c = as_word _ _ _ _ c.before.before.before.before.before.requires.1.1 _ c.before.before.code_of_lem.ensures c.enum-told2.given.1
 
 the-bit : (t : ℕ) (c : make-expr-lts.After-enum-told3 (make-expr-claims t) (make-expr-at t) make-expr.Post)
-    → let a = c.before.before.before.before.before.args in BitRead a.s.now a.want a.at (readExpr a.deep a.s.now a.want a.at)
-the-bit t c = as-bit _ _ _ _ c.before.before.before.before.before.requires.1.1 _ c.before.before.code_of_lem.ensures c.enum-told3.given.1
+    → let a = c.before.before.before.before.before.args in BitRead a.s.now a.want a.at (read_expr a.deep a.s.now a.want a.at)
+the-bit t c = as_bit _ _ _ _ c.before.before.before.before.before.requires.1.1 _ c.before.before.code_of_lem.ensures c.enum-told3.given.1
 
 the-level : (t : ℕ) (c : make-expr-lts.After-form (make-expr-claims t) (make-expr-at t) make-expr.Post) → 0 < c.before.before.before.before.before.args.deep
 the-level t c = level _ _ _ _ c.before.before.before.before.before.requires.1.1 _ c.before.before.code_of_lem.ensures _ c.form.given.1
@@ -99,13 +99,13 @@ make-expr-make-argument-requires-2 t c κs =
       omega (arith, the-level t f),
       (
         d.requires.1.0,
-        second-taken _ _ _ _ d.requires.1.1 _ f.before.before.code_of_lem.ensures _ f.form.given.1 _ _ _ _ _ _ _
+        second_taken _ _ _ _ d.requires.1.1 _ f.before.before.code_of_lem.ensures _ f.form.given.1 _ _ _ _ _ _ _
             c.before.before.before.make-argument.ensures c.before.if1.false,
       ),
     )
 
 make-expr-returns : (t : ℕ) → make-expr-lts.Need-returns (make-expr-claims t) (make-expr-at t) make-expr.Post
-make-expr-returns t c = rw c.make-variable.ensures (made-variable _ _ _ _ _ _ _ (the-variable t c.before).is)
+make-expr-returns t c = rw c.make-variable.ensures (made_variable _ _ _ _ _ _ _ (the-variable t c.before).is)
 
 make-expr-returns-2 : (t : ℕ) → make-expr-lts.Need-returns-2 (make-expr-claims t) (make-expr-at t) make-expr.Post
 make-expr-returns-2 t c =
@@ -115,7 +115,7 @@ make-expr-returns-2 t c =
     ((the_word t w).is ∙ ap (λ (k : ℕ). parsed (word k) (w.before.before.before.before.before.args.at + 5)) (sym n.ensures)) c.push.ensures
 
 make-expr-returns-3 : (t : ℕ) → make-expr-lts.Need-returns-3 (make-expr-claims t) (make-expr-at t) make-expr.Post
-make-expr-returns-3 t c = made-bit _ _ _ _ _ _ _ _ _ (the-bit t c.before.before.before).is c.push2.ensures
+make-expr-returns-3 t c = made_bit _ _ _ _ _ _ _ _ _ (the-bit t c.before.before.before).is c.push2.ensures
 
 make-expr-returns-4 : (t : ℕ) → make-expr-lts.Need-returns-4 (make-expr-claims t) (make-expr-at t) make-expr.Post
 make-expr-returns-4 t c =
@@ -130,17 +130,17 @@ make-expr-returns-5 t c =
     let i = c.before.before.before.before in
     let x = i.before.before in
     let f = x.before.before.before in
-    made-two _ _ _ _ f.before.before.before.before.before.requires.1.1 _ f.before.before.code_of_lem.ensures _ f.form.given.1 _ _ _ _ _ _ _
+    made_two _ _ _ _ f.before.before.before.before.before.requires.1.1 _ f.before.before.code_of_lem.ensures _ f.form.given.1 _ _ _ _ _ _ _
     x.make-argument.ensures i.if1.false _ _ _ _ c.before.before.make-argument2.ensures _ _ c.apply-gate.ensures
 
 pub +make-argument-make-expr-spec : {M : Type 1} → statement M
 +make-argument-make-expr-spec = close μ-make-argument μ-make-expr (λ t. make-argument-lts.spec (make-argument-claims t) (make-argument-at t)
     make-argument.Post
-    (λ c. let d = c.before.before in expr-inside _ _ _ _ d.requires.1.1)
+    (λ c. let d = c.before.before in expr_inside _ _ _ _ d.requires.1.1)
     (λ c κs. let d = c.before.before.before in
-    let v = byte-variable _ _ _ _ d.requires.1.1 c.if1.true in (v.inside, omega (arith, v.range, d.requires.1.0.few)))
-    (λ c. let v = byte-variable _ _ _ _ c.before.before.before.before.requires.1.1 c.before.if1.true in
-    rw c.make-variable.ensures (made-variable _ _ _ _ _ _ _ v.is))
+    let v = byte_variable _ _ _ _ d.requires.1.1 c.if1.true in (v.inside, omega (arith, v.range, d.requires.1.0.few)))
+    (λ c. let v = byte_variable _ _ _ _ c.before.before.before.before.requires.1.1 c.before.if1.true in
+    rw c.make-variable.ensures (made_variable _ _ _ _ _ _ _ v.is))
     (λ c κs. (search rules, c.before.before.before.before.requires.1))
     (λ c. c.make-expr.ensures))
     λ t. make-expr-lts.spec (make-expr-claims t) (make-expr-at t)
@@ -186,12 +186,12 @@ pub +make-argument-make-expr-spec : {M : Type 1} → statement M
     (make-expr-returns-4 t)
     (make-expr-returns-5 t)
     (λ c. let b = c.before.before.before in
-    absurd (expr-taken _ _ _ _ b.before.before.before.requires.1.1 _ b.code_of_lem.ensures End c.before.enum-told4.given.1))
+    absurd (expr_taken _ _ _ _ b.before.before.before.requires.1.1 _ b.code_of_lem.ensures End c.before.enum-told4.given.1))
     (λ c. let b = c.before.before.before in
-    absurd (expr-taken _ _ _ _ b.before.before.before.requires.1.1 _ b.code_of_lem.ensures Assign c.before.enum-told5.given.1))
+    absurd (expr_taken _ _ _ _ b.before.before.before.requires.1.1 _ b.code_of_lem.ensures Assign c.before.enum-told5.given.1))
     (λ c. let b = c.before.before.before in
-    absurd (expr-taken _ _ _ _ b.before.before.before.requires.1.1 _ b.code_of_lem.ensures Skip c.before.enum-told6.given.1))
+    absurd (expr_taken _ _ _ _ b.before.before.before.requires.1.1 _ b.code_of_lem.ensures Skip c.before.enum-told6.given.1))
     (λ c. let b = c.before.before.before in
-    absurd (expr-taken _ _ _ _ b.before.before.before.requires.1.1 _ b.code_of_lem.ensures Branch c.before.enum-told7.given.1))
+    absurd (expr_taken _ _ _ _ b.before.before.before.requires.1.1 _ b.code_of_lem.ensures Branch c.before.enum-told7.given.1))
     (λ c. let b = c.before.before.before in
-    absurd (expr-taken _ _ _ _ b.before.before.before.requires.1.1 _ b.code_of_lem.ensures Unknown c.before.enum-told8.given.1))
+    absurd (expr_taken _ _ _ _ b.before.before.before.requires.1.1 _ b.code_of_lem.ensures Unknown c.before.enum-told8.given.1))

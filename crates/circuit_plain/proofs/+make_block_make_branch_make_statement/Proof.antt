@@ -6,17 +6,17 @@ use Rattle.base.specs.declared.Kind.TheVariants.{Bit}
 use Rattle.base.specs.declared.Form.{Form}
 use Rattle.base.specs.declared.Form.TheVariants as form
 use Rattle.base.specs.Parsing.{IsRead}
-use Rattle.base.specs.ParsingLaws.{forward-read}
+use Rattle.base.specs.ParsingLaws.{forward_read}
 use Rattle.rule.specs.Limits.{deepest}
-use Rattle.rule.specs.Expressions.{readExpr}
-use Rattle.rule.specs.ExpressionLaws.{expr-forward}
-use Rattle.rule.specs.Blocks.{statementForm, readBlock}
-use Rattle.rule.specs.FuelLaws.{block-forward, statement-forward}
-use Rattle.rule.specs.BlockLaws.{statement-as}
+use Rattle.rule.specs.Expressions.{read_expr}
+use Rattle.rule.specs.ExpressionLaws.{expr_forward}
+use Rattle.rule.specs.Blocks.{statement_form, read_block}
+use Rattle.rule.specs.FuelLaws.{block_forward, statement_forward}
+use Rattle.rule.specs.BlockLaws.{statement_as}
 use Rattle.rule.specs.FirstStatement.{block_inside}
 use Rattle.circuit_make.specs.Holding.{Walked}
-use Rattle.circuit_make.specs.StatementLaws.{done-as, branch-level, test-taken, first_taken, second-taken, made-branch, statement-read-as, made-skip}
-use Rattle.circuit_make.specs.BlockLaws.{walked_none, rest-taken, statement-taken, walked_all, walked_more}
+use Rattle.circuit_make.specs.StatementLaws.{done_as, branch_level, test_taken, first_taken, second_taken, made_branch, statement_read_as, made_skip}
+use Rattle.circuit_make.specs.BlockLaws.{walked_none, rest_taken, statement_taken, walked_all, walked_more}
 use borrow.Author.Rules.{rules}
 use Prim.Native.Nat.{ℕ, ◌<◌}
 use borrow.Fn.Kinds.{In}
@@ -84,29 +84,29 @@ make-statement-claims t = (code.Asked, code.Learnt, assign.Asked, assign.Learnt,
 -- the statements left begin inside the file
 still-inside : (t : ℕ) (c : make-block-lts.At-loop (make-block-claims t) (make-block-at t) make-block.Post make-block-Inv-loop make-block-μ-loop)
     → c.loop.here < length c.before.before.args.s.now
-still-inside t c = block_inside _ _ _ (rest-taken _ _ _ _ _ _ _ _ _ _ _ c.loop.invariant.0)
+still-inside t c = block_inside _ _ _ (rest_taken _ _ _ _ _ _ _ _ _ _ _ c.loop.invariant.0)
 
 -- a level is left for an if that was read
 the-level : (t : ℕ) (d : make-branch-lts.Start (make-branch-claims t) (make-branch-at t) make-branch.Post) → 0 < d.args.nest
-the-level t d = branch-level _ _ _ d.requires.1.1.1
+the-level t d = branch_level _ _ _ d.requires.1.1.1
 
 -- what was read, by the form of its code; of no statement's form nothing was
 as_read : (t : ℕ) (c : make-statement-lts.After-code-of (make-statement-claims t) (make-statement-at t) make-statement.Post) (f : Form) → c.code_of_lem.result.form ≡ f
-    → let a = c.before.before.before.args in IsRead (statementForm f (readBlock a.s.now) a.s.now a.nest a.at)
-as_read t c f q = statement-read-as _ _ _ _ c.code_of_lem.ensures c.before.before.before.requires.1.1.1 f q
+    → let a = c.before.before.before.args in IsRead (statement_form f (read_block a.s.now) a.s.now a.nest a.at)
+as_read t c f q = statement_read_as _ _ _ _ c.code_of_lem.ensures c.before.before.before.requires.1.1.1 f q
 
 make-block-loop-again : (t : ℕ) → make-block-lts.Need-loop-preserved (make-block-claims t) (make-block-at t) make-block.Post make-block-Inv-loop make-block-μ-loop
 make-block-loop-again t c =
     let (made, small) = c.before.before.make-statement.ensures in (
       walked_more _ _ _ _ _ _ _ _ _ _ _ c.before.before.before.before.before.before.before.loop.invariant.0 c.before.before.before.before.before.if1.false _ _ _ _ _
-          (forward-read _ (statement-forward _ _ _) made.read) made,
+          (forward_read _ (statement_forward _ _ _) made.read) made,
       small,
     )
 
 make-branch-make-block-requires : (t : ℕ) → make-branch-lts.Need-make-block-requires (make-branch-claims t) (make-branch-at t) make-branch.Post
 make-branch-make-block-requires t c κs =
     let d = c.before.before.before.before.before.before.before.before in let test = c.before.before.before.before.make-expr.ensures in (
-      omega (arith, forward-read (readExpr deepest d.args.s.now Bit (d.args.at + 1)) (expr-forward _ _ _ _) test.read),
+      omega (arith, forward_read (read_expr deepest d.args.s.now Bit (d.args.at + 1)) (expr_forward _ _ _ _) test.read),
       (d.requires.1.0, first_taken _ _ _ d.requires.1.1.1 _ _ _ _ _ _ _ test),
     )
 
@@ -115,9 +115,9 @@ make-branch-make-block-requires-2 t c κs =
     let d = c.before.before.before.before.before.before.before.before.before.before.before.before in
     let test = c.before.before.before.before.before.before.before.before.make-expr.ensures in
     let first = c.before.before.before.make-block.ensures.0 in
-    let past = forward-read (readExpr deepest d.args.s.now Bit (d.args.at + 1)) (expr-forward _ _ _ _) test.read in (
-      omega (arith, past, forward-read _ (block-forward _ _ _) first.read),
-      (d.requires.1.0, second-taken _ _ _ d.requires.1.1.1 _ _ _ _ _ _ _ test _ _ _ _ _ first),
+    let past = forward_read (read_expr deepest d.args.s.now Bit (d.args.at + 1)) (expr_forward _ _ _ _) test.read in (
+      omega (arith, past, forward_read _ (block_forward _ _ _) first.read),
+      (d.requires.1.0, second_taken _ _ _ d.requires.1.1.1 _ _ _ _ _ _ _ test _ _ _ _ _ first),
     )
 
 make-branch-returns : (t : ℕ) → make-branch-lts.Need-returns (make-branch-claims t) (make-branch-at t) make-branch.Post
@@ -126,7 +126,7 @@ make-branch-returns t c =
     let x = y.before.before.before.before in
     let e = x.before.before.before.before.before in
     let d = e.before.before.before.before in (
-      made-branch _ _ _ d.requires.1.1.1 _ _ _ _ _ _ _ e.make-expr.ensures _ _ _ _ _ x.make-block.ensures.0 _ _ _ _ _ y.make-block2.ensures.0
+      made_branch _ _ _ d.requires.1.1.1 _ _ _ _ _ _ _ e.make-expr.ensures _ _ _ _ _ x.make-block.ensures.0 _ _ _ _ _ y.make-block2.ensures.0
           d.requires.1.0.few _ _ _ _ refl c.make-choices.ensures,
       search rules,
     )
@@ -144,15 +144,15 @@ pub +make-block-make-branch-make-statement-spec : {M : Type 1} → statement M
     (λ c. (walked_all _ _ _ _ _ _ _ _ _ _ _ c.before.before.loop.invariant.0 c.if1.true, c.before.before.loop.invariant.1))
     (λ c κs. let l = c.before.before.before.before in (
       omega (arith, l.loop.invariant.0.onward, still-inside t l),
-      (l.before.before.requires.1.0, (still-inside t l, statement-taken _ _ _ _ _ _ _ _ _ _ _ l.loop.invariant.0 c.before.before.if1.false)),
+      (l.before.before.requires.1.0, (still-inside t l, statement_taken _ _ _ _ _ _ _ _ _ _ _ l.loop.invariant.0 c.before.before.if1.false)),
     ))
     (λ c. record { fits = omega (arith, c.before.make-statement.ensures.1) })
-    (λ c. omega (arith, still-inside t c.before.before.before.before.before.before.before, forward-read _ (statement-forward _ _ _) c.before.before.make-statement.ensures.0.read))
+    (λ c. omega (arith, still-inside t c.before.before.before.before.before.before.before, forward_read _ (statement_forward _ _ _) c.before.before.make-statement.ensures.0.read))
     (make-block-loop-again t))
     (λ t. make-branch-lts.spec (make-branch-claims t) (make-branch-at t)
     make-branch.Post
     (λ c. search rules)
-    (λ c κs. let d = c.before.before.before in (d.requires.1.0, test-taken _ _ _ d.requires.1.1.1))
+    (λ c κs. let d = c.before.before.before in (d.requires.1.0, test_taken _ _ _ d.requires.1.1.1))
     (λ c. the-level t c.before.before.before.before.before.before)
     (make-branch-make-block-requires t)
     (λ c. the-level t c.before.before.before.before.before.before.before.before.before)
@@ -188,11 +188,11 @@ pub +make-block-make-branch-make-statement-spec : {M : Type 1} → statement M
     (λ c. search rules)
     (λ c κs. search rules)
     (λ c. let b = c.before.before.before in
-    (done-as _ _ _ _ _ (statement-as _ _ _ _ form.Assign b.before.before.code_of_lem.ensures b.enum_told.given.1) c.make-assign.ensures.0, c.make-assign.ensures.1))
+    (done_as _ _ _ _ _ (statement_as _ _ _ _ form.Assign b.before.before.code_of_lem.ensures b.enum_told.given.1) c.make-assign.ensures.0, c.make-assign.ensures.1))
     (λ c. let p = c.passed.ensures in
-    (made-skip _ _ _ _ c.before.before.before.code_of_lem.ensures c.before.enum-told2.given.1 _ _ _ _ _ _ p.0 p.1.0 p.1.1, rw p.1.0 (search rules)))
+    (made_skip _ _ _ _ c.before.before.before.code_of_lem.ensures c.before.enum-told2.given.1 _ _ _ _ _ _ p.0 p.1.0 p.1.1, rw p.1.0 (search rules)))
     (λ c. let b = c.before.before.before in
-    (done-as _ _ _ _ _ (statement-as _ _ _ _ form.Branch b.before.before.code_of_lem.ensures b.enum-told3.given.1) c.make-branch.ensures.0, c.make-branch.ensures.1))
+    (done_as _ _ _ _ _ (statement_as _ _ _ _ form.Branch b.before.before.code_of_lem.ensures b.enum-told3.given.1) c.make-branch.ensures.0, c.make-branch.ensures.1))
     (λ c. absurd (as_read t c.before.before.before form.End c.before.enum-told4.given.1))
     (λ c. absurd (as_read t c.before.before.before form.Variable c.before.enum-told5.given.1))
     (λ c. absurd (as_read t c.before.before.before form.Word c.before.enum-told6.given.1))

@@ -3,9 +3,9 @@ use native.Mathlib.Omega.{arith}
 use Prim.Native.Nat.{◌-◌}
 use borrow.Author.Rules.{rules}
 use Rattle.rule.specs.Header.{variables}
-use Rattle.base.specs.Codes.{startCode}
+use Rattle.base.specs.Codes.{start_code}
 use Rattle.circuit_make.specs.Holding.{Started}
-use Rattle.circuit_make.specs.ChoiceLaws.{started_none, started-more, started-all}
+use Rattle.circuit_make.specs.ChoiceLaws.{started_none, started_more, started_all}
 use Rattle.circuit_plain.proofs.make_starts.Statement.{statement}
 use Rattle.circuit_plain.proofs.make_starts.Tie as tie
 
@@ -25,16 +25,16 @@ loop-again c =
     let a = c.before.before.before.before.before.before.before.before.args in
     let l = c.before.before.before.before.before.loop in (
       l.invariant.0,
-      started-more a.s.now l.quads l.present l.x l.n c.before.before.start-code.result c.push.result _ l.invariant.1
+      started_more a.s.now l.quads l.present l.x l.n c.before.before.start-code.result c.push.result _ l.invariant.1
           (omega (arith, l.invariant.0, c.before.before.before.before.loop-test.true)) c.before.before.before.before.before.before.before.before.requires.0.few
-          (c.before.before.start-code.ensures ∙ ap startCode c.before.before.before.kind_at.ensures) c.push.ensures,
+          (c.before.before.start-code.ensures ∙ ap start_code c.before.before.before.kind_at.ensures) c.push.ensures,
     )
 
 returns : tie.Need-returns invariant-loop decreases-loop
 returns c =
     let a = c.before.before.before.before.args in
     let l = c.before.loop in
-    started-all a.s.now l.quads l.present l.x l.n l.invariant.1 (omega (arith, l.invariant.0, c.loop-test.false))
+    started_all a.s.now l.quads l.present l.x l.n l.invariant.1 (omega (arith, l.invariant.0, c.loop-test.false))
 
 pub make-starts-spec : {M : Type 1} → statement M
 make-starts-spec =

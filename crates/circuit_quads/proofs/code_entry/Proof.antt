@@ -1,11 +1,11 @@
 use borrow.Author.Rules.{rules}
 use mathlib.Core.Path.{◌∙◌}
-use Rattle.circuit_needed.specs.HeldLaws.{code-above}
+use Rattle.circuit_needed.specs.HeldLaws.{code_above}
 use Rattle.circuit_quads.proofs.code_entry.Statement.{statement}
 use Rattle.circuit_quads.proofs.code_entry.Tie as tie
 
 returns-2 : tie.Need-returns-2
-returns-2 c = c.code-of2.ensures ∙ code-above _ c.before.if1.false
+returns-2 c = c.code-of2.ensures ∙ code_above _ c.before.if1.false
 
 pub code-entry-spec : {M : Type 1} → statement M
 code-entry-spec =

@@ -1,13 +1,13 @@
 use borrow.Author.Rules.{rules}
 use mathlib.Core.Path.{refl}
-use Rattle.base.specs.Codes.{code_of, operationOf}
-use Rattle.circuit_needed.specs.Held.{codeCost, costTable}
+use Rattle.base.specs.Codes.{code_of, operation_of}
+use Rattle.circuit_needed.specs.Held.{code_cost, cost_table}
 use Rattle.circuit_survey.proofs.cost_table.Statement.{statement}
 use Rattle.circuit_survey.proofs.cost_table.Tie as tie
 
 -- every other code costs nothing
 returns : tie.Need-returns
-unfolding costTable codeCost code_of operationOf
+unfolding cost_table code_cost code_of operation_of
 returns c =
     rw (
       c.before.before.before.before.before.cost-of.ensures,

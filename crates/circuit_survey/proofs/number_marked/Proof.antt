@@ -2,7 +2,7 @@ use borrow.Author.Rules.{rules}
 use native.Mathlib.Omega.{arith}
 use mathlib.Core.Logic.{⊎_elim}
 use Prim.Native.Nat.{◌-◌}
-use Rattle.circuit_needed.specs.RankLaws.{Numbering, numbering_start, numbering-fits, numbering-one, numbering-none, numbering-end}
+use Rattle.circuit_needed.specs.RankLaws.{Numbering, numbering_start, numbering_fits, numbering_one, numbering_none, numbering_end}
 use Rattle.circuit_survey.proofs.number_marked.Statement.{statement}
 use Rattle.circuit_survey.proofs.number_marked.Tie as tie
 
@@ -16,19 +16,19 @@ loop-holds : tie.Need-loop-init invariant-loop decreases-loop
 loop-holds c = numbering_start _ _ c.requires
 
 add-t : tie.Need-overflow-add-t invariant-loop decreases-loop
-add-t c = record { fits = omega (arith, numbering-fits _ _ _ _ _ c.before.before.before.loop.invariant) }
+add-t c = record { fits = omega (arith, numbering_fits _ _ _ _ _ c.before.before.before.loop.invariant) }
 
 loop-again : tie.Need-loop-preserved invariant-loop decreases-loop
 loop-again c =
     let l = c.before.before.before.loop in
     let t = c.before.before.loop-test.true in
     ⊎_elim
-    (λ w. numbering-one _ _ _ _ _ _ _ l.invariant t w.0.taken w.1 w.2)
-    (λ w. numbering-none _ _ _ _ _ _ _ l.invariant t w.0.left w.1 w.2)
+    (λ w. numbering_one _ _ _ _ _ _ _ l.invariant t w.0.taken w.1 w.2)
+    (λ w. numbering_none _ _ _ _ _ _ _ l.invariant t w.0.left w.1 w.2)
     c.if1.branch
 
 returns : tie.Need-returns invariant-loop decreases-loop
-returns c = numbering-end _ _ _ _ _ c.before.loop.invariant c.loop-test.false
+returns c = numbering_end _ _ _ _ _ c.before.loop.invariant c.loop-test.false
 
 pub number-marked-spec : {M : Type 1} → statement M
 number-marked-spec =

@@ -3,7 +3,7 @@ use native.Mathlib.Omega.{arith}
 use mathlib.Core.Path.{refl}
 use mathlib.Core.Logic.{⊎_elim}
 use Prim.Native.Nat.{◌-◌}
-use Rattle.circuit_needed.specs.SurveyLaws.{Surveying, survey-start, survey-bit, survey-inside, survey-few, survey-room, survey-choice, survey-other, survey-end}
+use Rattle.circuit_needed.specs.SurveyLaws.{Surveying, survey_start, survey_bit, survey_inside, survey_few, survey_room, survey_choice, survey_other, survey_end}
 use Rattle.circuit_survey.proofs.survey.Statement.{statement}
 use Rattle.circuit_survey.proofs.survey.Tie as tie
 
@@ -14,12 +14,12 @@ abbrev decreases-loop : tie.decreases-loop
 decreases-loop quads count ranks₀ table conditions₀ cost₀ i₀ ranks conditions cost i = count - i
 
 loop-holds : tie.Need-loop-init invariant-loop decreases-loop
-loop-holds c = survey-start _ _ _ c.before.requires
+loop-holds c = survey_start _ _ _ c.before.requires
 
 argument-requires : tie.Need-argument-requires invariant-loop decreases-loop
 argument-requires c κs = (
   omega (arith, c.before.before.before.loop.invariant.marking.room, c.before.before.loop-test.true),
-  survey-inside _ _ _ _ _ _ c.before.before.before.loop.invariant c.before.before.loop-test.true _ c.if1.true refl,
+  survey_inside _ _ _ _ _ _ c.before.before.before.loop.invariant c.before.before.loop-test.true _ c.if1.true refl,
 )
 
 mul-conditions : tie.Need-overflow-mul-conditions invariant-loop decreases-loop
@@ -27,35 +27,35 @@ mul-conditions c =
     record {
       fits = omega (
         arith,
-        survey-inside _ _ _ _ _ _ c.before.before.before.before.before.loop.invariant c.before.before.before.before.loop-test.true _
+        survey_inside _ _ _ _ _ _ c.before.before.before.before.before.loop.invariant c.before.before.before.before.loop-test.true _
             c.before.before.if1.true c.before.argument.ensures,
       );
     }
 
 element-copy-out-conditions : tie.Need-element-copy-out-conditions invariant-loop decreases-loop
 element-copy-out-conditions c =
-    survey-inside _ _ _ _ _ _ c.before.before.before.before.before.loop.invariant c.before.before.before.before.loop-test.true _ c.before.before.if1.true
+    survey_inside _ _ _ _ _ _ c.before.before.before.before.before.loop.invariant c.before.before.before.before.loop-test.true _ c.before.before.if1.true
     c.before.argument.ensures
 
 sub-conditions : tie.Need-overflow-sub-conditions invariant-loop decreases-loop
-sub-conditions c = survey-bit _ _ _ _ _ _ c.before.before.before.before.before.before.loop.invariant c.before.before.before.before.before.loop-test.true _
+sub-conditions c = survey_bit _ _ _ _ _ _ c.before.before.before.before.before.before.loop.invariant c.before.before.before.before.before.loop-test.true _
 
 add-conditions : tie.Need-overflow-add-conditions invariant-loop decreases-loop
-add-conditions c = record { fits = omega (arith, survey-few _ _ _ _ _ _ c.before.before.before.before.before.before.loop.invariant c.before.before.before.before.before.loop-test.true) }
+add-conditions c = record { fits = omega (arith, survey_few _ _ _ _ _ _ c.before.before.before.before.before.before.loop.invariant c.before.before.before.before.before.loop-test.true) }
 
 mul-ranks : tie.Need-overflow-mul-ranks invariant-loop decreases-loop
 mul-ranks c =
     record {
       fits = omega (
         arith,
-        survey-inside _ _ _ _ _ _ c.before.before.before.before.before.before.loop.invariant c.before.before.before.before.before.loop-test.true _
+        survey_inside _ _ _ _ _ _ c.before.before.before.before.before.before.loop.invariant c.before.before.before.before.before.loop-test.true _
             c.before.before.before.if1.true c.before.before.argument.ensures,
       );
     }
 
 element-write-ranks : tie.Need-element-write-ranks invariant-loop decreases-loop
 element-write-ranks c =
-    survey-inside _ _ _ _ _ _ c.before.before.before.before.before.before.loop.invariant c.before.before.before.before.before.loop-test.true _
+    survey_inside _ _ _ _ _ _ c.before.before.before.before.before.before.loop.invariant c.before.before.before.before.before.loop-test.true _
     c.before.before.before.if1.true c.before.before.argument.ensures
 
 listed-cost-requires : tie.Need-listed-cost-requires invariant-loop decreases-loop
@@ -63,19 +63,19 @@ listed-cost-requires c κs = c.before.before.before.before.before.cost-table.ens
 
 add-cost : tie.Need-overflow-add-cost invariant-loop decreases-loop
 add-cost c =
-    record { fits = omega (arith, survey-room _ _ _ _ _ _ c.before.before.before.before.before.loop.invariant c.before.before.before.before.loop-test.true _ c.listed-cost.ensures) }
+    record { fits = omega (arith, survey_room _ _ _ _ _ _ c.before.before.before.before.before.loop.invariant c.before.before.before.before.loop-test.true _ c.listed-cost.ensures) }
 
 loop-again : tie.Need-loop-preserved invariant-loop decreases-loop
 loop-again c =
     let l = c.before.before.before.before.before.loop in
     let t = c.before.before.before.before.loop-test.true in
     ⊎_elim
-    (λ w. survey-choice _ _ _ _ _ _ l.invariant t _ _ _ _ w.0.taken w.1.ensures w.4 w.5 c.listed-cost.ensures)
-    (λ w. survey-other _ _ _ _ _ _ l.invariant t _ _ _ w.0.left w.1 w.2 c.listed-cost.ensures)
+    (λ w. survey_choice _ _ _ _ _ _ l.invariant t _ _ _ _ w.0.taken w.1.ensures w.4 w.5 c.listed-cost.ensures)
+    (λ w. survey_other _ _ _ _ _ _ l.invariant t _ _ _ w.0.left w.1 w.2 c.listed-cost.ensures)
     c.before.before.if1.branch
 
 returns : tie.Need-returns invariant-loop decreases-loop
-returns c = survey-end _ _ _ _ _ _ c.before.loop.invariant c.loop-test.false
+returns c = survey_end _ _ _ _ _ _ c.before.loop.invariant c.loop-test.false
 
 pub survey-spec : {M : Type 1} → statement M
 survey-spec =

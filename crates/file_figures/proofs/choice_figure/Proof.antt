@@ -4,7 +4,7 @@ use mathlib.Core.Path.{refl}
 use borrow.Author.Rules.{rules}
 use Rattle.file_figures.specs.Working.{held}
 use Rattle.base.specs.Numbers.{number_at}
-use Rattle.file_figures.specs.StepLaws.{chosen-first, chosen-second}
+use Rattle.file_figures.specs.StepLaws.{chosen_first, chosen_second}
 use Rattle.file_figures.proofs.choice_figure.Statement.{statement}
 use Rattle.file_figures.proofs.choice_figure.Tie as tie
 
@@ -20,13 +20,13 @@ figure-at-requires-3 c κs = (search rules, c.before.before.before.requires.1 _ 
 returns : tie.Need-returns
 returns c =
     let a = c.before.before.before.before.args in
-    chosen-first _ _ (held a.figures.now (number_at 2 a.file.now (a.at + 5))) _ _ c.before.before.figure-at.ensures c.before.if1.true
+    chosen_first _ _ (held a.figures.now (number_at 2 a.file.now (a.at + 5))) _ _ c.before.before.figure-at.ensures c.before.if1.true
     c.figure-at2.ensures
 
 returns-2 : tie.Need-returns-2
 returns-2 c =
     let a = c.before.before.before.before.args in
-    chosen-second _ (held a.figures.now (number_at 2 a.file.now (a.at + 3))) _ _ _ c.before.before.figure-at.ensures c.before.if1.false
+    chosen_second _ (held a.figures.now (number_at 2 a.file.now (a.at + 3))) _ _ _ c.before.before.figure-at.ensures c.before.if1.false
     c.figure-at3.ensures
 
 pub choice-figure-spec : {M : Type 1} → statement M

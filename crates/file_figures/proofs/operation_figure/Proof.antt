@@ -1,20 +1,20 @@
 use mathlib.Core.List.{[], ◌∷◌}
 use types.Run.{miss}
 use borrow.Author.Rules.{rules}
-use Rattle.file_figures.specs.OperationLaws.{its-form, first-wire, second-wire, of_one, of_two}
+use Rattle.file_figures.specs.OperationLaws.{its_form, first_wire, second_wire, of_one, of_two}
 use Rattle.file_figures.proofs.operation_figure.Statement.{statement}
 use Rattle.file_figures.proofs.operation_figure.Tie as tie
 
 figure-at-requires : tie.Need-figure-at-requires
 figure-at-requires c κs =
     let d = c.before.before.before.before.before.before in
-    first-wire d.args.file.now d.args.figures.now d.args.at d.requires.0 d.requires.1 _ c.before.before.before.code_of_lem.ensures d.requires.2
+    first_wire d.args.file.now d.args.figures.now d.args.at d.requires.0 d.requires.1 _ c.before.before.before.code_of_lem.ensures d.requires.2
     d.requires.3
 
 figure-at-requires-2 : tie.Need-figure-at-requires-2
 figure-at-requires-2 c κs =
     let d = c.before.before.before.before.before.before.before.before.before in
-    second-wire d.args.file.now d.args.figures.now d.args.at d.requires.0 d.requires.1 _
+    second_wire d.args.file.now d.args.figures.now d.args.at d.requires.0 d.requires.1 _
     c.before.before.before.before.before.before.code_of_lem.ensures d.requires.2 d.requires.3 c.if1.false
 
 returns : tie.Need-returns
@@ -35,7 +35,7 @@ returns-2 c =
 returns-3 : tie.Need-returns-3
 returns-3 c =
     let d = c.before.before.before.before in
-    absurd (miss (0 ∷ 1 ∷ 2 ∷ 3 ∷ 4 ∷ 5 ∷ 6 ∷ 8 ∷ []) 7 tt (rw (its-form d.args.file.now d.args.figures.now d.args.at d.requires.0 d.requires.1 _
+    absurd (miss (0 ∷ 1 ∷ 2 ∷ 3 ∷ 4 ∷ 5 ∷ 6 ∷ 8 ∷ []) 7 tt (rw (its_form d.args.file.now d.args.figures.now d.args.at d.requires.0 d.requires.1 _
     c.before.code_of_lem.ensures) at c.match.keys2))
 
 pub operation-figure-spec : {M : Type 1} → statement M

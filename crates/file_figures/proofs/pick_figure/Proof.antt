@@ -1,6 +1,6 @@
 use borrow.Author.Rules.{rules}
 use native.Mathlib.Omega.{arith}
-use Rattle.file_figures.specs.StepLaws.{Summing, summing_start, pair_inside, summing-one, summing-none, summed-bits, summed-words}
+use Rattle.file_figures.specs.StepLaws.{Summing, summing_start, pair_inside, summing_one, summing_none, summed_bits, summed_words}
 use Rattle.file_figures.proofs.pick_figure.Statement.{statement}
 use Rattle.file_figures.proofs.pick_figure.Tie as tie
 
@@ -29,17 +29,17 @@ figure-at-requires-2 c κs =
 loop-again : tie.Need-loop-preserved invariant-loop decreases-loop
 loop-again c =
     let d = c.before.before.before.before.before in
-    summing-one _ _ _ _ _ _ d.loop.invariant c.before.before.before.before.loop-test.true _ _ _ c.before.before.before.figure-at.ensures
+    summing_one _ _ _ _ _ _ d.loop.invariant c.before.before.before.before.loop-test.true _ _ _ c.before.before.before.figure-at.ensures
     c.before.before.if1.true c.before.figure-at2.ensures c.sum.ensures
 
 loop-again-2 : tie.Need-loop-preserved-2 invariant-loop decreases-loop
-loop-again-2 c = summing-none _ _ _ _ _ _ c.before.before.before.loop.invariant c.before.before.loop-test.true _ c.before.figure-at.ensures c.if1.false
+loop-again-2 c = summing_none _ _ _ _ _ _ c.before.before.before.loop.invariant c.before.before.loop-test.true _ c.before.figure-at.ensures c.if1.false
 
 returns : tie.Need-returns invariant-loop decreases-loop
-returns c = summed-bits _ _ _ _ _ _ c.before.before.loop.invariant c.before.loop-test.false _ c.if2.true
+returns c = summed_bits _ _ _ _ _ _ c.before.before.loop.invariant c.before.loop-test.false _ c.if2.true
 
 returns-2 : tie.Need-returns-2 invariant-loop decreases-loop
-returns-2 c = summed-words _ _ _ _ _ _ c.before.before.loop.invariant c.before.loop-test.false _ c.if2.false
+returns-2 c = summed_words _ _ _ _ _ _ c.before.before.loop.invariant c.before.loop-test.false _ c.if2.false
 
 pub pick-figure-spec : {M : Type 1} → statement M
 pick-figure-spec =

@@ -1,19 +1,19 @@
 use mathlib.Core.Path.{sym, ◌∙◌}
 use borrow.Author.Rules.{rules}
 use borrow.Author.Tests.{le-leb, lt-leb, not-true, not-false}
-use Rattle.file.specs.FileFigures.{firstRecord}
-use Rattle.file.specs.Limits.{mostFileBytes, mostFileVariables}
+use Rattle.file.specs.FileFigures.{first_record}
+use Rattle.file.specs.Limits.{most_file_bytes, most_file_variables}
 use Rattle.file.specs.CircuitRows.{headed}
 use Rattle.file_layout.proofs.headed.Statement.{statement}
 use Rattle.file_layout.proofs.headed.Tie as tie
 
 returns : tie.Need-returns
 unfolding headed
-returns c = rw (lt-leb firstRecord _ c.if1.true)
+returns c = rw (lt-leb first_record _ c.if1.true)
 
 returns-2 : tie.Need-returns-2
 unfolding headed
-returns-2 c = rw (le-leb _ _ c.before.if1.false, lt-leb _ mostFileBytes c.if2.true)
+returns-2 c = rw (le-leb _ _ c.before.if1.false, lt-leb _ most_file_bytes c.if2.true)
 
 returns-3 : tie.Need-returns-3
 unfolding headed
@@ -42,7 +42,7 @@ returns-5 c =
       le-leb _ _ c.before.before.before.before.before.before.if2.false,
       sym c.before.before.before.before.before.marked.ensures ∙ not-false _ c.before.before.before.before.if3.false,
       le-leb _ _ c.before.before.if4.false,
-      lt-leb _ mostFileVariables c.if5.true,
+      lt-leb _ most_file_variables c.if5.true,
     )
 
 returns-6 : tie.Need-returns-6

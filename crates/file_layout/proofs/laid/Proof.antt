@@ -3,13 +3,13 @@ use mathlib.Core.Path.{◌≡◌, sym, ap, ◌∙◌}
 use lib.Dec.{eqb}
 use lib.ListN.{length}
 use borrow.Author.Rules.{rules}
-use Rattle.file.specs.CircuitRows.{laidFrom, laid}
-use Rattle.file_layout.specs.LayoutLaws.{laid-start, laid-broken, laid_next, laid_end}
+use Rattle.file.specs.CircuitRows.{laid_from, laid}
+use Rattle.file_layout.specs.LayoutLaws.{laid_start, laid_broken, laid_next, laid_end}
 use Rattle.file_layout.proofs.laid.Statement.{statement}
 use Rattle.file_layout.proofs.laid.Tie as tie
 
 abbrev invariant-loop : tie.invariant-loop
-invariant-loop file left₀ at₀ left at = (at ≤ length file) × (laid file ≡ laidFrom left file at)
+invariant-loop file left₀ at₀ left at = (at ≤ length file) × (laid file ≡ laid_from left file at)
 
 abbrev decreases-loop : tie.decreases-loop
 decreases-loop file left₀ at₀ left at = left
@@ -17,13 +17,13 @@ decreases-loop file left₀ at₀ left at = left
 loop-holds : tie.Need-loop-init invariant-loop decreases-loop
 loop-holds c =
     let f = c.before.before.args.file.now in
-    (c.before.before.requires, laid-start f ∙ ap (λ (n : ℕ). laidFrom n f 8) (sym c.read16.ensures))
+    (c.before.before.requires, laid_start f ∙ ap (λ (n : ℕ). laid_from n f 8) (sym c.read16.ensures))
 
 returns : tie.Need-returns invariant-loop decreases-loop
 returns c =
     let l = c.before.before.before.loop in
     let f = c.before.before.before.before.before.before.args.file.now in
-    sym (l.invariant.1 ∙ laid-broken f l.at l.left _ c.before.before.loop-test.true c.before.whole-size.ensures c.if1.true)
+    sym (l.invariant.1 ∙ laid_broken f l.at l.left _ c.before.before.loop-test.true c.before.whole-size.ensures c.if1.true)
 
 add_at : tie.Need-overflow-add-at invariant-loop decreases-loop
 add_at c =

@@ -2,57 +2,57 @@ use mathlib.Core.Path.{sym}
 use native.Mathlib.Omega.{arith}
 use borrow.Author.Rules.{rules}
 use Rattle.base.specs.declared.Kind.TheVariants as kind
-use Rattle.file.specs.FoundForms.{form-input, form-word, form-bit, form-choice, form-pick, form-guard}
-use Rattle.file_parts.specs.FirstByteLaws.{first-inside, version-inside}
-use Rattle.file_parts.specs.OperationLaws.{not-size, two_size}
+use Rattle.file.specs.FoundForms.{form_input, form_word, form_bit, form_choice, form_pick, form_guard}
+use Rattle.file_parts.specs.FirstByteLaws.{first_inside, version_inside}
+use Rattle.file_parts.specs.OperationLaws.{not_size, two_size}
 use Rattle.file_parts.proofs.record_size.Statement.{statement}
 use Rattle.file_parts.proofs.record_size.Tie as tie
 
 shared-slice-read-match : tie.Need-shared-slice-read-match
-shared-slice-read-match c = first-inside _ _ c.before.before.requires.inside
+shared-slice-read-match c = first_inside _ _ c.before.before.requires.inside
 
 shared-slice-read-wide8 : tie.Need-shared-slice-read-wide8
 shared-slice-read-wide8 c =
     let d = c.before.before.before.before in
-    omega (arith, d.requires.inside, (form-pick d.args.file.now d.args.at c.before.match.keys7).1)
+    omega (arith, d.requires.inside, (form_pick d.args.file.now d.args.at c.before.match.keys7).1)
 
 shared-slice-read-wide8-2 : tie.Need-shared-slice-read-wide8-2
 shared-slice-read-wide8-2 c =
     let d = c.before.before.before.before in
-    omega (arith, d.requires.inside, (form-guard d.args.file.now d.args.at c.before.match.keys8).1)
+    omega (arith, d.requires.inside, (form_guard d.args.file.now d.args.at c.before.match.keys8).1)
 
 shared-slice-read-table-bytes : tie.Need-shared-slice-read-table-bytes
 shared-slice-read-table-bytes c =
     let d = c.before.before.before.before.before.before in
-    omega (arith, version-inside d.args.file.now d.args.at c.before.before.before.match.keys8 d.requires.inside)
+    omega (arith, version_inside d.args.file.now d.args.at c.before.before.before.match.keys8 d.requires.inside)
 
 returns : tie.Need-returns
-returns c = sym (form-input _ _ kind.Word c.match.keys1).1
+returns c = sym (form_input _ _ kind.Word c.match.keys1).1
 
 returns-2 : tie.Need-returns-2
-returns-2 c = sym (form-input _ _ kind.Bit c.match.keys2).1
+returns-2 c = sym (form_input _ _ kind.Bit c.match.keys2).1
 
 returns-3 : tie.Need-returns-3
-returns-3 c = sym (form-word _ _ c.match.keys3).1
+returns-3 c = sym (form_word _ _ c.match.keys3).1
 
 returns-4 : tie.Need-returns-4
-returns-4 c = sym (form-bit _ _ c.match.keys4).1
+returns-4 c = sym (form_bit _ _ c.match.keys4).1
 
 returns-5 : tie.Need-returns-5
-returns-5 c = not-size _ _ c.match.keys5
+returns-5 c = not_size _ _ c.match.keys5
 
 returns-6 : tie.Need-returns-6
-returns-6 c = sym (form-choice _ _ c.match.keys6).1
+returns-6 c = sym (form_choice _ _ c.match.keys6).1
 
 returns-7 : tie.Need-returns-7
 returns-7 c =
     let d = c.before.before.before.before.before in
-    omega (arith, c.wide8.ensures.0, (form-pick d.args.file.now d.args.at c.before.before.match.keys7).1)
+    omega (arith, c.wide8.ensures.0, (form_pick d.args.file.now d.args.at c.before.before.match.keys7).1)
 
 returns-8 : tie.Need-returns-8
 returns-8 c =
     let d = c.before.before.before.before.before.before.before in
-    omega (arith, c.before.before.wide82.ensures.0, c.table-bytes.ensures.0, (form-guard d.args.file.now d.args.at c.before.before.before.before.match.keys8).1)
+    omega (arith, c.before.before.wide82.ensures.0, c.table-bytes.ensures.0, (form_guard d.args.file.now d.args.at c.before.before.before.before.match.keys8).1)
 
 returns-9 : tie.Need-returns-9
 returns-9 c = let d = c.before.before.before in two_size d.args.file.now d.args.at d.requires c.match.rest

@@ -1,7 +1,7 @@
 use mathlib.Core.Path.{sym, ◌∙◌}
 use borrow.Author.Tests.{not-false}
 use borrow.Author.Rules.{rules}
-use Rattle.file.specs.ReadLaws.{head-long, head_passed, rows}
+use Rattle.file.specs.ReadLaws.{head_long, head_passed, rows}
 use Rattle.file_reader.proofs.circuit_row.Statement.{statement}
 use Rattle.file_reader.proofs.circuit_row.Tie as tie
 
@@ -9,7 +9,7 @@ returns : tie.Need-returns
 returns c = search rows
 
 laid-requires : tie.Need-laid-requires
-laid-requires c κs = search head-long
+laid-requires c κs = search head_long
 
 returns-2 : tie.Need-returns-2
 returns-2 c = search rows

@@ -3,7 +3,7 @@ use mathlib.Core.Path.{◌≡◌}
 use native.Mathlib.Omega.{arith}
 use lib.ListN.{length}
 use borrow.Author.Rules.{rules}
-use Rattle.file.specs.ReadLaws.{part-inside}
+use Rattle.file.specs.ReadLaws.{part_inside}
 use Rattle.file_reader.proofs.record.Statement.{statement}
 use Rattle.file_reader.proofs.record.Tie as tie
 
@@ -12,13 +12,13 @@ add-end c =
     let d = c.before.before.before in
     let p = c.before.part_of in
     let h : p.result.start + p.result.length ≤ length d.args.file.now =
-    omega (arith, part-inside d.args.file.now d.args.wire.0, p.ensures.0, p.ensures.1.0) in
+    omega (arith, part_inside d.args.file.now d.args.wire.0, p.ensures.0, p.ensures.1.0) in
     search rules
 
 part-result-end : tie.Need-slice-bounds-result-end
 part-result-end c =
     let d = c.before.before.before in
-    omega (arith, part-inside d.args.file.now d.args.wire.0, c.before.part_of.ensures.0, c.before.part_of.ensures.1.0)
+    omega (arith, part_inside d.args.file.now d.args.wire.0, c.before.part_of.ensures.0, c.before.part_of.ensures.1.0)
 
 returns : tie.Need-returns
 returns c =

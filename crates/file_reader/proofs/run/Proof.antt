@@ -1,33 +1,33 @@
 use mathlib.Core.Path.{sym, ◌∙◌}
 use borrow.Author.Rules.{rules}
-use Rattle.base.specs.InputLaws.{inputs-count, inputs-room}
-use Rattle.file.specs.RunLaws.{file-refused, file-taken, inputs-refused, run-done}
+use Rattle.base.specs.InputLaws.{inputs_count, inputs_room}
+use Rattle.file.specs.RunLaws.{file_refused, file_taken, inputs_refused, run_done}
 use Rattle.file_reader.proofs.run.Statement.{statement}
 use Rattle.file_reader.proofs.run.Tie as tie
 
 returns : tie.Need-returns
-returns c = file-refused _ _ c.before.before.read.ensures _ _ c.if1.true
+returns c = file_refused _ _ c.before.before.read.ensures _ _ c.if1.true
 
 inputs-refusal-requires : tie.Need-inputs-refusal-requires
 inputs-refusal-requires c κs =
-    file-taken _ _ c.before.before.read.ensures c.if1.false
+    file_taken _ _ c.before.before.read.ensures c.if1.false
 
 returns-2 : tie.Need-returns-2
 returns-2 c =
-    inputs-refused _ _ c.before.before.before.before.before.read.ensures _ _ c.before.before.before.if1.false _ c.before.before.inputs-refusal.ensures
+    inputs_refused _ _ c.before.before.before.before.before.read.ensures _ _ c.before.before.before.if1.false _ c.before.before.inputs-refusal.ensures
     c.before.if2.true _ c.refused.ensures
 
 run-file-requires : tie.Need-run-file-requires
 run-file-requires c κs =
     let row = sym c.before.before.inputs-refusal.ensures ∙ c.before.if2.false in (
-      file-taken _ _ c.before.before.before.before.before.read.ensures c.before.before.before.if1.false,
-      inputs-count _ _ _ _ row,
-      inputs-room _ _ _ _ row,
+      file_taken _ _ c.before.before.before.before.before.read.ensures c.before.before.before.if1.false,
+      inputs_count _ _ _ _ row,
+      inputs_room _ _ _ _ row,
     )
 
 returns-3 : tie.Need-returns-3
 returns-3 c =
-    run-done _ _ c.before.before.before.before.before.before.before.before.read.ensures _ _ c.before.before.before.before.before.before.if1.false _
+    run_done _ _ c.before.before.before.before.before.before.before.before.read.ensures _ _ c.before.before.before.before.before.before.if1.false _
     c.before.before.before.before.before.inputs-refusal.ensures
     c.before.before.before.before.if2.false _ c.before.before.run-file.ensures
 

@@ -1,23 +1,23 @@
 use native.Mathlib.Omega.{arith}
 use borrow.Author.Rules.{rules}
-use Rattle.file.specs.FileFigures.{versionIn}
-use Rattle.file.specs.VersionLaws.{wires-few, table-few}
-use Rattle.file_wiring.specs.StepLaws.{both_left, both-none}
-use Rattle.file_wiring.specs.TableLaws.{used-few}
+use Rattle.file.specs.FileFigures.{version_in}
+use Rattle.file.specs.VersionLaws.{wires_few, table_few}
+use Rattle.file_wiring.specs.StepLaws.{both_left, both_none}
+use Rattle.file_wiring.specs.TableLaws.{used_few}
 use Rattle.file_wiring.proofs.guard_wires.Statement.{statement}
 use Rattle.file_wiring.proofs.guard_wires.Tie as tie
 
 shared-slice-read-table-bytes : tie.Need-shared-slice-read-table-bytes
 shared-slice-read-table-bytes c =
-    let d = c.before.before.before.before.before in omega (arith, d.requires.1, table-few (versionIn d.args.file.now))
+    let d = c.before.before.before.before.before in omega (arith, d.requires.1, table_few (version_in d.args.file.now))
 
 table-fits-requires : tie.Need-table-fits-requires
 table-fits-requires c κs =
     let d = c.before.before.before.before.before.before in
-    let ver = versionIn d.args.file.now in (
+    let ver = version_in d.args.file.now in (
       omega (arith, d.requires.1, c.before.before.before.before.wide8.ensures.0, c.table-bytes.ensures.0),
-      omega (arith, d.requires.2, wires-few ver),
-      omega (arith, used-few ver d.args.count d.requires.2, c.table-bytes.ensures.0),
+      omega (arith, d.requires.2, wires_few ver),
+      omega (arith, used_few ver d.args.count d.requires.2, c.table-bytes.ensures.0),
     )
 
 returns : tie.Need-returns
@@ -27,7 +27,7 @@ returns c =
     (rw (c.before.table-bytes.ensures.0, d) at c.table-fits.ensures)
 
 returns-2 : tie.Need-returns-2
-returns-2 c = both-none _ _ _ (rw c.before.before.wide8.ensures.0 at c.before.all_fit.ensures) c.if1.false
+returns-2 c = both_none _ _ _ (rw c.before.before.wide8.ensures.0 at c.before.all_fit.ensures) c.if1.false
 
 pub guard-wires-spec : {M : Type 1} → statement M
 guard-wires-spec =

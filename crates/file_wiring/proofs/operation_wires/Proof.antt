@@ -2,7 +2,7 @@ use mathlib.Core.Path.{ap, ◌∙◌}
 use native.Mathlib.Omega.{arith}
 use borrow.Author.Rules.{rules}
 use Rattle.base.specs.declared.Code.{Code}
-use Rattle.file_wiring.specs.StepLaws.{by-test}
+use Rattle.file_wiring.specs.StepLaws.{by_test}
 use Rattle.file_wiring.proofs.operation_wires.Statement.{statement}
 use Rattle.file_wiring.proofs.operation_wires.Tie as tie
 
@@ -16,7 +16,7 @@ returns : tie.Need-returns
 returns c =
     let is = c.before.before.before.code_of_lem in
     let bit = c.before.before.same_kind in
-    rw (by-test is.result.takes bit.result bit.ensures, c.before.wide8.ensures.0, is.ensures) at c.all_fit.ensures
+    rw (by_test is.result.takes bit.result bit.ensures, c.before.wide8.ensures.0, is.ensures) at c.all_fit.ensures
 
 pub operation-wires-spec : {M : Type 1} → statement M
 operation-wires-spec =

@@ -2,29 +2,29 @@ use mathlib.Core.Path.{◌∙◌}
 use native.Mathlib.Omega.{arith}
 use borrow.Author.Tests.{le-ltb}
 use borrow.Author.Rules.{rules}
-use Rattle.file_parts.specs.HeldKinds.{heldKind}
-use Rattle.file_parts.specs.FirstByteLaws.{first-inside}
-use Rattle.file_wiring.specs.RecordLaws.{input-takes, choice-takes, pick_takes, guard-takes, operation-takes, input-in, input-late, early}
-use Rattle.file_wiring.specs.RecordLaws.{word_in, bit_in, choice-in, pick-in, guard-in, operation-in, other}
+use Rattle.file_parts.specs.HeldKinds.{held_kind}
+use Rattle.file_parts.specs.FirstByteLaws.{first_inside}
+use Rattle.file_wiring.specs.RecordLaws.{input_takes, choice_takes, pick_takes, guard_takes, operation_takes, input_in, input_late, early}
+use Rattle.file_wiring.specs.RecordLaws.{word_in, bit_in_lem, choice_in, pick_in, guard_in_lem, operation_in_lem, other}
 use Rattle.file_wiring.proofs.record_stands.Statement.{statement}
 use Rattle.file_wiring.proofs.record_stands.Tie as tie
 
 shared-slice-read-code : tie.Need-shared-slice-read-code
-shared-slice-read-code c = first-inside _ _ c.before.before.requires.1.inside
+shared-slice-read-code c = first_inside _ _ c.before.before.requires.1.inside
 
 shared-slice-read-wide8 : tie.Need-shared-slice-read-wide8
-shared-slice-read-wide8 c = input-takes _ _ c.before.before.before.before.before.before.requires.1 c.before.before.if1.true
+shared-slice-read-wide8 c = input_takes _ _ c.before.before.before.before.before.before.requires.1 c.before.before.if1.true
 
 returns : tie.Need-returns
 returns c =
     let d = c.before.before.before.before.before.before.before in
     let e = c.before.before.before.before.wide16.ensures.0 in
-    rw e (input-in _ _ d.requires.1 _ _ (heldKind d.args.bits.now) c.before.before.before.if1.true (omega (arith, e, c.before.before.if2.true)) _ c.wide8.ensures.0)
+    rw e (input_in _ _ d.requires.1 _ _ (held_kind d.args.bits.now) c.before.before.before.if1.true (omega (arith, e, c.before.before.if2.true)) _ c.wide8.ensures.0)
 
 returns-2 : tie.Need-returns-2
 returns-2 c =
     le-ltb _ _ c.if2.false
-    ∙ input-late _ _ c.before.before.before.before.before.requires.1 _ _ _ c.before.if1.true (omega (arith, c.if2.false, c.before.before.wide16.ensures.0))
+    ∙ input_late _ _ c.before.before.before.before.before.requires.1 _ _ _ c.before.if1.true (omega (arith, c.if2.false, c.before.before.wide16.ensures.0))
 
 returns-3 : tie.Need-returns-3
 returns-3 c = early _ _ c.before.before.before.before.before.requires.1 _ _ _ c.before.if1.false (omega (arith, c.if3.true, c.before.before.wide16.ensures.0))
@@ -32,7 +32,7 @@ returns-3 c = early _ _ c.before.before.before.before.before.requires.1 _ _ _ c.
 choice-wires-requires : tie.Need-choice-wires-requires
 choice-wires-requires c κs =
     let d = c.before.before.before.before.before.before in
-    (d.requires.0, choice-takes _ _ d.requires.1 c.match.keys3, d.requires.2)
+    (d.requires.0, choice_takes _ _ d.requires.1 c.match.keys3, d.requires.2)
 
 shared-slice-read-wide8-2 : tie.Need-shared-slice-read-wide8-2
 shared-slice-read-wide8-2 c = omega (arith, (pick_takes _ _ c.before.before.before.before.before.before.before.requires.1 c.before.match.keys4).0)
@@ -45,46 +45,46 @@ pick-wires-requires c κs =
     (d.requires.0, omega (arith, inside, n), omega (arith, some, n), d.requires.2)
 
 shared-slice-read-guard-wires : tie.Need-shared-slice-read-guard-wires
-shared-slice-read-guard-wires c = omega (arith, (guard-takes _ _ c.before.before.before.before.before.before.before.requires.1 c.before.match.keys5).0)
+shared-slice-read-guard-wires c = omega (arith, (guard_takes _ _ c.before.before.before.before.before.before.before.requires.1 c.before.match.keys5).0)
 
 guard-wires-requires : tie.Need-guard-wires-requires
 guard-wires-requires c κs =
     let d = c.before.before.before.before.before.before.before in
-    let (inside, few) = guard-takes _ _ d.requires.1 c.before.match.keys5 in
+    let (inside, few) = guard_takes _ _ d.requires.1 c.before.match.keys5 in
     (d.requires.0, inside, few, d.requires.2)
 
 operation-wires-requires : tie.Need-operation-wires-requires
 operation-wires-requires c κs =
     let d = c.before.before.before.before.before.before in
-    (d.requires.0, operation-takes _ _ d.requires.1 (other _ c.before.before.if1.false c.match.rest), d.requires.2)
+    (d.requires.0, operation_takes _ _ d.requires.1 (other _ c.before.before.if1.false c.match.rest), d.requires.2)
 
 returns-4 : tie.Need-returns-4
 returns-4 c = word_in _ _ c.before.before.before.before.before.before.requires.1 _ _ _ (omega (arith, c.before.if3.false, c.before.before.before.wide16.ensures.0)) c.match.keys1
 
 returns-5 : tie.Need-returns-5
-returns-5 c = bit_in _ _ c.before.before.before.before.before.before.requires.1 _ _ _ (omega (arith, c.before.if3.false, c.before.before.before.wide16.ensures.0)) c.match.keys2
+returns-5 c = bit_in_lem _ _ c.before.before.before.before.before.before.requires.1 _ _ _ (omega (arith, c.before.if3.false, c.before.before.before.wide16.ensures.0)) c.match.keys2
 
 returns-6 : tie.Need-returns-6
 returns-6 c =
-    choice-in _ _ c.before.before.before.before.before.before.before.requires.1 _ _ _
+    choice_in _ _ c.before.before.before.before.before.before.before.requires.1 _ _ _
     (omega (arith, c.before.before.if3.false, c.before.before.before.before.wide16.ensures.0))
     c.before.match.keys3 _ c.choice-wires.ensures
 
 returns-7 : tie.Need-returns-7
 returns-7 c =
-    pick-in _ _ c.before.before.before.before.before.before.before.before.before.requires.1 _ _ _
+    pick_in _ _ c.before.before.before.before.before.before.before.before.before.requires.1 _ _ _
     (omega (arith, c.before.before.before.before.if3.false, c.before.before.before.before.before.before.wide16.ensures.0))
     c.before.before.before.match.keys4 _ c.before.wide82.ensures.0 _ c.pick-wires.ensures
 
 returns-8 : tie.Need-returns-8
 returns-8 c =
-    guard-in _ _ c.before.before.before.before.before.before.before.before.requires.1 _ _ _
+    guard_in_lem _ _ c.before.before.before.before.before.before.before.before.requires.1 _ _ _
     (omega (arith, c.before.before.before.if3.false, c.before.before.before.before.before.wide16.ensures.0))
     c.before.before.match.keys5 _ c.guard-wires.ensures
 
 returns-9 : tie.Need-returns-9
 returns-9 c =
-    operation-in _ _ c.before.before.before.before.before.before.before.requires.1 _ _ _
+    operation_in_lem _ _ c.before.before.before.before.before.before.before.requires.1 _ _ _
     (omega (arith, c.before.before.if3.false, c.before.before.before.before.wide16.ensures.0))
     (other _ c.before.before.before.if1.false c.before.match.rest) _ c.operation-wires.ensures
 

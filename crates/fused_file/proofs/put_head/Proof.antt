@@ -1,4 +1,4 @@
-use Rattle.fused_file.specs.OutputLaws.{head-room, head-same, head-put}
+use Rattle.fused_file.specs.OutputLaws.{head_room, head_same, head_put}
 use lib.ListN.{length-set}
 use native.Mathlib.Omega.{arith}
 use borrow.Author.Rules.{rules}
@@ -27,17 +27,17 @@ part-put16-start : tie.Need-slice-bounds-put16-start
 part-put16-start c = simp length-set (omega (arith, c.before.requires))
 
 put16-requires : tie.Need-put16-requires
-put16-requires c κs = head-room c.before.before.args.out.now c.before.before.args.v c.before.before.requires
+put16-requires c κs = head_room c.before.before.args.out.now c.before.before.args.v c.before.before.requires
 
 same_length : tie.Need-same-length
 same_length c =
     let c5 = c.before.before.before.before.before in
-    head-same c5.args.out.now c5.args.v c5.requires _ _ c.before.before.put16.ensures
+    head_same c5.args.out.now c5.args.v c5.requires _ _ c.before.before.put16.ensures
 
 returns : tie.Need-returns
 returns c =
     let c5 = c.before.before.before.before.before in
-    head-put c5.args.out.now c5.args.v c5.requires _ _ c.before.before.put16.ensures
+    head_put c5.args.out.now c5.args.v c5.requires _ _ c.before.before.put16.ensures
 
 pub put-head-spec : {M : Type 1} → statement M
 put-head-spec =

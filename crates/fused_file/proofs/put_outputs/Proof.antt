@@ -1,7 +1,7 @@
-use Rattle.fused_file.specs.OutputLaws.{outputPiece, outputs-start, outputs-fits, outputs-room, outputs-step, outputs-end}
-use Rattle.fused_file.specs.Turns.{outputIn}
+use Rattle.fused_file.specs.OutputLaws.{output_piece, outputs_start, outputs_fits, outputs_room, outputs_step, outputs_end}
+use Rattle.fused_file.specs.Turns.{output_in}
 use Rattle.rule.specs.Header.{variables}
-use Rattle.base.specs.FillLaws.{Filling, filling-same}
+use Rattle.base.specs.FillLaws.{Filling, filling_same}
 use lib.ListN.{length}
 use Prim.Native.Nat.{◌-◌, ◌*◌, ◌≤◌}
 use native.Mathlib.Omega.{arith}
@@ -10,7 +10,7 @@ use Rattle.fused_file.proofs.put_outputs.Statement.{statement}
 use Rattle.fused_file.proofs.put_outputs.Tie as tie
 
 abbrev invariant-loop : tie.invariant-loop
-invariant-loop out₀ rule outputs group wires v x₀ out x = Filling (outputPiece (outputIn rule outputs group wires)) out out₀ (variables rule) (2 * x) x
+invariant-loop out₀ rule outputs group wires v x₀ out x = Filling (output_piece (output_in rule outputs group wires)) out out₀ (variables rule) (2 * x) x
 
 abbrev decreases-loop : tie.decreases-loop
 decreases-loop out₀ rule outputs group wires v x₀ out x = variables rule - x
@@ -21,7 +21,7 @@ shared-slice-read-v c = omega (arith, c.before.before.before.requires.0.0)
 loop-holds : tie.Need-loop-init invariant-loop decreases-loop
 loop-holds c =
     let a = c.before.before.before.args in
-    outputs-start (outputIn a.rule.now a.outputs.now a.group.now a.wires.now) _ _ c.before.before.before.requires.1
+    outputs_start (output_in a.rule.now a.outputs.now a.group.now a.wires.now) _ _ c.before.before.before.requires.1
 
 output-of-requires : tie.Need-output-of-requires invariant-loop decreases-loop
 output-of-requires c κs =
@@ -34,7 +34,7 @@ sub-put16 c =
     let a = c.before.before.before.before.before.before.before.args in
     omega (
       arith,
-      outputs-fits (outputIn a.rule.now a.outputs.now a.group.now a.wires.now) _ _ _ _ c.before.before.before.loop.invariant
+      outputs_fits (output_in a.rule.now a.outputs.now a.group.now a.wires.now) _ _ _ _ c.before.before.before.loop.invariant
           c.before.before.loop-test.true _ c.wide8.ensures.0,
     )
 
@@ -43,7 +43,7 @@ part-put16-start c =
     let a = c.before.before.before.before.before.before.before.args in
     let z : 2 * c.wide8.result ≤ length c.before.before.before.loop.out = omega (
       arith,
-      outputs-fits (outputIn a.rule.now a.outputs.now a.group.now a.wires.now) _ _ _ _ c.before.before.before.loop.invariant c.before.before.loop-test.true _
+      outputs_fits (output_in a.rule.now a.outputs.now a.group.now a.wires.now) _ _ _ _ c.before.before.before.loop.invariant c.before.before.loop-test.true _
           c.wide8.ensures.0,
     ) in
     search rules
@@ -51,24 +51,24 @@ part-put16-start c =
 put16-requires : tie.Need-put16-requires invariant-loop decreases-loop
 put16-requires c κs =
     let a = c.before.before.before.before.before.before.before.before.args in
-    outputs-room (outputIn a.rule.now a.outputs.now a.group.now a.wires.now) _ _ _ _ c.before.before.before.before.loop.invariant
+    outputs_room (output_in a.rule.now a.outputs.now a.group.now a.wires.now) _ _ _ _ c.before.before.before.before.loop.invariant
     c.before.before.before.loop-test.true _ c.before.wide8.ensures.0
 
 loop-again : tie.Need-loop-preserved invariant-loop decreases-loop
 loop-again c =
     let c4 = c.before.before.before.before in
     let a = c4.before.before.before.before.before.before.before.args in
-    outputs-step (outputIn a.rule.now a.outputs.now a.group.now a.wires.now) _ _ _ _ c4.before.before.before.loop.invariant c4.before.before.loop-test.true _
+    outputs_step (output_in a.rule.now a.outputs.now a.group.now a.wires.now) _ _ _ _ c4.before.before.before.loop.invariant c4.before.before.loop-test.true _
     c4.wide8.ensures.0 _ _
     c4.before.output-of.ensures c.before.before.put16.ensures
 
 same_length : tie.Need-same-length invariant-loop decreases-loop
-same_length c = filling-same _ _ _ _ _ _ c.before.loop.invariant c.loop-test.false
+same_length c = filling_same _ _ _ _ _ _ c.before.loop.invariant c.loop-test.false
 
 returns : tie.Need-returns invariant-loop decreases-loop
 returns c =
     let a = c.before.before.before.before.before.args in
-    outputs-end (outputIn a.rule.now a.outputs.now a.group.now a.wires.now) _ _ _ _ c.before.loop.invariant c.loop-test.false
+    outputs_end (output_in a.rule.now a.outputs.now a.group.now a.wires.now) _ _ _ _ c.before.loop.invariant c.loop-test.false
 
 pub put-outputs-spec : {M : Type 1} → statement M
 put-outputs-spec =

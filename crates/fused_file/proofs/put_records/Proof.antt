@@ -1,22 +1,22 @@
 use native.Mathlib.Omega.{arith}
 use Prim.Native.Nat.{◌≤◌, ◌+◌, ◌-◌}
 use lib.ListN.{length}
-use Rattle.fused_file.specs.TurnLaws.{turn-fits, turn-puttable}
-use Rattle.fused_file.specs.LoopLaws.{PuttingGroups, putting-start, putting-fits, putting-room, putting-step, putting-same, putting-end}
-use Rattle.base.specs.SetsHeld.{setsIn}
+use Rattle.fused_file.specs.TurnLaws.{turn_fits, turn_puttable}
+use Rattle.fused_file.specs.LoopLaws.{PuttingGroups, putting_start, putting_fits, putting_room, putting_step, putting_same, putting_end}
+use Rattle.base.specs.SetsHeld.{sets_in}
 use borrow.Author.Rules.{rules}
 use Rattle.fused_file.proofs.put_records.Statement.{statement}
 use Rattle.fused_file.proofs.put_records.Tie as tie
 
 abbrev invariant-loop : tie.invariant-loop
-invariant-loop out₀ plan quads count rules conditions group places order groups wires₀ at₀ first₀ i₀ out wires at first i = PuttingGroups plan quads count (setsIn rules) group places
+invariant-loop out₀ plan quads count rules conditions group places order groups wires₀ at₀ first₀ i₀ out wires at first i = PuttingGroups plan quads count (sets_in rules) group places
     order groups out out₀ wires at first.0 i
 
 abbrev decreases-loop : tie.decreases-loop
 decreases-loop out₀ plan quads count rules conditions group places order groups wires₀ at₀ first₀ i₀ out wires at first i = groups - i
 
 loop-holds : tie.Need-loop-init invariant-loop decreases-loop
-loop-holds c = putting-start _ _ _ _ _ _ _ _ _ _ c.before.before.requires.0 c.before.before.requires.1.1
+loop-holds c = putting_start _ _ _ _ _ _ _ _ _ _ c.before.before.requires.0 c.before.before.requires.1.1
 
 mul-q : tie.Need-overflow-mul-q invariant-loop decreases-loop
 mul-q c = record { fits = omega (arith, c.loop-test.true, c.before.before.before.before.requires.1.0.few) }
@@ -35,7 +35,7 @@ element-copy-out-wide16 c = omega
 sub-put-group : tie.Need-overflow-sub-put-group invariant-loop decreases-loop
 sub-put-group c = omega (
   arith,
-  (putting-fits _ _ _ _ _ _ _ _ _ _ _ _ _ _ c.before.before.before.before.before.loop.invariant c.before.before.before.before.loop-test.true _ _
+  (putting_fits _ _ _ _ _ _ _ _ _ _ _ _ _ _ c.before.before.before.before.before.loop.invariant c.before.before.before.before.loop-test.true _ _
       c.before.before.wide16.ensures.0 c.wide162.ensures.0).0,
 )
 
@@ -43,7 +43,7 @@ part-put-group-start : tie.Need-slice-bounds-put-group-start invariant-loop decr
 part-put-group-start c =
     let z : c.before.before.before.before.before.loop.at ≤ length c.before.before.before.before.before.loop.out = omega (
       arith,
-      (putting-fits _ _ _ _ _ _ _ _ _ _ _ _ _ _ c.before.before.before.before.before.loop.invariant
+      (putting_fits _ _ _ _ _ _ _ _ _ _ _ _ _ _ c.before.before.before.before.before.loop.invariant
           c.before.before.before.before.loop-test.true _ _ c.before.before.wide16.ensures.0 c.wide162.ensures.0).0,
     ) in
     search rules
@@ -52,14 +52,14 @@ put-group-requires : tie.Need-put-group-requires invariant-loop decreases-loop
 put-group-requires c κs =
     let l = c.before.before.before.before.before.before.before.loop.invariant in
     let h = c.before.before.before.before.before.before.loop-test.true in (
-      putting-room _ _ _ _ _ _ _ _ _ _ _ _ _ _ l h _ _ c.before.before.before.before.wide16.ensures.0 c.before.before.wide162.ensures.0,
-      turn-puttable _ _ _ _ _ _ _ _ _ c.before.before.before.before.before.before.before.before.before.before.requires.1.0 _ _ _ h
+      putting_room _ _ _ _ _ _ _ _ _ _ _ _ _ _ l h _ _ c.before.before.before.before.wide16.ensures.0 c.before.before.wide162.ensures.0,
+      turn_puttable _ _ _ _ _ _ _ _ _ c.before.before.before.before.before.before.before.before.before.before.requires.1.0 _ _ _ h
           c.before.before.before.before.wide16.ensures.0 c.before.before.wide162.ensures.0 _ l.counted,
     )
 
 add_at : tie.Need-overflow-add-at invariant-loop decreases-loop
 add_at c =
-    let f = putting-fits _ _ _ _ _ _ _ _ _ _ _ _ _ _ c.before.before.before.before.before.before.before.before.before.before.before.loop.invariant
+    let f = putting_fits _ _ _ _ _ _ _ _ _ _ _ _ _ _ c.before.before.before.before.before.before.before.before.before.before.before.loop.invariant
     c.before.before.before.before.before.before.before.before.before.before.loop-test.true _ _
     c.before.before.before.before.before.before.before.before.wide16.ensures.0 c.before.before.before.before.before.before.wide162.ensures.0 in
     let z : c.before.before.before.before.before.before.before.before.before.before.before.loop.at + c.before.before.before.put-group.result.bytes ≤ length
@@ -69,7 +69,7 @@ add_at c =
 
 add-wires : tie.Need-overflow-add-wires invariant-loop decreases-loop
 add-wires c =
-    let f = turn-fits _ _ _ _ _ _ _ _ _ c.before.before.before.before.before.before.before.before.before.before.before.before.before.before.before.before.requires.1.0 _ _ _
+    let f = turn_fits _ _ _ _ _ _ _ _ _ c.before.before.before.before.before.before.before.before.before.before.before.before.before.before.before.before.requires.1.0 _ _ _
     c.before.before.before.before.before.before.before.before.before.before.before.before.loop-test.true
     c.before.before.before.before.before.before.before.before.before.before.wide16.ensures.0
     c.before.before.before.before.before.before.before.before.wide162.ensures.0 _ _ _
@@ -80,7 +80,7 @@ add-wires c =
 
 sub-wires : tie.Need-overflow-sub-wires invariant-loop decreases-loop
 sub-wires c =
-    let f = turn-fits _ _ _ _ _ _ _ _ _
+    let f = turn_fits _ _ _ _ _ _ _ _ _
     c.before.before.before.before.before.before.before.before.before.before.before.before.before.before.before.before.before.requires.1.0 _ _ _
     c.before.before.before.before.before.before.before.before.before.before.before.before.before.loop-test.true
     c.before.before.before.before.before.before.before.before.before.before.before.wide16.ensures.0
@@ -112,7 +112,7 @@ element-write-wires c =
 
 loop-again : tie.Need-loop-preserved invariant-loop decreases-loop
 loop-again c =
-    putting-step _ _ _ _ _ _ _ _ _ _ _ _ _ _ c.before.before.before.before.before.before.before.before.before.before.before.before.before.before.loop.invariant
+    putting_step _ _ _ _ _ _ _ _ _ _ _ _ _ _ c.before.before.before.before.before.before.before.before.before.before.before.before.before.before.loop.invariant
     c.before.before.before.before.before.before.before.before.before.before.before.before.before.loop-test.true _ _
     c.before.before.before.before.before.before.before.before.before.before.before.wide16.ensures.0
     c.before.before.before.before.before.before.before.before.before.wide162.ensures.0 _
@@ -121,10 +121,10 @@ loop-again c =
     c.before.before.before.before.before.before.put-group.ensures.1.1
 
 same_length : tie.Need-same-length invariant-loop decreases-loop
-same_length c = putting-same _ _ _ _ _ _ _ _ _ _ _ _ _ _ c.before.loop.invariant c.loop-test.false
+same_length c = putting_same _ _ _ _ _ _ _ _ _ _ _ _ _ _ c.before.loop.invariant c.loop-test.false
 
 returns : tie.Need-returns invariant-loop decreases-loop
-returns c = putting-end _ _ _ _ _ _ _ _ _ _ _ _ _ _ c.before.loop.invariant c.loop-test.false
+returns c = putting_end _ _ _ _ _ _ _ _ _ _ _ _ _ _ c.before.loop.invariant c.loop-test.false
 
 pub put-records-spec : {M : Type 1} → statement M
 put-records-spec =

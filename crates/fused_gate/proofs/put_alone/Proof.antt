@@ -1,5 +1,5 @@
-use Rattle.fused_gate.specs.PutLaws.{choice-room, choice-put, word_room, word-put, bit-room, bit-put, start-room, start-put}
-use Rattle.fused_gate.specs.AloneLaws.{choice-placed, first_bit, first-start, applies-in}
+use Rattle.fused_gate.specs.PutLaws.{choice_room, choice_put, word_room, word_put, bit_room, bit_put, start_room, start_put}
+use Rattle.fused_gate.specs.AloneLaws.{choice_placed, first_bit, first_start, applies_in}
 use native.Mathlib.Omega.{arith}
 use borrow.Author.Rules.{rules}
 use Rattle.fused_gate.proofs.put_alone.Statement.{statement}
@@ -7,27 +7,27 @@ use Rattle.fused_gate.proofs.put_alone.Tie as tie
 
 wire-at-requires : tie.Need-wire-at-requires
 wire-at-requires c κs =
-    (omega (arith, c.before.before.before.before.requires.1.coded.inside), (choice-placed _ _ _ c.before.before.before.before.requires.1 c.if1.true).0)
+    (omega (arith, c.before.before.before.before.requires.1.coded.inside), (choice_placed _ _ _ c.before.before.before.before.requires.1 c.if1.true).0)
 
 wire-at-requires-2 : tie.Need-wire-at-requires-2
 wire-at-requires-2 c κs = (
   omega (arith, c.before.before.before.before.before.requires.1.coded.inside),
-  (choice-placed _ _ _ c.before.before.before.before.before.requires.1
+  (choice_placed _ _ _ c.before.before.before.before.before.requires.1
       c.before.if1.true).1.0,
 )
 
 wire-at-requires-3 : tie.Need-wire-at-requires-3
 wire-at-requires-3 c κs = (
   omega (arith, c.before.before.before.before.before.before.requires.1.coded.inside),
-  (choice-placed _ _ _
+  (choice_placed _ _ _
       c.before.before.before.before.before.before.requires.1 c.before.before.if1.true).1.1,
 )
 
 put-choice-requires : tie.Need-put-choice-requires
-put-choice-requires c κs = choice-room _ _ _ _ c.before.before.before.before.if1.true c.before.before.before.before.before.before.before.before.requires.0
+put-choice-requires c κs = choice_room _ _ _ _ c.before.before.before.before.if1.true c.before.before.before.before.before.before.before.before.requires.0
 
 returns : tie.Need-returns
-returns c = choice-put _ _ _ _ _ _ _ _ c.before.before.before.before.before.before.before.if1.true
+returns c = choice_put _ _ _ _ _ _ _ _ c.before.before.before.before.before.before.before.if1.true
     c.before.before.before.before.before.before.wire-at.ensures c.before.before.before.before.before.wire-at2.ensures
     c.before.before.before.before.wire-at3.ensures c.before.before.put-choice.ensures
 
@@ -35,33 +35,33 @@ put-word-requires : tie.Need-put-word-requires
 put-word-requires c κs = word_room _ _ _ _ c.before.before.if2.true c.before.before.before.before.before.before.before.requires.0
 
 returns-2 : tie.Need-returns-2
-returns-2 c = word-put _ _ _ _ _ c.before.before.before.before.before.if2.true c.before.before.put_word.ensures
+returns-2 c = word_put _ _ _ _ _ c.before.before.before.before.before.if2.true c.before.before.put_word.ensures
 
 cast-put-short-2 : tie.Need-overflow-cast-put-short-2
 cast-put-short-2 c = omega (arith, first_bit _ _ c.before.before.before.before.before.before.before.before.requires.1.coded c.before.before.if3.true)
 
 put-short-requires : tie.Need-put-short-requires
-put-short-requires c κs = bit-room _ _ _ _ c.before.before.if3.true c.before.before.before.before.before.before.before.before.requires.0
+put-short-requires c κs = bit_room _ _ _ _ c.before.before.if3.true c.before.before.before.before.before.before.before.before.requires.0
 
 returns-3 : tie.Need-returns-3
-returns-3 c = bit-put _ _ _ _ _ c.before.before.before.before.before.if3.true c.before.before.put-short.ensures
+returns-3 c = bit_put _ _ _ _ _ c.before.before.before.before.before.if3.true c.before.before.put-short.ensures
 
 cast-put-short-4 : tie.Need-overflow-cast-put-short-4
 cast-put-short-4 c = omega
-    (arith, first-start _ _ c.before.before.before.before.before.before.before.before.before.requires.1.coded (omega (arith, c.before.before.if4.true)))
+    (arith, first_start _ _ c.before.before.before.before.before.before.before.before.before.requires.1.coded (omega (arith, c.before.before.if4.true)))
 
 put-short-requires-2 : tie.Need-put-short-requires-2
-put-short-requires-2 c κs = start-room _ _ _ _ c.before.before.if4.true c.before.before.before.before.before.before.before.before.before.requires.0
+put-short-requires-2 c κs = start_room _ _ _ _ c.before.before.if4.true c.before.before.before.before.before.before.before.before.before.requires.0
 
 returns-4 : tie.Need-returns-4
-returns-4 c = start-put _ _ _ _ _ c.before.before.before.before.before.if4.true c.before.before.put-short2.ensures
+returns-4 c = start_put _ _ _ _ _ c.before.before.before.before.before.if4.true c.before.before.put-short2.ensures
 
 put-applied-requires : tie.Need-put-applied-requires
 put-applied-requires c κs = (
   c.before.before.before.before.before.before.before.before.requires.0,
   (
     c.before.before.before.before.before.before.before.before.requires.1,
-    applies-in _ _
+    applies_in _ _
         c.before.before.before.before.before.before.before.before.requires.1.coded c.before.before.before.before.if1.false
         c.before.before.before.if2.false c.before.before.if3.false c.before.if4.false,
   ),

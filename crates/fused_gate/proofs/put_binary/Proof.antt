@@ -1,12 +1,12 @@
 use mathlib.Core.List.{◌∷◌, []}
 use mathlib.Core.Path.{refl}
-use Rattle.fused_gate.specs.ByteLaws.{wire-behind}
+use Rattle.fused_gate.specs.ByteLaws.{wire_behind}
 use borrow.Author.Rules.{rules}
 use Rattle.fused_gate.proofs.put_binary.Statement.{statement}
 use Rattle.fused_gate.proofs.put_binary.Tie as tie
 
 returns : tie.Need-returns
-returns c = wire-behind (c.before.before.before.before.before.before.before.before.before.args.code ∷ [])
+returns c = wire_behind (c.before.before.before.before.before.before.before.before.before.args.code ∷ [])
     (c.before.before.before.before.before.before.before.before.before.args.a.0 ∷ []) _ 3 _ _ _ refl
     c.before.before.before.before.before.before.before.before.before.requires c.before.before.before.before.before.before.put-unary.ensures
     c.before.before.put16.ensures

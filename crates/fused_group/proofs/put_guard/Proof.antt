@@ -1,10 +1,10 @@
 use Prim.Native.Nat.{◌-◌, ◌+◌, ◌*◌, ◌≤◌}
 use lib.ListN.{length}
 use borrow.Rule.Slice.PartMut.{put_mid}
-use Rattle.base.specs.SetsHeld.{setOf}
-use Rattle.base.specs.SettingListsLaws.{rested-are, rested-lists}
-use Rattle.fused_group.specs.GuardLaws.{guard-put, guard-room, guard-fits, guard-last}
-use Rattle.fused_gate.specs.Emitted.{wireIn}
+use Rattle.base.specs.SetsHeld.{set_of}
+use Rattle.base.specs.SettingListsLaws.{rested_are, rested_lists}
+use Rattle.fused_group.specs.GuardLaws.{guard_put, guard_room, guard_fits, guard_last}
+use Rattle.fused_gate.specs.Emitted.{wire_in}
 use mathlib.Core.Path.{refl}
 use native.Mathlib.Omega.{arith}
 use borrow.Author.Rules.{rules}
@@ -16,21 +16,21 @@ put-rested-requires c κs =
     let start = c.before.before.before.before.before.before.before in
     let a = start.args in
     let r = c.before.before.before.before.before.rested.ensures in
-    let e = rested-are (setOf a.s) c.before.before.before.before.before.rested.result r.0 r.1.0 in (
+    let e = rested_are (set_of a.s) c.before.before.before.before.before.rested.result r.0 r.1.0 in (
       (
-        rw e (guard-room a.conditions.now (wireIn a.group.now a.wires.now) (setOf a.s) _ _ _ start.requires.0 c.before.before.before.put-short.ensures),
+        rw e (guard_room a.conditions.now (wire_in a.group.now a.wires.now) (set_of a.s) _ _ _ start.requires.0 c.before.before.before.put-short.ensures),
         start.requires.1,
       ),
-      rested-lists _ _ r.0 r.1.0,
+      rested_lists _ _ r.0 r.1.0,
     )
 
 sub-put-bytes : tie.Need-overflow-sub-put-bytes
 sub-put-bytes c = let a = c.before.before.before.before.before.before.before.before.before.before.args in
-    let f = guard-fits a.conditions.now (wireIn a.group.now a.wires.now) (setOf a.s) _ _ _ _
+    let f = guard_fits a.conditions.now (wire_in a.group.now a.wires.now) (set_of a.s) _ _ _ _
     c.before.before.before.before.before.before.before.before.rested.ensures.0
     c.before.before.before.before.before.before.before.before.before.before.requires.0
     c.before.before.before.before.before.before.put-short.ensures
-    (rw (rested-are (setOf a.s) c.before.before.before.before.before.before.before.before.rested.result
+    (rw (rested_are (set_of a.s) c.before.before.before.before.before.before.before.before.rested.result
     c.before.before.before.before.before.before.before.before.rested.ensures.0 c.before.before.before.before.before.before.before.before.rested.ensures.1.0) at
     c.before.before.put-rested.ensures) in
     omega (arith, f)
@@ -38,11 +38,11 @@ sub-put-bytes c = let a = c.before.before.before.before.before.before.before.bef
 part-put-bytes-start : tie.Need-slice-bounds-put-bytes-start
 part-put-bytes-start c = let a = c.before.before.before.before.before.before.before.before.before.before.args in
     let e = c.before.before.before.before.before.before.put-short.new.0 in
-    let f = guard-fits a.conditions.now (wireIn a.group.now a.wires.now) (setOf a.s) _ _ _ _
+    let f = guard_fits a.conditions.now (wire_in a.group.now a.wires.now) (set_of a.s) _ _ _ _
     c.before.before.before.before.before.before.before.before.rested.ensures.0
     c.before.before.before.before.before.before.before.before.before.before.requires.0
     c.before.before.before.before.before.before.put-short.ensures
-    (rw (rested-are (setOf a.s) c.before.before.before.before.before.before.before.before.rested.result
+    (rw (rested_are (set_of a.s) c.before.before.before.before.before.before.before.before.rested.result
     c.before.before.before.before.before.before.before.before.rested.ensures.0 c.before.before.before.before.before.before.before.before.rested.ensures.1.0) at
     c.before.before.put-rested.ensures) in
     let z : 2 + 2 * c.before.before.before.before.before.before.before.before.rested.result.count ≤ length
@@ -54,22 +54,22 @@ table-requires c κs = let r = c.before.before.before.before.before.before.befor
 
 put-bytes-requires : tie.Need-put-bytes-requires
 put-bytes-requires c κs = let a = c.before.before.before.before.before.before.before.before.before.before.before.before.args in
-    guard-last a.conditions.now (wireIn a.group.now a.wires.now) (setOf a.s) _ _ _ _
+    guard_last a.conditions.now (wire_in a.group.now a.wires.now) (set_of a.s) _ _ _ _
     c.before.before.before.before.before.before.before.before.before.before.rested.ensures.0
     c.before.before.before.before.before.before.before.before.before.before.before.before.requires.0
     c.before.before.before.before.before.before.before.before.put-short.ensures
-    (rw (rested-are (setOf a.s) c.before.before.before.before.before.before.before.before.before.before.rested.result
+    (rw (rested_are (set_of a.s) c.before.before.before.before.before.before.before.before.before.before.rested.result
     c.before.before.before.before.before.before.before.before.before.before.rested.ensures.0
     c.before.before.before.before.before.before.before.before.before.before.rested.ensures.1.0) at c.before.before.before.before.put-rested.ensures)
 
 returns : tie.Need-returns
 returns c = let a = c.before.before.before.before.before.before.before.before.before.before.before.before.before.before.before.args in
-    guard-put a.conditions.now (wireIn a.group.now a.wires.now) (setOf a.s) _ _ _ _ _ _ _
+    guard_put a.conditions.now (wire_in a.group.now a.wires.now) (set_of a.s) _ _ _ _ _ _ _
     c.before.before.before.before.before.before.before.before.before.before.before.before.before.rested.ensures.0 refl
     c.before.before.before.table.ensures
     c.before.before.before.before.before.before.before.before.before.before.before.before.before.before.before.requires.0
     c.before.before.before.before.before.before.before.before.before.before.before.put-short.ensures
-    (rw (rested-are (setOf a.s) c.before.before.before.before.before.before.before.before.before.before.before.before.before.rested.result
+    (rw (rested_are (set_of a.s) c.before.before.before.before.before.before.before.before.before.before.before.before.before.rested.result
     c.before.before.before.before.before.before.before.before.before.before.before.before.before.rested.ensures.0
     c.before.before.before.before.before.before.before.before.before.before.before.before.before.rested.ensures.1.0) at
     c.before.before.before.before.before.before.before.put-rested.ensures) c.before.before.put-bytes.ensures

@@ -1,16 +1,16 @@
 use lib.ListN.{length}
 use Prim.Native.Nat.{◌≤◌, ◌+◌, ◌-◌}
 use borrow.Author.Rules.{rules}
-use Rattle.base.specs.SetsHeld.{setsIn}
-use Rattle.fused_group.specs.LoopLaws.{GuardFilling, member-inside, guards-start, guards-fits, guards-room, guards-step, guards-end}
-use Rattle.base.specs.FillLaws.{filling-same}
-use Rattle.fused_gate.specs.Emitted.{wireIn}
+use Rattle.base.specs.SetsHeld.{sets_in}
+use Rattle.fused_group.specs.LoopLaws.{GuardFilling, member_inside, guards_start, guards_fits, guards_room, guards_step, guards_end}
+use Rattle.base.specs.FillLaws.{filling_same}
+use Rattle.fused_gate.specs.Emitted.{wire_in}
 use native.Mathlib.Omega.{arith}
 use Rattle.fused_group.proofs.put_guards.Statement.{statement}
 use Rattle.fused_group.proofs.put_guards.Tie as tie
 
 abbrev invariant-loop : tie.invariant-loop
-invariant-loop out₀ plan at rules conditions group wires size n₀ i₀ out n i = GuardFilling conditions (wireIn group wires) (setsIn rules) plan at out out₀ n i
+invariant-loop out₀ plan at rules conditions group wires size n₀ i₀ out n i = GuardFilling conditions (wire_in group wires) (sets_in rules) plan at out out₀ n i
 
 abbrev decreases-loop : tie.decreases-loop
 decreases-loop out₀ plan at rules conditions group wires size n₀ i₀ out n i = size - i
@@ -19,26 +19,26 @@ shared-slice-read-size : tie.Need-shared-slice-read-size invariant-loop decrease
 shared-slice-read-size c = omega (arith, c.before.before.before.requires.1.0.within)
 
 loop-holds : tie.Need-loop-init invariant-loop decreases-loop
-loop-holds c = guards-start _ _ _ _ _ _ c.before.before.before.requires.0
+loop-holds c = guards_start _ _ _ _ _ _ c.before.before.before.requires.0
 
 member-requires : tie.Need-member-requires invariant-loop decreases-loop
 member-requires c κs = (c.before.before.before.before.before.requires.1.0.within, c.loop-test.true)
 
 sub-put-guard : tie.Need-overflow-sub-put-guard invariant-loop decreases-loop
 sub-put-guard c = omega
-    (arith, (guards-fits _ _ _ _ _ _ _ _ _ _ c.before.before.before.loop.invariant c.before.before.loop-test.true c.before.member.ensures).0)
+    (arith, (guards_fits _ _ _ _ _ _ _ _ _ _ c.before.before.before.loop.invariant c.before.before.loop-test.true c.before.member.ensures).0)
 
 part-put-guard-start : tie.Need-slice-bounds-put-guard-start invariant-loop decreases-loop
 part-put-guard-start c =
     let z : c.before.before.before.loop.n ≤ length c.before.before.before.loop.out = omega
-    (arith, (guards-fits _ _ _ _ _ _ _ _ _ _ c.before.before.before.loop.invariant c.before.before.loop-test.true c.before.member.ensures).0) in
+    (arith, (guards_fits _ _ _ _ _ _ _ _ _ _ c.before.before.before.loop.invariant c.before.before.loop-test.true c.before.member.ensures).0) in
     search rules
 
 load-requires : tie.Need-load-requires invariant-loop decreases-loop
 load-requires c κs =
     omega (
       arith,
-      member-inside _ _ _ _ c.before.before.before.before.before.before.before.before.before.requires.1.0 c.before.before.before.member.ensures
+      member_inside _ _ _ _ c.before.before.before.before.before.before.before.before.before.requires.1.0 c.before.before.before.member.ensures
           c.before.before.before.before.loop-test.true,
       c.before.before.before.before.before.before.before.before.before.well-formed,
     )
@@ -46,14 +46,14 @@ load-requires c κs =
 put-guard-requires : tie.Need-put-guard-requires invariant-loop decreases-loop
 put-guard-requires c κs = (
   rw c.load.ensures
-      (guards-room _ _ _ _ _ _ _ _ _ _ c.before.before.before.before.before.before.loop.invariant c.before.before.before.before.before.loop-test.true
+      (guards_room _ _ _ _ _ _ _ _ _ _ c.before.before.before.before.before.before.loop.invariant c.before.before.before.before.before.loop-test.true
       c.before.before.before.before.member.ensures),
   c.before.before.before.before.before.before.before.before.before.before.requires.1.1,
 )
 
 add-n : tie.Need-overflow-add-n invariant-loop decreases-loop
 add-n c =
-    let f = guards-fits _ _ _ _ _ _ _ _ _ _ c.before.before.before.before.before.before.before.before.before.loop.invariant
+    let f = guards_fits _ _ _ _ _ _ _ _ _ _ c.before.before.before.before.before.before.before.before.before.loop.invariant
     c.before.before.before.before.before.before.before.before.loop-test.true c.before.before.before.before.before.before.before.member.ensures in
     let z : c.before.before.before.before.before.before.before.before.before.loop.n + c.before.before.put-guard.result ≤ length
     c.before.before.before.before.before.before.before.before.before.before.before.before.before.args.out.now = omega
@@ -62,15 +62,15 @@ add-n c =
 
 loop-again : tie.Need-loop-preserved invariant-loop decreases-loop
 loop-again c =
-    guards-step _ _ _ _ _ _ _ _ _ _ c.before.before.before.before.before.before.before.before.before.loop.invariant
+    guards_step _ _ _ _ _ _ _ _ _ _ c.before.before.before.before.before.before.before.before.before.loop.invariant
     c.before.before.before.before.before.before.before.before.loop-test.true c.before.before.before.before.before.before.before.member.ensures _ _
     (rw c.before.before.before.load.ensures at c.before.before.put-guard.ensures.0) (rw c.before.before.before.load.ensures at c.before.before.put-guard.ensures.1)
 
 same_length : tie.Need-same-length invariant-loop decreases-loop
-same_length c = filling-same _ _ _ _ _ _ c.before.loop.invariant.filling c.loop-test.false
+same_length c = filling_same _ _ _ _ _ _ c.before.loop.invariant.filling c.loop-test.false
 
 returns : tie.Need-returns invariant-loop decreases-loop
-returns c = guards-end _ _ _ _ _ _ _ _ _ c.before.loop.invariant c.loop-test.false
+returns c = guards_end _ _ _ _ _ _ _ _ _ c.before.loop.invariant c.loop-test.false
 
 pub put-guards-spec : {M : Type 1} → statement M
 put-guards-spec =

@@ -1,7 +1,7 @@
-use Rattle.fused_gate.specs.Emitted.{wireIn}
-use Rattle.base.specs.SetsHeld.{setsIn}
-use Rattle.plan.specs.PlanFile.{groupAt}
-use Rattle.fused_group.specs.PartLaws.{none-put, kept-all, kept-none}
+use Rattle.fused_gate.specs.Emitted.{wire_in}
+use Rattle.base.specs.SetsHeld.{sets_in}
+use Rattle.plan.specs.PlanFile.{group_at}
+use Rattle.fused_group.specs.PartLaws.{none_put, kept_all, kept_none}
 use borrow.Author.Rules.{rules}
 use Rattle.fused_group.proofs.put_kept.Statement.{statement}
 use Rattle.fused_group.proofs.put_kept.Tie as tie
@@ -9,7 +9,7 @@ use Rattle.fused_group.proofs.put_kept.Tie as tie
 put-guards-requires : tie.Need-put-guards-requires
 put-guards-requires c κs =
     let a = c.before.before.before.before.before.args in (
-      rw (kept-all a.conditions.now (wireIn a.group.now a.wires.now) (setsIn a.needs.now) (groupAt a.plan.now a.at) a.picks _ c.before.before.has-pick.ensures
+      rw (kept_all a.conditions.now (wire_in a.group.now a.wires.now) (sets_in a.needs.now) (group_at a.plan.now a.at) a.picks _ c.before.before.has-pick.ensures
           c.before.if1.true) at c.before.before.before.before.before.requires.0,
       c.before.before.before.before.before.requires.1,
     )
@@ -17,13 +17,13 @@ put-guards-requires c κs =
 returns : tie.Need-returns
 returns c =
     let a = c.before.before.before.before.before.before.before.before.args in
-    rw (kept-all a.conditions.now (wireIn a.group.now a.wires.now) (setsIn a.needs.now) (groupAt a.plan.now a.at) a.picks _
+    rw (kept_all a.conditions.now (wire_in a.group.now a.wires.now) (sets_in a.needs.now) (group_at a.plan.now a.at) a.picks _
     c.before.before.before.before.before.has-pick.ensures c.before.before.before.before.if1.true) c.before.before.put-guards.ensures
 
 returns-2 : tie.Need-returns-2
 returns-2 c =
     let a = c.before.before.before.before.args in
-    none-put _ a.out.now (kept-none a.conditions.now (wireIn a.group.now a.wires.now) (setsIn a.needs.now) (groupAt a.plan.now a.at) a.picks _
+    none_put _ a.out.now (kept_none a.conditions.now (wire_in a.group.now a.wires.now) (sets_in a.needs.now) (group_at a.plan.now a.at) a.picks _
     c.before.has-pick.ensures c.if1.false)
 
 pub put-kept-spec : {M : Type 1} → statement M

@@ -1,6 +1,6 @@
-use Rattle.fused_group.specs.PartLaws.{one-most, operation-room, operation-put}
+use Rattle.fused_group.specs.PartLaws.{one_most, operation_room, operation_put}
 use Rattle.fused_group.specs.JoinedLaws.{first_member}
-use Rattle.fused_gate.specs.Emitted.{wireIn}
+use Rattle.fused_gate.specs.Emitted.{wire_in}
 use native.Mathlib.Omega.{arith}
 use borrow.Author.Rules.{rules}
 use Rattle.fused_group.proofs.put_operation.Statement.{statement}
@@ -21,7 +21,7 @@ add-after c =
         c.before.before.before.shared-slice-known2.given c.before.before.before.before.before.before.before.before.args.at,
         c.before.before.before.before.before.before.before.before.requires.1.1,
         c.picks_at.ensures,
-        one-most
+        one_most
             c.before.before.before.before.before.before.before.before.args.picks.first,
       );
     }
@@ -47,14 +47,14 @@ cast-put-binary c =
 put-binary-requires : tie.Need-put-binary-requires
 put-binary-requires c κs =
     let a = c.before.before.before.before.before.before.before.before.before.before.before.args in
-    operation-room a.quads.now (wireIn a.group.now a.wires.now) a.first.0 a.plan.now a.at a.picks _
+    operation_room a.quads.now (wire_in a.group.now a.wires.now) a.first.0 a.plan.now a.at a.picks _
     c.before.before.before.before.before.before.before.before.before.before.before.requires.1.0.coded
     c.before.before.before.before.before.before.before.before.before.before.before.requires.0
 
 returns : tie.Need-returns
 returns c =
     let a = c.before.before.before.before.before.before.before.before.before.before.before.before.before.before.args in
-    operation-put a.quads.now (wireIn a.group.now a.wires.now) a.first.0 a.plan.now a.at a.picks _ _ _ _ _ _
+    operation_put a.quads.now (wire_in a.group.now a.wires.now) a.first.0 a.plan.now a.at a.picks _ _ _ _ _ _
     c.before.before.before.before.before.before.before.before.before.before.before.before.before.before.requires.1.0.coded
     c.before.before.before.before.before.before.before.before.before.before.before.member.ensures
     c.before.before.before.before.before.before.before.argument-wire.ensures c.before.before.before.before.before.before.picks_at.ensures

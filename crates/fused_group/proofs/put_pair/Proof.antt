@@ -1,10 +1,10 @@
-use Rattle.fused_gate.specs.ByteLaws.{pair-behind}
+use Rattle.fused_gate.specs.ByteLaws.{pair_behind}
 use borrow.Author.Rules.{rules}
 use Rattle.fused_group.proofs.put_pair.Statement.{statement}
 use Rattle.fused_group.proofs.put_pair.Tie as tie
 
 returns : tie.Need-returns
-returns c = pair-behind _ _ _ _ _ c.before.before.before.before.before.before.before.before.before.requires
+returns c = pair_behind _ _ _ _ _ c.before.before.before.before.before.before.before.before.before.requires
     c.before.before.before.before.before.before.put16.ensures c.before.before.put162.ensures
 
 pub put-pair-spec : {M : Type 1} → statement M

@@ -1,8 +1,8 @@
 use lib.ListN.{length}
 use Prim.Native.Nat.{◌≤◌, ◌+◌}
-use Rattle.fused_gate.specs.Emitted.{wireIn}
-use Rattle.plan.specs.PlanFile.{groupAt}
-use Rattle.fused_group.specs.BehindLaws.{front-room, behind-fits, behind-room, behind-all, behind-put}
+use Rattle.fused_gate.specs.Emitted.{wire_in}
+use Rattle.plan.specs.PlanFile.{group_at}
+use Rattle.fused_group.specs.BehindLaws.{front_room, behind_fits, behind_room, behind_all, behind_put}
 use Rattle.fused_group.specs.Decisions.{place_in}
 use borrow.Author.Rules.{rules}
 use Rattle.fused_group.proofs.put_picks.Statement.{statement}
@@ -11,35 +11,35 @@ use Rattle.fused_group.proofs.put_picks.Tie as tie
 put-place-requires : tie.Need-put-place-requires
 put-place-requires c κs =
     let a = c.before.before.before.args in
-    let A = place_in a.quads.now (wireIn a.group.now a.wires.now) a.first.0 0 (groupAt a.plan.now a.at) a.picks.first in
-    let B = place_in a.quads.now (wireIn a.group.now a.wires.now) a.first.0 1 (groupAt a.plan.now a.at) a.picks.second in
-    (front-room A B a.out.now c.before.before.before.requires.0, (c.before.before.before.requires.1.0.zero-paired, c.before.before.before.requires.1.1))
+    let A = place_in a.quads.now (wire_in a.group.now a.wires.now) a.first.0 0 (group_at a.plan.now a.at) a.picks.first in
+    let B = place_in a.quads.now (wire_in a.group.now a.wires.now) a.first.0 1 (group_at a.plan.now a.at) a.picks.second in
+    (front_room A B a.out.now c.before.before.before.requires.0, (c.before.before.before.requires.1.0.zero_paired, c.before.before.before.requires.1.1))
 
 sub-put-place : tie.Need-overflow-sub-put-place
 sub-put-place c =
     let a = c.before.before.before.before.before.before.args in
-    let A = place_in a.quads.now (wireIn a.group.now a.wires.now) a.first.0 0 (groupAt a.plan.now a.at) a.picks.first in
-    let B = place_in a.quads.now (wireIn a.group.now a.wires.now) a.first.0 1 (groupAt a.plan.now a.at) a.picks.second in
-    behind-fits A B a.out.now c.before.before.before.before.before.before.requires.0 _ _ c.before.before.put-place.ensures.0 c.before.before.put-place.ensures.1
+    let A = place_in a.quads.now (wire_in a.group.now a.wires.now) a.first.0 0 (group_at a.plan.now a.at) a.picks.first in
+    let B = place_in a.quads.now (wire_in a.group.now a.wires.now) a.first.0 1 (group_at a.plan.now a.at) a.picks.second in
+    behind_fits A B a.out.now c.before.before.before.before.before.before.requires.0 _ _ c.before.before.put-place.ensures.0 c.before.before.put-place.ensures.1
 
 part-put-place-start : tie.Need-slice-bounds-put-place-start
 part-put-place-start c =
     let a = c.before.before.before.before.before.before.args in
-    let A = place_in a.quads.now (wireIn a.group.now a.wires.now) a.first.0 0 (groupAt a.plan.now a.at) a.picks.first in
-    let B = place_in a.quads.now (wireIn a.group.now a.wires.now) a.first.0 1 (groupAt a.plan.now a.at) a.picks.second in
-    let z : c.before.before.put-place.result ≤ length c.before.before.put-place.new.0 = behind-fits A B a.out.now
+    let A = place_in a.quads.now (wire_in a.group.now a.wires.now) a.first.0 0 (group_at a.plan.now a.at) a.picks.first in
+    let B = place_in a.quads.now (wire_in a.group.now a.wires.now) a.first.0 1 (group_at a.plan.now a.at) a.picks.second in
+    let z : c.before.before.put-place.result ≤ length c.before.before.put-place.new.0 = behind_fits A B a.out.now
     c.before.before.before.before.before.before.requires.0 _ _ c.before.before.put-place.ensures.0 c.before.before.put-place.ensures.1 in
     search rules
 
 put-place-requires-2 : tie.Need-put-place-requires-2
 put-place-requires-2 c κs =
     let a = c.before.before.before.before.before.before.before.args in
-    let A = place_in a.quads.now (wireIn a.group.now a.wires.now) a.first.0 0 (groupAt a.plan.now a.at) a.picks.first in
-    let B = place_in a.quads.now (wireIn a.group.now a.wires.now) a.first.0 1 (groupAt a.plan.now a.at) a.picks.second in (
-      behind-room A B a.out.now c.before.before.before.before.before.before.before.requires.0 _ _ c.before.before.before.put-place.ensures.0
+    let A = place_in a.quads.now (wire_in a.group.now a.wires.now) a.first.0 0 (group_at a.plan.now a.at) a.picks.first in
+    let B = place_in a.quads.now (wire_in a.group.now a.wires.now) a.first.0 1 (group_at a.plan.now a.at) a.picks.second in (
+      behind_room A B a.out.now c.before.before.before.before.before.before.before.requires.0 _ _ c.before.before.before.put-place.ensures.0
           c.before.before.before.put-place.ensures.1,
       (
-        c.before.before.before.before.before.before.before.requires.1.0.one-paired,
+        c.before.before.before.before.before.before.before.requires.1.0.one_paired,
         c.before.before.before.before.before.before.before.requires.1.1,
       ),
     )
@@ -47,9 +47,9 @@ put-place-requires-2 c κs =
 add-result : tie.Need-overflow-add-result
 add-result c =
     let a = c.before.before.before.before.before.before.before.before.before.before.args in
-    let A = place_in a.quads.now (wireIn a.group.now a.wires.now) a.first.0 0 (groupAt a.plan.now a.at) a.picks.first in
-    let B = place_in a.quads.now (wireIn a.group.now a.wires.now) a.first.0 1 (groupAt a.plan.now a.at) a.picks.second in
-    let z : c.before.before.before.before.before.before.put-place.result + c.before.before.put-place2.result ≤ length a.out.now = behind-all A B a.out.now
+    let A = place_in a.quads.now (wire_in a.group.now a.wires.now) a.first.0 0 (group_at a.plan.now a.at) a.picks.first in
+    let B = place_in a.quads.now (wire_in a.group.now a.wires.now) a.first.0 1 (group_at a.plan.now a.at) a.picks.second in
+    let z : c.before.before.before.before.before.before.put-place.result + c.before.before.put-place2.result ≤ length a.out.now = behind_all A B a.out.now
     c.before.before.before.before.before.before.before.before.before.before.requires.0 _ _ c.before.before.before.before.before.before.put-place.ensures.0
     c.before.before.before.before.before.before.put-place.ensures.1 _ c.before.before.put-place2.ensures.0 in
     search rules
@@ -57,9 +57,9 @@ add-result c =
 returns : tie.Need-returns
 returns c =
     let a = c.before.before.before.before.before.before.before.before.before.before.args in
-    let A = place_in a.quads.now (wireIn a.group.now a.wires.now) a.first.0 0 (groupAt a.plan.now a.at) a.picks.first in
-    let B = place_in a.quads.now (wireIn a.group.now a.wires.now) a.first.0 1 (groupAt a.plan.now a.at) a.picks.second in
-    behind-put A B a.out.now c.before.before.before.before.before.before.before.before.before.before.requires.0 _ _
+    let A = place_in a.quads.now (wire_in a.group.now a.wires.now) a.first.0 0 (group_at a.plan.now a.at) a.picks.first in
+    let B = place_in a.quads.now (wire_in a.group.now a.wires.now) a.first.0 1 (group_at a.plan.now a.at) a.picks.second in
+    behind_put A B a.out.now c.before.before.before.before.before.before.before.before.before.before.requires.0 _ _
     c.before.before.before.before.before.before.put-place.ensures.0 c.before.before.before.before.before.before.put-place.ensures.1 _
     c.before.before.put-place2.ensures.0 _ c.before.before.put-place2.ensures.1
 

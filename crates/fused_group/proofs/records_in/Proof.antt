@@ -1,5 +1,5 @@
 use lib.ListN.{get_or}
-use Rattle.fused_group.specs.PartLaws.{one-most, count-guarded, count-bare}
+use Rattle.fused_group.specs.PartLaws.{one_most, count_guarded, count_bare}
 use native.Mathlib.Omega.{arith}
 use borrow.Author.Rules.{rules}
 use Rattle.fused_group.proofs.records_in.Statement.{statement}
@@ -15,7 +15,7 @@ add-result c =
         arith,
         c.before.shared-slice-known2.given c.before.before.before.before.before.args.at,
         c.picks_at.ensures,
-        one-most
+        one_most
             c.before.before.before.before.before.args.picks.first,
       );
     }
@@ -27,10 +27,10 @@ add-result-2 c =
         arith,
         c.before.before.shared-slice-known2.given c.before.before.before.before.before.before.args.at,
         c.before.picks_at.ensures,
-        one-most
+        one_most
             c.before.before.before.before.before.before.args.picks.first,
         c.picks-at2.ensures,
-        one-most c.before.before.before.before.before.before.args.picks.second,
+        one_most c.before.before.before.before.before.before.args.picks.second,
       );
     }
 
@@ -41,23 +41,23 @@ add-result-3 c =
         arith,
         c.before.before.shared-slice-known2.given c.before.before.before.before.before.before.args.at,
         c.before.picks_at.ensures,
-        one-most
+        one_most
             c.before.before.before.before.before.before.args.picks.first,
         c.picks-at2.ensures,
-        one-most c.before.before.before.before.before.before.args.picks.second,
+        one_most c.before.before.before.before.before.before.args.picks.second,
       );
     }
 
 returns : tie.Need-returns
 returns c =
     let a = c.before.before.before.before.before.before.args in
-    count-guarded (get_or a.plan.now a.at 0) a.picks _ c.before.before.before.before.has-pick.ensures _ _ c.before.picks_at.ensures c.picks-at2.ensures
+    count_guarded (get_or a.plan.now a.at 0) a.picks _ c.before.before.before.before.has-pick.ensures _ _ c.before.picks_at.ensures c.picks-at2.ensures
     c.before.before.before.if1.true
 
 returns-2 : tie.Need-returns-2
 returns-2 c =
     let a = c.before.before.before.args in
-    count-bare (get_or a.plan.now a.at 0) a.picks _ c.before.has-pick.ensures c.if1.false
+    count_bare (get_or a.plan.now a.at 0) a.picks _ c.before.has-pick.ensures c.if1.false
 
 pub records-in-spec : {M : Type 1} → statement M
 records-in-spec =

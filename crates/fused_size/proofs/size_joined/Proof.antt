@@ -1,5 +1,5 @@
-use Rattle.fused_size.specs.JoinedSizes.{joined-first, joined_small, joined-sized}
-use Rattle.base.specs.SetsHeld.{setsIn}
+use Rattle.fused_size.specs.JoinedSizes.{joined_first, joined_small, joined_sized}
+use Rattle.base.specs.SetsHeld.{sets_in}
 use native.Mathlib.Omega.{arith}
 use mathlib.Core.Path.{◌∙◌}
 use Prim.Native.Nat.{◌+◌, ◌<◌}
@@ -14,16 +14,16 @@ size-place-requires-2 : tie.Need-size-place-requires-2
 size-place-requires-2 c κs = omega (arith, c.before.shared-slice-known2.given c.before.before.before.before.before.before.args.at)
 
 element-copy-out-code-of : tie.Need-element-copy-out-code-of
-element-copy-out-code-of c = omega (arith, (joined-first _ _ _ _ _ c.before.before.before.before.before.before.before.before.before.requires c.before.member.ensures).0)
+element-copy-out-code-of c = omega (arith, (joined_first _ _ _ _ _ c.before.before.before.before.before.before.before.before.before.requires c.before.member.ensures).0)
 
 cast-code-of : tie.Need-overflow-cast-code-of
 cast-code-of c =
-    record { fits = omega (arith, (joined-first _ _ _ _ _ c.before.before.before.before.before.before.before.before.before.before.requires c.before.before.member.ensures).1) }
+    record { fits = omega (arith, (joined_first _ _ _ _ _ c.before.before.before.before.before.before.before.before.before.before.requires c.before.before.member.ensures).1) }
 
 add-t19 : tie.Need-overflow-add-t19
 add-t19 c =
     let start = c.before.before.before.before.before.before.before.before.before.before.before.before.before.before in
-    let z = (joined_small (setsIn start.args.needs.now) start.args.plan.now start.args.at
+    let z = (joined_small (sets_in start.args.needs.now) start.args.plan.now start.args.at
     c.before.before.before.before.before.before.before.before.before.before.before.before.picks_of.result _ _ _ _ _ _
     (omega (arith, c.before.before.before.before.before.before.before.before.before.shared-slice-known2.given start.args.at))
     c.before.before.before.before.before.before.before.before.before.before.size-kept.ensures
@@ -33,7 +33,7 @@ add-t19 c =
 add-t23 : tie.Need-overflow-add-t23
 add-t23 c =
     let start = c.before.before.before.before.before.before.before.before.before.before.before.before.before.before.before in
-    let z = (joined_small (setsIn start.args.needs.now) start.args.plan.now start.args.at
+    let z = (joined_small (sets_in start.args.needs.now) start.args.plan.now start.args.at
     c.before.before.before.before.before.before.before.before.before.before.before.before.before.picks_of.result _ _ _ _ _ _
     (omega (arith, c.before.before.before.before.before.before.before.before.before.before.shared-slice-known2.given start.args.at))
     c.before.before.before.before.before.before.before.before.before.before.before.size-kept.ensures
@@ -43,7 +43,7 @@ add-t23 c =
 add-t24 : tie.Need-overflow-add-t24
 add-t24 c =
     let start = c.before.before.before.before.before.before.before.before.before.before.before.before.before.before.before in
-    let z = (joined_small (setsIn start.args.needs.now) start.args.plan.now start.args.at
+    let z = (joined_small (sets_in start.args.needs.now) start.args.plan.now start.args.at
     c.before.before.before.before.before.before.before.before.before.before.before.before.before.picks_of.result _ _ _ _ _ _
     (omega (arith, c.before.before.before.before.before.before.before.before.before.before.shared-slice-known2.given start.args.at))
     c.before.before.before.before.before.before.before.before.before.before.before.size-kept.ensures
@@ -53,7 +53,7 @@ add-t24 c =
 add-t25 : tie.Need-overflow-add-t25
 add-t25 c =
     let start = c.before.before.before.before.before.before.before.before.before.before.before.before.before.before.before.before.before in
-    let z = (joined_small (setsIn start.args.needs.now) start.args.plan.now start.args.at
+    let z = (joined_small (sets_in start.args.needs.now) start.args.plan.now start.args.at
     c.before.before.before.before.before.before.before.before.before.before.before.before.before.before.before.picks_of.result _ _ _ _ _ _
     (omega (arith, c.before.before.before.before.before.before.before.before.before.before.before.before.shared-slice-known2.given start.args.at))
     c.before.before.before.before.before.before.before.before.before.before.before.before.before.size-kept.ensures
@@ -64,7 +64,7 @@ add-t25 c =
 add-t26 : tie.Need-overflow-add-t26
 add-t26 c =
     let start = c.before.before.before.before.before.before.before.before.before.before.before.before.before.before.before.before.before.before in
-    let z = (joined_small (setsIn start.args.needs.now) start.args.plan.now start.args.at
+    let z = (joined_small (sets_in start.args.needs.now) start.args.plan.now start.args.at
     c.before.before.before.before.before.before.before.before.before.before.before.before.before.before.before.before.picks_of.result _ _ _ _ _ _
     (omega (arith, c.before.before.before.before.before.before.before.before.before.before.before.before.before.shared-slice-known2.given start.args.at))
     c.before.before.before.before.before.before.before.before.before.before.before.before.before.before.size-kept.ensures
@@ -77,7 +77,7 @@ add-t28 c =
     let start = c.before.before.before.before.before.before.before.before.before.before.before.before.before.before.before.before.before.before.before in
     let z : c.before.before.before.before.before.before.before.before.before.before.before.before.before.before.before.size-kept.result.cost
     + c.before.before.before.before.before.before.before.before.before.before.before.before.before.size-place.result.cost
-    + c.before.before.before.before.before.before.before.before.before.before.before.before.size-place2.result.cost < 65536 = (joined_small (setsIn start.args.needs.now)
+    + c.before.before.before.before.before.before.before.before.before.before.before.before.size-place2.result.cost < 65536 = (joined_small (sets_in start.args.needs.now)
     start.args.plan.now start.args.at
     c.before.before.before.before.before.before.before.before.before.before.before.before.before.before.before.before.before.picks_of.result _ _ _ _ _ _
     (omega (arith, c.before.before.before.before.before.before.before.before.before.before.before.before.before.before.shared-slice-known2.given start.args.at))
@@ -88,7 +88,7 @@ add-t28 c =
 
 returns : tie.Need-returns
 returns c =
-    joined-sized _ _ _ _ _ _ _
+    joined_sized _ _ _ _ _ _ _
     c.before.before.before.before.before.before.before.before.before.before.before.before.before.before.before.before.before.picks_of.result _ _ _ _ _ _ _ _
     c.before.before.before.before.before.before.before.before.before.before.before.before.before.before.before.before.before.before.before.requires
     c.before.before.before.before.before.before.before.before.before.before.before.before.before.before.before.before.before.picks_of.ensures

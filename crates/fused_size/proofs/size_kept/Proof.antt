@@ -1,5 +1,5 @@
-use Rattle.fused_size.specs.JoinedSizes.{rested-few, kept-sized, none-sized}
-use Rattle.base.specs.SetsHeld.{setsIn}
+use Rattle.fused_size.specs.JoinedSizes.{rested_few, kept_sized, none_sized}
+use Rattle.base.specs.SetsHeld.{sets_in}
 use native.Mathlib.Omega.{arith}
 use borrow.Author.Rules.{rules}
 use Rattle.fused_size.proofs.size_kept.Statement.{statement}
@@ -14,7 +14,7 @@ mul-t11 c =
       fits = omega (
         arith,
         c.rested-by.ensures,
-        rested-few (setsIn c.before.before.before.before.before.args.needs.now)
+        rested_few (sets_in c.before.before.before.before.before.args.needs.now)
             c.before.before.before.before.before.args.plan.now c.before.before.before.before.before.args.at,
         c.before.shared-slice-known2.given
             c.before.before.before.before.before.args.at,
@@ -27,7 +27,7 @@ add-t12 c =
       fits = omega (
         arith,
         c.rested-by.ensures,
-        rested-few (setsIn c.before.before.before.before.before.args.needs.now)
+        rested_few (sets_in c.before.before.before.before.before.args.needs.now)
             c.before.before.before.before.before.args.plan.now c.before.before.before.before.before.args.at,
         c.before.shared-slice-known2.given
             c.before.before.before.before.before.args.at,
@@ -37,12 +37,12 @@ add-t12 c =
 returns : tie.Need-returns
 returns c =
     let a = c.before.before.before.before.before.args in
-    kept-sized (setsIn a.needs.now) a.plan.now a.at a.picks _ c.before.before.before.has-pick.ensures c.before.before.if1.true _ c.rested-by.ensures
+    kept_sized (sets_in a.needs.now) a.plan.now a.at a.picks _ c.before.before.before.has-pick.ensures c.before.before.if1.true _ c.rested-by.ensures
 
 returns-2 : tie.Need-returns-2
 returns-2 c =
     let a = c.before.before.before.args in
-    none-sized (setsIn a.needs.now) a.plan.now a.at a.picks _ c.before.has-pick.ensures c.if1.false
+    none_sized (sets_in a.needs.now) a.plan.now a.at a.picks _ c.before.has-pick.ensures c.if1.false
 
 pub size-kept-spec : {M : Type 1} → statement M
 size-kept-spec =

@@ -1,11 +1,11 @@
 use mathlib.Core.Path.{refl}
-use Rattle.base.specs.SetsHeldLaws.{sets-clear}
-use Rattle.circuit.specs.Limits.{mostGates}
+use Rattle.base.specs.SetsHeldLaws.{sets_clear}
+use Rattle.circuit.specs.Limits.{most_gates}
 use Rattle.fused_write.proofs.count.Statement.{statement}
 use Rattle.fused_write.proofs.count.Tie as tie
 
 prepare-requires : tie.Need-prepare-requires
-prepare-requires c κs = ((refl, (sets-clear mostGates, (refl, refl))), (refl, (refl, refl)))
+prepare-requires c κs = ((refl, (sets_clear most_gates, (refl, refl))), (refl, (refl, refl)))
 
 returns : tie.Need-returns
 returns c = c.before.prepare.ensures.answered

@@ -1,7 +1,7 @@
 use borrow.Author.Rules.{rules}
 use native.Mathlib.Omega.{arith}
 use lib.ListN.{length}
-use Rattle.demands.specs.PromiseLaws.{file-told, file-left, file-done}
+use Rattle.demands.specs.PromiseLaws.{file_told, file_left, file_done}
 use Rattle.linnet.proofs.linnet_run_circuit.Statement.{statement}
 use Rattle.linnet.proofs.linnet_run_circuit.Tie as tie
 
@@ -13,10 +13,10 @@ returns c =
       (
         search rules,
         (
-          file-told d.file.now d.inputs.now (length d.results.now) _ (search rules),
+          file_told d.file.now d.inputs.now (length d.results.now) _ (search rules),
           (
-            file-left _ _ _ a _ (search rules) (search rules),
-            file-done _ _ _ _ _ (search rules) (search rules) (λ i _. omega (arith, c.before.before.before.before.before.shared-slice-known2.given i)),
+            file_left _ _ _ a _ (search rules) (search rules),
+            file_done _ _ _ _ _ (search rules) (search rules) (λ i _. omega (arith, c.before.before.before.before.before.shared-slice-known2.given i)),
           ),
         ),
       ),

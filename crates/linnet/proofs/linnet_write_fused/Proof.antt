@@ -2,7 +2,7 @@ use borrow.Author.Rules.{rules}
 use native.Mathlib.Omega.{arith}
 use lib.ListN.{length}
 use Rattle.base.specs.Numbers.{Bytes}
-use Rattle.demands.specs.PromiseLaws.{write-told, written-earlier, written-gives}
+use Rattle.demands.specs.PromiseLaws.{write_told, written_earlier, written_gives}
 use Rattle.linnet.proofs.linnet_write_fused.Statement.{statement}
 use Rattle.linnet.proofs.linnet_write_fused.Tie as tie
 
@@ -15,10 +15,10 @@ returns c =
       (
         search rules,
         (
-          write-told d.rule.now d.plan.now (length d.out.now) _ (search rules),
+          write_told d.rule.now d.plan.now (length d.out.now) _ (search rules),
           (
-            λ z. written-earlier d.rule.now d.plan.now d.out.now a _ (search rules) (search rules) z bytes,
-            λ z. written-gives d.rule.now d.plan.now d.out.now a _ (search rules) (search rules) z bytes,
+            λ z. written_earlier d.rule.now d.plan.now d.out.now a _ (search rules) (search rules) z bytes,
+            λ z. written_gives d.rule.now d.plan.now d.out.now a _ (search rules) (search rules) z bytes,
           ),
         ),
       ),

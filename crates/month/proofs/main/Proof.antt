@@ -6,8 +6,8 @@ use Prim.Native.Nat.{ℕ, ◌+◌, ◌-◌, ◌≤◌}
 use native.Mathlib.Omega.{arith}
 use lib.ListN.{length, drop, length-replicate, length-drop}
 use lib.Seq.{length-take-le}
-use Rattle.report.specs.Steps.{hasStopped}
-use Rattle.report.specs.Bounds.{Within, mostWanted}
+use Rattle.report.specs.Steps.{has_stopped}
+use Rattle.report.specs.Bounds.{Within, most_wanted}
 use Rattle.month.proofs.main.Statement.{statement}
 use Rattle.month.proofs.main.Tie as tie
 
@@ -15,7 +15,7 @@ abbrev invariant-loop : tie.invariant-loop
 invariant-loop window₀ out₀ progress₀ to₀ w₀ t9 window out progress to w = (length window ≡ 262144) × (length out ≡ 65536) × Within progress × (to ≤ 262144)
 
 abbrev decreases-loop : tie.decreases-loop
-decreases-loop window₀ out₀ progress₀ to₀ w₀ t9 window out progress to w = mostWanted progress + (262144 - to)
+decreases-loop window₀ out₀ progress₀ to₀ w₀ t9 window out progress to w = most_wanted progress + (262144 - to)
 
 loop-holds : tie.Need-loop-init invariant-loop decreases-loop
 loop-holds c = (length-replicate {A = ℕ} 262144 0, length-replicate {A = ℕ} 65536 0, tt, omega arith)
@@ -31,7 +31,7 @@ read-behind-requires c κs =
     let at = c.before.before.before.before.before.before.before.before.before.before.before.before.loop in
     let held = length-take-le (at.to - 0) (drop 0 at.window) (omega (arith, at.invariant.0, at.invariant.3, length-drop 0 at.window)) in
     ⊎_elim
-    (λ e. absurd (true≢false (sym (ap hasStopped e) ∙ sym c.before.before.has-stopped.ensures ∙ c.before.if3.false)))
+    (λ e. absurd (true≢false (sym (ap has_stopped e) ∙ sym c.before.before.has-stopped.ensures ∙ c.before.if3.false)))
     (λ l. (omega (arith, l, held, at.invariant.0), at.invariant.0))
     (c.before.before.before.before.before.before.before.before.take-entries.ensures.1.1 (omega (arith, at.invariant.1)) c.before.before.before.if2.false)
 

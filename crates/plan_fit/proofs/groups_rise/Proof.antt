@@ -2,8 +2,8 @@ use borrow.Author.Rules.{rules}
 use native.Mathlib.Omega.{arith}
 use Prim.Native.Nat.{ℕ}
 use Rattle.plan_groups.specs.Walks.{ReadableGroup}
-use Rattle.plan_groups.specs.GroupLaws.{lie-inside, ahead-start, ahead-fits, ahead_step}
-use Rattle.plan_groups.specs.RisingLaws.{RisingGroups, rising_none, rising-start, rising-fails, rising_step, rising-end}
+use Rattle.plan_groups.specs.GroupLaws.{lie_inside, ahead_start, ahead_fits, ahead_step}
+use Rattle.plan_groups.specs.RisingLaws.{RisingGroups, rising_none, rising_start, rising_fails, rising_step, rising_end}
 use Rattle.plan_fit.proofs.groups_rise.Statement.{statement}
 use Rattle.plan_fit.proofs.groups_rise.Tie as tie
 
@@ -21,27 +21,27 @@ returns c = rising_none _ _ c.before.groups-counted.ensures c.if1.true
 
 member-requires : tie.Need-member-requires invariant-loop decreases-loop
 member-requires c κs =
-    let f : ReadableGroup _ _ _ = ahead-fits _ _ _ _ (ahead-start _ _ _ c.before.before.before.requires.1 c.before.groups-counted.ensures) (omega (arith, c.if1.false)) in
+    let f : ReadableGroup _ _ _ = ahead_fits _ _ _ _ (ahead_start _ _ _ c.before.before.before.requires.1 c.before.groups-counted.ensures) (omega (arith, c.if1.false)) in
     omega (arith, f.lies, f.joins)
 
 loop-holds : tie.Need-loop-init invariant-loop decreases-loop
 loop-holds c =
     let c5 = c.before.before.before.before.before in
-    (c5.requires.0, rising-start _ _ _ _ c5.requires.1 c.before.before.before.groups-counted.ensures c.before.before.if1.false c.before.member.ensures)
+    (c5.requires.0, rising_start _ _ _ _ c5.requires.1 c.before.before.before.groups-counted.ensures c.before.before.if1.false c.before.member.ensures)
 
 after-requires : tie.Need-after-requires invariant-loop decreases-loop
-after-requires c κs = lie-inside _ _ _ c.before.loop.invariant.1.ahead.lie c.before.loop.invariant.1.some
+after-requires c κs = lie_inside _ _ _ c.before.loop.invariant.1.ahead.lie c.before.loop.invariant.1.some
 
 member-requires-2 : tie.Need-member-requires-2 invariant-loop decreases-loop
 member-requires-2 c κs =
     let w = c.before.before.loop.invariant.1 in
-    let f : ReadableGroup _ _ _ = ahead-fits _ _ _ _ (ahead_step _ _ _ _ _ w.ahead w.some c.after.ensures) (omega (arith, c.before.loop-test.true)) in
+    let f : ReadableGroup _ _ _ = ahead_fits _ _ _ _ (ahead_step _ _ _ _ _ w.ahead w.some c.after.ensures) (omega (arith, c.before.loop-test.true)) in
     omega (arith, f.lies, f.joins)
 
 returns-2 : tie.Need-returns-2 invariant-loop decreases-loop
 returns-2 c =
     let c4 = c.before.before.before.before in
-    rising-fails _ _ _ _ _ c4.before.loop.invariant.1 c4.loop-test.true _ _ c.before.before.before.after.ensures c.before.before.member2.ensures
+    rising_fails _ _ _ _ _ c4.before.loop.invariant.1 c4.loop-test.true _ _ c.before.before.before.after.ensures c.before.before.member2.ensures
     c.if2.true
 
 loop-again : tie.Need-loop-preserved invariant-loop decreases-loop
@@ -53,7 +53,7 @@ loop-again c =
     )
 
 returns-3 : tie.Need-returns-3 invariant-loop decreases-loop
-returns-3 c = rising-end _ _ _ _ _ c.before.loop.invariant.1 c.loop-test.false
+returns-3 c = rising_end _ _ _ _ _ c.before.loop.invariant.1 c.loop-test.false
 
 pub groups-rise-spec : {M : Type 1} → statement M
 groups-rise-spec =

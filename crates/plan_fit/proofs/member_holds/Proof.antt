@@ -1,10 +1,10 @@
 use borrow.Author.Rules.{rules}
-use Rattle.plan_groups.specs.GateLaws.{member-costly, member_alike}
+use Rattle.plan_groups.specs.GateLaws.{member_costly, member_alike}
 use Rattle.plan_fit.proofs.member_holds.Statement.{statement}
 use Rattle.plan_fit.proofs.member_holds.Tie as tie
 
 returns : tie.Need-returns
-returns c = member-costly _ _ _ _ _ _ c.before.if1.true c.before.before.code_at.ensures c.costly.ensures
+returns c = member_costly _ _ _ _ _ _ c.before.if1.true c.before.before.code_at.ensures c.costly.ensures
 
 returns-2 : tie.Need-returns-2
 returns-2 c =

@@ -2,14 +2,14 @@ use borrow.Author.Rules.{rules}
 use native.Mathlib.Omega.{arith}
 use borrow.Author.Tests.{not-true, not-false}
 use Prim.Native.Nat.{◌-◌}
-use Rattle.base.specs.SetsHeld.{setOf, setsIn}
-use Rattle.plan_groups.specs.MemberLaws.{walk-byte}
-use Rattle.plan_groups.specs.WalkLaws.{Parting, parting-start, parting-fails, parting-step, parting-end}
+use Rattle.base.specs.SetsHeld.{set_of, sets_in}
+use Rattle.plan_groups.specs.MemberLaws.{walk_byte}
+use Rattle.plan_groups.specs.WalkLaws.{Parting, parting_start, parting_fails, parting_step, parting_end}
 use Rattle.plan_fit.proofs.members_part.Statement.{statement}
 use Rattle.plan_fit.proofs.members_part.Tie as tie
 
 abbrev invariant-loop : tie.invariant-loop
-invariant-loop plan at count rules size seen₀ k₀ seen k = Parting (setsIn rules) count plan at (setOf seen) k
+invariant-loop plan at count rules size seen₀ k₀ seen k = Parting (sets_in rules) count plan at (set_of seen) k
 
 abbrev decreases-loop : tie.decreases-loop
 decreases-loop plan at count rules size seen₀ k₀ seen k = size - k
@@ -18,7 +18,7 @@ size-at-requires : tie.Need-size-at-requires invariant-loop decreases-loop
 size-at-requires c κs = omega (arith, c.before.requires.lies)
 
 loop-holds : tie.Need-loop-init invariant-loop decreases-loop
-loop-holds c = parting-start _ _ _ _ _ c.before.before.before.requires c.empty.ensures
+loop-holds c = parting_start _ _ _ _ _ c.before.before.before.requires c.empty.ensures
 
 member-requires : tie.Need-member-requires invariant-loop decreases-loop
 member-requires c κs =
@@ -28,7 +28,7 @@ load-requires : tie.Need-load-requires invariant-loop decreases-loop
 load-requires c κs =
     omega (
       arith,
-      walk-byte _ _ _ _ _ c.before.before.before.before.loop.invariant.walk (omega (
+      walk_byte _ _ _ _ _ c.before.before.before.before.loop.invariant.walk (omega (
         arith,
         c.before.before.before.loop-test.true,
         c.before.before.before.before.before.before.size-at.ensures,
@@ -38,7 +38,7 @@ load-requires c κs =
 
 returns : tie.Need-returns invariant-loop decreases-loop
 returns c =
-    parting-fails _ _ _ _ _ _ _ _ c.before.before.before.before.before.before.before.loop.invariant (omega (
+    parting_fails _ _ _ _ _ _ _ _ c.before.before.before.before.before.before.before.loop.invariant (omega (
       arith,
       c.before.before.before.before.before.before.loop-test.true,
       c.before.before.before.before.before.before.before.before.before.size-at.ensures,
@@ -47,7 +47,7 @@ returns c =
 
 loop-again : tie.Need-loop-preserved invariant-loop decreases-loop
 loop-again c =
-    parting-step _ _ _ _ _ _ _ _ c.before.before.before.before.before.before.before.before.loop.invariant (omega (
+    parting_step _ _ _ _ _ _ _ _ c.before.before.before.before.before.before.before.before.loop.invariant (omega (
       arith,
       c.before.before.before.before.before.before.before.loop-test.true,
       c.before.before.before.before.before.before.before.before.before.before.size-at.ensures,
@@ -56,7 +56,7 @@ loop-again c =
     c.before.before.before.load.ensures at c.union.ensures)
 
 returns-2 : tie.Need-returns-2 invariant-loop decreases-loop
-returns-2 c = parting-end _ _ _ _ _ _ c.before.loop.invariant (omega (arith, c.loop-test.false, c.before.before.before.size-at.ensures))
+returns-2 c = parting_end _ _ _ _ _ _ c.before.loop.invariant (omega (arith, c.loop-test.false, c.before.before.before.size-at.ensures))
 
 pub members-part-spec : {M : Type 1} → statement M
 members-part-spec =

@@ -3,8 +3,8 @@ use native.Mathlib.Omega.{arith}
 use mathlib.Core.Path.{refl}
 use mathlib.Core.Bool.{false≢true}
 use Prim.Native.Nat.{◌-◌}
-use Rattle.plan_groups.specs.MemberLaws.{walk-byte}
-use Rattle.plan_groups.specs.PutLaws.{PuttingMembers, putting-start, putting-fails, putting-step, putting-free, putting-groups, putting-places}
+use Rattle.plan_groups.specs.MemberLaws.{walk_byte}
+use Rattle.plan_groups.specs.PutLaws.{PuttingMembers, putting_start, putting_fails, putting_step, putting_free, putting_groups, putting_places}
 use Rattle.plan_groups.proofs.join_members.Statement.{statement}
 use Rattle.plan_groups.proofs.join_members.Tie as tie
 
@@ -21,7 +21,7 @@ member-requires : tie.Need-member-requires invariant-loop decreases-loop
 member-requires c κs = omega (arith, c.before.before.requires.lies, c.before.before.requires.short, c.before.before.requires.joins)
 
 loop-holds : tie.Need-loop-init invariant-loop decreases-loop
-loop-holds c = putting-start _ _ _ _ _ _ c.before.before.before.requires c.member.ensures
+loop-holds c = putting_start _ _ _ _ _ _ c.before.before.before.requires c.member.ensures
 
 member-requires-2 : tie.Need-member-requires-2 invariant-loop decreases-loop
 member-requires-2 c κs =
@@ -29,13 +29,13 @@ member-requires-2 c κs =
 
 element-copy-out-if1 : tie.Need-element-copy-out-if1 invariant-loop decreases-loop
 element-copy-out-if1 c =
-    walk-byte _ _ _ _ _ c.before.before.before.loop.invariant.walk
+    walk_byte _ _ _ _ _ c.before.before.before.loop.invariant.walk
     (omega (arith, c.before.before.loop-test.true, c.before.before.before.before.before.size-at.ensures)) c.before.member2.ensures
 
 returns : tie.Need-returns invariant-loop decreases-loop
 returns c =
     let c7 = c.before.before.before.before.before.before.before in (
-      putting-fails _ _ _ _ _ _ _ _ _ _ c.before.before.before.before.before.loop.invariant
+      putting_fails _ _ _ _ _ _ _ _ _ _ c.before.before.before.before.before.loop.invariant
           (omega (arith, c.before.before.before.before.loop-test.true, c7.size-at.ensures)) c.before.before.before.member2.ensures c.if1.true,
       (λ e. absurd (false≢true e), λ e. absurd (false≢true e)),
     )
@@ -43,7 +43,7 @@ returns c =
 element-write-group : tie.Need-element-write-group invariant-loop decreases-loop
 element-write-group c =
     let c7 = c.before.before.before.before.before.before.before in
-    walk-byte _ _ _ _ _ c.before.before.before.before.before.loop.invariant.walk
+    walk_byte _ _ _ _ _ c.before.before.before.before.before.loop.invariant.walk
     (omega (arith, c.before.before.before.before.loop-test.true, c7.size-at.ensures)) c.before.before.before.member2.ensures
 
 cast-places : tie.Need-overflow-cast-places invariant-loop decreases-loop
@@ -54,22 +54,22 @@ cast-places c =
 element-write-places : tie.Need-element-write-places invariant-loop decreases-loop
 element-write-places c =
     let c7 = c.before.before.before.before.before.before.before in
-    walk-byte _ _ _ _ _ c.before.before.before.before.before.loop.invariant.walk
+    walk_byte _ _ _ _ _ c.before.before.before.before.before.loop.invariant.walk
     (omega (arith, c.before.before.before.before.loop-test.true, c7.size-at.ensures)) c.before.before.before.member2.ensures
 
 loop-again : tie.Need-loop-preserved invariant-loop decreases-loop
 loop-again c =
     let c7 = c.before.before.before.before.before.before.before in
-    putting-step _ _ _ _ _ _ _ _ _ _ c.before.before.before.before.before.loop.invariant
+    putting_step _ _ _ _ _ _ _ _ _ _ c.before.before.before.before.before.loop.invariant
     (omega (arith, c.before.before.before.before.loop-test.true, c7.size-at.ensures)) c.before.before.before.member2.ensures _ _ c.if1.false refl refl
 
 returns-2 : tie.Need-returns-2 invariant-loop decreases-loop
 returns-2 c =
     let c3 = c.before.before.before in (
-      putting-free _ _ _ _ _ _ _ _ _ c.before.loop.invariant (omega (arith, c.loop-test.false, c3.size-at.ensures)),
+      putting_free _ _ _ _ _ _ _ _ _ c.before.loop.invariant (omega (arith, c.loop-test.false, c3.size-at.ensures)),
       (
-        λ t. putting-groups _ _ _ _ _ _ _ _ _ c.before.loop.invariant (omega (arith, c.loop-test.false, c3.size-at.ensures)),
-        λ t. putting-places _ _ _ _ _ _ _ _ _
+        λ t. putting_groups _ _ _ _ _ _ _ _ _ c.before.loop.invariant (omega (arith, c.loop-test.false, c3.size-at.ensures)),
+        λ t. putting_places _ _ _ _ _ _ _ _ _
             c.before.loop.invariant (omega (arith, c.loop-test.false, c3.size-at.ensures)),
       ),
     )

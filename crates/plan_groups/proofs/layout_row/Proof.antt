@@ -1,43 +1,43 @@
 use borrow.Author.Rules.{rules}
 use borrow.Author.Tests.{not-true, not-false}
 use mathlib.Core.Path.{sym, ◌∙◌}
-use Rattle.plan_groups.specs.RowLaws.{size-right, row-20, row-21, row-22, row-23, row-24, row-25, row-none, layout-lie}
+use Rattle.plan_groups.specs.RowLaws.{size_right, row_20, row_21, row_22, row_23, row_24, row_25, row_none, layout_lie}
 use Rattle.plan_groups.proofs.layout_row.Statement.{statement}
 use Rattle.plan_groups.proofs.layout_row.Tie as tie
 
 returns : tie.Need-returns
-returns c = row-20 _ c.before.before.before.args.plan.now (sym c.before.size-fits.ensures ∙ not-true _ c.if1.true)
+returns c = row_20 _ c.before.before.before.args.plan.now (sym c.before.size-fits.ensures ∙ not-true _ c.if1.true)
 
 marked-requires : tie.Need-marked-requires
-marked-requires c κs = (size-right c.before.before.before.args.plan.now (sym c.before.size-fits.ensures ∙ not-false _ c.if1.false)).0
+marked-requires c κs = (size_right c.before.before.before.args.plan.now (sym c.before.size-fits.ensures ∙ not-false _ c.if1.false)).0
 
 returns-2 : tie.Need-returns-2
 returns-2 c =
-    row-21 _ c.before.before.before.before.before.args.plan.now
+    row_21 _ c.before.before.before.before.before.args.plan.now
     (sym c.before.before.before.size-fits.ensures ∙ not-false _ c.before.before.if1.false) (sym c.before.marked.ensures ∙ not-true _ c.if2.true)
 
 gates-counted-requires : tie.Need-gates-counted-requires
 gates-counted-requires c κs =
-    (size-right c.before.before.before.before.before.args.plan.now
+    (size_right c.before.before.before.before.before.args.plan.now
     (sym c.before.before.before.size-fits.ensures ∙ not-false _ c.before.before.if1.false)).0
 
 returns-3 : tie.Need-returns-3
 returns-3 c =
     let c7 = c.before.before.before.before.before.before.before in
-    row-22 _ c7.args.plan.now (sym c.before.before.before.before.before.size-fits.ensures ∙ not-false _ c.before.before.before.before.if1.false)
+    row_22 _ c7.args.plan.now (sym c.before.before.before.before.before.size-fits.ensures ∙ not-false _ c.before.before.before.before.if1.false)
     (sym c.before.before.before.marked.ensures ∙ not-false _ c.before.before.if2.false) (λ e. c.if3.true (c.before.gates-counted.ensures ∙ e))
 
 groups-end-requires : tie.Need-groups-end-requires
 groups-end-requires c κs =
     let c7 = c.before.before.before.before.before.before.before in
-    size-right c7.args.plan.now (sym c.before.before.before.before.before.size-fits.ensures ∙ not-false _ c.before.before.before.before.if1.false)
+    size_right c7.args.plan.now (sym c.before.before.before.before.before.size-fits.ensures ∙ not-false _ c.before.before.before.before.if1.false)
 
 returns-4 : tie.Need-returns-4
 returns-4 c =
     let c6 = c.before.before.before.before.before.before in
     let c7 = c6.before in
     let c9 = c7.before.before in
-    row-23 _ c9.args.plan.now (sym c7.size-fits.ensures ∙ not-false _ c6.if1.false)
+    row_23 _ c9.args.plan.now (sym c7.size-fits.ensures ∙ not-false _ c6.if1.false)
     (sym c.before.before.before.before.before.marked.ensures ∙ not-false _ c.before.before.before.before.if2.false)
     (sym c.before.before.before.gates-counted.ensures ∙ c.before.before.if3.false) (sym c.before.groups-end.ensures ∙ not-true _ c.if4.true)
 
@@ -46,7 +46,7 @@ every-shape-requires c κs =
     let c6 = c.before.before.before.before.before.before in
     let c7 = c6.before in
     let c9 = c7.before.before in
-    layout-lie c9.args.count c9.args.plan.now (sym c7.size-fits.ensures ∙ not-false _ c6.if1.false)
+    layout_lie c9.args.count c9.args.plan.now (sym c7.size-fits.ensures ∙ not-false _ c6.if1.false)
     (sym c.before.groups-end.ensures ∙ not-false _ c.if4.false)
 
 returns-5 : tie.Need-returns-5
@@ -56,7 +56,7 @@ returns-5 c =
     let c8 = c7.before in
     let c9 = c8.before in
     let c11 = c9.before.before in
-    row-24 _ c11.args.plan.now (sym c9.size-fits.ensures ∙ not-false _ c8.if1.false) (sym c7.marked.ensures ∙ not-false _ c6.if2.false)
+    row_24 _ c11.args.plan.now (sym c9.size-fits.ensures ∙ not-false _ c8.if1.false) (sym c7.marked.ensures ∙ not-false _ c6.if2.false)
     (sym c.before.before.before.before.before.gates-counted.ensures ∙ c.before.before.before.before.if3.false)
     (sym c.before.before.before.groups-end.ensures ∙ not-false _ c.before.before.if4.false)
     (sym c.before.every-shape.ensures ∙ not-true _ c.if5.true)
@@ -66,7 +66,7 @@ every-shape-requires-2 c κs =
     let c8 = c.before.before.before.before.before.before.before.before in
     let c9 = c8.before in
     let c11 = c9.before.before in
-    layout-lie c11.args.count c11.args.plan.now (sym c9.size-fits.ensures ∙ not-false _ c8.if1.false)
+    layout_lie c11.args.count c11.args.plan.now (sym c9.size-fits.ensures ∙ not-false _ c8.if1.false)
     (sym c.before.before.before.groups-end.ensures ∙ not-false _ c.before.before.if4.false)
 
 returns-6 : tie.Need-returns-6
@@ -78,7 +78,7 @@ returns-6 c =
     let c10 = c9.before in
     let c11 = c10.before in
     let c13 = c11.before.before in
-    row-25 _ c13.args.plan.now (sym c11.size-fits.ensures ∙ not-false _ c10.if1.false) (sym c9.marked.ensures ∙ not-false _ c8.if2.false)
+    row_25 _ c13.args.plan.now (sym c11.size-fits.ensures ∙ not-false _ c10.if1.false) (sym c9.marked.ensures ∙ not-false _ c8.if2.false)
     (sym c7.gates-counted.ensures ∙ c6.if3.false)
     (sym c.before.before.before.before.before.groups-end.ensures ∙ not-false _ c.before.before.before.before.if4.false)
     (sym c.before.before.before.every-shape.ensures ∙ not-false _ c.before.before.if5.false)
@@ -93,7 +93,7 @@ returns-7 c =
     let c10 = c9.before in
     let c11 = c10.before in
     let c13 = c11.before.before in
-    row-none _ c13.args.plan.now (sym c11.size-fits.ensures ∙ not-false _ c10.if1.false) (sym c9.marked.ensures ∙ not-false _ c8.if2.false)
+    row_none _ c13.args.plan.now (sym c11.size-fits.ensures ∙ not-false _ c10.if1.false) (sym c9.marked.ensures ∙ not-false _ c8.if2.false)
     (sym c7.gates-counted.ensures ∙ c6.if3.false)
     (sym c.before.before.before.before.before.groups-end.ensures ∙ not-false _ c.before.before.before.before.if4.false)
     (sym c.before.before.before.every-shape.ensures ∙ not-false _ c.before.before.if5.false)

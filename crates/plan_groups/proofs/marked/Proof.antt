@@ -2,15 +2,15 @@ use borrow.Author.Rules.{rules}
 use mathlib.Core.Path.{sym, ◌∙◌}
 use native.Mathlib.Omega.{arith}
 use Rattle.plan.specs.PlanFile.{mark}
-use Rattle.base.specs.MarkLaws.{mark-there, mark-missing}
+use Rattle.base.specs.MarkLaws.{mark_there, mark_missing}
 use Rattle.plan_groups.proofs.marked.Statement.{statement}
 use Rattle.plan_groups.proofs.marked.Tie as tie
 
 returns : tie.Need-returns
-returns c = mark-there _ _ mark (omega (arith, c.before.before.before.before.before.requires)) _ (sym c.enum_told.given.1 ∙ c.before.before.read-mark.ensures)
+returns c = mark_there _ _ mark (omega (arith, c.before.before.before.before.before.requires)) _ (sym c.enum_told.given.1 ∙ c.before.before.read-mark.ensures)
 
 returns-2 : tie.Need-returns-2
-returns-2 c = mark-missing _ _ mark (omega (arith, c.before.before.before.before.before.requires)) _ _ (sym c.enum-told2.given.1 ∙ c.before.before.read-mark.ensures)
+returns-2 c = mark_missing _ _ mark (omega (arith, c.before.before.before.before.before.requires)) _ _ (sym c.enum-told2.given.1 ∙ c.before.before.read-mark.ensures)
 
 pub marked-spec : {M : Type 1} → statement M
 marked-spec =

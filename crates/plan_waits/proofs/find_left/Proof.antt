@@ -3,8 +3,8 @@ use mathlib.Core.Path.{sym, ◌∙◌}
 use borrow.Author.Rules.{rules}
 use native.Mathlib.Omega.{arith}
 use Prim.Native.Nat.{◌-◌}
-use Rattle.base.specs.BitWordLaws.{clear-words}
-use Rattle.plan_waits.specs.LeftLaws.{Listing, listing_start, listing-yes, listing-no, listing-end}
+use Rattle.base.specs.BitWordLaws.{clear_words}
+use Rattle.plan_waits.specs.LeftLaws.{Listing, listing_start, listing_yes, listing_no, listing_end}
 use Rattle.plan_waits.proofs.find_left.Statement.{statement}
 use Rattle.plan_waits.proofs.find_left.Tie as tie
 
@@ -32,15 +32,15 @@ loop-again c =
     let i = c.before.before.before.before.loop.invariant in
     let t = c.before.before.before.loop-test.true in
     ⊎_elim
-    (λ w. listing-yes _ _ _ _ _ _ _ i t w.0.taken (w.5 ∙ w.2.ensures) w.6)
-    (λ w. listing-no _ _ _ _ _ _ _ i t w.0.left w.1 w.2)
+    (λ w. listing_yes _ _ _ _ _ _ _ i t w.0.taken (w.5 ∙ w.2.ensures) w.6)
+    (λ w. listing_no _ _ _ _ _ _ _ i t w.0.left w.1 w.2)
     c.if1.branch
 
 same_length : tie.Need-same-length invariant-loop decreases-loop
-same_length c = c.before.loop.invariant.words.size ∙ sym (clear-words 4 _ c.before.before.before.requires.1).size
+same_length c = c.before.loop.invariant.words.size ∙ sym (clear_words 4 _ c.before.before.before.requires.1).size
 
 returns : tie.Need-returns invariant-loop decreases-loop
-returns c = listing-end _ _ _ _ _ c.before.loop.invariant c.loop-test.false
+returns c = listing_end _ _ _ _ _ c.before.loop.invariant c.loop-test.false
 
 pub find-left-spec : {M : Type 1} → statement M
 find-left-spec =

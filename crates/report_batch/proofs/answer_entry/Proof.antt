@@ -5,18 +5,18 @@ use mathlib.Core.Path.{◌≡◌, ◌∙◌}
 use Prim.Native.Nat.{ℕ, ◌+◌, ◌-◌, ◌≤◌}
 use native.Mathlib.Omega.{arith}
 use lib.ListN.{length}
-use Rattle.report.specs.Batch.{partSize, hasPart, pastPart, hasEntry}
-use Rattle.report.specs.PartLaws.{part-fits, entry-parts}
-use Rattle.report_batch.specs.TakenLaws.{sizes-are, answer-lent}
+use Rattle.report.specs.Batch.{part_size, has_part, past_part, has_entry}
+use Rattle.report.specs.PartLaws.{part_fits, entry_parts}
+use Rattle.report_batch.specs.TakenLaws.{sizes_are, answer_lent}
 use Rattle.report_batch.proofs.answer_entry.Statement.{statement}
 use Rattle.report_batch.proofs.answer_entry.Tie as tie
 
 -- the rule's part lies in the bytes
-first : (s : List ℕ) (r : ℕ) → hasEntry s ≡ true → r ≡ cond (hasPart s) (partSize s) 0 → (r ≡ partSize s) × (r ≤ length s)
+first : (s : List ℕ) (r : ℕ) → has_entry s ≡ true → r ≡ cond (has_part s) (part_size s) 0 → (r ≡ part_size s) × (r ≤ length s)
 first s r h e =
-    let t = (entry-parts s h).0 in
-    let f : r ≡ partSize s = rw t at e in
-    (f, omega (arith, f, part-fits s t))
+    let t = (entry_parts s h).0 in
+    let f : r ≡ part_size s = rw t at e in
+    (f, omega (arith, f, part_fits s t))
 
 sub-part-size : tie.Need-overflow-sub-part-size
 sub-part-size c = (first _ _ c.before.before.requires c.part-size.ensures.0).1
@@ -26,8 +26,8 @@ part-part-size-start c = (first _ _ c.before.before.requires c.part-size.ensures
 
 -- both sizes
 both : (c : tie.After-part-size2) → let s = c.before.before.before.before.args.s.now in
-    (c.before.before.part-size.result ≡ partSize s) × (c.part-size2.result ≡ partSize (pastPart s)) × (partSize s + partSize (pastPart s) ≤ length s)
-both c = sizes-are _ _ _ c.before.before.before.before.requires c.before.before.part-size.ensures.0 c.part-size2.ensures.0
+    (c.before.before.part-size.result ≡ part_size s) × (c.part-size2.result ≡ part_size (past_part s)) × (part_size s + part_size (past_part s) ≤ length s)
+both c = sizes_are _ _ _ c.before.before.before.before.requires c.before.before.part-size.ensures.0 c.part-size2.ensures.0
 
 sub-count : tie.Need-overflow-sub-count
 sub-count c = omega (arith, both c)
@@ -56,7 +56,7 @@ part-count-end-2 c = omega (arith, both c.before)
 returns : tie.Need-returns
 returns c =
     let b = both c.before.before.before in
-    answer-lent _ _ _ _ b.0 b.1 c.count.ensures
+    answer_lent _ _ _ _ b.0 b.1 c.count.ensures
 
 pub answer-entry-spec : {M : Type 1} → statement M
 answer-entry-spec =

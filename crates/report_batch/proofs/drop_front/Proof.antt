@@ -2,7 +2,7 @@ use mathlib.Core.Path.{refl}
 use Prim.Native.Nat.{◌-◌, ◌≤◌}
 use native.Mathlib.Omega.{arith}
 use lib.ListN.{length}
-use Rattle.report_batch.specs.FrontLaws.{Moved, moved-start, moved_length, moved_more, moved_all}
+use Rattle.report_batch.specs.FrontLaws.{Moved, moved_start, moved_length, moved_more, moved_all}
 use Rattle.report_batch.proofs.drop_front.Statement.{statement}
 use Rattle.report_batch.proofs.drop_front.Tie as tie
 
@@ -13,7 +13,7 @@ abbrev decreases-loop : tie.decreases-loop
 decreases-loop window₀ to bytes i₀ window i = to - bytes - i
 
 loop-holds : tie.Need-loop-init invariant-loop decreases-loop
-loop-holds c = (c.requires.0, moved-start _ _ _ (omega (arith, c.requires)))
+loop-holds c = (c.requires.0, moved_start _ _ _ (omega (arith, c.requires)))
 
 sub-loop : tie.Need-overflow-sub-loop invariant-loop decreases-loop
 sub-loop c = c.loop.invariant.0

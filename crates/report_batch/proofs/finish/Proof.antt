@@ -1,14 +1,14 @@
 use borrow.Author.Rules.{rules}
 use mathlib.Core.Path.{ap, ◌∙◌}
 use Rattle.report.specs.Steps.{ending}
-use Rattle.report_batch.specs.TakenLaws.{last_line, total-last, missing-last}
+use Rattle.report_batch.specs.TakenLaws.{last_line, total_last, missing_last}
 use Rattle.report_batch.proofs.finish.Statement.{statement}
 use Rattle.report_batch.proofs.finish.Tie as tie
 
 returns : tie.Need-returns
 returns c =
     last_line c.before.before.before.before.before.before.before.before.before.args.progress _ _ _ _
-    (ap ending c.before.before.before.before.before.before.progress.given.1 ∙ total-last _ _ c.before.before.before.before.if1.true)
+    (ap ending c.before.before.before.before.before.before.progress.given.1 ∙ total_last _ _ c.before.before.before.before.if1.true)
     c.before.before.write-total.ensures
 
 returns-2 : tie.Need-returns-2
@@ -18,7 +18,7 @@ returns-2 c = rw c.before.before.before.before.before.enum_told.given.1 (rw c.be
 returns-3 : tie.Need-returns-3
 returns-3 c =
     last_line c.before.before.before.before.before.before.before.before.before.before.args.progress _ _ _ _
-    (ap ending c.before.before.before.before.before.before.before.progress.given.1 ∙ missing-last _ _ c.before.before.before.before.before.if1.false)
+    (ap ending c.before.before.before.before.before.before.before.progress.given.1 ∙ missing_last _ _ c.before.before.before.before.before.if1.false)
     (rw c.before.before.before.before.refused2.ensures at c.before.before.write-line2.ensures)
 
 returns-4 : tie.Need-returns-4

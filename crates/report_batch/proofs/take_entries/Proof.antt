@@ -2,9 +2,9 @@ use borrow.Author.Rules.{rules}
 use Prim.Native.Nat.{◌-◌}
 use native.Mathlib.Omega.{arith}
 use lib.ListN.{length}
-use Rattle.base.specs.BufferLaws.{room-rest}
-use Rattle.report_batch.specs.DrainLaws.{Draining, drain-start, drain-length, drain-room, drain-full, drain-more, drain-took}
-use Rattle.report_batch.specs.DrainLaws.{drain-less, drain-rests, rest-nears, rest-length, rest-few, full-few}
+use Rattle.base.specs.BufferLaws.{room_rest}
+use Rattle.report_batch.specs.DrainLaws.{Draining, drain_start, drain_length, drain_room, drain_full, drain_more, drain_took}
+use Rattle.report_batch.specs.DrainLaws.{drain_less, drain_rests, rest_nears, rest_length, rest_few, full_few}
 use Rattle.report_batch.proofs.take_entries.Statement.{statement}
 use Rattle.report_batch.proofs.take_entries.Tie as tie
 
@@ -15,10 +15,10 @@ abbrev decreases-loop : tie.decreases-loop
 decreases-loop s out₀ reached₀ bytes₀ printed₀ out reached bytes printed = length s - bytes
 
 loop-holds : tie.Need-loop-init invariant-loop decreases-loop
-loop-holds c = drain-start _ _ _ c.before.before.requires
+loop-holds c = drain_start _ _ _ c.before.before.requires
 
 sub-loop : tie.Need-overflow-sub-loop invariant-loop decreases-loop
-sub-loop c = drain-room _ _ _ _ _ _ _ c.loop.invariant
+sub-loop c = drain_room _ _ _ _ _ _ _ c.loop.invariant
 
 sub-step : tie.Need-overflow-sub-step invariant-loop decreases-loop
 sub-step c = c.before.loop.invariant.inside
@@ -27,13 +27,13 @@ part-step-start : tie.Need-slice-bounds-step-start invariant-loop decreases-loop
 part-step-start c = omega (arith, c.before.loop.invariant.inside)
 
 sub-step-2 : tie.Need-overflow-sub-step-2 invariant-loop decreases-loop
-sub-step-2 c = drain-room _ _ _ _ _ _ _ c.before.before.loop.invariant
+sub-step-2 c = drain_room _ _ _ _ _ _ _ c.before.before.loop.invariant
 
 part-step-start-2 : tie.Need-slice-bounds-step-start-2 invariant-loop decreases-loop
-part-step-start-2 c = omega (arith, drain-room _ _ _ _ _ _ _ c.before.before.loop.invariant)
+part-step-start-2 c = omega (arith, drain_room _ _ _ _ _ _ _ c.before.before.loop.invariant)
 
 step-requires : tie.Need-step-requires invariant-loop decreases-loop
-step-requires c κs = (c.before.before.before.loop.invariant.within, rw (room-rest _ _) c.before.before.loop-test.false)
+step-requires c κs = (c.before.before.before.loop.invariant.within, rw (room_rest _ _) c.before.before.loop-test.false)
 
 add-bytes : tie.Need-overflow-add-bytes invariant-loop decreases-loop
 add-bytes c =
@@ -43,7 +43,7 @@ add-bytes c =
     record {
       fits = omega (
         arith,
-        (drain-took _ _ _ _ _ _ _ i _ _ done.0 done.1.0.0 done.1.0.1 line).0,
+        (drain_took _ _ _ _ _ _ _ i _ _ done.0 done.1.0.0 done.1.0.1 line).0,
         c.before.before.before.before.before.before.before.before.before.before.before.before.well-formed,
       );
     }
@@ -56,7 +56,7 @@ add-printed c =
     record {
       fits = omega (
         arith,
-        (drain-took _ _ _ _ _ _ _ i _ _ done.0 done.1.0.0 done.1.0.1 line).1,
+        (drain_took _ _ _ _ _ _ _ i _ _ done.0 done.1.0.0 done.1.0.1 line).1,
         c.before.before.before.before.before.before.before.before.before.before.before.before.before.well-formed,
       );
     }
@@ -66,39 +66,39 @@ loop-less c =
     let i = c.before.before.before.before.before.before.before.before.before.before.loop.invariant in
     let done = c.before.before.before.before.before.before.step.ensures in
     let line = c.before.before.before.before.before.before.before.before.before.loop-test.false in
-    drain-less _ _ _ _ _ _ _ i _ _ done.0 done.1.0.0 done.1.0.1 line c.before.before.if1.false
+    drain_less _ _ _ _ _ _ _ i _ _ done.0 done.1.0.0 done.1.0.1 line c.before.before.if1.false
 
 loop-again : tie.Need-loop-preserved invariant-loop decreases-loop
 loop-again c =
     let i = c.before.before.before.before.before.before.before.before.before.before.loop.invariant in
     let done = c.before.before.before.before.before.before.step.ensures in
     let line = c.before.before.before.before.before.before.before.before.before.loop-test.false in
-    drain-more _ _ _ _ _ _ _ i _ _ done.0 done.1.0.0 done.1.0.1 line c.before.before.if1.false
+    drain_more _ _ _ _ _ _ _ i _ _ done.0 done.1.0.0 done.1.0.1 line c.before.before.if1.false
 
 same_length : tie.Need-same-length invariant-loop decreases-loop
-same_length c = drain-length _ _ _ _ _ _ _ c.before.loop.invariant
+same_length c = drain_length _ _ _ _ _ _ _ c.before.loop.invariant
 
 returns : tie.Need-returns invariant-loop decreases-loop
 returns c =
     let i = c.before.loop.invariant in
-    (drain-full _ _ _ _ _ _ _ i c.loop-test.true, ((i.within, i.nears), full-few _ _ _ _ _ _ _ i c.loop-test.true))
+    (drain_full _ _ _ _ _ _ _ i c.loop-test.true, ((i.within, i.nears), full_few _ _ _ _ _ _ _ i c.loop-test.true))
 
 same-length-2 : tie.Need-same-length-2 invariant-loop decreases-loop
 same-length-2 c =
     let i = c.before.before.before.before.before.before.before.before.loop.invariant in
     let done = c.before.before.before.before.step.ensures in
     let line = c.before.before.before.before.before.before.before.loop-test.false in
-    rest-length _ _ _ _ _ _ _ i _ _ done.0 done.1.0.0 done.1.0.1 line c.if1.true
+    rest_length _ _ _ _ _ _ _ i _ _ done.0 done.1.0.0 done.1.0.1 line c.if1.true
 
 returns-2 : tie.Need-returns-2 invariant-loop decreases-loop
 returns-2 c =
     let i = c.before.before.before.before.before.before.before.before.loop.invariant in
     let done = c.before.before.before.before.step.ensures in
     let line = c.before.before.before.before.before.before.before.loop-test.false in (
-      drain-rests _ _ _ _ _ _ _ i _ _ done.0 done.1.0.0 done.1.0.1 line c.if1.true,
+      drain_rests _ _ _ _ _ _ _ i _ _ done.0 done.1.0.0 done.1.0.1 line c.if1.true,
       (
-        (done.1.0.0, rest-nears _ _ _ _ _ _ _ i _ _ done.0 done.1.0.0 done.1.0.1 line c.if1.true),
-        λ enough. rest-few _ _ _ _ _ _ _ i _ _ done.0 done.1.0.0 done.1.0.1 line c.if1.true done.1.1,
+        (done.1.0.0, rest_nears _ _ _ _ _ _ _ i _ _ done.0 done.1.0.0 done.1.0.1 line c.if1.true),
+        λ enough. rest_few _ _ _ _ _ _ _ i _ _ done.0 done.1.0.0 done.1.0.1 line c.if1.true done.1.1,
       ),
     )
 

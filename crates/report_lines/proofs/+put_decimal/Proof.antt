@@ -5,7 +5,7 @@ use borrow.Author.Rules.{rules}
 use borrow.Fn.Kinds.{In}
 use borrow.Fn.PlainCycle.{Measures, is, falls, and}
 use Rattle.report.specs.DecimalLaws.{length_some, length_more}
-use Rattle.report.specs.PutLaws.{put_one, put-more}
+use Rattle.report.specs.PutLaws.{put_one, put_more}
 use Rattle.report_lines.proofs.+put_decimal.{statement}
 use Rattle.report_lines.proofs.+put_decimal.Tie.{close}
 use Rattle.report_lines.proofs.put_decimal.Reads as put-decimal
@@ -51,7 +51,7 @@ put-decimal-add-result t c =
 
 put-decimal-returns-2 : (t : ℕ) → put-decimal-lts.Need-returns-2 (put-decimal-claims t) (put-decimal-at t) put-decimal.Post
 put-decimal-returns-2 t c =
-    put-more _ _ _ _ c.before.before.before.before.if1.false c.before.before.before.before.before.before.requires.1 c.before.before.put-decimal.ensures.0
+    put_more _ _ _ _ c.before.before.before.before.if1.false c.before.before.before.before.before.before.requires.1 c.before.before.put-decimal.ensures.0
     c.before.before.put-decimal.ensures.1
 
 pub +put-decimal-spec : {M : Type 1} → statement M

@@ -3,7 +3,7 @@ use lib.ListN.{length-append}
 use borrow.Author.Rules.{rules}
 use Rattle.base.specs.Lists.{flat}
 use Rattle.report.specs.Line.{spaced}
-use Rattle.report.specs.PutLaws.{front_fits, front-room, front-put}
+use Rattle.report.specs.PutLaws.{front_fits, front_room, front_put}
 use Rattle.report_lines.proofs.put_front.Statement.{statement}
 use Rattle.report_lines.proofs.put_front.Tie as tie
 
@@ -25,7 +25,7 @@ part-put-numbers-start c =
 put-numbers-requires : tie.Need-put-numbers-requires
 put-numbers-requires c κs =
     let d = c.before.before.before.before.before.before.before.before in
-    front-room d.args.word.now d.args.numbers.now d.args.out.now _ _ d.requires c.before.before.before.copy.ensures.0 c.before.before.before.copy.ensures.1
+    front_room d.args.word.now d.args.numbers.now d.args.out.now _ _ d.requires c.before.before.before.copy.ensures.0 c.before.before.before.copy.ensures.1
 
 -- the end of the numbers is a number of 64 bits, since the buffer's length is
 add-result : tie.Need-overflow-add-result
@@ -40,7 +40,7 @@ returns : tie.Need-returns
 returns c =
     let b = c.before.before.before.before.before.before in
     let d = b.before.before.before.before.before in
-    front-put d.args.word.now d.args.numbers.now d.args.out.now _ _ d.requires b.copy.ensures.0 b.copy.ensures.1
+    front_put d.args.word.now d.args.numbers.now d.args.out.now _ _ d.requires b.copy.ensures.0 b.copy.ensures.1
     _ _ c.before.before.put-numbers.ensures.0 c.before.before.put-numbers.ensures.1
 
 pub put-front-spec : {M : Type 1} → statement M

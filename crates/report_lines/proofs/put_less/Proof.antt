@@ -5,23 +5,23 @@ use native.Mathlib.Omega.{arith}
 use lib.ListN.{length, length-set}
 use borrow.Author.Rules.{rules}
 use Rattle.report.specs.Line.{decimal}
-use Rattle.report.specs.TotalLaws.{less-positive, less-negative, less-room, put-less}
+use Rattle.report.specs.TotalLaws.{less_positive, less_negative, less_room, put_less}
 use Rattle.report_lines.proofs.put_less.Statement.{statement}
 use Rattle.report_lines.proofs.put_less.Tie as tie
 
 put-spaced-requires : tie.Need-put-spaced-requires
 put-spaced-requires c κs =
     let d = c.before.before.before in
-    rw (less-positive d.args.before d.args.after c.before.if1.true) at d.requires
+    rw (less_positive d.args.before d.args.after c.before.if1.true) at d.requires
 
 returns : tie.Need-returns
 returns c =
     let b = c.before.before.before.before in
-    rw (less-positive b.before.before.args.before b.before.before.args.after b.if1.true) c.before.before.put-spaced.ensures
+    rw (less_positive b.before.before.args.before b.before.before.args.after b.if1.true) c.before.before.put-spaced.ensures
 
 -- the buffer has a space, a sign and the digits
 room : (d : tie.Start) → d.args.before < d.args.after → length (32 ∷ 45 ∷ decimal (d.args.after - d.args.before)) ≤ length d.args.out.now
-room d h = rw (less-negative d.args.before d.args.after h) at d.requires
+room d h = rw (less_negative d.args.before d.args.after h) at d.requires
 
 slice-write-out : tie.Need-slice-write-out
 slice-write-out c = omega (arith, room c.before.before c.if1.false)
@@ -38,7 +38,7 @@ part-put-decimal-start c = simp length-set (omega (arith, room c.before.before c
 put-decimal-requires : tie.Need-put-decimal-requires
 put-decimal-requires c κs =
     let d = c.before.before.before in
-    less-room (d.args.after - d.args.before) _ _ d.args.out.now (omega (arith, room d c.before.if1.false))
+    less_room (d.args.after - d.args.before) _ _ d.args.out.now (omega (arith, room d c.before.if1.false))
 
 add-result : tie.Need-overflow-add-result
 add-result c =
@@ -53,8 +53,8 @@ returns-2 : tie.Need-returns-2
 returns-2 c =
     let b = c.before.before.before.before in
     let d = b.before.before in
-    rw (less-negative d.args.before d.args.after b.if1.false)
-    (put-less (d.args.after - d.args.before) _ d.args.out.now _ (room d b.if1.false) c.before.before.put-decimal.ensures.0 c.before.before.put-decimal.ensures.1)
+    rw (less_negative d.args.before d.args.after b.if1.false)
+    (put_less (d.args.after - d.args.before) _ d.args.out.now _ (room d b.if1.false) c.before.before.put-decimal.ensures.0 c.before.before.put-decimal.ensures.1)
 
 pub put-less-spec : {M : Type 1} → statement M
 put-less-spec =

@@ -4,14 +4,14 @@ use lib.ListN.{length}
 use Rattle.base.specs.declared.Kind.TheVariants.{Bit}
 use Rattle.base.specs.declared.Form.TheVariants as form
 use Rattle.base.specs.Parsing.{step_of}
-use Rattle.base.specs.ParsingLaws.{forward-past}
+use Rattle.base.specs.ParsingLaws.{forward_past}
 use Rattle.rule.specs.Limits.{deepest}
-use Rattle.rule.specs.Expressions.{readExpr}
-use Rattle.rule.specs.ExpressionLaws.{expr-forward}
-use Rattle.rule.specs.Blocks.{readBlock, readStatement}
-use Rattle.rule.specs.FuelLaws.{block-forward, statement-forward}
-use Rattle.rule_reader.proofs.Arms.{no-statement}
-use Rattle.rule.specs.BlockLaws.{statement-as, branch-deep, branch-refused, branch-first, branch-second, block-short, block-end, block_refused, block_more}
+use Rattle.rule.specs.Expressions.{read_expr}
+use Rattle.rule.specs.ExpressionLaws.{expr_forward}
+use Rattle.rule.specs.Blocks.{read_block, read_statement}
+use Rattle.rule.specs.FuelLaws.{block_forward, statement_forward}
+use Rattle.rule_reader.proofs.Arms.{no_statement}
+use Rattle.rule.specs.BlockLaws.{statement_as, branch_deep, branch_refused, branch_first, branch_second, block_short, block_end, block_refused, block_more}
 use borrow.Author.Rules.{rules}
 use Prim.Native.Nat.{ℕ, ◌+◌, ◌-◌, ◌*◌, ◌<◌, ◌≤◌}
 use borrow.Fn.Kinds.{In}
@@ -48,7 +48,7 @@ read-statement-below t = and 1 read-statement-kinds.ps (falls 1 read-statement-k
 
 abbrev read-block-Inv-loop : read-block-lts.invariant-loop
 read-block-Inv-loop s at nest here₀ here =
-    (at ≤ here) × (step_of (readBlock s nest here) ≡ step_of (readBlock s nest at))
+    (at ≤ here) × (step_of (read_block s nest here) ≡ step_of (read_block s nest at))
 
 abbrev read-block-μ-loop : read-block-lts.decreases-loop
 read-block-μ-loop s at nest here₀ here = length s - here
@@ -65,7 +65,7 @@ read-block-loop-less t c =
     let l = c.before.before.before.before.before.before.before.loop in
     omega (
       arith,
-      forward-past (readStatement a.s.now a.nest l.here) (statement-forward a.s.now a.nest l.here)
+      forward_past (read_statement a.s.now a.nest l.here) (statement_forward a.s.now a.nest l.here)
           (sym c.before.next.given.1 ∙ c.before.before.before.read-statement.ensures),
     )
 
@@ -74,7 +74,7 @@ read-block-loop-again t c =
     let a = c.before.before.before.before.before.before.before.before.before.args in
     let l = c.before.before.before.before.before.before.before.loop in
     let step = sym c.before.next.given.1 ∙ c.before.before.before.read-statement.ensures in (
-      omega (arith, forward-past (readStatement a.s.now a.nest l.here) (statement-forward a.s.now a.nest l.here) step),
+      omega (arith, forward_past (read_statement a.s.now a.nest l.here) (statement_forward a.s.now a.nest l.here) step),
       block_more a.s.now a.nest l.here c.before.before.before.before.before.before.if1.false c.before.before.before.before.if2.false step
           ∙ l.invariant.1,
     )
@@ -91,7 +91,7 @@ read-statement-read-block-requires t c κs =
     let a = c.before.before.before.before.before.before.before.before.before.before.args in
     omega (
       arith,
-      forward-past (readExpr deepest a.s.now Bit (a.at + 1)) (expr-forward deepest a.s.now Bit (a.at + 1))
+      forward_past (read_expr deepest a.s.now Bit (a.at + 1)) (expr_forward deepest a.s.now Bit (a.at + 1))
           (sym c.before.first.given.1 ∙ c.before.before.before.read-expr.ensures),
     )
 
@@ -101,16 +101,16 @@ read-statement-read-block-requires-2 t c κs =
     let first = c.before.before.before.before.before.first.given.0.0 in
     omega (
       arith,
-      forward-past (readExpr deepest a.s.now Bit (a.at + 1)) (expr-forward deepest a.s.now Bit (a.at + 1))
+      forward_past (read_expr deepest a.s.now Bit (a.at + 1)) (expr_forward deepest a.s.now Bit (a.at + 1))
           (sym c.before.before.before.before.before.first.given.1 ∙ c.before.before.before.before.before.before.before.read-expr.ensures),
-      forward-past (readBlock a.s.now (a.nest - 1) first) (block-forward a.s.now (a.nest - 1) first)
+      forward_past (read_block a.s.now (a.nest - 1) first) (block_forward a.s.now (a.nest - 1) first)
           (sym c.before.second.given.1 ∙ c.before.before.before.read-block.ensures),
     )
 
 read-statement-returns-4 : (t : ℕ) → read-statement-lts.Need-returns-4 (read-statement-claims t) (read-statement-at t) read-statement.Post
 read-statement-returns-4 t c =
     let a = c.before.before.before.before.before.before.before.before.before.before.before.before.before.before.before.args in
-    branch-second a.s.now a.nest a.at c.before.before.before.before.before.before.before.before.before.before.before.before.code_of_lem.result
+    branch_second a.s.now a.nest a.at c.before.before.before.before.before.before.before.before.before.before.before.before.code_of_lem.result
     c.before.before.before.before.before.before.before.before.before.before.before.before.code_of_lem.ensures
     c.before.before.before.before.before.before.before.before.before.before.enum-told3.given.1
     c.before.before.before.before.before.before.before.before.before.if1.false
@@ -120,7 +120,7 @@ read-statement-returns-4 t c =
 read-statement-returns-5 : (t : ℕ) → read-statement-lts.Need-returns-5 (read-statement-claims t) (read-statement-at t) read-statement.Post
 read-statement-returns-5 t c =
     let a = c.before.before.before.before.before.before.before.before.before.before.before.before.before.before.args in
-    branch-first a.s.now a.nest a.at c.before.before.before.before.before.before.before.before.before.before.before.code_of_lem.result
+    branch_first a.s.now a.nest a.at c.before.before.before.before.before.before.before.before.before.before.before.code_of_lem.result
     c.before.before.before.before.before.before.before.before.before.before.before.code_of_lem.ensures
     c.before.before.before.before.before.before.before.before.before.enum-told3.given.1
     c.before.before.before.before.before.before.before.before.if1.false
@@ -130,7 +130,7 @@ read-statement-returns-5 t c =
 read-statement-returns-6 : (t : ℕ) → read-statement-lts.Need-returns-6 (read-statement-claims t) (read-statement-at t) read-statement.Post
 read-statement-returns-6 t c =
     let a = c.before.before.before.before.before.before.before.before.before.before.args in
-    branch-refused a.s.now a.nest a.at c.before.before.before.before.before.before.before.code_of_lem.result
+    branch_refused a.s.now a.nest a.at c.before.before.before.before.before.before.before.code_of_lem.result
     c.before.before.before.before.before.before.before.code_of_lem.ensures c.before.before.before.before.before.enum-told3.given.1
     c.before.before.before.before.if1.false (sym c.before.number2.given.1 ∙ c.before.before.before.read-expr.ensures)
 
@@ -138,8 +138,8 @@ read-statement-returns-7 : (t : ℕ) → read-statement-lts.Need-returns-7 (read
 read-statement-returns-7 t c =
     let a = c.before.before.before.before.args in
     let code = c.before.code_of_lem.result in
-    ap step_of (sym (statement-as a.s.now a.nest a.at code code.form c.before.code_of_lem.ensures refl
-    ∙ no-statement code.form (readBlock a.s.now) a.s.now a.nest a.at c.match.keys4))
+    ap step_of (sym (statement_as a.s.now a.nest a.at code code.form c.before.code_of_lem.ensures refl
+    ∙ no_statement code.form (read_block a.s.now) a.s.now a.nest a.at c.match.keys4))
 
 pub +read-block-read-statement-spec : {M : Type 1} → statement M
 +read-block-read-statement-spec = close μ-read-block μ-read-statement (λ t. read-block-lts.spec (read-block-claims t) (read-block-at t)
@@ -147,10 +147,10 @@ pub +read-block-read-statement-spec : {M : Type 1} → statement M
     read-block-Inv-loop
     read-block-μ-loop
     (λ c. (search rules, refl))
-    (λ c. let l = c.before.loop in ap step_of (sym (block-short _ _ _ c.if1.true)) ∙ l.invariant.1)
+    (λ c. let l = c.before.loop in ap step_of (sym (block_short _ _ _ c.if1.true)) ∙ l.invariant.1)
     (λ c. search rules)
     (λ c. search rules)
-    (λ c. block-end _ _ _ c.before.before.if1.false c.if2.true ∙ c.before.before.before.loop.invariant.1)
+    (λ c. block_end _ _ _ c.before.before.if1.false c.if2.true ∙ c.before.before.before.loop.invariant.1)
     (λ c κs. search rules)
     (λ c. search rules)
     (read-block-loop-less t)
@@ -166,7 +166,7 @@ pub +read-block-read-statement-spec : {M : Type 1} → statement M
     (λ c. search rules)
     (λ c. search rules)
     (λ c. search rules)
-    (λ c. let b = c.before.before.before in branch-deep _ _ _ _ b.code_of_lem.ensures c.before.enum-told3.given.1 c.if1.true)
+    (λ c. let b = c.before.before.before in branch_deep _ _ _ _ b.code_of_lem.ensures c.before.enum-told3.given.1 c.if1.true)
     (λ c. search rules)
     (λ c κs. search rules)
     (λ c. search rules)
@@ -178,8 +178,8 @@ pub +read-block-read-statement-spec : {M : Type 1} → statement M
     (λ c. search rules)
     (λ c. search rules)
     (λ c. let b = c.before.before.before in
-    c.read-assign.ensures ∙ ap step_of (sym (statement-as _ _ _ _ form.Assign b.code_of_lem.ensures c.before.enum_told.given.1)))
-    (λ c. ap step_of (sym (statement-as _ _ _ _ form.Skip c.before.before.code_of_lem.ensures c.enum-told2.given.1)))
+    c.read-assign.ensures ∙ ap step_of (sym (statement_as _ _ _ _ form.Assign b.code_of_lem.ensures c.before.enum_told.given.1)))
+    (λ c. ap step_of (sym (statement_as _ _ _ _ form.Skip c.before.before.code_of_lem.ensures c.enum-told2.given.1)))
     (read-statement-returns-4 t)
     (read-statement-returns-5 t)
     (read-statement-returns-6 t)

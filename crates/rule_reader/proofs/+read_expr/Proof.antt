@@ -5,9 +5,9 @@ use borrow.Author.Tests.{not-true, not-false}
 use Rattle.base.specs.declared.Form.TheVariants.{Variable, Word, Bit}
 use Rattle.base.specs.Parsing.{step_of}
 use Rattle.base.specs.declared.Step.TheVariants.{Past}
-use Rattle.rule_reader.proofs.Arms.{no-expression}
-use Rattle.rule.specs.Expressions.{readExpr}
-use Rattle.rule.specs.ExpressionLaws.{below, expr-short, expr-as, expr-kind, expr-deep, expr-refused, expr-one, expr-two}
+use Rattle.rule_reader.proofs.Arms.{no_expression}
+use Rattle.rule.specs.Expressions.{read_expr}
+use Rattle.rule.specs.ExpressionLaws.{below, expr_short, expr_as, expr_kind, expr_deep, expr_refused, expr_one, expr_two}
 use borrow.Author.Rules.{rules}
 use Prim.Native.Nat.{ℕ, ◌+◌, ◌-◌, ◌<◌}
 use borrow.Fn.Kinds.{In}
@@ -53,19 +53,19 @@ read-expr-claims t = (
 )
 
 read-expr-returns : (t : ℕ) → read-expr-lts.Need-returns (read-expr-claims t) (read-expr-at t) read-expr.Post
-read-expr-returns t c = let a = c.before.before.args in expr-short a.deep a.s.now a.want a.at c.if1.true
+read-expr-returns t c = let a = c.before.before.args in expr_short a.deep a.s.now a.want a.at c.if1.true
 
 read-expr-returns-2 : (t : ℕ) → read-expr-lts.Need-returns-2 (read-expr-claims t) (read-expr-at t) read-expr.Post
 read-expr-returns-2 t c =
     let a = c.before.before.before.before.before.before.before.before.args in
-    expr-kind a.deep a.s.now a.want a.at c.before.before.before.before.code_of_lem.result
+    expr_kind a.deep a.s.now a.want a.at c.before.before.before.before.code_of_lem.result
     c.before.before.before.before.before.before.if1.false c.before.before.before.before.code_of_lem.ensures c.before.before.enum-told4.given.0.0
     c.before.before.enum-told4.given.1 (sym c.before.same_kind.ensures ∙ not-true _ c.if2.true)
 
 read-expr-returns-3 : (t : ℕ) → read-expr-lts.Need-returns-3 (read-expr-claims t) (read-expr-at t) read-expr.Post
 read-expr-returns-3 t c =
     let a = c.before.before.before.before.before.before.before.before.before.args in
-    expr-deep a.deep a.s.now a.want a.at c.before.before.before.before.before.code_of_lem.result
+    expr_deep a.deep a.s.now a.want a.at c.before.before.before.before.before.code_of_lem.result
     c.before.before.before.before.before.before.before.if1.false c.before.before.before.before.before.code_of_lem.ensures
     c.before.before.before.enum-told4.given.0.0 c.before.before.before.enum-told4.given.1
     (sym c.before.before.same_kind.ensures ∙ not-false _ c.before.if2.false) c.if3.true
@@ -75,7 +75,7 @@ Joined t = read-expr-lts.Joined4 (read-expr-claims t) (read-expr-at t) read-expr
 
 -- the first argument was read, as a variable or by a call
 first_read : (t : ℕ) (c : Joined t) → let a = c.before.before.before.before.before.before.before.before.before.before.before.args in
-    c.if4.first ≡ step_of (readExpr (a.deep - 1) a.s.now c.before.before.before.before.before.before.before.code_of_lem.result.takes (a.at + 1))
+    c.if4.first ≡ step_of (read_expr (a.deep - 1) a.s.now c.before.before.before.before.before.before.before.code_of_lem.result.takes (a.at + 1))
 first_read t c =
     ⊎_elim (λ w. w.1 ∙ (ap Past (omega arith) ∙ (c.before.is-variable.ensures w.0.taken).1)) (λ w. w.2 ∙ w.1.ensures) c.if4.branch
 
@@ -83,7 +83,7 @@ read-expr-returns-4 : (t : ℕ) → read-expr-lts.Need-returns-4 (read-expr-clai
 read-expr-returns-4 t c =
     let j = c.before.before.before.before.before in
     let a = j.before.before.before.before.before.before.before.before.before.before.before.args in
-    expr-one a.deep a.s.now a.want a.at j.before.before.before.before.before.before.before.code_of_lem.result
+    expr_one a.deep a.s.now a.want a.at j.before.before.before.before.before.before.before.code_of_lem.result
     j.before.before.before.before.before.before.before.before.before.if1.false j.before.before.before.before.before.before.before.code_of_lem.ensures
     j.before.before.before.before.before.enum-told4.given.0.0 j.before.before.before.before.before.enum-told4.given.1
     (sym j.before.before.before.before.same_kind.ensures ∙ not-false _ j.before.before.before.if2.false) j.before.before.if3.false
@@ -93,7 +93,7 @@ read-expr-returns-5 : (t : ℕ) → read-expr-lts.Need-returns-5 (read-expr-clai
 read-expr-returns-5 t c =
     let j = c.before.before.before.before.before.before.before in
     let a = j.before.before.before.before.before.before.before.before.before.before.before.args in
-    expr-two a.deep a.s.now a.want a.at j.before.before.before.before.before.before.before.code_of_lem.result
+    expr_two a.deep a.s.now a.want a.at j.before.before.before.before.before.before.before.code_of_lem.result
     j.before.before.before.before.before.before.before.before.before.if1.false j.before.before.before.before.before.before.before.code_of_lem.ensures
     j.before.before.before.before.before.enum-told4.given.0.0 j.before.before.before.before.before.enum-told4.given.1
     (sym j.before.before.before.before.same_kind.ensures ∙ not-false _ j.before.before.before.if2.false) j.before.before.if3.false
@@ -103,28 +103,28 @@ read-expr-returns-6 : (t : ℕ) → read-expr-lts.Need-returns-6 (read-expr-clai
 read-expr-returns-6 t c =
     let a = c.before.before.before.before.before.before.before.args in
     c.read-variable.ensures ∙ ap step_of
-    (sym (expr-as a.deep a.s.now a.want a.at c.before.before.before.code_of_lem.result c.before.before.before.before.before.if1.false
+    (sym (expr_as a.deep a.s.now a.want a.at c.before.before.before.code_of_lem.result c.before.before.before.before.before.if1.false
     c.before.before.before.code_of_lem.ensures Variable c.before.enum_told.given.1))
 
 read-expr-returns-7 : (t : ℕ) → read-expr-lts.Need-returns-7 (read-expr-claims t) (read-expr-at t) read-expr.Post
 read-expr-returns-7 t c =
     let a = c.before.before.before.before.before.before.before.args in
     c.read_word.ensures ∙ ap step_of
-    (sym (expr-as a.deep a.s.now a.want a.at c.before.before.before.code_of_lem.result c.before.before.before.before.before.if1.false
+    (sym (expr_as a.deep a.s.now a.want a.at c.before.before.before.code_of_lem.result c.before.before.before.before.before.if1.false
     c.before.before.before.code_of_lem.ensures Word c.before.enum-told2.given.1))
 
 read-expr-returns-8 : (t : ℕ) → read-expr-lts.Need-returns-8 (read-expr-claims t) (read-expr-at t) read-expr.Post
 read-expr-returns-8 t c =
     let a = c.before.before.before.before.before.before.before.args in
     c.read-bit.ensures ∙ ap step_of
-    (sym (expr-as a.deep a.s.now a.want a.at c.before.before.before.code_of_lem.result c.before.before.before.before.before.if1.false
+    (sym (expr_as a.deep a.s.now a.want a.at c.before.before.before.code_of_lem.result c.before.before.before.before.before.if1.false
     c.before.before.before.code_of_lem.ensures Bit c.before.enum-told3.given.1))
 
 read-expr-returns-9 : (t : ℕ) → read-expr-lts.Need-returns-9 (read-expr-claims t) (read-expr-at t) read-expr.Post
 read-expr-returns-9 t c =
     let j = c.before.before.before.before.before.before.before.before in
     let a = j.before.before.before.before.before.before.before.before.before.before.before.args in
-    expr-two a.deep a.s.now a.want a.at j.before.before.before.before.before.before.before.code_of_lem.result
+    expr_two a.deep a.s.now a.want a.at j.before.before.before.before.before.before.before.code_of_lem.result
     j.before.before.before.before.before.before.before.before.before.if1.false j.before.before.before.before.before.before.before.code_of_lem.ensures
     j.before.before.before.before.before.enum-told4.given.0.0 j.before.before.before.before.before.enum-told4.given.1
     (sym j.before.before.before.before.same_kind.ensures ∙ not-false _ j.before.before.before.if2.false) j.before.before.if3.false
@@ -134,7 +134,7 @@ read-expr-returns-10 : (t : ℕ) → read-expr-lts.Need-returns-10 (read-expr-cl
 read-expr-returns-10 t c =
     let j = c.before.before.before in
     let a = j.before.before.before.before.before.before.before.before.before.before.before.args in
-    expr-refused a.deep a.s.now a.want a.at j.before.before.before.before.before.before.before.code_of_lem.result
+    expr_refused a.deep a.s.now a.want a.at j.before.before.before.before.before.before.before.code_of_lem.result
     j.before.before.before.before.before.before.before.before.before.if1.false j.before.before.before.before.before.before.before.code_of_lem.ensures
     j.before.before.before.before.before.enum-told4.given.0.0 j.before.before.before.before.before.enum-told4.given.1
     (sym j.before.before.before.before.same_kind.ensures ∙ not-false _ j.before.before.before.if2.false) j.before.before.if3.false
@@ -144,8 +144,8 @@ read-expr-returns-11 : (t : ℕ) → read-expr-lts.Need-returns-11 (read-expr-cl
 read-expr-returns-11 t c =
     let a = c.before.before.before.before.before.args in
     let code = c.before.code_of_lem.result in
-    ap step_of (sym (expr-as a.deep a.s.now a.want a.at code c.before.before.before.if1.false c.before.code_of_lem.ensures code.form refl
-    ∙ no-expression code.form a.s.now (below a.deep a.s.now) a.want a.deep a.at c.match.keys5))
+    ap step_of (sym (expr_as a.deep a.s.now a.want a.at code c.before.before.before.if1.false c.before.code_of_lem.ensures code.form refl
+    ∙ no_expression code.form a.s.now (below a.deep a.s.now) a.want a.deep a.at c.match.keys5))
 
 pub +read-expr-spec : {M : Type 1} → statement M
 +read-expr-spec = close μ-read-expr λ t. read-expr-lts.spec (read-expr-claims t) (read-expr-at t)

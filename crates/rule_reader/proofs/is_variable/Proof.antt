@@ -6,8 +6,8 @@ use borrow.Author.Rules.{rules}
 use borrow.Author.Tests.{lt-ltb}
 use Rattle.base.specs.ParsingLaws.{some_left}
 use Rattle.base.specs.Parsing.{step_of}
-use Rattle.rule.specs.Expressions.{readVariable}
-use Rattle.rule.specs.ExpressionLaws.{expr-variable}
+use Rattle.rule.specs.Expressions.{read_variable}
+use Rattle.rule.specs.ExpressionLaws.{expr_variable}
 use Rattle.rule_reader.proofs.is_variable.Statement.{statement}
 use Rattle.rule_reader.proofs.is_variable.Tie as tie
 
@@ -29,14 +29,14 @@ shared-slice-read-x : tie.Need-shared-slice-read-x
 shared-slice-read-x c = second-there _ _ _ c.before.before.before.before.before.before.requires c.before.before.before.if2.false
 
 returns-5 : tie.Need-returns-5
-unfolding readVariable
+unfolding read_variable
 returns-5 c e =
     let d = c.before.before.before.before.before.before.before.before.before.before in
     let a = d.args in
     let l = c.before.before.before.before.before.before.before.if2.false in
     let b = second-there _ _ _ d.requires l in (
       b,
-      sym (ap step_of (expr-variable a.deep a.s.now a.want a.at (first-there _ _ _ d.requires l) c.before.before.before.before.before.if3.false)
+      sym (ap step_of (expr_variable a.deep a.s.now a.want a.at (first-there _ _ _ d.requires l) c.before.before.before.before.before.if3.false)
           ∙ rw (
             some_left _ c.before.before.before.before.before.before.before.before.if1.false,
             lt-ltb _ _ b,

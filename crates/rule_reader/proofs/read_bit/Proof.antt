@@ -1,21 +1,21 @@
 use Rattle.base.specs.ParsingLaws.{none_left, some_left}
 use mathlib.Core.Path.{sym, ◌∙◌}
 use borrow.Author.Tests.{not-true, not-false, lt-ltb, le-ltb, lt-leb, le-leb}
-use Rattle.rule.specs.Expressions.{readBit}
+use Rattle.rule.specs.Expressions.{read_bit}
 use borrow.Author.Rules.{rules}
 use Rattle.rule_reader.proofs.read_bit.Statement.{statement}
 use Rattle.rule_reader.proofs.read_bit.Tie as tie
 
 returns : tie.Need-returns
-unfolding readBit
+unfolding read_bit
 returns c = rw (sym c.before.same_kind.ensures ∙ not-true _ c.if1.true)
 
 returns-2 : tie.Need-returns-2
-unfolding readBit
+unfolding read_bit
 returns-2 c = rw (sym c.before.before.same_kind.ensures ∙ not-false _ c.before.if1.false, none_left _ c.if2.true)
 
 returns-3 : tie.Need-returns-3
-unfolding readBit
+unfolding read_bit
 returns-3 c = rw (
   sym c.before.before.before.same_kind.ensures ∙ not-false _ c.before.before.if1.false,
   some_left _ c.before.if2.false,
@@ -24,7 +24,7 @@ returns-3 c = rw (
 )
 
 returns-4 : tie.Need-returns-4
-unfolding readBit
+unfolding read_bit
 returns-4 c = rw (
   sym c.before.before.before.before.before.same_kind.ensures ∙ not-false _ c.before.before.before.before.if1.false,
   some_left _
@@ -34,7 +34,7 @@ returns-4 c = rw (
 )
 
 returns-5 : tie.Need-returns-5
-unfolding readBit
+unfolding read_bit
 returns-5 c = rw (
   sym c.before.before.before.before.before.same_kind.ensures ∙ not-false _ c.before.before.before.before.if1.false,
   some_left _

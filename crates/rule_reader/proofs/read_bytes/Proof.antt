@@ -1,5 +1,5 @@
 use mathlib.Core.Path.{sym, ◌∙◌}
-use Rattle.rule.specs.RuleLaws.{header-past, rule-header, rule-block, rule-after, rule-whole}
+use Rattle.rule.specs.RuleLaws.{header_past, rule_header, rule_block, rule_after, rule_whole}
 use borrow.Author.Rules.{rules}
 use Rattle.rule_reader.proofs.read_bytes.Statement.{statement}
 use Rattle.rule_reader.proofs.read_bytes.Tie as tie
@@ -7,13 +7,13 @@ use Rattle.rule_reader.proofs.read_bytes.Tie as tie
 read-block-requires : tie.Need-read-block-requires
 read-block-requires c κs =
     let a = c.before.before.before.before.before.args in
-    (header-past a.s.now c.before.before.before.before.before.requires.0
+    (header_past a.s.now c.before.before.before.before.before.requires.0
     (sym c.before.body.given.1 ∙ c.before.before.before.read-header.ensures)).kinds
 
 returns : tie.Need-returns
 returns c =
     let a = c.before.before.before.before.before.before.before.before.before.before.args in
-    rule-after a.s.now c.before.before.before.before.before.before.before.before.before.before.requires.0
+    rule_after a.s.now c.before.before.before.before.before.before.before.before.before.before.requires.0
     c.before.before.before.before.before.before.before.before.before.before.requires.1
     (sym c.before.before.before.before.before.before.body.given.1
     ∙ c.before.before.before.before.before.before.before.before.read-header.ensures)
@@ -22,7 +22,7 @@ returns c =
 returns-2 : tie.Need-returns-2
 returns-2 c =
     let a = c.before.before.before.before.before.before.before.before.before.before.args in
-    rule-whole a.s.now c.before.before.before.before.before.before.before.before.before.before.requires.0
+    rule_whole a.s.now c.before.before.before.before.before.before.before.before.before.before.requires.0
     c.before.before.before.before.before.before.before.before.before.before.requires.1
     (sym c.before.before.before.before.before.before.body.given.1
     ∙ c.before.before.before.before.before.before.before.before.read-header.ensures)
@@ -31,7 +31,7 @@ returns-2 c =
 returns-3 : tie.Need-returns-3
 returns-3 c =
     let a = c.before.before.before.before.before.before.before.before.before.args in
-    rule-block a.s.now c.before.before.before.before.before.before.before.before.before.requires.0
+    rule_block a.s.now c.before.before.before.before.before.before.before.before.before.requires.0
     c.before.before.before.before.before.before.before.before.before.requires.1
     (sym c.before.before.before.before.before.body.given.1 ∙ c.before.before.before.before.before.before.before.read-header.ensures)
     (sym c.before.number.given.1 ∙ c.before.before.before.read-block.ensures)
@@ -39,7 +39,7 @@ returns-3 c =
 returns-4 : tie.Need-returns-4
 returns-4 c =
     let a = c.before.before.before.before.before.args in
-    rule-header a.s.now c.before.before.before.before.before.requires.0 c.before.before.before.before.before.requires.1
+    rule_header a.s.now c.before.before.before.before.before.requires.0 c.before.before.before.before.before.requires.1
     (sym c.before.number2.given.1 ∙ c.before.before.before.read-header.ensures)
 
 pub read-bytes-spec : {M : Type 1} → statement M

@@ -1,25 +1,25 @@
 use Rattle.base.specs.ParsingLaws.{none_left, some_left}
 use mathlib.Core.Path.{sym, ◌∙◌}
 use borrow.Author.Tests.{not-true, not-false, lt-ltb, le-ltb}
-use Rattle.rule.specs.Expressions.{readVariable}
+use Rattle.rule.specs.Expressions.{read_variable}
 use borrow.Author.Rules.{rules}
 use Rattle.rule_reader.proofs.read_variable.Statement.{statement}
 use Rattle.rule_reader.proofs.read_variable.Tie as tie
 
 returns : tie.Need-returns
-unfolding readVariable
+unfolding read_variable
 returns c = rw (none_left _ c.if1.true)
 
 returns-2 : tie.Need-returns-2
-unfolding readVariable
+unfolding read_variable
 returns-2 c = rw (some_left _ c.before.if1.false, le-ltb _ _ c.if2.true)
 
 returns-3 : tie.Need-returns-3
-unfolding readVariable
+unfolding read_variable
 returns-3 c = rw (some_left _ c.before.before.before.before.if1.false, lt-ltb _ _ c.before.before.before.if2.false, le-ltb _ _ c.if3.true)
 
 returns-4 : tie.Need-returns-4
-unfolding readVariable
+unfolding read_variable
 returns-4 c = rw (
   some_left _ c.before.before.before.before.before.before.before.if1.false,
   lt-ltb _ _
@@ -31,7 +31,7 @@ returns-4 c = rw (
 )
 
 returns-5 : tie.Need-returns-5
-unfolding readVariable
+unfolding read_variable
 returns-5 c = rw (
   some_left _ c.before.before.before.before.before.before.before.if1.false,
   lt-ltb _ _

@@ -3,7 +3,7 @@ use native.Mathlib.Omega.{arith}
 use mathlib.Core.Logic.{⊎_elim}
 use Prim.Native.Nat.{◌-◌}
 use Rattle.rule.specs.Header.{variables}
-use Rattle.run_direct.specs.WritingLaws.{Writing, writing_start, writing-length, writing-working, writing-result, writing-end}
+use Rattle.run_direct.specs.WritingLaws.{Writing, writing_start, writing_length, writing_working, writing_result, writing_end}
 use Rattle.run_direct.proofs.write_results.Statement.{statement}
 use Rattle.run_direct.proofs.write_results.Tie as tie
 
@@ -28,7 +28,7 @@ working-at-requires c κs = omega (arith, c.before.before.before.loop.invariant.
 slice-write-results : tie.Need-slice-write-results invariant-loop decreases-loop
 slice-write-results c =
     let i = c.before.before.before.before.before.loop.invariant in
-    omega (arith, i.room, c.before.before.before.before.loop-test.true, c.before.before.before.wide8.ensures.0, writing-length _ _ _ _ _ i)
+    omega (arith, i.room, c.before.before.before.before.loop-test.true, c.before.before.before.wide8.ensures.0, writing_length _ _ _ _ _ i)
 
 add-x : tie.Need-overflow-add-x invariant-loop decreases-loop
 add-x c = record { fits = omega (arith, c.before.before.before.before.before.loop.invariant.few, c.before.before.before.before.loop-test.true) }
@@ -40,15 +40,15 @@ loop-again c =
     let l = c.before.before.before.before.loop-test.true in
     let w = c.before.working-at.ensures in
     ⊎_elim
-    (λ t. writing-working _ _ _ _ _ i l _ _ e _ w t.0.taken t.1)
-    (λ f. writing-result _ _ _ _ _ i l _ _ e _ w f.0.left f.1)
+    (λ t. writing_working _ _ _ _ _ i l _ _ e _ w t.0.taken t.1)
+    (λ f. writing_result _ _ _ _ _ i l _ _ e _ w f.0.left f.1)
     c.if1.branch
 
 same_length : tie.Need-same-length invariant-loop decreases-loop
-same_length c = writing-length _ _ _ _ _ c.before.loop.invariant
+same_length c = writing_length _ _ _ _ _ c.before.loop.invariant
 
 returns : tie.Need-returns invariant-loop decreases-loop
-returns c = writing-end _ _ _ _ _ c.before.loop.invariant c.loop-test.false
+returns c = writing_end _ _ _ _ _ c.before.loop.invariant c.loop-test.false
 
 pub write-results-spec : {M : Type 1} → statement M
 write-results-spec =

@@ -2,10 +2,10 @@ use native.Mathlib.Omega.{arith}
 use mathlib.Core.Path.{refl}
 use lib.ListN.{length}
 use Rattle.base.specs.declared.Form.TheVariants.{End, Assign, Skip, Branch, Unknown}
-use Rattle.base.specs.CodeLaws.{code-variable}
-use Rattle.rule.specs.Expressions.{readExpr}
-use Rattle.rule.specs.FirstByte.{VariableRead, WordRead, BitRead, expr-inside, byte-variable, as-variable, as-word, as-bit, expr-taken}
-use Rattle.run_walk.specs.ExprLaws.{variable-out, word_out, bit-out, level, first_taken, one_out, second-taken, two_out}
+use Rattle.base.specs.CodeLaws.{code_variable}
+use Rattle.rule.specs.Expressions.{read_expr}
+use Rattle.rule.specs.FirstByte.{VariableRead, WordRead, BitRead, expr_inside, byte_variable, as_variable, as_word, as_bit, expr_taken}
+use Rattle.run_walk.specs.ExprLaws.{variable_out, word_out, bit_out, level, first_taken, one_out, second_taken, two_out}
 use borrow.Author.Rules.{rules}
 use Prim.Native.Nat.{ℕ, ◌+◌, ◌*◌, ◌<◌}
 use borrow.Fn.Kinds.{In}
@@ -60,19 +60,19 @@ run-expr-claims t = (
 
 -- what was read, by the form of its code
 inside : (t : ℕ) (d : run-expr-lts.Start (run-expr-claims t) (run-expr-at t) run-expr.Post) → d.args.at < length d.args.s.now
-inside t d = let a = d.args in expr-inside a.deep a.s.now a.want a.at d.requires.1.1
+inside t d = let a = d.args in expr_inside a.deep a.s.now a.want a.at d.requires.1.1
 
 the-variable : (t : ℕ) (c : run-expr-lts.After-enum-told (run-expr-claims t) (run-expr-at t) run-expr.Post)
-    → let a = c.before.before.before.before.before.args in VariableRead a.s.now a.want a.at (readExpr a.deep a.s.now a.want a.at)
-the-variable t c = as-variable _ _ _ _ c.before.before.before.before.before.requires.1.1 _ c.before.before.code_of_lem.ensures c.enum_told.given.1
+    → let a = c.before.before.before.before.before.args in VariableRead a.s.now a.want a.at (read_expr a.deep a.s.now a.want a.at)
+the-variable t c = as_variable _ _ _ _ c.before.before.before.before.before.requires.1.1 _ c.before.before.code_of_lem.ensures c.enum_told.given.1
 
 the_word : (t : ℕ) (c : run-expr-lts.After-enum-told2 (run-expr-claims t) (run-expr-at t) run-expr.Post)
-    → let a = c.before.before.before.before.before.args in WordRead a.s.now a.want a.at (readExpr a.deep a.s.now a.want a.at)
-the_word t c = as-word _ _ _ _ c.before.before.before.before.before.requires.1.1 _ c.before.before.code_of_lem.ensures c.enum-told2.given.1
+    → let a = c.before.before.before.before.before.args in WordRead a.s.now a.want a.at (read_expr a.deep a.s.now a.want a.at)
+the_word t c = as_word _ _ _ _ c.before.before.before.before.before.requires.1.1 _ c.before.before.code_of_lem.ensures c.enum-told2.given.1
 
 the-bit : (t : ℕ) (c : run-expr-lts.After-enum-told3 (run-expr-claims t) (run-expr-at t) run-expr.Post)
-    → let a = c.before.before.before.before.before.args in BitRead a.s.now a.want a.at (readExpr a.deep a.s.now a.want a.at)
-the-bit t c = as-bit _ _ _ _ c.before.before.before.before.before.requires.1.1 _ c.before.before.code_of_lem.ensures c.enum-told3.given.1
+    → let a = c.before.before.before.before.before.args in BitRead a.s.now a.want a.at (read_expr a.deep a.s.now a.want a.at)
+the-bit t c = as_bit _ _ _ _ c.before.before.before.before.before.requires.1.1 _ c.before.before.code_of_lem.ensures c.enum-told3.given.1
 
 run-expr-sub-run-argument : (t : ℕ) → run-expr-lts.Need-overflow-sub-run-argument (run-expr-claims t) (run-expr-at t) run-expr.Post
 run-expr-sub-run-argument t c =
@@ -101,7 +101,7 @@ run-expr-run-argument-requires-2 t c κs =
       omega (arith, level a.figures.now _ _ _ _ d.requires.1.1 _ b.code_of_lem.ensures _ c.before.before.before.before.form.given.1),
       (
         d.requires.1.0,
-        second-taken a.figures.now _ _ _ _ d.requires.1.1 _ b.code_of_lem.ensures _ c.before.before.before.before.form.given.1 _
+        second_taken a.figures.now _ _ _ _ d.requires.1.1 _ b.code_of_lem.ensures _ c.before.before.before.before.form.given.1 _
             c.before.before.run-argument.ensures c.if1.false,
       ),
     )
@@ -109,7 +109,7 @@ run-expr-run-argument-requires-2 t c κs =
 run-expr-returns : (t : ℕ) → run-expr-lts.Need-returns (run-expr-claims t) (run-expr-at t) run-expr.Post
 run-expr-returns t c =
     let d = c.before.before.before.before.before.before in
-    rw c.run-variable.ensures (variable-out _ _ _ _ _ d.requires.1.1 _ c.before.before.before.code_of_lem.ensures c.before.enum_told.given.1)
+    rw c.run-variable.ensures (variable_out _ _ _ _ _ d.requires.1.1 _ c.before.before.before.code_of_lem.ensures c.before.enum_told.given.1)
 
 run-expr-returns-2 : (t : ℕ) → run-expr-lts.Need-returns-2 (run-expr-claims t) (run-expr-at t) run-expr.Post
 run-expr-returns-2 t c =
@@ -118,7 +118,7 @@ run-expr-returns-2 t c =
 
 run-expr-returns-3 : (t : ℕ) → run-expr-lts.Need-returns-3 (run-expr-claims t) (run-expr-at t) run-expr.Post
 run-expr-returns-3 t c =
-    bit-out _ _ _ _ _ c.before.before.before.before.before.before.requires.1.1 _ c.before.before.before.code_of_lem.ensures c.before.enum-told3.given.1
+    bit_out _ _ _ _ _ c.before.before.before.before.before.before.requires.1.1 _ c.before.before.before.code_of_lem.ensures c.before.enum-told3.given.1
 
 run-expr-returns-4 : (t : ℕ) → run-expr-lts.Need-returns-4 (run-expr-claims t) (run-expr-at t) run-expr.Post
 run-expr-returns-4 t c =
@@ -136,11 +136,11 @@ run-expr-returns-5 t c =
 pub +run-argument-run-expr-spec : {M : Type 1} → statement M
 +run-argument-run-expr-spec = close μ-run-argument μ-run-expr (λ t. run-argument-lts.spec (run-argument-claims t) (run-argument-at t)
     run-argument.Post
-    (λ c. let d = c.before.before in expr-inside _ _ _ _ d.requires.1.1)
+    (λ c. let d = c.before.before in expr_inside _ _ _ _ d.requires.1.1)
     (λ c κs. let d = c.before.before.before in
-    let v = byte-variable _ _ _ _ d.requires.1.1 c.if1.true in (v.inside, omega (arith, v.range, d.requires.1.0.1)))
+    let v = byte_variable _ _ _ _ d.requires.1.1 c.if1.true in (v.inside, omega (arith, v.range, d.requires.1.0.1)))
     (λ c. let d = c.before.before.before.before in
-    rw c.run-variable.ensures (variable-out _ _ _ _ _ d.requires.1.1 _ refl (code-variable _ c.before.if1.true)))
+    rw c.run-variable.ensures (variable_out _ _ _ _ _ d.requires.1.1 _ refl (code_variable _ c.before.if1.true)))
     (λ c κs. (search rules, c.before.before.before.requires.1))
     (λ c. c.run-expr.ensures))
     λ t. run-expr-lts.spec (run-expr-claims t) (run-expr-at t)
@@ -176,8 +176,8 @@ pub +run-argument-run-expr-spec : {M : Type 1} → statement M
     (run-expr-returns-3 t)
     (run-expr-returns-4 t)
     (run-expr-returns-5 t)
-    (λ c. let b = c.before.before in absurd (expr-taken _ _ _ _ b.before.before.before.requires.1.1 _ b.code_of_lem.ensures End c.enum-told4.given.1))
-    (λ c. let b = c.before.before in absurd (expr-taken _ _ _ _ b.before.before.before.requires.1.1 _ b.code_of_lem.ensures Assign c.enum-told5.given.1))
-    (λ c. let b = c.before.before in absurd (expr-taken _ _ _ _ b.before.before.before.requires.1.1 _ b.code_of_lem.ensures Skip c.enum-told6.given.1))
-    (λ c. let b = c.before.before in absurd (expr-taken _ _ _ _ b.before.before.before.requires.1.1 _ b.code_of_lem.ensures Branch c.enum-told7.given.1))
-    (λ c. let b = c.before.before in absurd (expr-taken _ _ _ _ b.before.before.before.requires.1.1 _ b.code_of_lem.ensures Unknown c.enum-told8.given.1))
+    (λ c. let b = c.before.before in absurd (expr_taken _ _ _ _ b.before.before.before.requires.1.1 _ b.code_of_lem.ensures End c.enum-told4.given.1))
+    (λ c. let b = c.before.before in absurd (expr_taken _ _ _ _ b.before.before.before.requires.1.1 _ b.code_of_lem.ensures Assign c.enum-told5.given.1))
+    (λ c. let b = c.before.before in absurd (expr_taken _ _ _ _ b.before.before.before.requires.1.1 _ b.code_of_lem.ensures Skip c.enum-told6.given.1))
+    (λ c. let b = c.before.before in absurd (expr_taken _ _ _ _ b.before.before.before.requires.1.1 _ b.code_of_lem.ensures Branch c.enum-told7.given.1))
+    (λ c. let b = c.before.before in absurd (expr_taken _ _ _ _ b.before.before.before.requires.1.1 _ b.code_of_lem.ensures Unknown c.enum-told8.given.1))

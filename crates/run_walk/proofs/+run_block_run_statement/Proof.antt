@@ -4,14 +4,14 @@ use lib.ListN.{length}
 use Rattle.base.specs.declared.Kind.TheVariants.{Bit}
 use Rattle.base.specs.declared.Form.{Form}
 use Rattle.base.specs.declared.Form.TheVariants as form
-use Rattle.base.specs.ParsingLaws.{forward-read}
+use Rattle.base.specs.ParsingLaws.{forward_read}
 use Rattle.base.specs.Parsing.{IsRead}
-use Rattle.rule.specs.ExpressionLaws.{expr-forward}
-use Rattle.rule.specs.Blocks.{branchWith, statementForm, readBlock}
-use Rattle.rule.specs.FuelLaws.{block-forward, statement-forward}
+use Rattle.rule.specs.ExpressionLaws.{expr_forward}
+use Rattle.rule.specs.Blocks.{branch_with, statement_form, read_block}
+use Rattle.rule.specs.FuelLaws.{block_forward, statement_forward}
 use Rattle.run_walk.specs.Walking.{AmidBlock}
-use Rattle.run_walk.specs.BlockLaws.{statement-taken, statement-ran, skip-ran, branch-level, test-taken, first_taken, second-taken}
-use Rattle.run_walk.specs.BlockLaws.{branch_yes, branch_no, amid-start, amid-inside, amid-end, amid-taken, amid-more}
+use Rattle.run_walk.specs.BlockLaws.{statement_taken, statement_ran, skip_ran, branch_level, test_taken, first_taken, second_taken}
+use Rattle.run_walk.specs.BlockLaws.{branch_yes, branch_no, amid_start, amid_inside, amid_end, amid_taken, amid_more}
 use borrow.Author.Rules.{rules}
 use Prim.Native.Nat.{ℕ, ◌+◌, ◌-◌, ◌*◌, ◌<◌, ◌≤◌}
 use borrow.Fn.Kinds.{In}
@@ -62,41 +62,41 @@ run-statement-claims t =
 
 -- what was read, by the form of its code; of no statement's form nothing was
 as_read : (t : ℕ) (c : run-statement-lts.After-code-of (run-statement-claims t) (run-statement-at t) run-statement.Post) (f : Form) → c.code_of_lem.result.form ≡ f
-    → let a = c.before.before.before.args in IsRead (statementForm f (readBlock a.s.now) a.s.now a.nest a.at)
-as_read t c f q = statement-taken _ _ _ c.before.before.before.requires.1.2 _ c.code_of_lem.ensures f q
+    → let a = c.before.before.before.args in IsRead (statement_form f (read_block a.s.now) a.s.now a.nest a.at)
+as_read t c f q = statement_taken _ _ _ c.before.before.before.requires.1.2 _ c.code_of_lem.ensures f q
 
 -- an if was read, and a level is left
 the-branch : (t : ℕ) (c : run-statement-lts.After-enum-told3 (run-statement-claims t) (run-statement-at t) run-statement.Post)
-    → let a = c.before.before.before.before.before.args in IsRead (branchWith (readBlock a.s.now) a.s.now a.nest a.at)
+    → let a = c.before.before.before.before.before.args in IsRead (branch_with (read_block a.s.now) a.s.now a.nest a.at)
 the-branch t c = as_read t c.before.before form.Branch c.enum-told3.given.1
 
 the-level : (t : ℕ) (c : run-statement-lts.After-enum-told3 (run-statement-claims t) (run-statement-at t) run-statement.Post)
     → 0 < c.before.before.before.before.before.args.nest
-the-level t c = branch-level _ _ _ (the-branch t c)
+the-level t c = branch_level _ _ _ (the-branch t c)
 
 run-block-run-statement-requires : (t : ℕ)
     → run-block-lts.Need-run-statement-requires (run-block-claims t) (run-block-at t) run-block.Post run-block-Inv-loop run-block-μ-loop
 run-block-run-statement-requires t c κs =
     let d = c.before.before.before.before.before in let l = c.before.before.before.loop in
-    let i = amid-inside _ _ _ _ _ _ l.invariant.1 in
-    (omega (arith, i, l.invariant.0, d.requires.0), (d.requires.1.0, i, amid-taken _ _ _ _ _ _ l.invariant.1 c.before.if1.true))
+    let i = amid_inside _ _ _ _ _ _ l.invariant.1 in
+    (omega (arith, i, l.invariant.0, d.requires.0), (d.requires.1.0, i, amid_taken _ _ _ _ _ _ l.invariant.1 c.before.if1.true))
 
 run-block-loop-less : (t : ℕ) → run-block-lts.Need-loop-smaller (run-block-claims t) (run-block-at t) run-block.Post run-block-Inv-loop run-block-μ-loop
 run-block-loop-less t c =
     let l = c.before.before.before.before.loop in
-    omega (arith, amid-inside _ _ _ _ _ _ l.invariant.1, forward-read _ (statement-forward _ _ _) c.run-statement.ensures.read)
+    omega (arith, amid_inside _ _ _ _ _ _ l.invariant.1, forward_read _ (statement_forward _ _ _) c.run-statement.ensures.read)
 
 run-block-loop-again : (t : ℕ) → run-block-lts.Need-loop-preserved (run-block-claims t) (run-block-at t) run-block.Post run-block-Inv-loop run-block-μ-loop
 run-block-loop-again t c =
     let l = c.before.before.before.before.loop in (
-      omega (arith, l.invariant.0, forward-read _ (statement-forward _ _ _) c.run-statement.ensures.read),
-      amid-more _ _ _ _ _ _ l.invariant.1 c.before.before.if1.true c.run-statement.ensures,
+      omega (arith, l.invariant.0, forward_read _ (statement_forward _ _ _) c.run-statement.ensures.read),
+      amid_more _ _ _ _ _ _ l.invariant.1 c.before.before.if1.true c.run-statement.ensures,
     )
 
 run-statement-run-block-requires : (t : ℕ) → run-statement-lts.Need-run-block-requires (run-statement-claims t) (run-statement-at t) run-statement.Post
 run-statement-run-block-requires t c κs =
     let d = c.before.before.before.before.before.before.before.before.before.before in (
-      omega (arith, d.requires.0, d.requires.1.1, forward-read _ (expr-forward _ _ _ _) c.before.before.before.run-expr.ensures.read),
+      omega (arith, d.requires.0, d.requires.1.1, forward_read _ (expr_forward _ _ _ _) c.before.before.before.run-expr.ensures.read),
       (d.requires.1.0, first_taken _ _ _ (the-branch t c.before.before.before.before.before) _ _ c.before.before.before.run-expr.ensures),
     )
 
@@ -104,7 +104,7 @@ run-statement-pass-block-requires : (t : ℕ) → run-statement-lts.Need-pass-bl
 run-statement-pass-block-requires t c κs =
     let b = c.before.before.before.before in (
       b.before.before.before.before.before.before.before.requires.1.0,
-      second-taken _ _ _ (the-branch t b.before.before) _ _ b.run-expr.ensures _ _ c.run-block.ensures.read,
+      second_taken _ _ _ (the-branch t b.before.before) _ _ b.run-expr.ensures _ _ c.run-block.ensures.read,
     )
 
 run-statement-pass-block-requires-2 : (t : ℕ) → run-statement-lts.Need-pass-block-requires-2 (run-statement-claims t) (run-statement-at t) run-statement.Post
@@ -117,32 +117,32 @@ run-statement-run-block-requires-2 t c κs =
     let b = c.before.before.before.before in
     let d = b.before.before.before.before.before.before.before in
     let read = c.before.pass-block2.ensures.read in (
-      omega (arith, d.requires.0, d.requires.1.1, forward-read _ (expr-forward _ _ _ _) b.run-expr.ensures.read, forward-read _ (block-forward _ _ _) read),
-      (d.requires.1.0, second-taken _ _ _ (the-branch t b.before.before) _ _ b.run-expr.ensures _ _ read),
+      omega (arith, d.requires.0, d.requires.1.1, forward_read _ (expr_forward _ _ _ _) b.run-expr.ensures.read, forward_read _ (block_forward _ _ _) read),
+      (d.requires.1.0, second_taken _ _ _ (the-branch t b.before.before) _ _ b.run-expr.ensures _ _ read),
     )
 
 run-statement-returns : (t : ℕ) → run-statement-lts.Need-returns (run-statement-claims t) (run-statement-at t) run-statement.Post
 run-statement-returns t c =
     let b = c.before.before.before.before in
-    statement-ran _ _ _ b.before.before.before.requires.1.2 _ b.code_of_lem.ensures form.Assign c.before.before.enum_told.given.1 c.run-assign.ensures
+    statement_ran _ _ _ b.before.before.before.requires.1.2 _ b.code_of_lem.ensures form.Assign c.before.before.enum_told.given.1 c.run-assign.ensures
 
 run-statement-returns-2 : (t : ℕ) → run-statement-lts.Need-returns-2 (run-statement-claims t) (run-statement-at t) run-statement.Post
 run-statement-returns-2 t c =
     let d = c.before.before.before.before.before in
     let a = d.args in
-    statement-ran _ _ _ d.requires.1.2 _ c.before.before.code_of_lem.ensures form.Skip c.enum-told2.given.1 (skip-ran a.at a.figures.now)
+    statement_ran _ _ _ d.requires.1.2 _ c.before.before.code_of_lem.ensures form.Skip c.enum-told2.given.1 (skip_ran a.at a.figures.now)
 
 run-statement-returns-3 : (t : ℕ) → run-statement-lts.Need-returns-3 (run-statement-claims t) (run-statement-at t) run-statement.Post
 run-statement-returns-3 t c =
     let b = c.before.before.before.before.before.before.before in
-    statement-ran _ _ _ b.before.before.before.before.before.requires.1.2 _ b.before.before.code_of_lem.ensures form.Branch b.enum-told3.given.1
+    statement_ran _ _ _ b.before.before.before.before.before.requires.1.2 _ b.before.before.code_of_lem.ensures form.Branch b.enum-told3.given.1
     (branch_yes _ _ _ (the-branch t b) _ _ c.before.before.before.before.before.run-expr.ensures c.before.before.before.if1.true
     c.before.run-block.ensures c.pass-block.ensures)
 
 run-statement-returns-4 : (t : ℕ) → run-statement-lts.Need-returns-4 (run-statement-claims t) (run-statement-at t) run-statement.Post
 run-statement-returns-4 t c =
     let b = c.before.before.before.before.before.before.before in
-    statement-ran _ _ _ b.before.before.before.before.before.requires.1.2 _ b.before.before.code_of_lem.ensures form.Branch b.enum-told3.given.1
+    statement_ran _ _ _ b.before.before.before.before.before.requires.1.2 _ b.before.before.code_of_lem.ensures form.Branch b.enum-told3.given.1
     (branch_no _ _ _ (the-branch t b) _ _ c.before.before.before.before.before.run-expr.ensures c.before.before.before.if1.false
     c.before.before.pass-block2.ensures c.run-block2.ensures)
 
@@ -151,13 +151,13 @@ pub +run-block-run-statement-spec : {M : Type 1} → statement M
     run-block.Post
     run-block-Inv-loop
     run-block-μ-loop
-    (λ c. (search rules, amid-start _ _ _ _ c.before.requires.1.1))
-    (λ c. amid-inside _ _ _ _ _ _ c.before.loop.invariant.1)
+    (λ c. (search rules, amid_start _ _ _ _ c.before.requires.1.1))
+    (λ c. amid_inside _ _ _ _ _ _ c.before.loop.invariant.1)
     (run-block-run-statement-requires t)
     (run-block-loop-less t)
     (run-block-loop-again t)
-    (λ c. let l = c.before.before.loop in omega (arith, amid-inside _ _ _ _ _ _ l.invariant.1))
-    (λ c. amid-end _ _ _ _ _ _ c.before.before.loop.invariant.1 c.if1.false))
+    (λ c. let l = c.before.before.loop in omega (arith, amid_inside _ _ _ _ _ _ l.invariant.1))
+    (λ c. amid_end _ _ _ _ _ _ c.before.before.loop.invariant.1 c.if1.false))
     λ t. run-statement-lts.spec (run-statement-claims t) (run-statement-at t)
     run-statement.Post
     (λ c. search rules)
@@ -168,7 +168,7 @@ pub +run-block-run-statement-spec : {M : Type 1} → statement M
     (λ c. search rules)
     (λ c. search rules)
     (λ c. search rules)
-    (λ c κs. let d = c.before.before.before.before.before.before in (d.requires.1.0, test-taken _ _ _ (the-branch t c.before)))
+    (λ c κs. let d = c.before.before.before.before.before.before in (d.requires.1.0, test_taken _ _ _ (the-branch t c.before)))
     (λ c. the-level t c.before.before.before.before)
     (run-statement-run-block-requires t)
     (λ c. the-level t c.before.before.before.before.before.before)
