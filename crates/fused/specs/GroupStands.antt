@@ -39,6 +39,7 @@ stands_as R w f g e z =
 
 -- what a group waits for is written before it
 waits_done : (C : Gates) (sets : List ℕ) (group : ℕ → ℕ) (done : List ℕ) → Ordered (waits_for C sets group) done → (p : ℕ) → p ∈ done → (q : ℕ) → q ∈ waits_for C sets group p → q ∈ done
+waits_done C sets group [] _ p x4 q k = elim x4 [ ]
 waits_done C sets group (r ∷ done) (before, o) p (inl e) q k = inr (before q (rw e at k))
 waits_done C sets group (r ∷ done) (before, o) p (inr m) q k = inr (waits_done C sets group done o p m q k)
 
@@ -56,6 +57,7 @@ module _ (s : List ℕ) (C : Gates) (sets : List ℕ) (group : ℕ → ℕ) (lev
   written_stands : (done : List ℕ) → Once done → Ordered (waits_for C sets group) done → (p : ℕ) → p ∈ done
       → Stands (written s C sets group done).records ((written s C sets group done).wire p)
       (λ n. emit s C sets (λ a. (written s C sets group done).wire (group a)) n (members (length C) group p))
+  written_stands [] _ _ p k = elim k [ ]
   written_stands (r ∷ done) (new, u) (before, o) p k = go (same? p r) k (λ m. written_stands done u o p m)
     where
       w : Written
@@ -104,6 +106,7 @@ module _ (s : List ℕ) (C : Gates) (sets : List ℕ) (group : ℕ → ℕ) wher
   -- so what a group waits for has an earlier wire
   waits_earlier : (done : List ℕ) → Once done → ((p : ℕ) → p ∈ done → p ∈ groups (length C) group) → Ordered (waits_for C sets group) done
       → (p q : ℕ) → p ∈ done → q ∈ waits_for C sets group p → (written s C sets group done).wire q < (written s C sets group done).wire p
+  waits_earlier [] once f _ p q x6 k = elim x6 [ ]
   waits_earlier (r ∷ done) once f (before, o) p q (inl e) k = rw e (wire_behind r done once f q (before q (rw e at k)))
   waits_earlier (r ∷ done) once f (before, o) p q (inr m) k =
       rw (wire_old s C sets group r done once q (waits_done C sets group done o p m q k), wire_old s C sets group r done once p m)
@@ -111,6 +114,7 @@ module _ (s : List ℕ) (C : Gates) (sets : List ℕ) (group : ℕ → ℕ) wher
 
   written_distinct : (done : List ℕ) → Once done → ((p : ℕ) → p ∈ done → p ∈ groups (length C) group) → (p q : ℕ) → p ∈ done → q ∈ done
       → (written s C sets group done).wire p ≡ (written s C sets group done).wire q → p ≡ q
+  written_distinct [] _ f p q i j e = elim i [ ]
   written_distinct (r ∷ done) (new, u) f p q i j e = go (same? p r) (same? q r) i j (λ x y z. written_distinct done u (λ g k. f g (inr k)) p q x y z)
     where
       w : Written

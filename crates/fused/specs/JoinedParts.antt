@@ -18,6 +18,7 @@ pick_of n values = pick (pairs n values)
 -- where one place has a pick, all guards are written
 pub guards_kept : (F : ℕ → List ℕ) (guards : List Record) (ks : List ℕ) (i : ℕ) → i ∈ ks → one_wire (F i) ≡ false → guarded (picked (map F ks)) guards ≡ guards
 guards_kept F guards (k ∷ ks) i (inl e) h = rw (ap (λ (j : ℕ). one_wire (F j)) (sym e) ∙ h)
+guards_kept F guards [] i x'' h = elim x'' [ ]
 guards_kept F guards (k ∷ ks) i (inr m) h = split (one_wire (F k)) (λ t. rw t (guards_kept F guards ks i m h)) (λ f. rw f)
 
 all_kept : (picks : List (List ℕ)) (guards : List Record) → 0 < length picks → guarded picks guards ≡ guards

@@ -65,10 +65,12 @@ StandsIn [] G = ⊥
 StandsIn (H ∷ Gs) G = (H ≡ G) ⊎ StandsIn Gs G
 
 pub stands_each : (P : List ℕ → Type 0) (Gs : Plan) (G : List ℕ) → StandsIn Gs G → EachGroup P Gs → P G
+stands_each P [] G x'' _ = elim x'' [ ]
 stands_each P (H ∷ Gs) G (inl e) (h, f) = rw e at h
 stands_each P (H ∷ Gs) G (inr s) (h, f) = stands_each P Gs G s f
 
 pub stands_listed : (Gs : Plan) (G : List ℕ) (g : ℕ) → StandsIn Gs G → g ∈ G → Listed Gs g
+stands_listed [] G g x'' m = elim x'' [ ]
 stands_listed (H ∷ Gs) G g (inl e) m = inl (rw e m)
 stands_listed (H ∷ Gs) G g (inr s) m = inr (stands_listed Gs G g s m)
 
@@ -84,11 +86,13 @@ listed_stands (G ∷ Gs) g (inr h) = let (H, s, m) = listed_stands Gs g h in (H,
 
 -- a listed group's gates have its name, and no others
 pub name_to : (Gs : Plan) (G : List ℕ) (g : ℕ) → Apart Gs → StandsIn Gs G → g ∈ G → group_of Gs g ≡ smallest G
+name_to [] G g _ x4 m = elim x4 [ ]
 name_to (H ∷ Gs) G g (d, a) (inl e) m = rw (e, ∈→elem g G m)
 name_to (H ∷ Gs) G g (d, a) (inr s) m =
     split (elem g H) (λ t. absurd (d g (elem→∈ g H t) (stands_listed Gs G g s m))) (λ t. rw t (name_to Gs G g a s m))
 
 pub name_back : (Gs : Plan) (G : List ℕ) (g : ℕ) → EachGroup (λ H. 2 ≤ length H) Gs → Apart Gs → StandsIn Gs G → group_of Gs g ≡ smallest G → g ∈ G
+name_back [] G g _ _ x6 h = elim x6 [ ]
 name_back (H ∷ Gs) G g (o, u) (d, a) (inl e) h =
     split (elem g H) (λ t. rw e at (elem→∈ g H t)) (λ t. absurd (foreign H Gs o d u g t (rw t at h ∙ ap smallest (sym e))))
 name_back (H ∷ Gs) G g (o, u) (d, a) (inr s) h =
@@ -103,6 +107,7 @@ unlisted_name [] g n = refl
 unlisted_name (H ∷ Gs) g n = split (elem g H) (λ t. absurd (n (inl (elem→∈ g H t)))) (λ t. rw t (unlisted_name Gs g (λ h. n (inr h))))
 
 listed_name : (Gs : Plan) (g : ℕ) → EachGroup (λ H. 2 ≤ length H) Gs → Listed Gs g → Listed Gs (group_of Gs g)
+listed_name [] g _ h = elim h [ ]
 listed_name (H ∷ Gs) g (o, u) h =
     split (elem g H) (λ t. rw t (inl (smallest_in H o))) (λ t. rw t (inr (listed_name Gs g u (later t h))))
   where

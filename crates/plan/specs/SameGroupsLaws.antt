@@ -22,6 +22,7 @@ smallest_stands (G ∷ Gs) a (inl e) = (G, inl refl, e)
 smallest_stands (G ∷ Gs) a (inr m) = let (H, s, e) = smallest_stands Gs a m in (H, inr s, e)
 
 stands_smallest : (Gs : Plan) (G : List ℕ) → StandsIn Gs G → smallest G ∈ map smallest Gs
+stands_smallest [] G x' = elim x' [ ]
 stands_smallest (H ∷ Gs) G (inl e) = inl (ap smallest (sym e))
 stands_smallest (H ∷ Gs) G (inr s) = inr (stands_smallest Gs G s)
 
