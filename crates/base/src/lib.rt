@@ -1,9 +1,11 @@
 // Definitions and laws that lie below every layer (specs/): numbers in bytes, words modulo 2^32, lent buffers and lists; bits and sets of settings; how an
 // operation answers; codes, kinds and the operation table. The types of these, which every layer names, are here; the code is in the crates `base_..`.
+#![tactic(auto)]
+
 
 // The seven numbers that every operation of the tool returns.
 #[repr(C)]
-#[derive(Drop)]
+#[derive(Clone, Copy)]
 pub struct Answer {
     pub number: u8,
     pub place: usize,
@@ -15,21 +17,21 @@ pub struct Answer {
 }
 
 // Where a reader stands: past what it read, or at a refusal's number and place.
-#[derive(Drop)]
+#[derive(Clone, Copy)]
 pub enum Step {
     Past(usize),
     Refused(u8, usize),
 }
 
 // What a figure is: a word of 32 bits or a bit.
-#[derive(Drop)]
+#[derive(Clone, Copy)]
 pub enum Kind {
     Word,
     Bit,
 }
 
 // The operations of the table.
-#[derive(Drop)]
+#[derive(Clone, Copy)]
 pub enum Operation {
     Sum,
     Difference,
@@ -42,7 +44,7 @@ pub enum Operation {
 }
 
 // What a code byte opens.
-#[derive(Drop)]
+#[derive(Clone, Copy)]
 pub enum Form {
     End,
     Assign,
@@ -56,7 +58,7 @@ pub enum Form {
 }
 
 // A code byte read: its form, the kind of its arguments and of its result, their count and its cost.
-#[derive(Drop)]
+#[derive(Clone, Copy)]
 pub struct Code {
     pub form: Form,
     pub takes: Kind,
@@ -75,7 +77,7 @@ pub const SET_WORDS: usize = 4;
 pub const LIST_ROOM: usize = SET_CONDITIONS as usize;
 
 // A set in hand: setting j is bit j % 64 of the word j / 64.
-#[derive(Drop)]
+#[derive(Clone, Copy)]
 pub struct Set {
     pub w0: u64,
     pub w1: u64,
@@ -84,7 +86,7 @@ pub struct Set {
 }
 
 // Conditions, rising: so many of them, zeros after them; in the number `on` the bit of each is 1.
-#[derive(Drop)]
+#[derive(Clone, Copy)]
 pub struct ConditionList {
     pub count: u8,
     pub on: u8,

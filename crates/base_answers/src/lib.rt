@@ -1,4 +1,6 @@
 // How an operation answers, and how a reader of bytes goes on.
+#![tactic(auto)]
+
 ghost use Rattle.std.specs.Prelude.{◌≡◌, ◌≤◌, length};
 ghost use Rattle.base.specs.Answers.{refusal, answer_of};
 ghost use Rattle.base.specs.Parsing.{step_of, read_mark};

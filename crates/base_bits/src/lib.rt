@@ -1,4 +1,6 @@
 // Sets of numbers held as bits of words: number q is bit q % 64 of the word q / 64 after the set's first. A lent array holds one set or many, each from a base on.
+#![tactic(auto)]
+
 ghost use Rattle.std.specs.Prelude.{◌≡◌, ◌+◌, ◌/◌, ◌%◌, ◌^◌, ◌<◌, length};
 ghost use Rattle.base.specs.Bits.{bit};
 ghost use Rattle.base.specs.BitWords.{bit_in, put_bit, strike_bit};

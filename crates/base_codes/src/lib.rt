@@ -1,4 +1,6 @@
 // The codes of a rule file: what each opens, and the operation table.
+#![tactic(auto)]
+
 ghost use Rattle.std.specs.Prelude.{◌≡◌, ◌&&◌, ◌||◌, ◌≤◌, eqb};
 ghost use Rattle.base.specs.Results.{bit_of, result_of};
 ghost use Rattle.base.specs.Codes.{start_kind, same_kind, plain, entry_of, commutes, operation_of, byte_of, code_of};

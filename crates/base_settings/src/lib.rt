@@ -1,5 +1,7 @@
 // Document 01, "Needed gates" and "The fused circuit file", at the eight conditions of document 02's C-17: a set of settings is 256 bits, bit j for setting j, in four words, the lowest first.
 // A set in hand is a `Set`; lent arrays hold plain words, so many a set, which `load` and `store` look at.
+#![tactic(auto)]
+
 ghost use Rattle.std.specs.Prelude.{◌≡◌, ◌+◌, ◌-◌, ◌*◌, ◌<◌, ◌≤◌, ◌^◌, length, get_or, set, replicate, eqb};
 ghost use Rattle.std.specs.Int.Bits.{bit_and};
 ghost use Rattle.base.specs.Buffers.{over, padded};
@@ -156,7 +158,7 @@ fn giving(t: u8) -> Set
 }
 
 // A set of settings parted by a condition: its two cofactors.
-#[derive(Drop)]
+#[derive(Clone, Copy)]
 pub struct Parted {
     pub given: Set,
     pub without: Set,

@@ -1,4 +1,6 @@
 // Big-endian numbers in lent bytes, and sums, differences and products of words.
+#![tactic(auto)]
+
 ghost use Rattle.std.specs.Prelude.{◌≡◌, ◌+◌, ◌<◌, ◌≤◌, length};
 ghost use Rattle.base.specs.Numbers.{bytes_of, number_at, sum_of, difference_of, product_of};
 ghost use Rattle.base.specs.Buffers.{over};

@@ -1,4 +1,6 @@
 // Reading a rule as its caller sees it, rows 1 to 11, and building its plain circuit.
+#![tactic(auto)]
+
 ghost use Rattle.std.specs.Prelude.{◌≡◌, ◌++◌, ◌-◌, ◌≤◌, length, take, replicate};
 ghost use Rattle.rule.specs.Limits.{most_variables};
 ghost use Rattle.rule.specs.Header.{variables, HasKinds};

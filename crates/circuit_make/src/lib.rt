@@ -1,4 +1,6 @@
 // Makes gates into lent arrays: a gate stored, an operation's with its arguments in order, a choice for each variable that an if assigns.
+#![tactic(auto)]
+
 ghost use Rattle.std.specs.Prelude.{◌≡◌, [], ◌∷◌, ◌≤◌, ◌<◌};
 ghost use Rattle.base.specs.Sets.{has};
 ghost use Rattle.base.specs.Codes.{byte_of};

@@ -1,5 +1,7 @@
 // Document 01, "Needed gates", over lent arrays: the one backward pass that finds every gate's precondition: liveness, for all settings of the conditions at once.
 // The lent arrays hold plain numbers; a gate's number in hand is a `GateId`, its set a `Set`.
+#![tactic(auto)]
+
 ghost use Rattle.std.specs.Prelude.{◌≡◌, ◌++◌, ◌-◌, ◌<◌, ◌≤◌, get_or, replicate};
 ghost use Rattle.base.specs.Sets.{whole, given, without};
 ghost use Rattle.circuit.specs.Limits.{most_conditions, most_settings};

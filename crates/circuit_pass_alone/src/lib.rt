@@ -1,4 +1,6 @@
 // The backward pass alone, exported so that it can be measured; nothing of the product calls it.
+#![tactic(auto)]
+
 ghost use Rattle.std.specs.Prelude.{◌≡◌, ◌++◌, ◌-◌, replicate};
 ghost use Rattle.base.specs.Lists.{Inside};
 ghost use Rattle.circuit.specs.Limits.{most_conditions};

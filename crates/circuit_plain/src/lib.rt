@@ -1,4 +1,6 @@
 // Makes the plain circuit of an accepted rule into lent arrays: its starting values, expressions, statements and blocks.
+#![tactic(auto)]
+
 ghost use Rattle.std.specs.Prelude.{◌≡◌, ◌+◌, ◌^◌, ◌<◌, length, get_or, replicate};
 ghost use Rattle.base.specs.Parsing.{IsRead};
 ghost use Rattle.rule.specs.Header.{variables};
@@ -17,7 +19,7 @@ use circuit::{GateId, QUAD_ROOM, VARIABLE_ROOM};
 
 // What an expression was made into: the place after it, the gate that it stands for, and the gates then.
 // The count is last, in the second half of a word: a half word stored in the first is loaded with the whole word, which stalls.
-#[derive(Drop)]
+#[derive(Clone, Copy)]
 struct MadeExpr {
     pub next: usize,
     pub gate: GateId,
@@ -26,7 +28,7 @@ struct MadeExpr {
 
 // What a statement or block was made into: the place after it, the gates then, and the variables assigned in it, bit x for variable x.
 // The count is a whole word: as a half one it is stored short and loaded long, which stalls.
-#[derive(Drop)]
+#[derive(Clone, Copy)]
 struct MadePart {
     pub next: usize,
     pub count: u32,

@@ -1,4 +1,6 @@
 // A gate as four numbers of a lent array, its quad, a four-address node (specs/Quads.antt of `circuit`): the gate that an argument names, and what a code means.
+#![tactic(auto)]
+
 ghost use Rattle.std.specs.Prelude.{◌≡◌, ◌<◌, get_or};
 ghost use Rattle.base.specs.Codes.{code_of};
 ghost use Rattle.circuit.specs.Rooms.{gate_room, quad_room};

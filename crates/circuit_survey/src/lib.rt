@@ -1,5 +1,7 @@
 // Document 01, "The plain circuit", over lent arrays: a gate is four numbers of `quads`, `count` gates at most 256; what gates cost, and which are conditions.
 // The lent arrays hold plain numbers; a gate's number in hand is a `GateId`.
+#![tactic(auto)]
+
 ghost use Rattle.std.specs.Prelude.{◌≡◌, ◌<◌, ◌≤◌, length, replicate};
 ghost use Rattle.base.specs.Buffers.{over};
 ghost use Rattle.circuit.specs.Gates.{Earlier, costs, conditions};
@@ -49,7 +51,7 @@ fn listed_cost(costs: &[u8; 64], code: u32) -> usize
 }
 
 // What a walk over the gates finds: how many conditions they have, and what they cost.
-#[derive(Drop)]
+#[derive(Clone, Copy)]
 pub struct Surveyed {
     pub conditions: u16,
     pub cost: usize,

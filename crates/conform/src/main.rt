@@ -1,5 +1,7 @@
 // Reads a conformance stream on standard input and prints one line a case (docs/CONFORMANCE.md).
 // Operations 01 to 09; any other ends the stream with `refused`.
+#![tactic(auto)]
+
 ghost use Rattle.std.specs.Prelude.{◌*◌, ◌≤◌, ◌<◌, length};
 ghost use Rattle.circuit.specs.Rooms.{gate_room};
 

@@ -1,6 +1,8 @@
 // Reads a stream of cases on standard input, each a batch to be fed in pieces, and prints the report of each and an empty line.
 // A case is a two-byte size of its pieces (0 for 65,536), a four-byte length and so many bytes. The file `stdout` has what
 // the implementation in compare/ printed, which was not written from this code.
+#![tactic(auto)]
+
 ghost use Rattle.std.specs.Prelude.{◌+◌, ◌≤◌, length};
 
 use libc::{STDIN_FILENO, STDOUT_FILENO};

@@ -1,5 +1,7 @@
 // Prints what reading answers for many files made by plain loops. The file `stdout` has the lines that
 // the implementation in compare/ printed, which was not written from this code.
+#![tactic(auto)]
+
 ghost use Rattle.std.specs.Prelude.{◌<◌, ◌≤◌};
 ghost use Rattle.io.specs.Counts.{IsPrefixLen};
 

@@ -115,6 +115,8 @@ pub data Tells : List Row → List TableRow → Type 1 where
 
 pub tests_tell : (T : List Row) (l : List TableRow) → map (λ (t : Row). t.refuses) T ≡ numbers l → Tells T l → Outcome l (first_failing T)
 tests_tell [] [] e none = inl (tt, refl)
+tests_tell [] (_ ∷ l) e x = elim x [ ]
+tests_tell (t ∷ T) [] e x = elim x [ ]
 tests_tell (t ∷ T) (row n fact ∷ l) e ((to, back) then rest) =
     split t.holds
     (λ u. rw u (go (to u) (tests_tell T l (ap (drop 1) e) (rest (to u)))))

@@ -1,5 +1,7 @@
 // Document 01, "The fused circuit file", and document 02, C-11: the figures of a circuit file of any origin that passes rows 60 to 62, worked out from its bytes record by record.
 // The figures lie in an array of plain numbers, and beside it which wires are bits; a wire's number in hand is a `WireId`.
+#![tactic(auto)]
+
 ghost use Rattle.std.specs.Prelude.{◌≡◌, cond, map, [], ◌∷◌, ℕ, ◌+◌, ◌*◌, ◌^◌, ◌<◌, ◌≤◌, length, get_or};
 ghost use Rattle.base.specs.Numbers.{number_at};
 ghost use Rattle.base.specs.Buffers.{over};

@@ -1,4 +1,6 @@
 // Document 02, C-11: rows 60 and 61 of a circuit file, as tests over its bytes: its head, and its records laid out one after another.
+#![tactic(auto)]
+
 ghost use Rattle.std.specs.Prelude.{◌≡◌, cond, ◌+◌, ◌*◌, ◌≤◌, ◌<◌, leb, length, get_or};
 ghost use Rattle.file.specs.Versions.{most_guard_wires, table_bytes};
 ghost use Rattle.file.specs.FileFigures.{version_in, size_at, first_record};

@@ -1,5 +1,7 @@
 // Document 01, "The fused circuit file": a record in the bytes of a circuit file: the wire at a place, the record's size, whether its wire is a bit.
 // Which wires are bits lies in an array of plain truth values; a wire's number in hand is a `WireId`.
+#![tactic(auto)]
+
 ghost use Rattle.std.specs.Prelude.{◌≡◌, false, ◌+◌, ◌<◌, ◌≤◌, length, get_or};
 ghost use Rattle.base.specs.Numbers.{number_at};
 ghost use Rattle.base.specs.Lists.{Inside};

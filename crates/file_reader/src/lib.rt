@@ -1,4 +1,6 @@
 // Document 02, C-11: circuit files from any house: read, one record of them shown, and run.
+#![tactic(auto)]
+
 ghost use Rattle.std.specs.Prelude.{◌≡◌, ◌<◌, length, take, drop};
 ghost use Rattle.base.specs.Inputs.{inputs_row};
 ghost use Rattle.file.specs.WireKinds.{wire_kind};
@@ -61,7 +63,7 @@ fn record_place(file: &[u8], wire: WireId) -> usize
 
 // Where a part of a file begins, and how many bytes it has.
 #[repr(C)]
-#[derive(Drop)]
+#[derive(Clone, Copy)]
 pub struct Part {
     pub start: usize,
     pub length: usize,

@@ -1,5 +1,7 @@
 // Document 02, C-11, row 62: the records of a circuit file that is laid out, and its outputs: inputs first, earlier wires only, kinds as the table says, no table
 // bit too many. Which wires are bits lies in an array that is filled record by record. A record's number is its wire's, a `WireId`.
+#![tactic(auto)]
+
 ghost use Rattle.std.specs.Prelude.{◌≡◌, true, cond, ◌&&◌, ◌+◌, ◌*◌, ◌^◌, ◌<◌, ◌≤◌, eqb, ltb, length, get_or};
 ghost use Rattle.base.specs.Lists.{every};
 ghost use Rattle.base.specs.Numbers.{number_at};

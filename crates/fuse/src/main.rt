@@ -1,4 +1,6 @@
 // Reads rule.rul and rule.pln in the current folder, writes fused.cir there if the plan is accepted, and prints one line.
+#![tactic(auto)]
+
 ghost use Rattle.std.specs.Prelude.{◌≡◌, true, ◌≤◌, eqb, length};
 ghost use Rattle.io.specs.Counts.{IsPrefixLen};
 ghost use Rattle.base.specs.Buffers.{over};
@@ -70,7 +72,7 @@ fn save(bytes: &[u8]) -> bool {
 }
 
 // What is to be saved and printed: whether there is a file, and how many bytes of the file and of the line stand in their buffers.
-#[derive(Drop)]
+#[derive(Clone, Copy)]
 struct Fused {
     accepted: bool,
     bytes: usize,

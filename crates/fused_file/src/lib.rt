@@ -1,5 +1,7 @@
 // Document 01, "The fused circuit file": the whole file put together from lent arrays, its head, the records of the groups in the order of writing, each group's
 // behind the last record written, and the outputs; and what the records come to, before they are written.
+#![tactic(auto)]
+
 ghost use Rattle.std.specs.Prelude.{◌≡◌, List, ◌∷◌, ◌++◌, map, ℕ, ◌+◌, ◌*◌, ◌≤◌, ◌<◌, length, get_or, replicate};
 ghost use Rattle.base.specs.Lists.{upto};
 ghost use Rattle.base.specs.Numbers.{bytes_of};
@@ -79,7 +81,7 @@ pub fn measure(
 }
 
 // What is written of a group: its bytes and how many records they are.
-#[derive(Drop)]
+#[derive(Clone, Copy)]
 struct Put {
     bytes: usize,
     wires: u16,

@@ -1,5 +1,7 @@
 // Document 01, "The fused circuit file": the record of a gate alone, written at the start of a lent buffer; and what every record is written with, a gate's wire and a
 // code with its wires. The lent arrays hold plain numbers; a gate's number in hand is a `GateId`, a wire's a `WireId`.
+#![tactic(auto)]
+
 ghost use Rattle.std.specs.Prelude.{◌≡◌, ◌∷◌, [], ◌<◌, ◌≤◌, length, get_or};
 ghost use Rattle.base.specs.Numbers.{bytes_of};
 ghost use Rattle.base.specs.Buffers.{over};

@@ -1,5 +1,7 @@
 // Document 01, "The fused circuit file": the records of a joined group, written at the start of a lent buffer: a guard for each member, a pick for each argument place,
 // the operation. Document 02, C-18: no pick where the members' wires are equal, no guards where no pick remains.
+#![tactic(auto)]
+
 ghost use Rattle.std.specs.Prelude.{◌≡◌, cond, ◌∷◌, [], map, ◌+◌, ◌*◌, ◌<◌, ◌≤◌, length, get_or};
 ghost use Rattle.base.specs.Buffers.{over};
 ghost use Rattle.base.specs.SettingLists.{conditions_in, Lists};
@@ -162,7 +164,7 @@ fn put_pick(
 }
 
 // Which of the two argument places of a joined group have a pick: those at which its members' wires differ.
-#[derive(Drop)]
+#[derive(Clone, Copy)]
 pub struct Picks {
     pub first: bool,
     pub second: bool,

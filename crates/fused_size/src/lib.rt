@@ -1,4 +1,6 @@
 // Document 01, "The fused circuit file": what the records of one group come to, before they are written.
+#![tactic(auto)]
+
 ghost use Rattle.std.specs.Prelude.{◌≡◌, List, ◌∷◌, [], ℕ, ◌<◌};
 ghost use Rattle.plan.specs.PlanFile.{group_at};
 ghost use Rattle.fused_size.specs.Sizes.{rested_by, GuardsSized, PlaceSized, Measured};
@@ -11,7 +13,7 @@ use circuit::{GATE_ROOM, GateId, NEED_WORDS, QUAD_ROOM};
 use fused_group::Picks;
 
 // What the records of a group come to.
-#[derive(Drop)]
+#[derive(Clone, Copy)]
 pub struct Size {
     pub wires: usize,
     pub bytes: usize,
@@ -72,7 +74,7 @@ fn rested_by(plan: &[u8], at: usize, needs: &[u64; NEED_WORDS]) -> usize
 }
 
 // The bytes and the cost of the guards of a group, or of a pick.
-#[derive(Drop)]
+#[derive(Clone, Copy)]
 struct Part {
     bytes: usize,
     cost: usize,

@@ -1,4 +1,6 @@
 // Writes the fused circuit of a rule and a plan: the plan is checked, the file measured, and then written where there is room for it.
+#![tactic(auto)]
+
 ghost use Rattle.std.specs.Prelude.{◌≡◌, ◌≤◌, length, replicate};
 ghost use Rattle.base.specs.Buffers.{over};
 ghost use Rattle.base.specs.Answers.{success};
@@ -28,7 +30,7 @@ fn counted(read: Answer, size: Size, bytes: usize) -> Answer
 }
 
 // A fused circuit that is checked and measured, and not written: the answer with all five counts, and how many groups it has.
-#[derive(Drop)]
+#[derive(Clone, Copy)]
 pub struct Prepared {
     pub answer: Answer,
     pub groups: usize,

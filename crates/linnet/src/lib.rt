@@ -1,4 +1,6 @@
 // The tool as C and Rust call it: each operation passed on, with the promise that it has, and with what the demands say of the very bytes and words that it is lent.
+#![tactic(auto)]
+
 ghost use Rattle.std.specs.Prelude.{◌≡◌, length, take, drop};
 ghost use Rattle.base.specs.SetsHeld.{sets_in};
 ghost use Rattle.circuit.specs.Whole.{rule_answer};
@@ -38,7 +40,7 @@ pub extern "C" fn linnet_run_rule(rule: &[u8], inputs: &[u32], results: &mut [u3
 
 // A plain circuit shown, laid out as C lays it out; the quads of the gates are its rows.
 #[repr(C)]
-#[derive(Drop)]
+#[derive(Clone, Copy)]
 pub struct Shown {
     pub answer: Answer,
     pub rows: [u32; QUAD_ROOM],

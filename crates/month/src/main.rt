@@ -1,4 +1,6 @@
 // Reads a batch on standard input and prints its report: a line for each entry, then the total, or `refused 75`. Writes no circuit.
+#![tactic(auto)]
+
 ghost use Rattle.std.specs.Prelude.{◌≤◌, ◌<◌, ◌≡◌, length};
 ghost use Rattle.report.specs.Bounds.{Within};
 
@@ -13,7 +15,7 @@ const OUT: usize = 65536;
 
 // Whether and when the progress line is shown: `on` where standard error is a terminal; `second` the last one seen; `passed` once the clock has
 // gone on by one, so that a whole second has passed at the next; `shown` once the line was shown.
-#[derive(Drop)]
+#[derive(Clone, Copy)]
 struct Watch {
     on: bool,
     second: i64,

@@ -1,4 +1,6 @@
 // Checking a plan for a rule, rows 20 to 26, 32 and 27 to 30 after the rule's own, and what the layers above need of an accepted plan.
+#![tactic(auto)]
+
 ghost use Rattle.std.specs.Prelude.{◌≡◌, replicate};
 ghost use Rattle.base.specs.Answers.{refusal};
 ghost use Rattle.plan.specs.Rows.{plan_answer};
@@ -11,7 +13,7 @@ use circuit::{CONDITION_ROOM, GATE_ROOM, NEED_WORDS, QUAD_ROOM, VARIABLE_ROOM};
 use plan_order::Order;
 
 // A plan checked: its answer, and how many groups it has, none where it is refused.
-#[derive(Drop)]
+#[derive(Clone, Copy)]
 pub struct Checked {
     pub answer: Answer,
     pub groups: usize,

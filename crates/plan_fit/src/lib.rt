@@ -1,5 +1,7 @@
 // Document 01, "The plan file and its check" and "Refusals by place", with document 02's C-15: rows 32 and 27 to 29 of a plan, whether its groups stand in
 // order and the members of each fit together. Each row is a pass over the whole file; the groups are known to lie in the file.
+#![tactic(auto)]
+
 ghost use Rattle.std.specs.Prelude.{◌≡◌, ℕ, ◌<◌, ltb};
 ghost use Rattle.base.specs.Codes.{code_of};
 ghost use Rattle.circuit_needed.specs.Held.{code_at, gate_in, gates_in};

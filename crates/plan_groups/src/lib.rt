@@ -1,5 +1,7 @@
 // Document 01, "The plan file and its check" and "Refusals by place": rows 20 to 26 of a plan, and each gate's group.
 // Each row is a pass over the whole file, in the order of their numbers; from row 24 on the groups are known to lie in the file.
+#![tactic(auto)]
+
 ghost use Rattle.std.specs.Prelude.{◌≡◌, ◌&&◌, true, ◌<◌, ◌≤◌, eqb, leb, ltb, length, get_or, take, replicate};
 ghost use Rattle.base.specs.Lists.{every, same};
 ghost use Rattle.circuit.specs.Limits.{most_gates};

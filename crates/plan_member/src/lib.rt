@@ -1,4 +1,6 @@
 // Document 01, "The plan file and its check": reading a member of a group in a plan's bytes. The definitions and theorems of the plan's check are in `plan`.
+#![tactic(auto)]
+
 ghost use Rattle.std.specs.Prelude.{◌≡◌, ◌≤◌, ◌<◌, length, get_or};
 ghost use Rattle.plan.specs.PlanFile.{group_at, after};
 

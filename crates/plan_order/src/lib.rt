@@ -1,5 +1,7 @@
 // Document 01, "The fused circuit file", Order, and row 30 of "Refusals by place": the next ready group, again and again.
 // Sets of groups and the table of waits lie as `plan_waits` keeps them.
+#![tactic(auto)]
+
 ghost use Rattle.std.specs.Prelude.{◌≡◌, true, reverse, ◌*◌, ◌<◌, ◌≤◌, length, get_or, replicate};
 ghost use Rattle.base.specs.Buffers.{over};
 ghost use Rattle.base.specs.Bits.{bit};
@@ -25,14 +27,14 @@ const WAIT_WORDS: usize = base::SET_WORDS * GATE_ROOM;
 const NONE: u8 = 255;
 
 // What a search for a ready group yields: the first one, or that each unwritten group waits for one.
-#[derive(Drop)]
+#[derive(Clone, Copy)]
 pub enum Next {
     Group(GateId),
     Circle,
 }
 
 // Row 30: so many groups are placed, all of them; or a circle remains.
-#[derive(Drop)]
+#[derive(Clone, Copy)]
 pub enum Order {
     Placed(usize),
     Circle,

@@ -1,5 +1,7 @@
 // Document 01, "The plan file and its check": which group waits for which, as sets of groups.
 // A set of groups is four words, as `base_bits` keeps them. The waits are one such set for each group p, from word 4 * p on.
+#![tactic(auto)]
+
 ghost use Rattle.std.specs.Prelude.{◌≡◌, map, ◌+◌, ◌*◌, ◌<◌, ◌≤◌, length, get_or, replicate};
 ghost use Rattle.base.specs.SettingLists.{conditions_in, Lists};
 ghost use Rattle.circuit_needed.specs.Held.{gates_in};

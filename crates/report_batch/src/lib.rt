@@ -1,4 +1,6 @@
 // Document 02, C-16: a batch read step by step, one entry at most a step, from the bytes at hand.
+#![tactic(auto)]
+
 ghost use Rattle.std.specs.Prelude.{◌≡◌, true, cond, ◌+◌, ◌-◌, ◌≤◌, ◌<◌, length, take, drop};
 ghost use Rattle.base.specs.Lists.{same};
 ghost use Rattle.base.specs.Buffers.{over};

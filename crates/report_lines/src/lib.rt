@@ -1,4 +1,6 @@
 // The line that a program prints for an answer, and the last line of a report.
+#![tactic(auto)]
+
 ghost use Rattle.std.specs.Prelude.{◌≡◌, ◌++◌, ◌≤◌, length};
 ghost use Rattle.base.specs.Buffers.{over};
 ghost use Rattle.base.specs.Lists.{flat};

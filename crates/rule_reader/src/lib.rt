@@ -1,4 +1,6 @@
 // Reads a rule file: any bytes are taken, or refused by a number and a place.
+#![tactic(auto)]
+
 ghost use Rattle.std.specs.Prelude.{◌≡◌, true, ◌+◌, ◌≤◌, ◌<◌, length};
 ghost use Rattle.base.specs.Answers.{answer_of};
 ghost use Rattle.base.specs.Parsing.{step_of};

@@ -1,4 +1,6 @@
 // Runs a rule directly on its inputs: rows 40 to 42, and every result variable's figure at its end.
+#![tactic(auto)]
+
 ghost use Rattle.std.specs.Prelude.{◌≡◌, ◌≤◌, map, length, get_or};
 ghost use Rattle.base.specs.Lists.{upto};
 ghost use Rattle.base.specs.Buffers.{over};

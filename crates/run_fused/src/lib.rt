@@ -1,4 +1,6 @@
 // Runs the fused circuit of a rule and a plan: writes it, then works its figures out from its own bytes.
+#![tactic(auto)]
+
 ghost use Rattle.std.specs.Prelude.{◌≡◌, length};
 ghost use Rattle.base.specs.Buffers.{over};
 ghost use Rattle.run.specs.Inputs.{input_row};

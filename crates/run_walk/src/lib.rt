@@ -1,4 +1,6 @@
 // Runs the blocks of an accepted rule over its bytes: statement by statement, on the variables' figures.
+#![tactic(auto)]
+
 ghost use Rattle.std.specs.Prelude.{◌≡◌, ◌+◌, ◌<◌, length, get_or};
 ghost use Rattle.base.specs.Parsing.{IsRead};
 ghost use Rattle.rule.specs.Expressions.{read_expr};
@@ -11,7 +13,7 @@ use base::{Form, Kind, Step};
 use circuit::VARIABLE_ROOM;
 
 // An expression's figure, and the place after the expression.
-#[derive(Drop)]
+#[derive(Clone, Copy)]
 struct Value {
     pub figure: u32,
     pub next: usize,
