@@ -1,0 +1,10 @@
+use Rattle.std.proofs.Common.{◌≡◌, ℕ, ◌-◌, ◌≤◌, List, length, get_or, take, set, sym, refl, ap, ◌∙◌, length-set, rules}
+use Rattle.base.specs.Buffers.{over}
+use Rattle.base.specs.BufferLaws.{over_nil, copy_more, copy_all}
+use Rattle.base_words.proofs.copy32.Given as goal
+
+abbrev pub invariant-loop-i : goal.invariant-loop-i
+invariant-loop-i l = (l.i ≤ length l.from) × (length l.to ≡ length l.initial.to) × (l.to ≡ over (take l.i l.from) l.initial.to)
+
+abbrev pub decreases-loop-i : goal.decreases-loop-i
+decreases-loop-i l = length l.from - l.i
