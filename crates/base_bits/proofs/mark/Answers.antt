@@ -4,11 +4,7 @@ use native.Mathlib.Omega.{arith}
 use Prim.Native.Nat.{◌%◌}
 use lib.Pow.{shl_exact}
 use borrow.Author.Rules.{rules}
-use Rattle.base_bits.proofs.mark.Statement.{statement}
-use Rattle.base_bits.proofs.mark.Tie as tie
+use Rattle.base_bits.proofs.mark.Goals as goal
 
-returns : tie.Need-returns
+pub returns : goal.returns
 returns c = shl_exact {a = 1} 1 (c.args.q % 64) 64 (omega arith) (omega arith) ∙ one-mul _
-
-pub mark_spec : {M : Type 1} → statement M
-mark_spec = tie.close (tie.spec (λ c. search rules) (λ c. search rules) returns)
