@@ -79,7 +79,8 @@ def turn(path, names):
         inner = re.search(r"/proofs/.+/[^/]*$", path)
         new = lines(text, "--", names, imported(text), FIELDS) if inner else lines(text, "--", names)
     elif path.endswith(".rt"):
-        new = lines(text, "//", names)
+        # a name of neither a dash nor two cases may be a function's
+        new = lines(text, "//", {a: b for a, b in names.items() if not re.fullmatch(r"[a-z0-9_]+", a)})
     elif path.endswith(".edit"):
         new = "\n".join(l if l.startswith(("#", "file:")) else code(l, names) for l in text.split("\n"))
     else:

@@ -17,7 +17,7 @@ pub fn start_kind(b: u8) -> Kind
     if b == 1 { Kind::Bit } else { Kind::Word }
 }
 
-pub fn same_kind_lem(a: Kind, b: Kind) -> bool
+pub fn same_kind(a: Kind, b: Kind) -> bool
     ensures { result ≡ same_kind a b }
 {
     match a {

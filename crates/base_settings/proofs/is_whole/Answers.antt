@@ -5,16 +5,10 @@ use Rattle.base.specs.BitWords.{joined}
 use Rattle.base.specs.BitJoinedLaws.{every_word}
 use Rattle.base.specs.SetsHeld.{set_of}
 use Rattle.base_settings.proofs.Fits.{fits}
-use Rattle.base_settings.proofs.is_whole.Statement.{statement}
-use Rattle.base_settings.proofs.is_whole.Tie as tie
+use Rattle.base_settings.proofs.is_whole.Goals as goal
 
-returns : tie.Need-returns
+pub returns : goal.returns
 unfolding set_of joined collect
-returns c =
-    let c0 = c.before.before.before in
-    let s = c0.args.s in
-    let f = fits s c0.well-formed.0.1.1 in
+returns c = let s = c.args.s in
+    let f = fits s c.well_formed.0.1.1 in
     every_word s.w0 (s.w1 ∷ s.w2 ∷ s.w3 ∷ []) (f 0) (λ i. f (suc i))
-
-pub is-whole-spec : {M : Type 1} → statement M
-is-whole-spec = tie.close (tie.spec returns)

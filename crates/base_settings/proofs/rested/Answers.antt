@@ -1,0 +1,36 @@
+use mathlib.Core.Path.{sym, ◌∙◌}
+use mathlib.Core.Logic.{⊎_elim}
+use Prim.Native.Nat.{◌-◌}
+use native.Mathlib.Omega.{arith}
+use borrow.Author.Rules.{rules}
+use Rattle.base.specs.SetLimits.{set_conditions}
+use Rattle.base.specs.Sets.{rests_on}
+use Rattle.base.specs.SetsHeld.{set_of}
+use Rattle.base_settings.proofs.Laws.{Listing, listing_start, listing_room, listing_in, listing_out, listing_end}
+use Rattle.base_settings.proofs.rested.Goals as goal
+use Rattle.base_settings.proofs.rested.Goals.{then-rests_on, else-rests_on}
+
+pub loop-t-init : goal.loop-t-init
+loop-t-init c = listing_start set_conditions _
+
+pub bounds-at-i : goal.bounds-at-i
+bounds-at-i c = listing_room _ _ _ _ _ _ c.loop-t.invariant c.loop-t-test.true
+
+pub overflow_cast-i : goal.overflow_cast-i
+overflow_cast-i c = record { fits = omega (arith, bounds-at-i c) }
+
+pub overflow_add-k : goal.overflow_add-k
+overflow_add-k c = let r = listing_room _ _ _ _ _ _ c.loop-t.invariant c.loop-t-test.true in record { fits = omega (arith, r) }
+
+pub loop-t-preserved : goal.loop-t-preserved
+loop-t-preserved c =
+    let z = c.loop-t.invariant in
+    let h = c.loop-t-test.true in
+    let e = sym c.rests_on.ensures in
+    elim c.if-rests_on.branch [
+      | then-rests_on w ↦ listing_in _ _ _ _ _ _ _ _ _ _ z h (e ∙ w.if-rests_on.true) w.at-is w.power-on.ensures w.on-is w.k-is
+      | else-rests_on w ↦ listing_out _ _ _ _ _ _ _ _ _ z h (e ∙ w.if-rests_on.false) w.at-is w.on-is w.k-is
+    ]
+
+pub returns : goal.returns
+returns c = let r = listing_end _ _ _ _ _ _ c.loop-t.invariant c.loop-t-test.false in record { counted = r.0; listed = r.1.0; chosen = r.1.1 }
