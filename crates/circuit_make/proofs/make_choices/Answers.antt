@@ -1,0 +1,20 @@
+use mathlib.Core.Path.{sym, ◌∙◌}
+use mathlib.Core.Logic.{⊎_elim}
+use Prim.Native.Nat.{◌-◌}
+use borrow.Author.Rules.{rules}
+use Rattle.circuit_make.specs.Holding.{ChosenTo}
+use Rattle.circuit_make.specs.ChoiceLaws.{chosen_none, chosen_not, chosen_one, chosen_all}
+use Rattle.circuit_make.proofs.make_choices.Goals as goal
+
+pub loop-x-init : goal.loop-x-init
+loop-x-init c = let a = c.args in
+    chosen_none a.condition.0 a.first.now a.second.now a.assigned a.v a.quads.now a.present.now a.count
+
+pub loop-x-preserved : goal.loop-x-preserved
+loop-x-preserved c = ?
+
+pub returns : goal.returns
+returns c = let a = c.args in
+    let l = c.loop-x in
+    chosen_all a.condition.0 a.first.now a.second.now a.assigned a.v a.quads.now a.present.now a.count l.x l.n l.quads
+    l.present l.invariant c.loop-x-test.false

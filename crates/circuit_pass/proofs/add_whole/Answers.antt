@@ -1,0 +1,6 @@
+use mathlib.Core.Path.{refl, ◌∙◌}
+use borrow.Author.Rules.{rules}
+use Rattle.circuit_pass.proofs.add_whole.Goals as goal
+
+pub returns : goal.returns
+returns c = c.store.ensures ∙ rw (c.with_whole.ensures, c.load-old.ensures) refl

@@ -1,0 +1,19 @@
+use borrow.Author.Rules.{rules}
+use mathlib.Core.Path.{refl}
+use Prim.Native.Nat.{◌-◌}
+use lib.ListN.{length}
+use Rattle.base.specs.SetsHeld.{sets_in}
+use Rattle.circuit_needed.specs.PassingLaws.{Wanting, wanting_start, wanting_inside, wanting_step, wanting_end}
+use Rattle.circuit_pass.proofs.want_all.Goals as goal
+
+pub loop-x-init : goal.loop-x-init
+loop-x-init c = wanting_start _ _ c.requires
+
+pub add_whole-requires : goal.add_whole-requires
+add_whole-requires c = wanting_inside _ _ _ _ _ c.loop-x.invariant c.loop-x-test.true refl
+
+pub loop-x-preserved : goal.loop-x-preserved
+loop-x-preserved c = wanting_step _ _ _ _ _ _ c.loop-x.invariant c.loop-x-test.true refl c.add_whole.ensures
+
+pub returns : goal.returns
+returns c = wanting_end _ _ _ _ c.loop-x.invariant c.loop-x-test.false
