@@ -17,4 +17,4 @@ returns c = let x = c.args in
     let p = c.part-parts.ensures in
     let t = c.rank_of-t.ensures in
     choice_sets (get_or x.ranks.now x.c.0 0 - 1) x.c.0 x.a.0 x.b.0 (set_of x.s) _ _ (sets_in x.sets.now) _ _ _ c.add.ensures
-    (p.0 ∙ ap (λ (k : ℕ). given most_settings k (set_of x.s)) t) c.add-2.ensures (p.1 ∙ ap (λ (k : ℕ). without most_settings k (set_of x.s)) t) c.add-3.ensures
+    (p.given ∙ ap (λ (k : ℕ). given most_settings k (set_of x.s)) t) c.add-2.ensures (p.without ∙ ap (λ (k : ℕ). without most_settings k (set_of x.s)) t) c.add-3.ensures

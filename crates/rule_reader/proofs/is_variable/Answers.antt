@@ -8,8 +8,7 @@ use Rattle.base.specs.ParsingLaws.{some_left}
 use Rattle.base.specs.Parsing.{step_of}
 use Rattle.rule.specs.Expressions.{read_variable}
 use Rattle.rule.specs.ExpressionLaws.{expr_variable}
-use Rattle.rule_reader.proofs.is_variable.Statement.{statement}
-use Rattle.rule_reader.proofs.is_variable.Tie as tie
+use Rattle.rule_reader.proofs.is_variable.Goals as goal
 
 -- two bytes stand from at on
 module _ (n at v : ℕ) (h : 6 + v ≤ n) (l : at ≤ n - 2) where
@@ -19,19 +18,18 @@ module _ (n at v : ℕ) (h : 6 + v ≤ n) (l : at ≤ n - 2) where
   second-there : at + 1 < n
   second-there = omega arith
 
-sub-if2 : tie.Need-overflow-sub-if2
-sub-if2 c = omega (arith, c.before.before.requires)
+pub overflow_sub-s : goal.overflow_sub-s
+overflow_sub-s c = omega (arith, c.requires)
 
-shared-slice-read-if3 : tie.Need-shared-slice-read-if3
-shared-slice-read-if3 c = first-there _ _ _ c.before.before.before.before.requires c.before.if2.false
+pub bounds-s-at : goal.bounds-s-at
+bounds-s-at c = first-there _ _ _ c.requires c.if-s-at.false
 
-shared-slice-read-x : tie.Need-shared-slice-read-x
-shared-slice-read-x c = second-there _ _ _ c.before.before.before.before.before.before.requires c.before.before.before.if2.false
+pub bounds-s-at-2 : goal.bounds-s-at-2
+bounds-s-at-2 c = second-there _ _ _ c.requires c.if-s-at.false
 
-returns-5 : tie.Need-returns-5
+pub returns : goal.returns
 unfolding read_variable
-returns-5 c e =
-    let d = c.before.before.before.before.before.before.before.before.before.before in
+returns c c = let d = c.before.before.before.before.before.before.before.before.before.before in
     let a = d.args in
     let l = c.before.before.before.before.before.before.before.if2.false in
     let b = second-there _ _ _ d.requires l in (
@@ -45,20 +43,3 @@ returns-5 c e =
             sym c.same_kind.ensures ∙ e,
           )),
     )
-
-pub is-variable-spec : {M : Type 1} → statement M
-is-variable-spec =
-    tie.close
-    (tie.spec
-    (λ c e. absurd (false≢true e))
-    sub-if2
-    (λ c e. absurd (false≢true e))
-    shared-slice-read-if3
-    (λ c e. absurd (false≢true e))
-    (λ c. search rules)
-    shared-slice-read-x
-    (λ c. search rules)
-    (λ c e. absurd (false≢true e))
-    (λ c κs. search rules)
-    (λ c κs. search rules)
-    returns-5)

@@ -1,0 +1,14 @@
+use borrow.Author.Rules.{rules}
+use Prim.Native.Nat.{◌≤◌}
+use mathlib.Core.Path.{◌≡◌, refl, sym, ap, ◌∙◌}
+use lib.ListN.{length}
+use Rattle.base.specs.Parsing.{step_of}
+use Rattle.rule.specs.Header.{read_kinds}
+use Rattle.rule.specs.RuleLaws.{kinds_none, kinds_short, kinds_wrong, kinds_more}
+use Rattle.rule_reader.proofs.read_kinds.Given as goal
+
+abbrev pub invariant-loop-left : goal.invariant-loop-left
+invariant-loop-left l = (l.at ≤ length l.s) × (read_kinds l.count l.s l.from ≡ read_kinds l.left l.s l.at)
+
+abbrev pub decreases-loop-left : goal.decreases-loop-left
+decreases-loop-left l = l.left
