@@ -29,17 +29,16 @@ bounds-s-at-2 c = second-there _ _ _ c.requires c.if-s-at.false
 
 pub returns : goal.returns
 unfolding read_variable
-returns c c = let d = c.before.before.before.before.before.before.before.before.before.before in
-    let a = d.args in
-    let l = c.before.before.before.before.before.before.before.if2.false in
-    let b = second-there _ _ _ d.requires l in (
+returns c e = let a = c.args in
+    let l = c.if-s-at.false in
+    let b = second-there _ _ _ c.requires l in (
       b,
-      sym (ap step_of (expr_variable a.deep a.s.now a.want a.at (first-there _ _ _ d.requires l) c.before.before.before.before.before.if3.false)
+      sym (ap step_of (expr_variable a.deep a.s.now a.want a.at (first-there _ _ _ c.requires l) c.if-s-at-ne-VARIABLE.false)
           ∙ rw (
-            some_left _ c.before.before.before.before.before.before.before.before.if1.false,
+            some_left _ c.if-deep-eq0.false,
             lt-ltb _ _ b,
-            lt-ltb _ _ c.before.before.if4.false,
-            ← c.before.kind_at.ensures,
+            lt-ltb _ _ c.if-s-x.false,
+            ← c.kind_at.ensures,
             sym c.same_kind.ensures ∙ e,
           )),
     )

@@ -26,7 +26,7 @@ returns-then-not-same_kind c = rw (
   lt-ltb _ _ c.if-s-x.false,
   ← c.kind_at.ensures,
   sym
-      c.same_kind.ensures ∙ not-true _ c.if-not-same_kind.true,
+      c.same_kind.ensures ∙ c.if-not-same_kind.true,
 )
 
 pub returns : goal.returns
@@ -38,5 +38,5 @@ returns c = rw (
   lt-ltb _ _ c.if-s-x.false,
   ← c.kind_at.ensures,
   sym
-      c.same_kind.ensures ∙ not-false _ c.if-not-same_kind.false,
+      c.same_kind.ensures ∙ c.if-not-same_kind.false,
 )

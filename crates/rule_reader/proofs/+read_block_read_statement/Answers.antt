@@ -1,0 +1,108 @@
+use mathlib.Core.Path.{◌≡◌, refl, sym, ap, ◌∙◌}
+use native.Mathlib.Omega.{arith}
+use lib.ListN.{length}
+use Rattle.base.specs.declared.Kind.TheVariants.{Bit}
+use Rattle.base.specs.declared.Form.TheVariants as form
+use Rattle.base.specs.Parsing.{step_of}
+use Rattle.base.specs.ParsingLaws.{forward_past}
+use Rattle.rule.specs.Limits.{deepest}
+use Rattle.rule.specs.Expressions.{read_expr}
+use Rattle.rule.specs.ExpressionLaws.{expr_forward}
+use Rattle.rule.specs.Blocks.{read_block, read_statement}
+use Rattle.rule.specs.FuelLaws.{block_forward, statement_forward}
+use Rattle.rule_reader.proofs.Arms.{no_statement}
+use Rattle.rule.specs.BlockLaws.{statement_as, branch_deep, branch_refused, branch_first, branch_second, block_short, block_end, block_refused, block_more}
+use borrow.Author.Rules.{rules}
+use Prim.Native.Nat.{ℕ, ◌+◌, ◌-◌, ◌*◌, ◌<◌, ◌≤◌}
+use Rattle.rule_reader.proofs.+read_block_read_statement.Goals as goal
+
+pub read_block-loop-here-smaller : goal.read_block-loop-here-smaller
+read_block-loop-here-smaller t c = let a = c.args in
+    let l = c.loop-here in
+    omega (
+      arith,
+      forward_past (read_statement a.s.now a.nest l.here) (statement_forward a.s.now a.nest l.here)
+          (sym c.in-Past.is ∙ c.read_statement.ensures),
+    )
+
+pub read_block-loop-here-preserved : goal.read_block-loop-here-preserved
+read_block-loop-here-preserved t c = let a = c.args in
+    let l = c.loop-here in
+    let step = sym c.in-Past.is ∙ c.read_statement.ensures in (
+      omega (arith, forward_past (read_statement a.s.now a.nest l.here) (statement_forward a.s.now a.nest l.here) step),
+      block_more a.s.now a.nest l.here c.if-s-here.false c.if-s-here-eq0.false step
+          ∙ l.invariant.1,
+    )
+
+pub read_block-returns-in-Refused : goal.read_block-returns-in-Refused
+read_block-returns-in-Refused t c = let a = c.args in
+    let l = c.loop-here in
+    block_refused a.s.now a.nest l.here c.if-s-here.false c.if-s-here-eq0.false
+    (sym c.in-Refused.is ∙ c.read_statement.ensures) ∙ l.invariant.1
+
+pub read_statement-read_block-requires : goal.read_statement-read_block-requires
+read_statement-read_block-requires t c = let a = c.args in
+    omega (
+      arith,
+      forward_past (read_expr deepest a.s.now Bit (a.at + 1)) (expr_forward deepest a.s.now Bit (a.at + 1))
+          (sym c.in-Past.is ∙ c.read_expr.ensures),
+    )
+
+pub read_statement-read_block-requires-in-Past-read_block : goal.read_statement-read_block-requires-in-Past-read_block
+read_statement-read_block-requires-in-Past-read_block t c = let a = c.args in
+    let first = c.in-Past.first in
+    omega (
+      arith,
+      forward_past (read_expr deepest a.s.now Bit (a.at + 1)) (expr_forward deepest a.s.now Bit (a.at + 1))
+          (sym c.in-Past.is ∙ c.read_expr.ensures),
+      forward_past (read_block a.s.now (a.nest - 1) first) (block_forward a.s.now (a.nest - 1) first)
+          (sym c.in-Past-read_block.is ∙ c.read_block.ensures),
+    )
+
+pub read_statement-returns-in-Past-read_block : goal.read_statement-returns-in-Past-read_block
+read_statement-returns-in-Past-read_block t c = let a = c.args in
+    branch_second a.s.now a.nest a.at c.code_of-c.result
+    c.code_of-c.ensures
+    c.in-Branch.is
+    c.if-nest-eq0.false
+    (sym c.in-Past.is ∙ c.read_expr.ensures)
+    (sym c.in-Past-read_block.is ∙ c.read_block.ensures) c.read_block-in-Past-read_block.ensures
+
+pub read_statement-returns-in-Refused-read_block : goal.read_statement-returns-in-Refused-read_block
+read_statement-returns-in-Refused-read_block t c = let a = c.args in
+    branch_first a.s.now a.nest a.at c.code_of-c.result
+    c.code_of-c.ensures
+    c.in-Branch.is
+    c.if-nest-eq0.false
+    (sym c.in-Past.is ∙ c.read_expr.ensures)
+    (sym c.in-Refused-read_block.is ∙ c.read_block.ensures)
+
+pub read_statement-returns-in-Refused : goal.read_statement-returns-in-Refused
+read_statement-returns-in-Refused t c = let a = c.args in
+    branch_refused a.s.now a.nest a.at c.code_of-c.result
+    c.code_of-c.ensures c.in-Branch.is
+    c.if-nest-eq0.false (sym c.in-Refused.is ∙ c.read_expr.ensures)
+
+pub read_statement-returns-in_default : goal.read_statement-returns-in_default
+read_statement-returns-in_default t c = let a = c.args in
+    let code = c.code_of-c.result in
+    ap step_of (sym (statement_as a.s.now a.nest a.at code code.form c.code_of-c.ensures refl
+    ∙ no_statement code.form (read_block a.s.now) a.s.now a.nest a.at c.in_default.not-Assign c.in_default.not-Skip c.in_default.not-Branch))
+
+pub read_block-loop-here-init : goal.read_block-loop-here-init
+read_block-loop-here-init t c = (search rules, refl)
+
+pub read_block-returns-then-s-here : goal.read_block-returns-then-s-here
+read_block-returns-then-s-here t c = let l = c.loop-here in ap step_of (sym (block_short _ _ _ c.if-s-here.true)) ∙ l.invariant.1
+
+pub read_block-returns-then-s-here-eq0 : goal.read_block-returns-then-s-here-eq0
+read_block-returns-then-s-here-eq0 t c = block_end _ _ _ c.if-s-here.false c.if-s-here-eq0.true ∙ c.loop-here.invariant.1
+
+pub read_statement-returns-then-nest-eq0 : goal.read_statement-returns-then-nest-eq0
+read_statement-returns-then-nest-eq0 t c = branch_deep _ _ _ _ c.code_of-c.ensures c.in-Branch.is c.if-nest-eq0.true
+
+pub read_statement-returns-in-Assign : goal.read_statement-returns-in-Assign
+read_statement-returns-in-Assign t c = c.read_assign.ensures ∙ ap step_of (sym (statement_as _ _ _ _ form.Assign c.code_of-c.ensures c.in-Assign.is))
+
+pub read_statement-returns-in-Skip : goal.read_statement-returns-in-Skip
+read_statement-returns-in-Skip t c = ap step_of (sym (statement_as _ _ _ _ form.Skip c.code_of-c.ensures c.in-Skip.is))
