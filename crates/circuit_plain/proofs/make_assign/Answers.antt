@@ -1,0 +1,66 @@
+use borrow.Author.Rules.{rules}
+use mathlib.Core.Path.{ap, subst⁻¹, ◌∙◌}
+use native.Mathlib.Omega.{arith}
+use Prim.Native.Nat.{ℕ, ◌+◌}
+use lib.ListN.{get_or}
+use Rattle.base.specs.declared.Kind.{Kind}
+use Rattle.base.specs.Parsing.{IsRead}
+use Rattle.base.specs.Sets.{has}
+use Rattle.rule.specs.Limits.{deepest}
+use Rattle.rule.specs.Expressions.{read_expr}
+use Rattle.rule.specs.FirstStatement.{assign_read}
+use Rattle.circuit_make.specs.ChoiceLaws.{only_bit}
+use Rattle.circuit_make.specs.StatementLaws.{made_assign}
+use Rattle.circuit_plain.proofs.make_assign.Goals as goal
+
+pub overflow_add-x : goal.overflow_add-x
+overflow_add-x c = let a = c.args in let r = assign_read a.s.now a.at c.requires.1 in omega (arith, r.inside)
+
+pub bounds-s-at : goal.bounds-s-at
+bounds-s-at c = let a = c.args in let r = assign_read a.s.now a.at c.requires.1 in r.inside
+
+pub overflow_add-at : goal.overflow_add-at
+overflow_add-at c = let a = c.args in let r = assign_read a.s.now a.at c.requires.1 in omega (arith, r.inside)
+
+pub kind_at-requires : goal.kind_at-requires
+kind_at-requires c = let a = c.args in
+    let r = assign_read a.s.now a.at c.requires.1 in
+    omega (arith, r.range, c.requires.0.kinds)
+
+pub make_argument-value-requires : goal.make_argument-value-requires
+make_argument-value-requires c = let a = c.args in
+    let r = assign_read a.s.now a.at c.requires.1 in (
+      c.requires.0,
+      subst⁻¹ (λ (k : Kind). IsRead (read_expr deepest a.s.now k (a.at + 2)))
+          c.kind_at.ensures r.value,
+    )
+
+pub overflow_cast-i : goal.overflow_cast-i
+overflow_cast-i c = let a = c.args in
+    let r = assign_read a.s.now a.at c.requires.1 in
+    omega (arith, r.range, c.requires.0.few)
+
+pub offset_bounds-present-i : goal.offset_bounds-present-i
+offset_bounds-present-i c = let a = c.args in
+    let r = assign_read a.s.now a.at c.requires.1 in
+    omega (arith, r.range, c.requires.0.few)
+
+pub bounds-present-i : goal.bounds-present-i
+bounds-present-i c = let a = c.args in
+    let r = assign_read a.s.now a.at c.requires.1 in
+    omega (arith, r.range, c.requires.0.few)
+
+pub only-requires : goal.only-requires
+only-requires c = let a = c.args in
+    let r = assign_read a.s.now a.at c.requires.1 in
+    omega (arith, r.range, c.requires.0.few)
+
+pub returns : goal.returns
+returns c = let a = c.args in record {
+  made = made_assign a.s.now a.at c.requires.1
+      c.requires.0.few a.present.now a.quads.now a.count c.make_argument-value.result.next
+      c.make_argument-value.result.gate.0 c.make_argument-value.result.count c.only.result _ c.kind_at.result
+      c.kind_at.ensures c.make_argument-value.ensures
+      (λ x. ap (λ (k : ℕ). has k x) c.only.ensures ∙ only_bit (get_or a.s.now (a.at + 1) 0) x);
+  small = search rules;
+}

@@ -1,0 +1,15 @@
+use mathlib.Core.Path.{◌≡◌, refl, ap, ◌∙◌}
+use native.Mathlib.Omega.{arith}
+use Prim.Native.Nat.{◌-◌}
+use borrow.Author.Rules.{rules}
+use Rattle.rule.specs.Header.{variables}
+use Rattle.base.specs.Codes.{start_code}
+use Rattle.circuit_make.specs.Holding.{Started}
+use Rattle.circuit_make.specs.ChoiceLaws.{started_none, started_more, started_all}
+use Rattle.circuit_plain.proofs.make_starts.Given as goal
+
+abbrev pub invariant-loop-x : goal.invariant-loop-x
+invariant-loop-x l = (l.v ≡ variables l.s) × Started l.s l.x l.quads l.present l.n
+
+abbrev pub decreases-loop-x : goal.decreases-loop-x
+decreases-loop-x l = l.v - l.x

@@ -1,0 +1,23 @@
+use borrow.Author.Rules.{rules}
+use native.Mathlib.Omega.{arith}
+use mathlib.Core.Logic.{⊎_elim}
+use Prim.Native.Nat.{◌-◌}
+use Rattle.circuit_needed.specs.RankLaws.{Numbering, numbering_start, numbering_fits, numbering_one, numbering_none, numbering_end}
+use Rattle.circuit_survey.proofs.number_marked.Goals as goal
+
+pub loop-g-init : goal.loop-g-init
+loop-g-init c = numbering_start _ _ c.requires
+
+pub overflow_add-t : goal.overflow_add-t
+overflow_add-t c = record { fits = omega (arith, numbering_fits _ _ _ _ _ c.loop-g.invariant) }
+
+pub loop-g-preserved : goal.loop-g-preserved
+loop-g-preserved c = let l = c.loop-g in
+    let t = c.loop-g-test.true in
+    ⊎_elim
+    (λ w. numbering_one _ _ _ _ _ _ _ l.invariant t w.0.taken w.1 w.2)
+    (λ w. numbering_none _ _ _ _ _ _ _ l.invariant t w.0.left w.1 w.2)
+    c.if-ranks-g-ne0.branch
+
+pub returns : goal.returns
+returns c = numbering_end _ _ _ _ _ c.loop-g.invariant c.loop-g-test.false

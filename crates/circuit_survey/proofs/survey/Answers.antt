@@ -1,0 +1,65 @@
+use borrow.Author.Rules.{rules}
+use native.Mathlib.Omega.{arith}
+use mathlib.Core.Path.{refl}
+use mathlib.Core.Logic.{⊎_elim}
+use Prim.Native.Nat.{◌-◌}
+use Rattle.circuit_needed.specs.SurveyLaws.{Surveying, survey_start, survey_bit, survey_inside, survey_few, survey_room, survey_choice, survey_other, survey_end}
+use Rattle.circuit_survey.proofs.survey.Goals as goal
+
+pub loop-i-init : goal.loop-i-init
+loop-i-init c = survey_start _ _ _ c.requires
+
+pub argument-c-requires : goal.argument-c-requires
+argument-c-requires c = (
+  omega (arith, c.loop-i.invariant.marking.room, c.loop-i-test.true),
+  survey_inside _ _ _ _ _ _ c.loop-i.invariant c.loop-i-test.true _ c.if-code-eq-CHOICE.true refl,
+)
+
+pub offset_bounds-ranks-at : goal.offset_bounds-ranks-at
+offset_bounds-ranks-at c = record {
+  fits = omega (
+    arith,
+    survey_inside _ _ _ _ _ _ c.loop-i.invariant c.loop-i-test.true _
+        c.if-code-eq-CHOICE.true c.argument-c.ensures,
+  );
+}
+
+pub bounds-ranks-at : goal.bounds-ranks-at
+bounds-ranks-at c = survey_inside _ _ _ _ _ _ c.loop-i.invariant c.loop-i-test.true _ c.if-code-eq-CHOICE.true
+    c.argument-c.ensures
+
+pub overflow_sub-conditions : goal.overflow_sub-conditions
+overflow_sub-conditions c = survey_bit _ _ _ _ _ _ c.loop-i.invariant c.loop-i-test.true _
+
+pub overflow_add-conditions : goal.overflow_add-conditions
+overflow_add-conditions c = record { fits = omega (arith, survey_few _ _ _ _ _ _ c.loop-i.invariant c.loop-i-test.true) }
+
+pub offset_bounds-ranks-at-then-code-eq-CHOICE : goal.offset_bounds-ranks-at-then-code-eq-CHOICE
+offset_bounds-ranks-at-then-code-eq-CHOICE c = record {
+  fits = omega (
+    arith,
+    survey_inside _ _ _ _ _ _ c.loop-i.invariant c.loop-i-test.true _
+        c.if-code-eq-CHOICE.true c.argument-c.ensures,
+  );
+}
+
+pub bounds-ranks-at-then-code-eq-CHOICE : goal.bounds-ranks-at-then-code-eq-CHOICE
+bounds-ranks-at-then-code-eq-CHOICE c = survey_inside _ _ _ _ _ _ c.loop-i.invariant c.loop-i-test.true _
+    c.if-code-eq-CHOICE.true c.argument-c.ensures
+
+pub listed_cost-cost-requires : goal.listed_cost-cost-requires
+listed_cost-cost-requires c = c.cost_table-table.ensures
+
+pub overflow_add-cost : goal.overflow_add-cost
+overflow_add-cost c = record { fits = omega (arith, survey_room _ _ _ _ _ _ c.loop-i.invariant c.loop-i-test.true _ c.listed_cost-cost.ensures) }
+
+pub loop-i-preserved : goal.loop-i-preserved
+loop-i-preserved c = let l = c.loop-i in
+    let t = c.loop-i-test.true in
+    ⊎_elim
+    (λ w. survey_choice _ _ _ _ _ _ l.invariant t _ _ _ _ w.0.taken w.1.ensures w.4 w.5 c.listed_cost-cost.ensures)
+    (λ w. survey_other _ _ _ _ _ _ l.invariant t _ _ _ w.0.left w.1 w.2 c.listed_cost-cost.ensures)
+    c.if-code-eq-CHOICE.branch
+
+pub returns : goal.returns
+returns c = let r = survey_end _ _ _ _ _ _ c.loop-i.invariant c.loop-i-test.false in record { counted = r.0; cost = r.1.0; marked = r.1.1 }
