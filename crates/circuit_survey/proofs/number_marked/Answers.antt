@@ -4,6 +4,7 @@ use mathlib.Core.Logic.{⊎_elim}
 use Prim.Native.Nat.{◌-◌}
 use Rattle.circuit_needed.specs.RankLaws.{Numbering, numbering_start, numbering_fits, numbering_one, numbering_none, numbering_end}
 use Rattle.circuit_survey.proofs.number_marked.Goals as goal
+use Rattle.circuit_survey.proofs.number_marked.Goals.{then-ranks-g-ne0, else-ranks-g-ne0}
 
 pub loop-g-init : goal.loop-g-init
 loop-g-init c = numbering_start _ _ c.requires
@@ -14,10 +15,7 @@ overflow_add-t c = record { fits = omega (arith, numbering_fits _ _ _ _ _ c.loop
 pub loop-g-preserved : goal.loop-g-preserved
 loop-g-preserved c = let l = c.loop-g in
     let t = c.loop-g-test.true in
-    ⊎_elim
-    (λ w. numbering_one _ _ _ _ _ _ _ l.invariant t w.0.taken w.1 w.2)
-    (λ w. numbering_none _ _ _ _ _ _ _ l.invariant t w.0.left w.1 w.2)
-    c.if-ranks-g-ne0.branch
+    elim c.if-ranks-g-ne0.branch [ then-ranks-g-ne0 w ↦ numbering_one _ _ _ _ _ _ _ l.invariant t w.if-ranks-g-ne0.true w.ranks-is w.t-is | else-ranks-g-ne0 w ↦ numbering_none _ _ _ _ _ _ _ l.invariant t w.if-ranks-g-ne0.false w.ranks-is w.t-is ]
 
 pub returns : goal.returns
 returns c = numbering_end _ _ _ _ _ c.loop-g.invariant c.loop-g-test.false

@@ -5,6 +5,7 @@ use mathlib.Core.Logic.{⊎_elim}
 use Prim.Native.Nat.{◌-◌}
 use Rattle.circuit_needed.specs.SurveyLaws.{Surveying, survey_start, survey_bit, survey_inside, survey_few, survey_room, survey_choice, survey_other, survey_end}
 use Rattle.circuit_survey.proofs.survey.Goals as goal
+use Rattle.circuit_survey.proofs.survey.Goals.{then-code-eq-CHOICE, else-code-eq-CHOICE}
 
 pub loop-i-init : goal.loop-i-init
 loop-i-init c = survey_start _ _ _ c.requires
@@ -56,10 +57,7 @@ overflow_add-cost c = record { fits = omega (arith, survey_room _ _ _ _ _ _ c.lo
 pub loop-i-preserved : goal.loop-i-preserved
 loop-i-preserved c = let l = c.loop-i in
     let t = c.loop-i-test.true in
-    ⊎_elim
-    (λ w. survey_choice _ _ _ _ _ _ l.invariant t _ _ _ _ w.0.taken w.1.ensures w.4 w.5 c.listed_cost-cost.ensures)
-    (λ w. survey_other _ _ _ _ _ _ l.invariant t _ _ _ w.0.left w.1 w.2 c.listed_cost-cost.ensures)
-    c.if-code-eq-CHOICE.branch
+    elim c.if-code-eq-CHOICE.branch [ then-code-eq-CHOICE w ↦ survey_choice _ _ _ _ _ _ l.invariant t _ _ _ _ w.if-code-eq-CHOICE.true w.argument-c.ensures w.ranks-is w.conditions-is c.listed_cost-cost.ensures | else-code-eq-CHOICE w ↦ survey_other _ _ _ _ _ _ l.invariant t _ _ _ w.if-code-eq-CHOICE.false w.ranks-is w.conditions-is c.listed_cost-cost.ensures ]
 
 pub returns : goal.returns
 returns c = let r = survey_end _ _ _ _ _ _ c.loop-i.invariant c.loop-i-test.false in record { counted = r.0; cost = r.1.0; marked = r.1.1 }
