@@ -84,4 +84,4 @@ member_alike row quads first g a b c d e p q u v =
 pub members_test_lem : (C : Gates) (row : ℕ) (G : List ℕ) → members_test C row G ≡ every (λ g. member_test row (gate_at C (smallest G)) (gate_at C g)) G
 unfolding members_test member_test
 members_test_lem C row [] = split (eqb row 27) (λ e. rw e) (λ e. rw e)
-members_test_lem C row (m ∷ l) = split (eqb row 27) (λ e. rw e) (λ e. rw (e, eq-eqb (operation_byte (gate_at C m)) (operation_byte (gate_at C m)) refl))
+members_test_lem C row (m ∷ l) = split (eqb row 27) (λ e. simp (e, member_test)) (λ e. simp (e, member_test, eq-eqb (operation_byte (gate_at C m)) (operation_byte (gate_at C m)) refl))
