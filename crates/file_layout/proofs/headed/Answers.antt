@@ -1,4 +1,6 @@
 use mathlib.Core.Path.{sym, ◌∙◌}
+use native.Mathlib.Omega.{arith}
+use lib.ListN.{length}
 use borrow.Author.Tests.{le-leb, lt-leb}
 use Rattle.file.specs.FileFigures.{first_record}
 use Rattle.file.specs.Limits.{most_file_bytes, most_file_variables}
@@ -17,7 +19,7 @@ pub returns-then-not-marked : goal.returns-then-not-marked
 unfolding headed
 returns-then-not-marked c = rw (
   le-leb _ _ c.if-file-lt-FIRST_RECORD.false,
-  le-leb _ _ c.if-file-gt-MOST_FILE_BYTES.false,
+  le-leb (length c.args.file.now) most_file_bytes (omega arith),
   sym c.marked.ensures ∙ c.if-not-marked.true,
 )
 
@@ -25,7 +27,7 @@ pub returns-then-file-lt1 : goal.returns-then-file-lt1
 unfolding headed
 returns-then-file-lt1 c = rw (
   le-leb _ _ c.if-file-lt-FIRST_RECORD.false,
-  le-leb _ _ c.if-file-gt-MOST_FILE_BYTES.false,
+  le-leb (length c.args.file.now) most_file_bytes (omega arith),
   sym c.marked.ensures ∙ c.if-not-marked.false,
   lt-leb 1 _ c.if-file-lt1.true,
 )
@@ -34,7 +36,7 @@ pub returns-then-file-gt-MOST_FILE_VARIABLES : goal.returns-then-file-gt-MOST_FI
 unfolding headed
 returns-then-file-gt-MOST_FILE_VARIABLES c = rw (
   le-leb _ _ c.if-file-lt-FIRST_RECORD.false,
-  le-leb _ _ c.if-file-gt-MOST_FILE_BYTES.false,
+  le-leb (length c.args.file.now) most_file_bytes (omega arith),
   sym c.marked.ensures ∙ c.if-not-marked.false,
   le-leb _ _ c.if-file-lt1.false,
   lt-leb _ most_file_variables c.if-file-gt-MOST_FILE_VARIABLES.true,
@@ -44,7 +46,7 @@ pub returns : goal.returns
 unfolding headed
 returns c = rw (
   le-leb _ _ c.if-file-lt-FIRST_RECORD.false,
-  le-leb _ _ c.if-file-gt-MOST_FILE_BYTES.false,
+  le-leb (length c.args.file.now) most_file_bytes (omega arith),
   sym c.marked.ensures ∙ c.if-not-marked.false,
   le-leb _ _ c.if-file-lt1.false,
   le-leb _ _ c.if-file-gt-MOST_FILE_VARIABLES.false,
