@@ -1,5 +1,5 @@
 -- Row 62 of a wire, of an output and of wires at equal distances: what the code tests, one after another, is what the row tests.
-use Rattle.std.specs.Prelude.{ℕ, zero, suc, ◌+◌, ◌-◌, ◌*◌, ◌^◌, ◌≤◌, ◌<◌, ◌≡◌, refl, List, Bool, true, false, not, ◌&&◌, ltb, length}
+use Rattle.std.specs.Prelude.{ℕ, zero, suc, ◌+◌, ◌-◌, ◌*◌, ◌≤◌, ◌<◌, ◌≡◌, refl, List, Bool, true, false, not, ◌&&◌, length}
 use Rattle.std.proofs.Common.{sym, ap, ◌∙◌, mul-suc, arith, eq-eqb, ne_eqb, lt-ltb, le-ltb}
 use Rattle.base.specs.Lists.{every}
 use Rattle.base.specs.Numbers.{number_at}
