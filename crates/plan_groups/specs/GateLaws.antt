@@ -3,6 +3,7 @@ use Rattle.std.specs.Prelude.{ℕ, ◌≤◌, ◌<◌, ◌≡◌, refl, List, []
 use Rattle.std.proofs.Common.{sym, ap, ◌∙◌, eqb-true, eq-eqb, ne_eqb, leb-true, le-leb}
 use Rattle.std.proofs.lemmas.Bool.{eqb-false, lt-leb}
 use Rattle.base.specs.Lists.{every}
+use Rattle.base.specs.MemberLaws.{every_same}
 use Rattle.base.specs.TestLaws.{split, both}
 use Rattle.base.specs.Codes.{code_of}
 use Rattle.base.specs.CodeLaws.{byte_back}
@@ -84,4 +85,9 @@ member_alike row quads first g a b c d e p q u v =
 pub members_test_lem : (C : Gates) (row : ℕ) (G : List ℕ) → members_test C row G ≡ every (λ g. member_test row (gate_at C (smallest G)) (gate_at C g)) G
 unfolding members_test member_test
 members_test_lem C row [] = split (eqb row 27) (λ e. rw e) (λ e. rw e)
-members_test_lem C row (m ∷ l) = split (eqb row 27) (λ e. simp (e, member_test)) (λ e. simp (e, member_test, eq-eqb (operation_byte (gate_at C m)) (operation_byte (gate_at C m)) refl))
+members_test_lem C row (m ∷ l) =
+    split (eqb row 27)
+    (λ e. rw e (ap (λ (b : Bool). is_costly (gate_at C m) && b)
+    (every_same (λ g. is_costly (gate_at C g)) (λ g. member_test row (gate_at C m) (gate_at C g)) l (λ g i. rw e))))
+    (λ e. rw (e, eq-eqb (operation_byte (gate_at C m)) (operation_byte (gate_at C m)) refl)
+    (every_same (λ g. eqb (operation_byte (gate_at C m)) (operation_byte (gate_at C g))) (λ g. member_test row (gate_at C m) (gate_at C g)) l (λ g i. rw e)))
