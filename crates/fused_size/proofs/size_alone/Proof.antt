@@ -16,12 +16,12 @@ cast-code-of c = record { fits = omega (arith, coded_byte _ _ c.before.before.be
 
 returns-3 : tie.Need-returns-3
 returns-3 c = short_sized _ _ c.before.before.before.before.before.before.before.requires c.before.before.before.before.if1.false
-    c.before.before.before.if2.false _ c.before.before.code_of_lem.ensures c.if3.true
+    c.before.before.before.if2.false _ c.before.before.code_of.ensures c.if3.true
 
 returns-4 : tie.Need-returns-4
 returns-4 c = applied_sized _ _ c.before.before.before.before.before.before.before.before.before.requires
     c.before.before.before.before.before.before.if1.false c.before.before.before.before.before.if2.false _
-    c.before.before.before.before.code_of_lem.ensures c.before.before.if3.false
+    c.before.before.before.before.code_of.ensures c.before.before.if3.false
 
 pub size-alone-spec : {M : Type 1} → statement M
 size-alone-spec =

@@ -92,7 +92,7 @@ returns c =
     c.before.before.before.before.before.before.before.before.before.before.before.before.before.before.before.before.before.picks_of.result _ _ _ _ _ _ _ _
     c.before.before.before.before.before.before.before.before.before.before.before.before.before.before.before.before.before.before.before.requires
     c.before.before.before.before.before.before.before.before.before.before.before.before.before.before.before.before.before.picks_of.ensures
-    c.before.before.before.before.before.before.before.before.before.before.before.member.ensures c.before.before.before.before.before.before.before.before.code_of_lem.ensures
+    c.before.before.before.before.before.before.before.before.before.before.before.member.ensures c.before.before.before.before.before.before.before.before.code_of.ensures
     (c.before.before.before.before.before.before.before.wide16.ensures.0
     ∙ c.before.before.before.before.before.before.before.before.before.before.before.before.before.before.before.before.records-in.ensures)
     c.before.before.before.before.before.before.before.before.before.before.before.before.before.before.before.size-kept.ensures
