@@ -101,6 +101,7 @@ module _ (p quads : List ℕ) (count : ℕ) (needs group places ord : List ℕ) 
           where
             one : Inside count (get_or ord i 0 ∷ [])
             one m (inl e) = rw e (t.member i h)
+            one m (inr e) = elim e [ ]
         go (inr n) = rw (members_joined p at (get_or ord i 0) n) (joining n).below
 
     -- the turn adds a record or more

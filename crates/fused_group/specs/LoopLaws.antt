@@ -6,7 +6,6 @@ use borrow.Rule.Slice.PartMut.{put_mid}
 use Rattle.base.specs.Numbers.{bytes_of}
 use Rattle.base.specs.NumberLaws.{length_bytes}
 use Rattle.base.specs.Buffers.{over}
-use Rattle.base.specs.Sets.{rests}
 use Rattle.circuit.specs.Limits.{most_gates}
 use Rattle.plan.specs.PlanFile.{group_at}
 use Rattle.file.specs.Versions.{written_version}
