@@ -53,8 +53,8 @@ wait_conditions-requires c = let i = c.loop-i.invariant in
         gathering_size _ _ _ _ _ _ _ _ _ i t _ _ _ c.wait_arguments.ensures,
       ),
       (
-        rested_lists _ _ e.0 e.1.0,
-        rw (rested_are (set_of c.load.result) c.rested-r.result e.0 e.1.0)
+        rested_lists _ _ e.counted e.listed,
+        rw (rested_are (set_of c.load.result) c.rested-r.result e.counted e.listed)
             (gathering_conditions _ _ _ _ _ _ _ _ _ i t _ c.load.ensures),
       ),
     )
@@ -64,7 +64,7 @@ loop-i-preserved c = let i = c.loop-i.invariant in
     let t = c.loop-i-test.true in
     elim c.if-places-i-ne0.branch [
       | then-places-i-ne0 w ↦ gathering_joined _ _ _ _ _ _ _ _ _ i t _ _ _ _ c.group_of-p.ensures w.if-places-i-ne0.true w.load.ensures c.wait_arguments.ensures (w.waits-is ∙ rw (rested_are (set_of
-          w.load.result) w.rested-r.result w.rested-r.ensures.0 w.rested-r.ensures.1.0) at w.wait_conditions.ensures)
+          w.load.result) w.rested-r.result w.rested-r.ensures.counted w.rested-r.ensures.listed) at w.wait_conditions.ensures)
       | else-places-i-ne0 w ↦ gathering_alone _ _ _ _ _ _ _ _ _ i t _ _ c.group_of-p.ensures w.if-places-i-ne0.false (w.waits-is ∙ c.wait_arguments.ensures)
     ]
 

@@ -18,7 +18,7 @@ pub bounds-conditions-t : goal.bounds-conditions-t
 bounds-conditions-t c = (list_at _ c.requires.1.0 _ c.loop-i-test.true).1
 
 pub offset_bounds-conditions-t : goal.offset_bounds-conditions-t
-offset_bounds-conditions-t c = record { fits = omega (arith, bounds-conditions-t c) }
+offset_bounds-conditions-t c = let r = list_at _ c.requires.1.0 _ c.loop-i-test.true in record { fits = omega (arith, r.1) }
 
 pub group_of-requires : goal.group_of-requires
 group_of-requires c = let g = listed_gate c.args.conditions.now _ c.requires.1.0 _ c.loop-i-test.true in
@@ -39,4 +39,4 @@ shape_of-waits c = c.loop-i.invariant.size
 
 pub returns : goal.returns
 returns c = putting_end _ _ _ _ _ _ c.loop-i.invariant
-    (rw (length-map (conditions_in c.args.t3) (λ t. get_or c.args.conditions.now t 0), ← c.requires.1.0.counted) c.loop-i-test.false)
+    (rw (length-map (conditions_in c.args.list) (λ t. get_or c.args.conditions.now t 0), ← c.requires.1.0.counted) c.loop-i-test.false)

@@ -1,0 +1,19 @@
+use mathlib.Core.Logic.{⊎_elim}
+use mathlib.Core.Path.{sym, ◌∙◌}
+use borrow.Author.Rules.{rules}
+use native.Mathlib.Omega.{arith}
+use Prim.Native.Nat.{◌-◌}
+use Rattle.plan_order.specs.SearchLaws.{Searching, TestingWords, searching_start, searching_past, searching_held, searching_end, testing_start, testing_next, testing_end}
+use Rattle.plan_order.proofs.next_ready.Given as goal
+
+abbrev pub invariant-waits : goal.invariant-waits
+invariant-waits l = TestingWords l.waits l.left l.first l.count l.watch l.p l.w
+
+abbrev pub decreases-waits : goal.decreases-waits
+decreases-waits l = 4 - l.w
+
+abbrev pub invariant-search : goal.invariant-search
+invariant-search l = Searching l.waits l.left l.first l.count l.watch l.p
+
+abbrev pub decreases-search : goal.decreases-search
+decreases-search l = l.count - l.p
