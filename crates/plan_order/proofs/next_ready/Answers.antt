@@ -24,7 +24,12 @@ pub waits-preserved : goal.waits-preserved
 waits-preserved c = testing_next _ _ _ _ _ _ _ c.waits.invariant c.if-w-ge-SET_WORDS.false c.if-both-ne0.false
 
 pub search-preserved : goal.search-preserved
-search-preserved c = elim c.if-has.branch [ then-has+else-w-ge-SET_WORDS+then-both-ne0 w ↦ searching_held _ _ _ _ _ _ _ _ _ w.1.inv w.2.left w.5.taken w.6.ensures (w.watch-is ∙ w.8.ensures) | else-has w ↦ searching_past _ _ _ _ _ _ _ c.search.invariant c.if-p-count.false (sym c.has.ensures ∙ w.if-has.false) w.watch-is ]
+search-preserved c =
+    elim c.if-has.branch [
+      | then-has+else-w-ge-SET_WORDS+then-both-ne0 w ↦
+          searching_held _ _ _ _ _ _ _ _ _ w.waits.invariant w.if-w-ge-SET_WORDS.false w.if-both-ne0.true w.highest.ensures (w.watch-is ∙ w.hold.ensures)
+      | else-has w ↦ searching_past _ _ _ _ _ _ _ c.search.invariant c.if-p-count.false (sym c.has.ensures ∙ w.if-has.false) w.watch-is
+    ]
 
 pub returns-then-p-count : goal.returns-then-p-count
 returns-then-p-count c = let r = searching_end _ _ _ _ _ _ c.search.invariant c.if-p-count.true in record { next = r.0; held = r.1 }

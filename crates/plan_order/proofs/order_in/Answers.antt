@@ -23,7 +23,7 @@ find_left-n-requires c = (c.requires.0.room, refl)
 pub loop-k-init : goal.loop-k-init
 loop-k-init c = let pre = c.requires in
     let left = c.find_left-n.ensures in
-    (left.0, ([], ordering_start _ _ _ _ _ _ _ _ _ _ pre.0 c.find_waits.ensures left.1 pre.1.0 refl))
+    (left.counted, ([], ordering_start _ _ _ _ _ _ _ _ _ _ pre.0 c.find_waits.ensures left.left pre.1.0 refl))
 
 pub slice_bounds-next_ready-end : goal.slice_bounds-next_ready-end
 slice_bounds-next_ready-end c = sym c.loop-k.invariant.1.1.tabled.lefts.size
@@ -34,19 +34,19 @@ next_ready-requires c = let i = c.loop-k.invariant.1.1 in (i.tabled.room, (i.tab
 pub bounds-watch-i : goal.bounds-watch-i
 bounds-watch-i c = let i = c.loop-k.invariant.1.1 in
     let n = c.next_ready.ensures in
-    let room = placing_room _ _ _ _ _ _ _ _ _ _ _ i _ (sym c.in-Group.is ∙ n.0) in
+    let room = placing_room _ _ _ _ _ _ _ _ _ _ _ i _ (sym c.in-Group.is ∙ n.next) in
     room.0
 
 pub offset_bounds-order-k : goal.offset_bounds-order-k
 offset_bounds-order-k c = let i = c.loop-k.invariant.1.1 in
     let n = c.next_ready.ensures in
-    let room = placing_room _ _ _ _ _ _ _ _ _ _ _ i _ (sym c.in-Group.is ∙ n.0) in
+    let room = placing_room _ _ _ _ _ _ _ _ _ _ _ i _ (sym c.in-Group.is ∙ n.next) in
     record { fits = omega (arith, room.1) }
 
 pub bounds-order-k : goal.bounds-order-k
 bounds-order-k c = let i = c.loop-k.invariant.1.1 in
     let n = c.next_ready.ensures in
-    let room = placing_room _ _ _ _ _ _ _ _ _ _ _ i _ (sym c.in-Group.is ∙ n.0) in
+    let room = placing_room _ _ _ _ _ _ _ _ _ _ _ i _ (sym c.in-Group.is ∙ n.next) in
     room.1
 
 pub slice_bounds-strike-end : goal.slice_bounds-strike-end
@@ -55,19 +55,19 @@ slice_bounds-strike-end c = sym c.loop-k.invariant.1.1.tabled.lefts.size
 pub strike-requires : goal.strike-requires
 strike-requires c = let i = c.loop-k.invariant.1.1 in
     let n = c.next_ready.ensures in
-    let room = placing_room _ _ _ _ _ _ _ _ _ _ _ i _ (sym c.in-Group.is ∙ n.0) in
+    let room = placing_room _ _ _ _ _ _ _ _ _ _ _ i _ (sym c.in-Group.is ∙ n.next) in
     (omega (arith, i.tabled.lefts.size), room.0)
 
 pub overflow_add-k : goal.overflow_add-k
 overflow_add-k c = let i = c.loop-k.invariant.1.1 in
     let n = c.next_ready.ensures in
-    let room = placing_room _ _ _ _ _ _ _ _ _ _ _ i _ (sym c.in-Group.is ∙ n.0) in
+    let room = placing_room _ _ _ _ _ _ _ _ _ _ _ i _ (sym c.in-Group.is ∙ n.next) in
     record { fits = omega (arith, room.1) }
 
 pub bounds-watch-i-then-lower-p : goal.bounds-watch-i-then-lower-p
 bounds-watch-i-then-lower-p c = let i = c.loop-k.invariant.1.1 in
     let n = c.next_ready.ensures in
-    let room = placing_room _ _ _ _ _ _ _ _ _ _ _ i _ (sym c.in-Group.is ∙ n.0) in
+    let room = placing_room _ _ _ _ _ _ _ _ _ _ _ i _ (sym c.in-Group.is ∙ n.next) in
     room.0
 
 pub loop-k-preserved-then-lower-p : goal.loop-k-preserved-then-lower-p
@@ -77,7 +77,7 @@ loop-k-preserved-then-lower-p c = let i = c.loop-k.invariant in
       i.0,
       (
         _,
-        placing_on _ _ _ _ _ _ _ _ _ _ _ i.1.1 _ (sym e ∙ n.0) _ _ _ _ _ _ e n.1 (omega (arith, c.if-lower-p.true)) (omega (arith, c.if-lower-p.true)) refl
+        placing_on _ _ _ _ _ _ _ _ _ _ _ i.1.1 _ (sym e ∙ n.next) _ _ _ _ _ _ e n.held (omega (arith, c.if-lower-p.true)) (omega (arith, c.if-lower-p.true)) refl
             c.strike.ensures (same_else _ 255 _ _ refl),
       ),
     )
@@ -85,7 +85,7 @@ loop-k-preserved-then-lower-p c = let i = c.loop-k.invariant in
 pub overflow_add-from : goal.overflow_add-from
 overflow_add-from c = let i = c.loop-k.invariant.1.1 in
     let n = c.next_ready.ensures in
-    let room = placing_room _ _ _ _ _ _ _ _ _ _ _ i _ (sym c.in-Group.is ∙ n.0) in
+    let room = placing_room _ _ _ _ _ _ _ _ _ _ _ i _ (sym c.in-Group.is ∙ n.next) in
     record { fits = omega (arith, room.0) }
 
 pub loop-k-preserved : goal.loop-k-preserved
@@ -95,7 +95,7 @@ loop-k-preserved c = let i = c.loop-k.invariant in
       i.0,
       (
         _,
-        placing_on _ _ _ _ _ _ _ _ _ _ _ i.1.1 _ (sym e ∙ n.0) _ _ _ _ _ _ e n.1 (omega (arith, c.if-lower-p.false)) (omega (arith, c.if-lower-p.false)) refl
+        placing_on _ _ _ _ _ _ _ _ _ _ _ i.1.1 _ (sym e ∙ n.next) _ _ _ _ _ _ e n.held (omega (arith, c.if-lower-p.false)) (omega (arith, c.if-lower-p.false)) refl
             c.strike.ensures (same_all _ _),
       ),
     )

@@ -1,0 +1,114 @@
+use native.Mathlib.Omega.{arith}
+use mathlib.Core.Path.{refl}
+use lib.ListN.{length}
+use Rattle.base.specs.declared.Form.TheVariants.{End, Assign, Skip, Branch, Unknown}
+use Rattle.base.specs.CodeLaws.{code_variable}
+use Rattle.rule.specs.Expressions.{read_expr}
+use Rattle.rule.specs.FirstByte.{VariableRead, WordRead, BitRead, expr_inside, byte_variable, as_variable, as_word, as_bit, expr_taken}
+use Rattle.run_walk.specs.ExprLaws.{variable_out, word_out, bit_out, level, first_taken, one_out, second_taken, two_out}
+use borrow.Author.Rules.{rules}
+use Prim.Native.Nat.{ℕ, ◌+◌, ◌*◌, ◌<◌}
+use Rattle.run_walk.proofs.+run_argument_run_expr.Goals as goal
+
+pub run_expr-overflow_sub-deep : goal.run_expr-overflow_sub-deep
+run_expr-overflow_sub-deep t c = let a = c.args in
+    level a.figures.now _ _ _ _ c.requires.1 _ c.code_of-c.ensures _ c.in-Apply.is
+
+pub run_expr-run_argument-x-requires : goal.run_expr-run_argument-x-requires
+run_expr-run_argument-x-requires t c = let a = c.args in (
+  omega (arith, level a.figures.now _ _ _ _ c.requires.1 _ c.code_of-c.ensures _ c.in-Apply.is),
+  (c.requires.0, first_taken a.figures.now _ _ _ _ c.requires.1 _ c.code_of-c.ensures _ c.in-Apply.is),
+)
+
+pub run_expr-overflow_sub-deep-else-c-eq1 : goal.run_expr-overflow_sub-deep-else-c-eq1
+run_expr-overflow_sub-deep-else-c-eq1 t c = let a = c.args in
+    level a.figures.now _ _ _ _ c.requires.1 _ c.code_of-c.ensures _
+    c.in-Apply.is
+
+pub run_expr-run_argument-y-requires : goal.run_expr-run_argument-y-requires
+run_expr-run_argument-y-requires t c = let a = c.args in (
+  omega (arith, level a.figures.now _ _ _ _ c.requires.1 _ c.code_of-c.ensures _ c.in-Apply.is),
+  (
+    c.requires.0,
+    second_taken a.figures.now _ _ _ _ c.requires.1 _ c.code_of-c.ensures _ c.in-Apply.is _
+        c.run_argument-x.ensures c.if-c-eq1.false,
+  ),
+)
+
+pub run_expr-returns-in-Variable : goal.run_expr-returns-in-Variable
+run_expr-returns-in-Variable t c = rw c.run_variable.ensures (variable_out _ _ _ _ _ c.requires.1 _ c.code_of-c.ensures c.in-Variable.is)
+
+pub run_expr-returns-in-Word : goal.run_expr-returns-in-Word
+run_expr-returns-in-Word t c = word_out _ _ _ _ _ c.requires.1 _ c.code_of-c.ensures c.in-Word.is c.read32.ensures
+
+pub run_expr-returns-in-Bit : goal.run_expr-returns-in-Bit
+run_expr-returns-in-Bit t c = bit_out _ _ _ _ _ c.requires.1 _ c.code_of-c.ensures c.in-Bit.is
+
+pub run_expr-returns-then-c-eq1 : goal.run_expr-returns-then-c-eq1
+run_expr-returns-then-c-eq1 t c = one_out _ _ _ _ _ c.requires.1 _ c.code_of-c.ensures _
+    c.in-Apply.is _ c.run_argument-x.ensures c.if-c-eq1.true c.apply.ensures
+
+pub run_expr-returns-else-c-eq1 : goal.run_expr-returns-else-c-eq1
+run_expr-returns-else-c-eq1 t c = two_out _ _ _ _ _ c.requires.1 _ c.code_of-c.ensures _
+    c.in-Apply.is _ c.run_argument-x.ensures c.if-c-eq1.false _
+    c.run_argument-y.ensures c.apply-else-c-eq1.ensures
+
+pub run_argument-bounds-s-at : goal.run_argument-bounds-s-at
+run_argument-bounds-s-at t c = expr_inside _ _ _ _ c.requires.1
+
+pub run_argument-run_variable-requires : goal.run_argument-run_variable-requires
+run_argument-run_variable-requires t c = let v = byte_variable _ _ _ _ c.requires.1 c.if-s-at-eq-VARIABLE.true in (v.inside, omega (arith, v.range, c.requires.0.1))
+
+pub run_argument-returns-then-s-at-eq-VARIABLE : goal.run_argument-returns-then-s-at-eq-VARIABLE
+run_argument-returns-then-s-at-eq-VARIABLE t c = rw c.run_variable.ensures (variable_out _ _ _ _ _ c.requires.1 _ refl (code_variable _ c.if-s-at-eq-VARIABLE.true))
+
+pub run_argument-run_expr-requires : goal.run_argument-run_expr-requires
+run_argument-run_expr-requires t c = (search rules, c.requires)
+
+pub run_argument-returns : goal.run_argument-returns
+run_argument-returns t c = c.run_expr.ensures
+
+pub run_expr-bounds-s-at : goal.run_expr-bounds-s-at
+run_expr-bounds-s-at t c = expr_inside _ _ _ _ c.requires.1
+
+pub run_expr-run_variable-requires : goal.run_expr-run_variable-requires
+run_expr-run_variable-requires t c = let v = as_variable _ _ _ _ c.requires.1 _ c.code_of-c.ensures c.in-Variable.is in (v.inside, omega (arith, v.range, c.requires.0.1))
+
+pub run_expr-overflow_add-at : goal.run_expr-overflow_add-at
+run_expr-overflow_add-at t c = omega (arith, expr_inside _ _ _ _ c.requires.1)
+
+pub run_expr-read32-requires : goal.run_expr-read32-requires
+run_expr-read32-requires t c = omega (arith, (as_word _ _ _ _ c.requires.1 _ c.code_of-c.ensures c.in-Word.is).inside)
+
+pub run_expr-overflow_add-result : goal.run_expr-overflow_add-result
+run_expr-overflow_add-result t c = omega (arith, (as_word _ _ _ _ c.requires.1 _ c.code_of-c.ensures c.in-Word.is).inside)
+
+pub run_expr-overflow_add-result-in-Bit : goal.run_expr-overflow_add-result-in-Bit
+run_expr-overflow_add-result-in-Bit t c = omega (arith, expr_inside _ _ _ _ c.requires.1)
+
+pub run_expr-bounds-s-at-in-Bit : goal.run_expr-bounds-s-at-in-Bit
+run_expr-bounds-s-at-in-Bit t c = (as_bit _ _ _ _ c.requires.1 _ c.code_of-c.ensures c.in-Bit.is).inside
+
+pub run_expr-overflow_cast-result : goal.run_expr-overflow_cast-result
+run_expr-overflow_cast-result t c = omega (arith, (as_bit _ _ _ _ c.requires.1 _ c.code_of-c.ensures c.in-Bit.is).low)
+
+pub run_expr-overflow_add-result-in-Bit-2 : goal.run_expr-overflow_add-result-in-Bit-2
+run_expr-overflow_add-result-in-Bit-2 t c = omega (arith, (as_bit _ _ _ _ c.requires.1 _ c.code_of-c.ensures c.in-Bit.is).inside)
+
+pub run_expr-overflow_add-at-in-Apply : goal.run_expr-overflow_add-at-in-Apply
+run_expr-overflow_add-at-in-Apply t c = omega (arith, expr_inside _ _ _ _ c.requires.1)
+
+pub run_expr-returns-in-End : goal.run_expr-returns-in-End
+run_expr-returns-in-End t c = absurd (expr_taken _ _ _ _ c.requires.1 _ c.code_of-c.ensures End c.in-End.is)
+
+pub run_expr-returns-in-Assign : goal.run_expr-returns-in-Assign
+run_expr-returns-in-Assign t c = absurd (expr_taken _ _ _ _ c.requires.1 _ c.code_of-c.ensures Assign c.in-Assign.is)
+
+pub run_expr-returns-in-Skip : goal.run_expr-returns-in-Skip
+run_expr-returns-in-Skip t c = absurd (expr_taken _ _ _ _ c.requires.1 _ c.code_of-c.ensures Skip c.in-Skip.is)
+
+pub run_expr-returns-in-Branch : goal.run_expr-returns-in-Branch
+run_expr-returns-in-Branch t c = absurd (expr_taken _ _ _ _ c.requires.1 _ c.code_of-c.ensures Branch c.in-Branch.is)
+
+pub run_expr-returns-in-Unknown : goal.run_expr-returns-in-Unknown
+run_expr-returns-in-Unknown t c = absurd (expr_taken _ _ _ _ c.requires.1 _ c.code_of-c.ensures Unknown c.in-Unknown.is)
