@@ -151,7 +151,7 @@ module _ (s p : List ℕ) (h : (plan_answer s p).number ≡ 0) where
       wires x (inl e) = rw e (sym (stored q) ∙ get_or-set_same (turned i).wires q _ 0 room ∙ last)
       wires x (inr d) =
           let o = next_once s p i l in
-          let n : x ≡ q → ⊥ = λ e. o.0 (rw e at d) in
+          let n : x ≡ q → ⊥ = λ e. o.0 (subst (λ (k : ℕ). k ∈ done_at s p i) e d) in
           sym (stored x) ∙ get_or-set_other (turned i).wires q x _ 0 n ∙ m.wires x d ∙ sym (wire_old s C sets group q (done_at s p i) o x d)
 
   same_next : (i : ℕ) → i < length (writing_order s p) → Same i → Same (suc i)

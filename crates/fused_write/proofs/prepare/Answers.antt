@@ -8,7 +8,7 @@ pub check-checked-requires : goal.check-checked-requires
 check-checked-requires c = c.requires
 
 pub returns-then-answer-ne0 : goal.returns-then-answer-ne0
-returns-then-answer-ne0 c = let k = c.check-checked.ensures in record { answered = refused_prepared _ _ _ k.0 c.if-answer-ne0.true; handed = k.1 }
+returns-then-answer-ne0 c = let k = c.check-checked.ensures in record { answered = refused_prepared _ _ _ k.answer c.if-answer-ne0.true; handed = k.handed }
 
 pub bounds-rule-5 : goal.bounds-rule-5
 bounds-rule-5 c = rule_long _ c.args.plan.now
@@ -19,18 +19,18 @@ measure-size-requires c = let k = c.check-checked.ensures in
     record {
       count = c.check-checked.result.answer.gates;
       conds = _;
-      turnable = arrays_turnable _ _ (check_taken _ _ _ k.0 c.if-answer-ne0.false) _ _ _ _ _ _ _ _ k.1 _ (check_gates _ _ _ k.0 c.if-answer-ne0.false)
+      turnable = arrays_turnable _ _ (check_taken _ _ _ k.answer c.if-answer-ne0.false) _ _ _ _ _ _ _ _ k.handed _ (check_gates _ _ _ k.answer c.if-answer-ne0.false)
           (λ i _. omega (arith, c.type_inv.rule i));
     }
 
 pub overflow_add-bytes : goal.overflow_add-bytes
 overflow_add-bytes c = let k = c.check-checked.ensures in
-    let t = check_taken _ _ _ k.0 c.if-answer-ne0.false in
-    let g = check_gates _ _ _ k.0 c.if-answer-ne0.false in
+    let t = check_taken _ _ _ k.answer c.if-answer-ne0.false in
+    let g = check_gates _ _ _ k.answer c.if-answer-ne0.false in
     omega (
       arith,
-      bytes_few _ _ t _ _ _ _ _ _ _ _ k.1 _ g _ _ _
-          (c.measure-size.ensures _ _ (arrays_turnable _ _ t _ _ _ _ _ _ _ _ k.1 _ g
+      bytes_few _ _ t _ _ _ _ _ _ _ _ k.handed _ g _ _ _
+          (c.measure-size.ensures _ _ (arrays_turnable _ _ t _ _ _ _ _ _ _ _ k.handed _ g
           (λ i _. omega (arith, c.type_inv.rule i)))),
     )
 
@@ -48,20 +48,20 @@ overflow_mul-bytes c = omega (
 
 pub overflow_add-bytes-2 : goal.overflow_add-bytes-2
 overflow_add-bytes-2 c = let k = c.check-checked.ensures in
-    let t = check_taken _ _ _ k.0 c.if-answer-ne0.false in
-    let g = check_gates _ _ _ k.0 c.if-answer-ne0.false in
+    let t = check_taken _ _ _ k.answer c.if-answer-ne0.false in
+    let g = check_gates _ _ _ k.answer c.if-answer-ne0.false in
     omega (
       arith,
-      bytes_few _ _ t _ _ _ _ _ _ _ _ k.1 _ g _ _ _
-          (c.measure-size.ensures _ _ (arrays_turnable _ _ t _ _ _ _ _ _ _ _ k.1 _ g
+      bytes_few _ _ t _ _ _ _ _ _ _ _ k.handed _ g _ _ _
+          (c.measure-size.ensures _ _ (arrays_turnable _ _ t _ _ _ _ _ _ _ _ k.handed _ g
           (λ i _. omega (arith, c.type_inv.rule i)))),
       c.type_inv.rule 5,
     )
 
 pub returns : goal.returns
 returns c = let k = c.check-checked.ensures in
-    let t = check_taken _ _ _ k.0 c.if-answer-ne0.false in
-    let g = check_gates _ _ _ k.0 c.if-answer-ne0.false in
-    let m = c.measure-size.ensures _ _ (arrays_turnable _ _ t _ _ _ _ _ _ _ _ k.1 _ g
+    let t = check_taken _ _ _ k.answer c.if-answer-ne0.false in
+    let g = check_gates _ _ _ k.answer c.if-answer-ne0.false in
+    let m = c.measure-size.ensures _ _ (arrays_turnable _ _ t _ _ _ _ _ _ _ _ k.handed _ g
     (λ i _. omega (arith, c.type_inv.rule i))) in
-    record { answered = c.counted.ensures ∙ counts_are _ _ t _ _ _ _ _ _ _ _ k.1 _ g _ _ _ m _ (check_before _ _ _ k.0 c.if-answer-ne0.false); handed = k.1 }
+    record { answered = c.counted.ensures ∙ counts_are _ _ t _ _ _ _ _ _ _ _ k.handed _ g _ _ _ m _ (check_before _ _ _ k.answer c.if-answer-ne0.false); handed = k.handed }

@@ -38,8 +38,8 @@ loop-x-preserved c = let a = c.args in let l = c.loop-x in (
   search rules,
   l.invariant.1 ∙ elim c.if-inputs-x-gt1.branch [
     | then-inputs-x-gt1+else-same_kind w ↦ above_word (variables a.rule.now) (kind_at a.rule.now) a.inputs.now l.x c.loop-x-test.true w.if-inputs-x-gt1.true
-        (ap (λ (k : Kind). same_kind k Bit) (sym w.kind_at.ensures) ∙ sym w.same_kind.ensures ∙ w.3.left)
-    | else-inputs-x-gt1 w ↦ above_low (variables a.rule.now) (kind_at a.rule.now) a.inputs.now l.x c.loop-x-test.true w.left
+        (ap (λ (k : Kind). same_kind k Bit) (sym w.kind_at.ensures) ∙ sym w.same_kind.ensures ∙ w.if-same_kind.false)
+    | else-inputs-x-gt1 w ↦ above_low (variables a.rule.now) (kind_at a.rule.now) a.inputs.now l.x c.loop-x-test.true w.if-inputs-x-gt1.false
   ],
 )
 
