@@ -35,7 +35,6 @@ pub mod HoldLaws
 pub mod PlaceLaws
 pub mod SettingLists
 pub mod SettingListsLaws
-pub mod GuardLaws
 pub mod SpreadLaws
 pub mod SettingNumbers
 pub mod SettingExamples

@@ -2,7 +2,6 @@
 // operation answers; codes, kinds and the operation table. The types of these, which every layer names, are here; the code is in the crates `base_..`.
 #![tactic(auto)]
 
-
 // The seven numbers that every operation of the tool returns.
 #[repr(C)]
 #[derive(Clone, Copy)]

@@ -14,7 +14,7 @@ use Rattle.base.specs.BitWordLaws.{clear_words, put_words}
 use Rattle.base.specs.BitJoinedLaws.{joined_put, joined_clear}
 use Rattle.base.specs.Sets.{has, rests_on, rests}
 use Rattle.base.specs.Guards.{spread, chosen, table_over, table}
-use Rattle.base.specs.GuardLaws.{spread_below, chosen_rests}
+use Rattle.base.proofs.GuardLaws.{spread_below, chosen_rests}
 use Rattle.base.specs.PlaceLaws.{few_rests}
 use Rattle.base.specs.SpreadLaws.{spread_none, spread_next}
 use Rattle.base_settings.proofs.Laws.{collect_none, collect_in, collect_out}

@@ -1,7 +1,6 @@
 // Definitions and laws of the plain circuit (specs/), the number of a gate, and the places of lent arrays; the code is in the crates `circuit_..`.
 #![tactic(auto)]
 
-
 // A gate's number in the plain circuit; never taken for a wire number of a circuit file.
 #[derive(Clone, Copy)]
 pub struct GateId(pub u16);

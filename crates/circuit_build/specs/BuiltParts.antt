@@ -18,8 +18,8 @@ use Rattle.circuit.specs.Gates.{Earlier, conditions}
 use Rattle.circuit.specs.PlainCircuit.{plain_circuit, gates_of, outputs_of, gate_count}
 use Rattle.circuit.specs.QuadLaws.{quads_length}
 use Rattle.base.specs.Lists.{Inside}
-use Rattle.circuit.specs.SoundLaws.{Sound}
-use Rattle.circuit.specs.StartLaws.{plain_sound}
+use Rattle.circuit.proofs.SoundLaws.{Sound}
+use Rattle.circuit.proofs.StartLaws.{plain_sound}
 use Rattle.circuit.specs.Quads.{quads_of}
 use Rattle.circuit_needed.specs.Pass.{rule_preconditions}
 use Rattle.circuit_needed.specs.Held.{gates_in}

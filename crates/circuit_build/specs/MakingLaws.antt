@@ -14,7 +14,7 @@ use Rattle.circuit.specs.Gates.{Gates, Earlier, costs, conditions}
 use Rattle.circuit.specs.PlainCircuit.{gates_of}
 use Rattle.circuit.specs.Quads.{quads_of}
 use Rattle.circuit.specs.QuadLaws.{quads_length}
-use Rattle.circuit.specs.StartLaws.{plain_sound}
+use Rattle.circuit.proofs.StartLaws.{plain_sound}
 use Rattle.circuit_make.specs.RuleMade.{RuleMade}
 use Rattle.circuit_needed.specs.Held.{gates_in}
 use Rattle.circuit_needed.specs.Ranks.{Marked, NumberedBelow}

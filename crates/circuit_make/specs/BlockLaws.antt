@@ -18,7 +18,7 @@ use Rattle.rule.specs.Blocks.{read_block, read_statement}
 use Rattle.rule.specs.Rule.{read_rule}
 use Rattle.rule.specs.FirstStatement as read
 use Rattle.circuit.specs.PlainCircuit.{Making, assigns_in, assigns, make_statement, make_block, starts, plain_circuit}
-use Rattle.circuit.specs.StartLaws.{read_plain, plain_sound}
+use Rattle.circuit.proofs.StartLaws.{read_plain, plain_sound}
 use Rattle.circuit_make.specs.RuleMade.{RuleMade}
 use Rattle.circuit_make.specs.Holding.{Held, Done, Walked}
 use Rattle.circuit_make.specs.StatementLaws.{statement_length}

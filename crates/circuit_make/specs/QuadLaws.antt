@@ -6,7 +6,7 @@ use Rattle.base.specs.BufferLaws.{padded_more}
 use Rattle.circuit.specs.Gates.{Gate, operation, Gates}
 use Rattle.base.specs.declared.Operation.{Operation}
 use Rattle.circuit.specs.PlainCircuit.{in_order, apply_gate}
-use Rattle.circuit.specs.ApplyLaws.{apply_is}
+use Rattle.circuit.proofs.ApplyLaws.{apply_is}
 use Rattle.base.specs.Codes.{byte_of}
 use Rattle.circuit.specs.Quads.{quad_of, quads_of}
 use Rattle.circuit.specs.QuadLaws.{quads_length}

@@ -9,7 +9,7 @@ use Rattle.rule.specs.Rule.{read_rule}
 use Rattle.circuit.specs.Limits.{most_conditions}
 use Rattle.circuit.specs.Gates.{Earlier, conditions}
 use Rattle.circuit.specs.PlainCircuit.{gates_of, outputs_of}
-use Rattle.circuit.specs.StartLaws.{plain_sound}
+use Rattle.circuit.proofs.StartLaws.{plain_sound}
 use Rattle.base.specs.Settings.{setting_of}
 use Rattle.base.specs.Sets.{has, excludes}
 use Rattle.base.specs.SettingNumbers.{numbers}

@@ -4,7 +4,7 @@ use Rattle.base.specs.Parsing.{parsed}
 use Rattle.rule.specs.Tree.{Block}
 use Rattle.rule.specs.Rule.{read_rule}
 use Rattle.circuit.specs.PlainCircuit.{gates_of}
-use Rattle.circuit.specs.EachGateLaws.{any_one, any_two, rule_gates}
+use Rattle.circuit.proofs.EachGateLaws.{any_one, any_two, rule_gates}
 use Rattle.circuit_needed.specs.Held.{ShapedGate, Shaped}
 
 pub rule_shaped : (s : List ℕ) (b : Block) (n : ℕ) → read_rule s ≡ parsed b n → Shaped (gates_of s)

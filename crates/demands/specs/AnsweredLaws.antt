@@ -33,10 +33,10 @@ use Rattle.plan.specs.Limits.{least_plan_bytes, most_plan_bytes}
 use Rattle.plan.specs.Groups.{group_of}
 use Rattle.plan.specs.Rows.{is_costly, rows, plan_row, plan_answer}
 use Rattle.plan.specs.GroupLaws.{group_of_named}
-use Rattle.plan.specs.WaitLaws.{placed_right}
+use Rattle.plan.proofs.WaitLaws.{placed_right}
 use Rattle.plan.specs.RowLaws.{each_right, ends_right, joins_right, apart_right}
 use Rattle.plan.specs.MemberLaws.{costly_gate, gate_costly, costly_right, parted_right}
-use Rattle.plan.specs.AcceptedLaws.{rising_exist, order_right, row_first, answer_rule, answer_row, answer_accepted, answer_number}
+use Rattle.plan.proofs.AcceptedLaws.{rising_exist, order_right, row_first, answer_rule, answer_row, answer_accepted, answer_number}
 use Rattle.fused.specs.FusedCircuit.{fused_file}
 use Rattle.fused.specs.Answers.{fused_answer, write_answer}
 use Rattle.fused.specs.AnswerLaws.{fused_refused, fused_taken, write_refused, write_short, write_taken}

@@ -6,7 +6,7 @@ use Rattle.base.specs.declared.Answer.{Answer}
 use Rattle.circuit.specs.Whole.{rule_answer}
 use Rattle.circuit.specs.WholeLaws as rules
 use Rattle.plan.specs.Rows.{plan_answer}
-use Rattle.plan.specs.AcceptedLaws as plans
+use Rattle.plan.proofs.AcceptedLaws as plans
 use Rattle.fused.specs.AnswerLaws.{fused_refused}
 use Rattle.report.specs.Packed.{Entry, answer_to}
 

@@ -9,7 +9,7 @@ use Rattle.rule.specs.Rule.{read_rule}
 use Rattle.rule.specs.Format.{header_bytes, WellFormed}
 use Rattle.rule.specs.OnlyOrder.{OnlyOrder}
 use Rattle.rule.specs.Standing.{InBlock}
-use Rattle.rule.specs.OrderBytes as bytes
+use Rattle.rule.proofs.OrderBytes as bytes
 use Rattle.circuit.specs.Gates.{operation, gate_at}
 use Rattle.circuit.specs.PlainCircuit.{gates_of}
 use Rattle.circuit.specs.Whole.{rule_answer}

@@ -9,10 +9,10 @@ use Rattle.plan.specs.Groups.{group_of}
 use Rattle.plan.specs.Accepted.{LaidOut, Exist, GroupsRise}
 use Rattle.plan.specs.SameGroups.{Joined, SameGroups}
 use Rattle.plan.specs.RangeLaws as numbers
-use Rattle.plan.specs.AcceptedLaws as laws
-use Rattle.plan.specs.SameGroupsLaws as groups
+use Rattle.plan.proofs.AcceptedLaws as laws
+use Rattle.plan.proofs.SameGroupsLaws as groups
 use Rattle.plan.specs.NameLaws as names
-use Rattle.plan.specs.AnyOrderLaws as any
+use Rattle.plan.proofs.AnyOrderLaws as any
 use Rattle.fused.specs.FusedCircuit.{fused_file}
 use Rattle.fused.specs.GroupOrderLaws as files
 

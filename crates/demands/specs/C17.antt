@@ -11,14 +11,14 @@ use Rattle.base.specs.declared.Step.TheVariants.{Refused}
 use Rattle.base.specs.Settings.{setting_of, number_of}
 use Rattle.base.specs.Sets.{has, excludes, rests}
 use Rattle.base.specs.Guards.{table}
-use Rattle.base.specs.GuardLaws as guards
+use Rattle.base.proofs.GuardLaws as guards
 use Rattle.base.specs.SetsHeldLaws as held
 use Rattle.rule.specs.Tree.{Block}
 use Rattle.rule.specs.Blocks.{read_statement}
 use Rattle.rule.specs.Rule.{read_rule}
 use Rattle.rule.specs.Format.{header_bytes, WellFormed, nesting}
 use Rattle.rule.specs.NestedIfs.{Leads}
-use Rattle.rule.specs.NestedIfLaws as ifs
+use Rattle.rule.proofs.NestedIfLaws as ifs
 use Rattle.circuit.specs.Gates.{Gates, Earlier, conditions}
 use Rattle.circuit.specs.PlainCircuit.{gates_of}
 use Rattle.circuit_needed.specs.Needed.{Needed, wanted_of}

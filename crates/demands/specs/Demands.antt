@@ -7,7 +7,7 @@ use Rattle.rule.specs.Header.{variables}
 use Rattle.rule.specs.Tree.{Block}
 use Rattle.rule.specs.Rule.{read_rule}
 use Rattle.rule.specs.Format.{rule_bytes, WellFormed}
-use Rattle.rule.specs.RuleFormat as format
+use Rattle.rule.proofs.RuleFormat as format
 use Rattle.circuit.specs.Running.{run_rule}
 use Rattle.circuit.specs.Gates.{figure_at}
 use Rattle.circuit.specs.PlainCircuit.{gates_of, outputs_of}
@@ -20,7 +20,7 @@ use Rattle.plan.specs.Rows.{plan_answer}
 use Rattle.plan.specs.PlanFile.{groups_in}
 use Rattle.plan.specs.Groups.{group_of, Waits, Chain}
 use Rattle.plan.specs.SameGroups.{Joined}
-use Rattle.plan.specs.AcceptedLaws as laws
+use Rattle.plan.proofs.AcceptedLaws as laws
 use Rattle.fused.specs.FusedCircuit.{fused_file}
 use Rattle.fused.specs.Answers.{fused_answer, write_answer, written_over}
 use Rattle.fused.specs.AnswerLaws as writes

@@ -16,7 +16,7 @@ use Rattle.base.specs.Holding.{Holds}
 use Rattle.base.specs.SettingListLaws.{keep_once}
 use Rattle.base.specs.SettingLaws.{number_of_setting_of}
 use Rattle.base.specs.HoldLaws.{rests_places}
-use Rattle.base.specs.GuardLaws.{guard_holds}
+use Rattle.base.proofs.GuardLaws.{guard_holds}
 use Rattle.base.specs.PlaceLaws.{holds_repeats}
 use Rattle.circuit.specs.Limits.{most_gates, most_conditions}
 use Rattle.circuit.specs.Gates.{Gates, Earlier, conditions}

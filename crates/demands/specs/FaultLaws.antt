@@ -26,8 +26,8 @@ use Rattle.plan.specs.SameGroups.{Joined}
 use Rattle.plan.specs.Rows.{every_group, parted, placed, Row, layout_rows, join_rows, order_rows, plan_row, plan_answer}
 use Rattle.plan.specs.FailingLaws.{fails_at, hold_both}
 use Rattle.plan.specs.GroupLaws.{group_of_named}
-use Rattle.plan.specs.WaitLaws.{circle_found}
-use Rattle.plan.specs.AcceptedLaws.{layout_right, row_first, answer_number}
+use Rattle.plan.proofs.WaitLaws.{circle_found}
+use Rattle.plan.proofs.AcceptedLaws.{layout_right, row_first, answer_number}
 
 -- a test of all that fails, fails for one
 one_fails : (t : ℕ → Bool) (l : List ℕ) → every t l ≡ false → (x : ℕ) × (x ∈ l) × (t x ≡ false)

@@ -17,7 +17,7 @@ use Rattle.run.specs.InputLaws.{row_is, inputs_count, inputs_fit}
 use Rattle.run.specs.Direct.{run_answer, run_results}
 use Rattle.run.specs.DirectLaws as direct
 use Rattle.plan.specs.Rows.{plan_answer}
-use Rattle.plan.specs.AcceptedLaws.{plan_accepted}
+use Rattle.plan.proofs.AcceptedLaws.{plan_accepted}
 use Rattle.file.specs.Versions.{Version, written_version}
 use Rattle.file.specs.Records.{Record, record_in, ReadsEarlier}
 use Rattle.file.specs.WireKinds.{wire_kind}

@@ -13,15 +13,15 @@ use Rattle.rule.specs.Rule.{read_rule}
 use Rattle.circuit.specs.Running.{run_rule}
 use Rattle.circuit.specs.Gates.{figure_at}
 use Rattle.circuit.specs.PlainCircuit.{gates_of, outputs_of}
-use Rattle.circuit.specs.OutputLaws.{output_figures}
-use Rattle.circuit.specs.StartLaws.{read_run}
+use Rattle.circuit.proofs.OutputLaws.{output_figures}
+use Rattle.circuit.proofs.StartLaws.{read_run}
 use Rattle.circuit.specs.Whole.{rule_answer}
 use Rattle.circuit.specs.WholeLaws.{accepted}
 use Rattle.run.specs.Inputs.{input_row}
 use Rattle.run.specs.Direct.{run_answer, run_results}
 use Rattle.run.specs.DirectLaws.{inputs_answer, run_answer_lem, answered_rule, answered_inputs, answered_results, refused_results}
 use Rattle.plan.specs.Rows.{plan_answer}
-use Rattle.plan.specs.AcceptedLaws.{plan_accepted}
+use Rattle.plan.proofs.AcceptedLaws.{plan_accepted}
 use Rattle.fused.specs.FusedCircuit.{fused_file}
 use Rattle.file.specs.Records.{ReadsEarlier}
 use Rattle.file.specs.FileFigures.{file_records}

@@ -10,7 +10,7 @@ use Rattle.base.specs.Settings.{Setting, Once, setting_of, number_of}
 use Rattle.base.specs.Sets.{has}
 use Rattle.base.specs.Guards.{table}
 use Rattle.base.specs.SettingLaws.{setting_of_at, number_of_below, bit_number_of}
-use Rattle.base.specs.GuardLaws.{table_above, guard_holds}
+use Rattle.base.proofs.GuardLaws.{table_above, guard_holds}
 use Rattle.base.specs.ParsingLaws.{is_read}
 use Rattle.file.specs.Records.{Record, word, record_in}
 use Rattle.rule.specs.Rule.{read_rule}
@@ -30,7 +30,7 @@ use Rattle.plan.specs.GroupLaws.{rising_first}
 use Rattle.plan.specs.ListedLaws.{rising_keep, rising_places}
 use Rattle.plan.specs.RestLaws.{rests_list, rests_right, rests_count}
 use Rattle.plan.specs.Rows.{plan_answer}
-use Rattle.plan.specs.AcceptedLaws.{plan_accepted}
+use Rattle.plan.proofs.AcceptedLaws.{plan_accepted}
 use Rattle.fused.specs.Emission.{gate_operation, guard_of}
 use Rattle.fused.specs.JoinedParts.{guards_first}
 use Rattle.fused.specs.FusedCircuit.{records_of, wire_of}

@@ -9,7 +9,7 @@ use Rattle.base.specs.ParsingLaws.{is_read}
 use Rattle.rule.specs.Rule.{read_rule}
 use Rattle.circuit.specs.Gates.{operation, gate_at}
 use Rattle.circuit.specs.PlainCircuit.{gates_of}
-use Rattle.circuit.specs.LowerLaws.{rule_lower}
+use Rattle.circuit.proofs.LowerLaws.{rule_lower}
 
 pub commuting : (op : Operation) → commutes op ≡ elem (byte_of op) (0x20 ∷ 0x22 ∷ 0x24 ∷ 0x25 ∷ 0x26 ∷ [])
 commuting Sum = refl

@@ -8,8 +8,8 @@ use Rattle.rule.specs.Header.{mark, variables}
 use Rattle.rule.specs.Format.{header_bytes}
 use Rattle.rule.specs.KindLaws as kinds
 use Rattle.rule.specs.NestedIfs.{Leads}
-use Rattle.rule.specs.NestedIfLaws as nested-ifs
-use Rattle.rule.specs.NinthIfLaws as ninth
+use Rattle.rule.proofs.NestedIfLaws as nested-ifs
+use Rattle.rule.proofs.NinthIfLaws as ninth
 use Rattle.circuit.specs.Whole.{rule_answer}
 use Rattle.circuit.specs.WholeLaws.{answer_bytes, answer_from}
 

@@ -9,7 +9,7 @@ use Rattle.base.specs.declared.Answer.{Answer}
 use Rattle.circuit.specs.Whole.{rule_answer}
 use Rattle.run.specs.Direct.{run_answer}
 use Rattle.plan.specs.Rows.{plan_answer}
-use Rattle.plan.specs.AcceptedLaws.{answer_rule}
+use Rattle.plan.proofs.AcceptedLaws.{answer_rule}
 use Rattle.file.specs.Limits.{most_file_bytes, most_wires}
 use Rattle.file.specs.FileFigures.{wire_count}
 use Rattle.fused.specs.FusedCircuit.{fused_file}

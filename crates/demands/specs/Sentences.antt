@@ -10,7 +10,7 @@ use Rattle.plan.specs.PlanFile.{groups_in, Rising}
 use Rattle.plan.specs.Groups.{group_of}
 use Rattle.plan.specs.ListedLaws as listed
 use Rattle.plan.specs.Rows.{plan_answer}
-use Rattle.plan.specs.AcceptedLaws as plans
+use Rattle.plan.proofs.AcceptedLaws as plans
 use Rattle.file.specs.Records.{record_in}
 use Rattle.file.specs.FileFigures.{wire_count}
 use Rattle.fused.specs.FusedCircuit.{records_of, wire_of, fused_file}

@@ -12,12 +12,12 @@ use Rattle.rule.specs.Header.{variables, working_of, working_at}
 use Rattle.rule.specs.Tree.{Block}
 use Rattle.rule.specs.Format.{rule_bytes}
 use Rattle.rule.specs.Format as rules
-use Rattle.rule.specs.RuleFormat.{rule_back}
+use Rattle.rule.proofs.RuleFormat.{rule_back}
 use Rattle.rule.specs.OnlyWorking.{OnlyWorking}
-use Rattle.rule.specs.WorkingLaws.{rule_working, same_size, well_working}
+use Rattle.rule.proofs.WorkingLaws.{rule_working, same_size, well_working}
 use Rattle.circuit.specs.Limits.{most_gates, most_conditions}
 use Rattle.circuit.specs.PlainCircuit.{Making, plain_of, plain_circuit, gates_of, outputs_of}
-use Rattle.circuit.specs.StartLaws.{read_plain}
+use Rattle.circuit.proofs.StartLaws.{read_plain}
 use Rattle.circuit_needed.specs.Needed.{Needed, wanted_of}
 use Rattle.circuit_needed.specs.NeededLaws.{none_needed, more_wanted}
 use Rattle.circuit_needed.specs.WantedLaws.{result_wanted, wanted_own, all_working}

@@ -22,7 +22,7 @@ use Rattle.circuit.specs.Whole.{rule_answer}
 use Rattle.circuit.specs.WholeLaws.{accepted}
 use Rattle.plan.specs.Groups.{RestsOn, rests_of, Waits, waits_for}
 use Rattle.plan.specs.RestLaws.{rests_right}
-use Rattle.plan.specs.WaitLaws.{waits_right}
+use Rattle.plan.proofs.WaitLaws.{waits_right}
 use Rattle.fused.specs.FusedCircuit.{fused_file}
 use Rattle.fused.specs.Answers.{write_answer, written_over}
 use Rattle.examples.specs.Starred.{Precondition, Unneeded}

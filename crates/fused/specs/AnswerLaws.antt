@@ -10,7 +10,7 @@ use Rattle.circuit.specs.CostLaws.{costs_most}
 use Rattle.circuit.specs.PlainCircuit.{gates_of}
 use Rattle.circuit.specs.WholeLaws.{accepted}
 use Rattle.plan.specs.Rows.{plan_answer}
-use Rattle.plan.specs.AcceptedLaws.{plan_accepted}
+use Rattle.plan.proofs.AcceptedLaws.{plan_accepted}
 use Rattle.fused.specs.FusedCircuit.{fused_file}
 use Rattle.fused.specs.Answers.{fused_counts, fused_answer, write_answer, written_over}
 use Rattle.fused.specs.SizeBounds.{bytes_bound, plan_most}

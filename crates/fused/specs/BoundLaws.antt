@@ -13,14 +13,14 @@ use Rattle.circuit.specs.Gates.{Gate, Gates, gate_at, arguments}
 use Rattle.circuit.specs.Gates as gate
 use Rattle.circuit.specs.PlainCircuit.{gates_of, gate_count}
 use Rattle.circuit.specs.GateKinds.{kind_of_gate, GateFits}
-use Rattle.circuit.specs.GateKindLaws.{plain_fits}
+use Rattle.circuit.proofs.GateKindLaws.{plain_fits}
 use Rattle.circuit_needed.specs.Pass.{rule_preconditions}
 use Rattle.circuit.specs.WholeLaws.{accepted}
 use Rattle.plan.specs.PlanFile.{groups_in}
 use Rattle.plan.specs.Groups.{group_of, members, rests_of}
 use Rattle.plan.specs.Order.{order}
 use Rattle.plan.specs.Rows.{plan_answer}
-use Rattle.plan.specs.AcceptedLaws.{plan_accepted}
+use Rattle.plan.proofs.AcceptedLaws.{plan_accepted}
 use Rattle.file.specs.Records.{Record, record_in}
 use Rattle.file.specs.Versions.{written_version, most_guard_wires}
 use Rattle.file.specs.LaidOut.{Bounded}

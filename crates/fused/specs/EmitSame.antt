@@ -10,7 +10,7 @@ use Rattle.file.specs.Records as records
 use Rattle.circuit.specs.Gates.{Gate, start, word, bit, operation, choice, Gates, gate_at, arguments}
 use Rattle.circuit.specs.Limits.{most_conditions}
 use Rattle.plan.specs.Groups.{rests_of}
-use Rattle.plan.specs.SameLaws.{rests_same}
+use Rattle.plan.proofs.SameLaws.{rests_same}
 use Rattle.fused.specs.Emission.{alone, gate_operation, joined, guard_of, values_at, emit}
 
 -- Two maps to wires that agree on what a gate reads,

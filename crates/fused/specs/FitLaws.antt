@@ -18,7 +18,7 @@ use Rattle.circuit.specs.Gates.{Gate, Gates, gate_at, arguments}
 use Rattle.circuit.specs.Gates as gate
 use Rattle.circuit.specs.Limits.{most_conditions}
 use Rattle.circuit.specs.GateKinds.{GateFits}
-use Rattle.circuit.specs.EachGateLaws.{StartGate}
+use Rattle.circuit.proofs.EachGateLaws.{StartGate}
 use Rattle.plan.specs.Groups.{members, rests_of}
 use Rattle.plan.specs.RestLaws.{rests_few}
 use Rattle.plan.specs.Accepted.{OneCostly}

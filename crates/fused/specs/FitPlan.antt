@@ -16,16 +16,16 @@ use Rattle.rule.specs.Rule.{read_rule}
 use Rattle.rule.specs.FirstStatement.{rule_read}
 use Rattle.circuit.specs.Gates.{gate_at, start, operation}
 use Rattle.circuit.specs.GateKinds.{kind_of_gate}
-use Rattle.circuit.specs.GateKindLaws.{plain_fits}
+use Rattle.circuit.proofs.GateKindLaws.{plain_fits}
 use Rattle.circuit.specs.PlainCircuit.{gates_of, gate_count}
-use Rattle.circuit.specs.EachGateLaws.{rule_starting, rule_start}
+use Rattle.circuit.proofs.EachGateLaws.{rule_starting, rule_start}
 use Rattle.circuit_needed.specs.Pass.{rule_preconditions}
 use Rattle.circuit.specs.WholeLaws.{Accepted, accepted}
 use Rattle.plan.specs.PlanFile.{groups_in}
 use Rattle.plan.specs.Groups.{group_of, members}
 use Rattle.plan.specs.GroupLaws.{member_of}
 use Rattle.plan.specs.Rows.{plan_answer}
-use Rattle.plan.specs.AcceptedLaws.{plan_accepted}
+use Rattle.plan.proofs.AcceptedLaws.{plan_accepted}
 use Rattle.plan.specs.JoinedLaws.{members_costly}
 use Rattle.file.specs.CircuitFile.{no_wire}
 use Rattle.file.specs.Records.{word, reads, record_in, ReadsEarlier}

@@ -20,8 +20,8 @@ use Rattle.rule.specs.Header.{variables, kind_at, working_at}
 use Rattle.circuit.specs.Running.{run_rule, written_for, run_writes}
 use Rattle.circuit.specs.Gates.{figure_at}
 use Rattle.circuit.specs.PlainCircuit.{gates_of, outputs_of}
-use Rattle.circuit.specs.StartLaws.{read_run}
-use Rattle.circuit.specs.OutputLaws.{output_figure_lem}
+use Rattle.circuit.proofs.StartLaws.{read_run}
+use Rattle.circuit.proofs.OutputLaws.{output_figure_lem}
 use Rattle.circuit.specs.WrittenLaws.{written_result, written_working, writes_result, writes_map}
 use Rattle.circuit_needed.specs.Needed.{Needed, wanted_of, from_start}
 use Rattle.circuit_needed.specs.NeededLaws.{needed_inside}
@@ -30,7 +30,7 @@ use Rattle.circuit_needed.specs.Pass.{rule_preconditions}
 use Rattle.plan.specs.PlanFile.{groups_in}
 use Rattle.plan.specs.Groups.{group_of}
 use Rattle.plan.specs.Order.{order}
-use Rattle.plan.specs.WaitLaws.{order_ordered, order_once}
+use Rattle.plan.proofs.WaitLaws.{order_ordered, order_once}
 use Rattle.plan.specs.Rows.{plan_answer}
 use Rattle.fused.specs.FusedCircuit.{fused, records_of, wire_of, output_wire, output_wires, fused_file}
 use Rattle.fused.specs.OutputLaws.{working_wire, result_wire}

@@ -6,14 +6,14 @@ use Rattle.base.specs.declared.Answer.{Answer}
 use Rattle.rule.specs.Header.{variables, kind_at, working_at}
 use Rattle.circuit.specs.PlainCircuit.{gates_of, outputs_of}
 use Rattle.circuit.specs.GateKinds.{kind_of_gate}
-use Rattle.circuit.specs.GateKindLaws.{plain_fits, output_kinds}
+use Rattle.circuit.proofs.GateKindLaws.{plain_fits, output_kinds}
 use Rattle.circuit_needed.specs.Needed.{wanted_of}
 use Rattle.circuit_needed.specs.Pass.{rule_preconditions}
 use Rattle.plan.specs.PlanFile.{groups_in}
 use Rattle.plan.specs.Groups.{group_of}
 use Rattle.plan.specs.Order.{order}
 use Rattle.plan.specs.Rows.{plan_answer}
-use Rattle.plan.specs.WaitLaws.{order_ordered, order_once}
+use Rattle.plan.proofs.WaitLaws.{order_ordered, order_once}
 use Rattle.file.specs.Records.{record_in}
 use Rattle.file.specs.WireKinds.{wire_kind, RecordFits}
 use Rattle.file.specs.WireKindLaws.{run_kinds}

@@ -14,7 +14,7 @@ use Rattle.plan.specs.Groups.{group_of, groups, members, waits_for}
 use Rattle.plan.specs.Order.{Ordered, order}
 use Rattle.plan.specs.Rows.{plan_answer}
 use Rattle.plan.specs.ReadsLaws.{waits_argument, waits_rests}
-use Rattle.plan.specs.WaitLaws.{order_from, order_ordered, order_once}
+use Rattle.plan.proofs.WaitLaws.{order_from, order_ordered, order_once}
 use Rattle.fused.specs.Emission.{emit}
 use Rattle.fused.specs.FusedCircuit.{Written, group_records, written, fused, records_of, wire_of}
 use Rattle.fused.specs.JoinedGates.{Stands}

@@ -12,7 +12,7 @@ use Rattle.base.specs.Guards.{table}
 use Rattle.base.specs.Holding.{Holds}
 use Rattle.base.specs.SettingLaws.{number_of_map}
 use Rattle.base.specs.RestLaws.{pre_rests_right}
-use Rattle.base.specs.GuardLaws.{guard_holds}
+use Rattle.base.proofs.GuardLaws.{guard_holds}
 use Rattle.base.specs.Results.{is_one}
 use Rattle.file.specs.Records.{guard_figure}
 use Rattle.circuit.specs.Gates.{Gates, Earlier, Condition, conditions}

@@ -15,16 +15,16 @@ use Rattle.rule.specs.Header.{variables, kind_at}
 use Rattle.circuit.specs.Gates.{Gate, Gates, gate_at, arguments}
 use Rattle.circuit.specs.Gates as gate
 use Rattle.circuit.specs.PlainCircuit.{gates_of, gate_count}
-use Rattle.circuit.specs.EachGateLaws.{NotStart, rule_start, rule_no_start, rule_gates_many}
+use Rattle.circuit.proofs.EachGateLaws.{NotStart, rule_start, rule_no_start, rule_gates_many}
 use Rattle.circuit_needed.specs.Pass.{rule_preconditions}
 use Rattle.plan.specs.PlanFile.{groups_in}
 use Rattle.plan.specs.Groups.{group_of, members}
 use Rattle.plan.specs.Order.{order}
 use Rattle.plan.specs.Rows.{plan_answer}
-use Rattle.plan.specs.AcceptedLaws.{plan_accepted}
+use Rattle.plan.proofs.AcceptedLaws.{plan_accepted}
 use Rattle.plan.specs.GroupLaws.{of_member}
-use Rattle.plan.specs.WaitLaws.{order_once}
-use Rattle.plan.specs.FirstLaws.{down, down_in, Alone, order_first, start_alone}
+use Rattle.plan.proofs.WaitLaws.{order_once}
+use Rattle.plan.proofs.FirstLaws.{down, down_in, Alone, order_first, start_alone}
 use Rattle.file.specs.Records.{Record, input, word, record_in, NotInput}
 use Rattle.file.specs.RecordLaws.{Along, along_append, along_map, along_any}
 use Rattle.fused.specs.Emission.{alone, gate_operation, guard_of, values_at, emit}

@@ -13,7 +13,7 @@ use Rattle.rule.specs.Header.{kind_at}
 use Rattle.circuit.specs.Gates.{Gates, gate_at, arguments, Earlier, conditions}
 use Rattle.circuit.specs.Gates as gate
 use Rattle.circuit.specs.GateKinds.{gate_kind, kind_of_gate, GateFits, GatesFit}
-use Rattle.circuit.specs.KindLaws as gateLaws
+use Rattle.circuit.proofs.KindLaws as gateLaws
 use Rattle.circuit.specs.Limits.{most_conditions}
 use Rattle.circuit.specs.ConditionLaws.{condition_below, condition_from}
 use Rattle.circuit_needed.specs.Pass.{precondition_sets}

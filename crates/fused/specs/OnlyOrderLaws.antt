@@ -15,9 +15,9 @@ use Rattle.rule.specs.Rule.{read_rule}
 use Rattle.rule.specs.OnlyOrder.{OnlyOrder}
 use Rattle.circuit.specs.Gates.{Gate, start, word, bit, operation, choice, Gates, gate_at, costs, conditions}
 use Rattle.circuit.specs.PlainCircuit.{Making, gates_of}
-use Rattle.circuit.specs.OnlyOrderLaws.{same_variables, same_kind_lem, same_working, second_read, same_plain}
+use Rattle.circuit.proofs.OnlyOrderLaws.{same_variables, same_kind_lem, same_working, second_read, same_plain}
 use Rattle.circuit.specs.Limits.{most_gates, most_conditions}
-use Rattle.circuit.specs.EachGateLaws.{StartGate, Starting, rule_starting}
+use Rattle.circuit.proofs.EachGateLaws.{StartGate, Starting, rule_starting}
 use Rattle.circuit_needed.specs.Needed.{wanted_of}
 use Rattle.circuit_needed.specs.WantedLaws.{wanted_same}
 use Rattle.circuit_needed.specs.Pass.{precondition_sets, rule_preconditions}
@@ -27,7 +27,7 @@ use Rattle.plan.specs.PlanFile.{groups_in}
 use Rattle.plan.specs.Groups.{group_of, members}
 use Rattle.plan.specs.Order.{order}
 use Rattle.plan.specs.Rows.{plan_answer}
-use Rattle.plan.specs.SameLaws.{answer_same}
+use Rattle.plan.proofs.SameLaws.{answer_same}
 use Rattle.fused.specs.Emission.{alone, emit}
 use Rattle.fused.specs.FusedCircuit.{Written, written, fused, records_of, output_wire, output_wires, cost_after, fused_file}
 use Rattle.fused.specs.Answers.{fused_counts, write_answer, written_over}

@@ -16,7 +16,7 @@ use Rattle.rule.specs.Rule.{read_rule}
 use Rattle.circuit.specs.Gates.{Gate, operation, gate_at, arguments, Earlier, conditions}
 use Rattle.circuit.specs.Limits.{most_conditions}
 use Rattle.circuit.specs.PlainCircuit.{gates_of, outputs_of, gate_count}
-use Rattle.circuit.specs.StartLaws.{plain_sound}
+use Rattle.circuit.proofs.StartLaws.{plain_sound}
 use Rattle.circuit_needed.specs.Held.{ShapedGate}
 use Rattle.circuit_needed.specs.Needed.{wanted_of}
 use Rattle.circuit_needed.specs.Pass.{rule_preconditions}
@@ -28,10 +28,10 @@ use Rattle.plan.specs.Groups.{Named, group_of, groups, members}
 use Rattle.plan.specs.Order.{order}
 use Rattle.plan.specs.Rows.{plan_answer}
 use Rattle.plan.specs.Accepted.{Acceptable}
-use Rattle.plan.specs.AcceptedLaws.{plan_accepted}
+use Rattle.plan.proofs.AcceptedLaws.{plan_accepted}
 use Rattle.plan.specs.GroupLaws.{group_of_named, group_in}
 use Rattle.plan.specs.JoinedLaws.{members_costly, members_exclude}
-use Rattle.plan.specs.WaitLaws.{order_places, order_ordered, order_from}
+use Rattle.plan.proofs.WaitLaws.{order_places, order_ordered, order_from}
 use Rattle.file.specs.Records.{record_in, ReadsEarlier}
 use Rattle.fused.specs.Emission.{gate_operation}
 use Rattle.fused.specs.FusedCircuit.{fused, records_of, wire_of}

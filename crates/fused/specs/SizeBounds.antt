@@ -18,7 +18,7 @@ use Rattle.rule.specs.Rule.{read_rule}
 use Rattle.rule.specs.FirstStatement.{rule_read}
 use Rattle.circuit.specs.Gates.{Gates}
 use Rattle.circuit.specs.PlainCircuit.{gates_of, outputs_of}
-use Rattle.circuit.specs.StartLaws.{plain_sound}
+use Rattle.circuit.proofs.StartLaws.{plain_sound}
 use Rattle.circuit_needed.specs.Held.{Shaped}
 use Rattle.circuit_needed.specs.ShapedLaws.{rule_shaped}
 use Rattle.circuit_needed.specs.Pass.{rule_preconditions}
@@ -28,9 +28,9 @@ use Rattle.plan.specs.Groups.{group_of, members}
 use Rattle.plan.specs.Order.{order}
 use Rattle.plan.specs.Rows.{plan_answer}
 use Rattle.plan.specs.Accepted.{OneCostly}
-use Rattle.plan.specs.AcceptedLaws.{plan_accepted}
+use Rattle.plan.proofs.AcceptedLaws.{plan_accepted}
 use Rattle.plan.specs.JoinedLaws.{members_costly}
-use Rattle.plan.specs.WaitLaws.{order_once}
+use Rattle.plan.proofs.WaitLaws.{order_once}
 use Rattle.fused.specs.FusedCircuit.{group_records, written, fused, records_of, output_wires, cost_after, fused_file}
 use Rattle.fused.specs.OutputLaws.{outputs_length}
 use Rattle.fused.specs.SizeLimits.{most_bytes_of_two, most_record_bytes, most_fused_bytes}

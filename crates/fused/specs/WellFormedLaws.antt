@@ -18,7 +18,7 @@ use Rattle.circuit.specs.WholeLaws.{accepted}
 use Rattle.plan.specs.PlanFile.{groups_in}
 use Rattle.plan.specs.Groups.{group_of, members, rests_of}
 use Rattle.plan.specs.Rows.{plan_answer}
-use Rattle.plan.specs.AcceptedLaws.{plan_accepted}
+use Rattle.plan.proofs.AcceptedLaws.{plan_accepted}
 use Rattle.plan.specs.RestLaws.{rests_count}
 use Rattle.file.specs.Versions.{written_version}
 use Rattle.file.specs.RecordLaws.{Along, along_map, along_at}

@@ -14,7 +14,7 @@ use Rattle.plan.specs.PlanFile.{groups_in}
 use Rattle.plan.specs.Groups.{group_of, members}
 use Rattle.plan.specs.Rows.{plan_answer}
 use Rattle.plan.specs.Accepted.{Acceptable}
-use Rattle.plan.specs.AcceptedLaws.{plan_accepted}
+use Rattle.plan.proofs.AcceptedLaws.{plan_accepted}
 use Rattle.plan.specs.Places.{place_of}
 use Rattle.plan.specs.PlaceLaws.{group_alone, group_listed}
 use Rattle.plan_check.specs.Checked.{checked_places}

@@ -12,7 +12,7 @@ use Rattle.plan.specs.PlanFile.{groups_in}
 use Rattle.plan.specs.Groups.{group_of, waits_for}
 use Rattle.plan.specs.GroupLaws.{group_of_lem}
 use Rattle.plan.specs.Order.{order, Ordered}
-use Rattle.plan.specs.WaitLaws.{order_ordered, order_from, order_once}
+use Rattle.plan.proofs.WaitLaws.{order_ordered, order_from, order_once}
 use Rattle.plan_check.specs.Checked.{writing_order}
 
 -- what holds of a list holds of its end

@@ -14,7 +14,7 @@ use Rattle.circuit.specs.Limits.{most_gates}
 use Rattle.circuit.specs.WholeLaws.{accepted}
 use Rattle.circuit_build.specs.BuiltParts.{built_output_inside, built_outputs_held, built_room, built_variables}
 use Rattle.plan.specs.Rows.{plan_answer}
-use Rattle.plan.specs.AcceptedLaws.{answer_accepted, plan_accepted, row_right}
+use Rattle.plan.proofs.AcceptedLaws.{answer_accepted, plan_accepted, row_right}
 use Rattle.plan_check.specs.Checked.{writing_order}
 use Rattle.plan_check.specs.Handed.{Handed}
 use Rattle.plan_check.specs.CheckedLaws.{accepted_lists}

@@ -14,10 +14,10 @@ use Rattle.rule.specs.Header.{variables, kind_at, working_at}
 use Rattle.circuit.specs.Gates.{Gate, start, operation, choice, gate_at}
 use Rattle.circuit.specs.Gates as gate
 use Rattle.circuit.specs.GateKinds.{kind_of_gate, GateFits}
-use Rattle.circuit.specs.GateKindLaws.{plain_fits}
+use Rattle.circuit.proofs.GateKindLaws.{plain_fits}
 use Rattle.circuit.specs.Limits.{most_gates}
 use Rattle.circuit.specs.PlainCircuit.{gates_of, gate_count}
-use Rattle.circuit.specs.EachGateLaws.{StartGate, rule_starting}
+use Rattle.circuit.proofs.EachGateLaws.{StartGate, rule_starting}
 use Rattle.circuit_needed.specs.Pass.{rule_preconditions}
 use Rattle.circuit_needed.specs.Built.{built_quads, built_needs, built_outputs, built_conditions}
 use Rattle.circuit_build.specs.BuiltParts.{built_room, built_earlier, built_condition, built_output, built_output_inside, built_variables}
@@ -27,7 +27,7 @@ use Rattle.plan.specs.Order.{order}
 use Rattle.plan.specs.Rows.{plan_answer}
 use Rattle.plan.specs.Places.{place_of}
 use Rattle.plan.specs.PlaceLaws.{group_listed}
-use Rattle.plan.specs.CountLaws.{order_length}
+use Rattle.plan.proofs.CountLaws.{order_length}
 use Rattle.plan_check.specs.Checked.{writing_order, checked_groups, checked_places, checked_order}
 use Rattle.plan_check.specs.CheckedLaws.{group_is, place_is, turn_is}
 use Rattle.file.specs.CircuitFile.{no_wire}

@@ -16,8 +16,8 @@ use Rattle.plan.specs.PlanFile.{groups_in}
 use Rattle.plan.specs.Groups.{group_of}
 use Rattle.plan.specs.Rows.{Row, layout_rows, join_rows, order_rows, first_failing, placed, plan_row, plan_answer}
 use Rattle.plan.specs.FailingLaws.{failing_first, failing_second}
-use Rattle.plan.specs.AcceptedLaws.{answer_rule, answer_row, answer_accepted}
-use Rattle.plan.specs.SameLaws.{joins_same}
+use Rattle.plan.proofs.AcceptedLaws.{answer_rule, answer_row, answer_accepted}
+use Rattle.plan.proofs.SameLaws.{joins_same}
 use Rattle.plan_check.specs.InHand.{IsBuilt}
 
 module _ (s p : List ℕ) (a : Answer) (quads needs outputs conds : List ℕ) (sh : IsBuilt s a quads needs outputs conds) where

@@ -20,7 +20,7 @@ use Rattle.plan.specs.GroupLaws.{group_of_named}
 use Rattle.plan.specs.ListedLaws.{unlisted_name}
 use Rattle.plan.specs.Places.{place_of}
 use Rattle.plan.specs.PlaceLaws.{unplaced, place_alone, place_members, place_name, place_two}
-use Rattle.plan.specs.SameLaws.{members_same}
+use Rattle.plan.proofs.SameLaws.{members_same}
 use Rattle.plan_groups.specs.Walks.{Readable}
 use Rattle.plan_groups.specs.Tables.{group_table, place_table}
 use Rattle.plan_groups.specs.TableLaws.{group_at_lem, place_at}

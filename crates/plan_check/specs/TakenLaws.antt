@@ -20,8 +20,8 @@ use Rattle.plan.specs.Groups.{group_of, groups}
 use Rattle.plan.specs.Order.{order}
 use Rattle.plan.specs.Rows.{layout_rows, join_rows, first_failing, placed, plan_answer}
 use Rattle.plan.specs.Places.{place_of}
-use Rattle.plan.specs.SameLaws.{order_same, placed_same, order_sets_same, placed_sets_same}
-use Rattle.plan.specs.CountLaws.{placed_count}
+use Rattle.plan.proofs.SameLaws.{order_same, placed_same, order_sets_same, placed_sets_same}
+use Rattle.plan.proofs.CountLaws.{placed_count}
 use Rattle.plan_groups.specs.Tables.{group_table, place_table}
 use Rattle.plan_groups.specs.TableLaws.{group_at_lem}
 use Rattle.plan_waits.specs.Reads.{Orderable}

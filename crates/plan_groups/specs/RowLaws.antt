@@ -11,7 +11,7 @@ use Rattle.plan.specs.Limits.{least_plan_bytes, most_plan_bytes}
 use Rattle.plan.specs.Rows.{every_group, rises, apart, groups_rise, parted, Row, layout_rows, join_rows, first_failing}
 use Rattle.plan.specs.RowLaws.{each_right, ends_right, joins_right}
 use Rattle.plan.specs.FailingLaws.{Hold, none_fails, failing_first, failing_second}
-use Rattle.plan.specs.AcceptedLaws.{rising_exist}
+use Rattle.plan.proofs.AcceptedLaws.{rising_exist}
 use Rattle.plan.specs.LayoutLaws.{length_numbers}
 use Rattle.plan_groups.specs.Tests.{shape_test, members_test, join_test, row_test}
 use Rattle.plan_groups.specs.Walks.{Readable, Lie}

@@ -16,7 +16,7 @@ use Rattle.plan.specs.GroupLaws.{group_of_lem}
 use Rattle.plan.specs.Order.{all_in, first_ready, schedule}
 use Rattle.plan.specs.CircleLaws.{all_in_each, all_in_back}
 use Rattle.plan.specs.OrderLaws.{found, none_left, stays, turn}
-use Rattle.plan.specs.CountLaws.{once_length, groups_once, groups_most}
+use Rattle.plan.proofs.CountLaws.{once_length, groups_once, groups_most}
 use Rattle.base.specs.BitWords.{bit_in, strike_bit}
 use Rattle.plan_order.specs.Search.{next_ready, as_next, place_of, Holding}
 use Rattle.plan_order.specs.declared.Next.{Next}

@@ -10,9 +10,9 @@ use Rattle.rule.specs.Blocks.{read_block}
 use Rattle.rule.specs.Rule.{read_rule}
 use Rattle.rule.specs.FirstStatement.{rule_read}
 use Rattle.circuit.specs.Running.{run_block, run_rule}
-use Rattle.circuit.specs.RunLaws.{block_count, block_pad}
-use Rattle.rule.specs.FoundRuleLaws.{read_typed}
-use Rattle.circuit.specs.StartLaws.{read_run}
+use Rattle.circuit.proofs.RunLaws.{block_count, block_pad}
+use Rattle.rule.proofs.FoundRuleLaws.{read_typed}
+use Rattle.circuit.proofs.StartLaws.{read_run}
 use Rattle.run_walk.specs.Walking.{Ran}
 
 -- the first V figures after the run of a rule that was read, its inputs over any figures d

@@ -12,7 +12,7 @@ use Rattle.rule.specs.Header.{variables, HasKinds}
 use Rattle.rule.specs.FirstStatement.{rule_read}
 use Rattle.circuit.specs.WholeLaws.{accepted}
 use Rattle.plan.specs.Rows.{plan_answer}
-use Rattle.plan.specs.AcceptedLaws.{plan_accepted}
+use Rattle.plan.proofs.AcceptedLaws.{plan_accepted}
 use Rattle.fused.specs.SizeLimits.{most_fused_bytes}
 use Rattle.fused.specs.FusedCircuit.{fused_file}
 use Rattle.file.specs.CircuitRows.{circuit_row}

@@ -13,18 +13,18 @@ use Rattle.rule.specs.Header.{variables, kind_at}
 use Rattle.rule.specs.Tree.{Statement, assign, skip, branch, Block, end, then}
 use Rattle.rule.specs.Rule.{read_rule}
 use Rattle.rule.specs.Kinds.{TypedStatement, TypedBlock, WordsStatement, WordsBlock}
-use Rattle.rule.specs.FoundRuleLaws.{read_typed, read_words}
+use Rattle.rule.proofs.FoundRuleLaws.{read_typed, read_words}
 use Rattle.circuit.specs.Running.{run_block}
 use Rattle.circuit.specs.Gates.{start, Gates, gate_at, figure_at}
 use Rattle.circuit.specs.GateKinds.{gate_kind, kind_of_gate, GateFits, GatesFit}
 use Rattle.circuit.specs.PlainCircuit.{Making, Made, make_expr, choices, assigned_in, as_before, make_statement, make_block}
 use Rattle.circuit.specs.PlainCircuit.{condition_made, first_made, second_made, starts, plain_circuit, gates_of, outputs_of}
 use Rattle.circuit.specs.PlainLaws.{extends_trans, expr_extends}
-use Rattle.circuit.specs.SoundLaws.{Sound, sound_again, assigned_below, Parts, parts_ready, parts_of, statement_sound}
-use Rattle.circuit.specs.HoldLaws.{PresentGives, holds_extends, condition_stays, first_stays, before_stays, parts_hold}
-use Rattle.circuit.specs.KindLaws.{kind_same, block_fits, gate_fits, inputs_fit}
-use Rattle.circuit.specs.ExprKindLaws.{at, Fit, expr_kinded, choices_fit}
-use Rattle.circuit.specs.StartLaws.{starts_sound, starts_hold, read_plain, plain_sound}
+use Rattle.circuit.proofs.SoundLaws.{Sound, sound_again, assigned_below, Parts, parts_ready, parts_of, statement_sound}
+use Rattle.circuit.proofs.HoldLaws.{PresentGives, holds_extends, condition_stays, first_stays, before_stays, parts_hold}
+use Rattle.circuit.proofs.KindLaws.{kind_same, block_fits, gate_fits, inputs_fit}
+use Rattle.circuit.proofs.ExprKindLaws.{at, Fit, expr_kinded, choices_fit}
+use Rattle.circuit.proofs.StartLaws.{starts_sound, starts_hold, read_plain, plain_sound}
 
 module _ (v : ℕ) (kinds : ℕ → Kind) where
   -- what statements keep: every gate fits, and each variable's present gate is of the variable's kind

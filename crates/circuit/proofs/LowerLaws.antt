@@ -9,8 +9,8 @@ use Rattle.rule.specs.Tree.{Block}
 use Rattle.rule.specs.Rule.{read_rule}
 use Rattle.circuit.specs.Gates.{Gate, operation, gate_at}
 use Rattle.circuit.specs.PlainCircuit.{apply_gate, gates_of}
-use Rattle.circuit.specs.ApplyLaws.{apply_is}
-use Rattle.circuit.specs.EachGateLaws.{rule_gates}
+use Rattle.circuit.proofs.ApplyLaws.{apply_is}
+use Rattle.circuit.proofs.EachGateLaws.{rule_gates}
 
 -- whatever operation of two arguments the gate is, where it commutes the first is no higher than the second
 abbrev Lower : Gate → Type 0

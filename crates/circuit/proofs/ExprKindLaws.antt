@@ -18,10 +18,10 @@ use Rattle.circuit.specs.Gates as gate
 use Rattle.circuit.specs.GateKinds.{gate_kind, GateFits}
 use Rattle.circuit.specs.PlainCircuit.{Making, Made, add, apply_gate, make_expr, choose, choices, as_before}
 use Rattle.circuit.specs.PlainLaws.{extends_length, expr_extends}
-use Rattle.circuit.specs.ApplyLaws.{apply_cases, apply_arguments, apply_kind}
+use Rattle.circuit.proofs.ApplyLaws.{apply_cases, apply_arguments, apply_kind}
 use Rattle.circuit.specs.EarlierLaws.{gate_add, earlier_add, argument_inside}
-use Rattle.circuit.specs.SoundLaws.{Sound, expr_standing, sound_again, CanChoose, ready_next, choice_inside}
-use Rattle.circuit.specs.HoldLaws.{PresentGives, run_at_extends, holds_extends}
+use Rattle.circuit.proofs.SoundLaws.{Sound, expr_standing, sound_again, CanChoose, ready_next, choice_inside}
+use Rattle.circuit.proofs.HoldLaws.{PresentGives, run_at_extends, holds_extends}
 
 -- whether a gate fits rests on the kinds of its arguments
 fits_same : (g : Gate) (k j : ℕ → Kind) → ((a : ℕ) → a ∈ arguments g → k a ≡ j a) → GateFits k g → GateFits j g

@@ -13,12 +13,12 @@ use Rattle.circuit.specs.Running.{figure_of, run_statement, run_block}
 use Rattle.circuit.specs.Gates.{Gates, figure}
 use Rattle.circuit.specs.Gates as gate
 use Rattle.circuit.specs.PlainCircuit.{Making, Made, make_expr, choices, assigned_in, as_before, make_statement, make_block, condition_made, first_made, second_made}
-use Rattle.circuit.specs.ApplyLaws.{apply_figure}
+use Rattle.circuit.proofs.ApplyLaws.{apply_figure}
 use Rattle.circuit.specs.FigureLaws.{figure_same}
 use Rattle.circuit.specs.PlainLaws.{extends_trans, expr_extends}
-use Rattle.circuit.specs.SoundLaws.{Sound, expr_standing, sound_again, Parts, statement_sound, parts_of}
-use Rattle.circuit.specs.RunLaws.{statement_count, block_keeps}
-use Rattle.circuit.specs.HoldLaws.{PresentGives, run_at_extends, holds_extends, condition_stays, first_stays, before_stays, parts_hold}
+use Rattle.circuit.proofs.SoundLaws.{Sound, expr_standing, sound_again, Parts, statement_sound, parts_of}
+use Rattle.circuit.proofs.RunLaws.{statement_count, block_keeps}
+use Rattle.circuit.proofs.HoldLaws.{PresentGives, run_at_extends, holds_extends, condition_stays, first_stays, before_stays, parts_hold}
 
 module _ (inputs : List ℕ) where
   -- the figure of gate i

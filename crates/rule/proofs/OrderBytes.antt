@@ -8,7 +8,7 @@ use Rattle.rule.specs.Format.{expr_bytes, header_bytes, rule_bytes, WellFormed}
 use Rattle.rule.specs.OnlyOrder.{turned, OnlyOrder}
 use Rattle.rule.specs.Standing.{InBlock}
 use Rattle.rule.specs.StandingLaws.{block_split, block_turned}
-use Rattle.rule.specs.OrderLaws.{rules_order}
+use Rattle.rule.proofs.OrderLaws.{rules_order}
 
 -- the file of a rule in which such an operation stands
 pub standing_file : (kinds : List ℕ) (b : Block) (op : Operation) (x y : ℕ) (pre post : List ℕ) → InBlock (two op (variable x) (variable y)) b pre post

@@ -7,8 +7,8 @@ use Rattle.base.specs.ParsingLaws.{is_read}
 use Rattle.rule.specs.Tree.{Block}
 use Rattle.rule.specs.Rule.{read_rule}
 use Rattle.rule.specs.Format.{rule_bytes, kind_bytes, WellFormed}
-use Rattle.rule.specs.FoundRuleLaws.{read_bytes, read_well}
-use Rattle.rule.specs.BackRuleLaws.{well_back}
+use Rattle.rule.proofs.FoundRuleLaws.{read_bytes, read_well}
+use Rattle.rule.proofs.BackRuleLaws.{well_back}
 
 -- a well-formed rule's bytes are read, to the rule itself and to their end
 pub rule_back : (kinds : List ℕ) (b : Block) → WellFormed kinds b → read_rule (rule_bytes kinds b) ≡ parsed b (length (rule_bytes kinds b))

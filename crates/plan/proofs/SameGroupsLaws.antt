@@ -13,7 +13,7 @@ use Rattle.plan.specs.SameGroups.{SameGroups}
 use Rattle.plan.specs.LayoutLaws.{laid_bytes}
 use Rattle.plan.specs.ListedLaws.{StandsIn, rising_same, members_listed}
 use Rattle.plan.specs.NameLaws.{same_names}
-use Rattle.plan.specs.AnyOrderLaws.{Laid, laid, stands_same}
+use Rattle.plan.proofs.AnyOrderLaws.{Laid, laid, stands_same}
 
 -- the smallest members are those of the groups that stand in the plan
 smallest_stands : (Gs : Plan) (a : ℕ) → a ∈ map smallest Gs → (G : List ℕ) × StandsIn Gs G × (a ≡ smallest G)

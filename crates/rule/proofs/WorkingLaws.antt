@@ -7,7 +7,7 @@ use Rattle.rule.specs.Tree.{Expr, Block}
 use Rattle.rule.specs.Kinds.{Typed, WordsFit, EachExpr}
 use Rattle.rule.specs.Format.{block_bytes, rule_bytes, kind_in, Shallow, WellFormed}
 use Rattle.rule.specs.EachLaws.{each_same, typed_same}
-use Rattle.rule.specs.BackRuleLaws.{kind_byte}
+use Rattle.rule.proofs.BackRuleLaws.{kind_byte}
 use Rattle.rule.specs.OnlyWorking.{OnlyWorking}
 
 -- whether variable x works is said by its kind byte

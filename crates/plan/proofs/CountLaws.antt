@@ -12,7 +12,7 @@ use Rattle.plan.specs.Groups.{groups}
 use Rattle.plan.specs.Order.{order}
 use Rattle.plan.specs.Rows.{placed}
 use Rattle.plan.specs.CircleLaws.{all_in_each}
-use Rattle.plan.specs.WaitLaws.{order_from, order_once}
+use Rattle.plan.proofs.WaitLaws.{order_from, order_once}
 
 -- Lists without repetition: one that lies in another is no longer.
 

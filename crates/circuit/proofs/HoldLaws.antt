@@ -13,7 +13,7 @@ use Rattle.circuit.specs.Gates.{Gate, choice, Gates}
 use Rattle.circuit.specs.FigureLaws.{OnArguments}
 use Rattle.circuit.specs.PlainCircuit.{Making, Made, assigns, choose, choices, assigned_in, as_before}
 use Rattle.circuit.specs.PlainLaws.{Extends, extends_trans, extends_length}
-use Rattle.circuit.specs.SoundLaws.{CanChoose, ready_next, choice_inside, assigned_below, Parts, parts_whole, parts_ready}
+use Rattle.circuit.proofs.SoundLaws.{CanChoose, ready_next, choice_inside, assigned_below, Parts, parts_whole, parts_ready}
 
 module _ {A : Type 0} (d : A) (value : (ℕ → A) → Gate → A) where
   -- the present gate of each variable x gives h x

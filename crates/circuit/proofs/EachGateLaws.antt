@@ -20,10 +20,10 @@ use Rattle.circuit.specs.Gates as gate
 use Rattle.rule.specs.Kinds.{Typed, TypedStatement, TypedBlock}
 use Rattle.circuit.specs.PlainCircuit.{Making, apply_gate, make_expr, choose, choices, assigned_in, as_before, make_statement, make_block, condition_made, first_made, second_made, starts, gates_of}
 use Rattle.circuit.specs.PlainLaws.{extends_length, block_extends}
-use Rattle.circuit.specs.ApplyLaws.{apply_cases}
+use Rattle.circuit.proofs.ApplyLaws.{apply_cases}
 use Rattle.circuit.specs.EarlierLaws.{gate_add}
-use Rattle.rule.specs.FoundRuleLaws.{read_typed}
-use Rattle.circuit.specs.StartLaws.{start_at, read_plain}
+use Rattle.rule.proofs.FoundRuleLaws.{read_typed}
+use Rattle.circuit.proofs.StartLaws.{start_at, read_plain}
 
 module _ (P : Gate → Type 0) where
   -- P holds of whatever gate is made for v variables: a starting value of one of them, a constant, an operation of as many arguments

@@ -28,8 +28,8 @@ use Rattle.rule.specs.FuelLaws.{block_is, block_forward, statement_forward}
 use Rattle.rule.specs.Format.{expr_bytes, statement_bytes, block_bytes, header_bytes, kind_bytes, kind_in}
 use Rattle.rule.specs.EachLaws.{each_same, typed_same}
 use Rattle.rule.specs.FoundExprLaws.{ExprFound, expr_found}
-use Rattle.rule.specs.FoundLaws.{Good, StatementFound, BlockFound, good, block_found, statement_found}
-use Rattle.rule.specs.FoundRuleLaws.{kinds_count, kinds_same, header_bytes_lem}
+use Rattle.rule.proofs.FoundLaws.{Good, StatementFound, BlockFound, good, block_found, statement_found}
+use Rattle.rule.proofs.FoundRuleLaws.{kinds_count, kinds_same, header_bytes_lem}
 use Rattle.rule.specs.Rule.{read_rule}
 use Rattle.rule.specs.RuleLaws.{Headed, header_past}
 use Rattle.rule.specs.RefusalLaws.{Refuses, test, after, refuses_too, InExpr, expr_row}

@@ -18,7 +18,7 @@ use Rattle.plan.specs.RowLaws.{each_right}
 use Rattle.plan.specs.ListedLaws.{StandsIn, stands_each, each_stands, listed_stands, rising_same, name_to, name_back}
 use Rattle.plan.specs.NameLaws.{same_names}
 use Rattle.plan.specs.FailingLaws.{none_fails, failing_second}
-use Rattle.plan.specs.AcceptedLaws.{layout_right, order_right, answer_number, out_of_order}
+use Rattle.plan.proofs.AcceptedLaws.{layout_right, order_right, answer_number, out_of_order}
 
 -- groups of two or more gates, rising, no gate in two
 pub record Laid (Gs : Plan) : Type 0 where

@@ -12,7 +12,7 @@ use Rattle.circuit.specs.Gates.{Gate, operation, choice, Gates, arguments, Earli
 use Rattle.circuit.specs.Gates as gate
 use Rattle.circuit.specs.PlainCircuit.{Making, Made, add, apply_gate, make_expr, choose, choices, assigned_in, as_before, make_statement, make_block, condition_made, first_made, second_made}
 use Rattle.circuit.specs.PlainLaws.{Extends, extends_trans, extends_length, expr_extends, block_extends}
-use Rattle.circuit.specs.ApplyLaws.{apply_arguments}
+use Rattle.circuit.proofs.ApplyLaws.{apply_arguments}
 use Rattle.circuit.specs.EarlierLaws.{earlier_add}
 
 -- what making keeps: V present gates, all of the circuit, and arguments made before their gates

@@ -14,7 +14,7 @@ use Rattle.rule.specs.RuleLaws.{header_right, rule_is}
 use Rattle.rule.specs.Kinds.{Typed, WordsFit, EachExpr}
 use Rattle.rule.specs.Format.{block_bytes, header_bytes, rule_bytes, kind_in, Shallow, WellFormed}
 use Rattle.rule.specs.EachLaws.{each_same, typed_same}
-use Rattle.rule.specs.BackLaws.{block_back}
+use Rattle.rule.proofs.BackLaws.{block_back}
 
 -- a header and any bytes after it
 module _ (kinds body : List ℕ) where

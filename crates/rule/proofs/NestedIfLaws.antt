@@ -19,10 +19,10 @@ use Rattle.rule.specs.BlockLaws.{branch_deep, branch_first, branch_second, block
 use Rattle.rule.specs.Format.{expr_bytes, statement_bytes, block_bytes, header_bytes, kind_in, Shallow}
 use Rattle.rule.specs.EachLaws.{each_same, typed_same}
 use Rattle.rule.specs.BackExprLaws.{byte_at, bytes_after, expr_back}
-use Rattle.rule.specs.BackLaws.{statement_back, block_back}
+use Rattle.rule.proofs.BackLaws.{statement_back, block_back}
 use Rattle.rule.specs.Rule.{read_rule}
 use Rattle.rule.specs.RuleLaws.{rule_block}
-use Rattle.rule.specs.BackRuleLaws.{same_kinds, size_is, body_at, header_back}
+use Rattle.rule.proofs.BackRuleLaws.{same_kinds, size_is, body_at, header_back}
 use Rattle.rule.specs.NestedIfs.{WellExpr, WellStatement, WellBlock, Leads, outset, past, into_first, into_second}
 
 -- a file that has these kind bytes

@@ -9,7 +9,7 @@ use Rattle.rule.specs.Tree.{Expr, Statement, Block}
 use Rattle.rule.specs.Rule.{read_rule}
 use Rattle.rule.specs.Kinds.{Typed, WordsFit, EachExprIn, EachExpr}
 use Rattle.rule.specs.Format.{expr_bytes, statement_bytes, block_bytes, header_bytes, rule_bytes, kind_in, depth, Shallow, nesting_in, nesting, WellFormed}
-use Rattle.rule.specs.RuleFormat.{rule_back}
+use Rattle.rule.proofs.RuleFormat.{rule_back}
 use Rattle.rule.specs.OnlyOrder.{ExprUpToOrder, same, turned, in_one, in_two, StatementUpToOrder, assign, skip, branch, BlockUpToOrder, end, then, ReadUpToOrder, OnlyOrder}
 
 -- two files that differ only so are both read

@@ -9,13 +9,13 @@ use Rattle.base.specs.Parsing.{Parsed, parsed}
 use Rattle.rule.specs.Header.{variables, kind_at}
 use Rattle.rule.specs.Tree.{Block}
 use Rattle.rule.specs.Rule.{read_rule}
-use Rattle.rule.specs.FoundRuleLaws.{read_typed}
+use Rattle.rule.proofs.FoundRuleLaws.{read_typed}
 use Rattle.circuit.specs.Running.{run_block, run_read, run_rule}
 use Rattle.circuit.specs.Gates.{Gate, start, word, gate_at, arguments}
 use Rattle.circuit.specs.PlainCircuit.{starts, plain_of, plain_read, plain_circuit}
 use Rattle.circuit.specs.FigureLaws.{OnArguments, gates_right}
-use Rattle.circuit.specs.SoundLaws.{Sound, block_sound}
-use Rattle.circuit.specs.HoldLaws.{PresentGives}
+use Rattle.circuit.proofs.SoundLaws.{Sound, block_sound}
+use Rattle.circuit.proofs.HoldLaws.{PresentGives}
 
 -- Gates 0 to V−1 are the variables' starting values.
 starts_earlier : (i n j a : ℕ) → a ∈ arguments (gate_at (map start (from i n)) j) → a < j

@@ -26,7 +26,7 @@ use Rattle.plan.specs.Rows.{every_group, rises, groups_rise, Row, layout_rows, j
 use Rattle.plan.specs.Accepted.{LaidOut, Exist, GroupsRise, Acceptable}
 use Rattle.plan.specs.FailingLaws.{Hold, none_fails, hold_both, fails_at}
 use Rattle.plan.specs.GroupLaws.{group_of_named}
-use Rattle.plan.specs.WaitLaws.{placed_right}
+use Rattle.plan.proofs.WaitLaws.{placed_right}
 use Rattle.plan.specs.RowLaws.{each_right, ends_right, joins_right, rises_right, exist_right, apart_right}
 use Rattle.plan.specs.MemberLaws.{costly_right, parted_right}
 

@@ -7,12 +7,12 @@ use Rattle.base.specs.Parsing.{Parsed, parsed, refused, IsRead}
 use Rattle.rule.specs.Header.{kind_of, working_of, variables, kind_at, working_at}
 use Rattle.rule.specs.Tree.{Expr, Statement, Block}
 use Rattle.rule.specs.Rule.{read_rule}
-use Rattle.rule.specs.OrderLaws.{both_read}
+use Rattle.rule.proofs.OrderLaws.{both_read}
 use Rattle.rule.specs.OnlyOrder.{ExprUpToOrder, same, turned, in_one, in_two, StatementUpToOrder, assign, skip, branch, BlockUpToOrder, end, then, ReadUpToOrder, OnlyOrder}
 use Rattle.circuit.specs.Gates.{Gates}
 use Rattle.circuit.specs.PlainCircuit.{Making, add, make_expr, assigns_in, assigns, assigned_in, as_before, make_statement}
 use Rattle.circuit.specs.PlainCircuit.{make_block, condition_made, first_made, starts, plain_of, plain_read, plain_circuit}
-use Rattle.circuit.specs.ApplyLaws.{apply_commutes}
+use Rattle.circuit.proofs.ApplyLaws.{apply_commutes}
 
 expr_same : {d e : Expr} → ExprUpToOrder d e → (present : List ℕ) (C : Gates) → make_expr d present C ≡ make_expr e present C
 unfolding make_expr

@@ -15,7 +15,7 @@ use Rattle.rule.specs.Rule.{nothing_after, read_rule}
 use Rattle.rule.specs.Kinds.{Typed, WordsFit, EachExpr, TypedBlock, WordsBlock}
 use Rattle.rule.specs.Format.{block_bytes, header_bytes, rule_bytes, kind_bytes, kind_in, Shallow, WellFormed}
 use Rattle.rule.specs.EachLaws.{each_same, typed_same}
-use Rattle.rule.specs.FoundLaws.{Good, BlockFound, block_found}
+use Rattle.rule.proofs.FoundLaws.{Good, BlockFound, block_found}
 use Rattle.rule.specs.FirstStatement.{RuleRead, rule_read}
 use Rattle.rule.specs.RuleLaws.{Headed}
 

@@ -18,7 +18,7 @@ use Rattle.circuit.specs.Gates.{Gate, start, operation, choice, Gates, gate_at, 
 use Rattle.circuit.specs.Gates as gate
 use Rattle.circuit.specs.GateKinds.{gate_kind, kind_of_gate, GateFits, GatesFit}
 use Rattle.circuit.specs.FigureLaws.{OnArguments, gates_right, figures_right}
-use Rattle.circuit.specs.RunLaws.{statement_count}
+use Rattle.circuit.proofs.RunLaws.{statement_count}
 
 module _ (v : ℕ) (kinds : ℕ → Kind) where
   -- an expression's figure is of its kind

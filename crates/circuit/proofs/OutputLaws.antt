@@ -7,15 +7,15 @@ use Rattle.rule.specs.Header.{variables, kind_at}
 use Rattle.rule.specs.Tree.{Block}
 use Rattle.rule.specs.Rule.{read_rule}
 use Rattle.rule.specs.Kinds.{TypedBlock}
-use Rattle.rule.specs.FoundRuleLaws.{read_typed}
+use Rattle.rule.proofs.FoundRuleLaws.{read_typed}
 use Rattle.base.specs.declared.Kind.{Kind}
 use Rattle.circuit.specs.Running.{run_block}
 use Rattle.circuit.specs.Gates.{figure, figure_at}
 use Rattle.circuit.specs.PlainCircuit.{starts, plain_of, plain_circuit, gates_of, outputs_of}
 use Rattle.circuit.specs.FigureLaws.{figure_same, map_at}
-use Rattle.circuit.specs.RunLaws.{block_count}
-use Rattle.circuit.specs.StartLaws.{starts_sound, starts_hold, read_plain, plain_sound}
-use Rattle.circuit.specs.DemandLaws.{Agrees, block_agrees}
+use Rattle.circuit.proofs.RunLaws.{block_count}
+use Rattle.circuit.proofs.StartLaws.{starts_sound, starts_hold, read_plain, plain_sound}
+use Rattle.circuit.proofs.DemandLaws.{Agrees, block_agrees}
 
 -- of a typed tree: whatever the inputs, each variable's output has the figure that the direct run ends with
 pub tree_figure : (v : ℕ) (kinds : ℕ → Kind) (b : Block) → TypedBlock v kinds b → (inputs : List ℕ) → length inputs ≡ v

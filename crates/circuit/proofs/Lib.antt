@@ -1,0 +1,13 @@
+pub mod ApplyLaws
+pub mod SoundLaws
+pub mod RunLaws
+pub mod HoldLaws
+pub mod DemandLaws
+pub mod KindLaws
+pub mod ExprKindLaws
+pub mod StartLaws
+pub mod EachGateLaws
+pub mod LowerLaws
+pub mod GateKindLaws
+pub mod OutputLaws
+pub mod OnlyOrderLaws

@@ -1,0 +1,10 @@
+pub mod FoundLaws
+pub mod FoundRuleLaws
+pub mod BackLaws
+pub mod BackRuleLaws
+pub mod RuleFormat
+pub mod WorkingLaws
+pub mod OrderLaws
+pub mod OrderBytes
+pub mod NestedIfLaws
+pub mod NinthIfLaws
