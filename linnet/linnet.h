@@ -5,7 +5,7 @@
  * Every function here is proved to answer and to write what the definitions of crates/<crate>/specs
  * give, for any bytes at all.
  *
- * Link with target/staticlib/liblinnet.a, which `rt staticlib linnet` writes (x86-64).
+ * Link with crates/linnet/out/liblinnet.a, which `rt lib` writes in crates/linnet (x86-64).
  *
  * What is lent. A pointer and the count after it are one array: so many elements, bytes or words,
  * not more. No pointer is NULL, also where the count is 0. An array that an operation writes to

@@ -1,12 +1,12 @@
-//! Links the archive that `rt staticlib linnet` writes at the repository's root.
+//! Links the archive that `rt lib` writes in crates/linnet.
 
 use std::path::Path;
 
 fn main() {
-    let archive = Path::new(env!("CARGO_MANIFEST_DIR")).join("../../target/staticlib/liblinnet.a");
+    let archive = Path::new(env!("CARGO_MANIFEST_DIR")).join("../../crates/linnet/out/liblinnet.a");
     assert!(
         archive.exists(),
-        "{} is not there: run `rt staticlib linnet` first",
+        "{} is not there: run `rt lib` in crates/linnet first",
         archive.display()
     );
     let folder = archive.parent().expect("it lies in a folder");

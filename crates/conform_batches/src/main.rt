@@ -5,17 +5,17 @@
 
 ghost use Rattle.std.specs.Prelude.{◌+◌, ◌≤◌, length};
 
-use libc::{STDIN_FILENO, STDOUT_FILENO};
 use report::Progress;
+use std::io::Read;
 
 const WINDOW: usize = 262144;
 
 const LARGEST: usize = 65536;
 
-fn print(text: &[u8], n: usize)
+fn print(rt: &impl Print, text: &[u8], n: usize)
     requires { n ≤ length text.now }
 {
-    io::write_all(STDOUT_FILENO, &text[0..n]);
+    let _ = rt.write_all(&text[0..n]);
 }
 
 fn least(a: usize, b: usize) -> usize
@@ -25,26 +25,32 @@ fn least(a: usize, b: usize) -> usize
 }
 
 // Reads a piece behind the bytes at hand. Answers how many there are then; none are kept where the report has stopped, whatever comes.
-fn read_piece(window: &mut [u8], to: usize, piece: usize, stopped: bool) -> usize
+fn read_piece(
+    input: &mut impl Read,
+    window: &mut [u8],
+    to: usize,
+    piece: usize,
+    stopped: bool,
+) -> usize
     requires { to + piece ≤ length window.old }
     ensures { result ≤ length window.old }
 {
-    let n = io::read_full(STDIN_FILENO, &mut window[to..to + piece]);
+    let n = streams::read_full(input, &mut window[to..to + piece]);
     if stopped {
         return 0;
     }
     to + n
 }
 
-fn finish(progress: Progress) {
+fn finish(rt: &impl Print, progress: Progress) {
     let mut line = [0u8; report::MOST_TOTAL];
     let n = report_batch::finish(progress, &mut line);
-    print(&line, n);
-    print(b"\n", 1);
+    print(rt, &line, n);
+    print(rt, b"\n", 1);
 }
 
 // The report of a batch of so many bytes, which come in pieces of `size`.
-fn case(size: usize, bytes: usize) {
+fn case(rt: &impl Print, input: &mut impl Read, size: usize, bytes: usize) {
     let mut window = [0u8; WINDOW];
     let mut out = [0u8; 65536];
     let mut progress = Progress::Head;
@@ -54,7 +60,7 @@ fn case(size: usize, bytes: usize) {
         let taken = report_batch::take_entries(progress, &window[0..to], &mut out);
         progress = taken.progress;
         let bytes = taken.bytes;
-        print(&out, taken.printed);
+        print(rt, &out, taken.printed);
         if bytes != 0 {
             to = report_batch::drop_front(&mut window, to, bytes);
         } else {
@@ -62,32 +68,39 @@ fn case(size: usize, bytes: usize) {
             if piece == 0 {
                 break;
             }
-            to = read_piece(&mut window, to, piece, report_batch::has_stopped(progress));
+            to = read_piece(
+                input,
+                &mut window,
+                to,
+                piece,
+                report_batch::has_stopped(progress),
+            );
             left = left - piece;
         }
     }
-    finish(progress);
+    finish(rt, progress);
 }
 
 // Reads the head of a case and answers whether it was there.
-fn next_case() -> bool {
+fn next_case(rt: &impl Print, input: &mut impl Read) -> bool {
     let mut head = [0u8; 6];
-    if io::read_full(STDIN_FILENO, &mut head) != 6 {
+    if streams::read_full(input, &mut head) != 6 {
         return false;
     }
     let size = base_words::wide16(base_words::read16(&head, 0));
     let bytes = base_words::read32(&head, 2) as usize;
     if size == 0 {
-        case(LARGEST, bytes);
+        case(rt, input, LARGEST, bytes);
     } else {
-        case(size, bytes);
+        case(rt, input, size, bytes);
     }
     true
 }
 
-fn main() {
+fn main(rt: HostRuntime) {
+    let mut input = rt.stdin();
     let mut left: u64 = 0xFFFFFFFFFFFFFFFF;
-    while 0 < left && next_case() {
+    while 0 < left && next_case(&rt, &mut input) {
         left -= 1;
     }
 }

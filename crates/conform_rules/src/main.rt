@@ -3,10 +3,11 @@
 #![tactic(auto)]
 
 ghost use Rattle.std.specs.Prelude.{◌<◌, ◌≤◌};
-ghost use Rattle.io.specs.Counts.{IsPrefixLen};
+ghost use Rattle.streams.specs.Counts.{IsPrefixLen};
 
 use base::Answer;
-use libc::STDOUT_FILENO;
+use std::fs;
+use std::rt::Files;
 
 // Document 01's rule R1.
 const R1: [u8; 29] = [
@@ -14,26 +15,29 @@ const R1: [u8; 29] = [
     0x01, 0x10, 0x02, 0x00, 0x01, 0x01, 0x22, 0x10, 0x02, 0x10, 0x02, 0x00, 0x00,
 ];
 
-fn number(n: u64) {
-    io::write_all(STDOUT_FILENO, b" ");
-    io::print_decimal(STDOUT_FILENO, n);
+fn print(rt: &impl Print, text: &[u8]) {
+    let _ = rt.write_all(text);
+}
+
+fn number(rt: &impl Print, n: u64) {
+    let _ = print!(rt; " {n}");
 }
 
 // A line: the label, a number, and what reading answers.
-fn line(label: &[u8], n: usize, rule: &[u8]) {
-    io::write_all(STDOUT_FILENO, label);
-    number(n as u64);
-    finish(rule_reader::read_rule(rule));
+fn line(rt: &impl Print, label: &[u8], n: usize, rule: &[u8]) {
+    print(rt, label);
+    number(rt, n as u64);
+    finish(rt, rule_reader::read_rule(rule));
 }
 
-fn finish(a: Answer) {
-    number(a.number as u64);
-    number(a.place as u64);
-    io::write_all(STDOUT_FILENO, b"\n");
+fn finish(rt: &impl Print, a: Answer) {
+    number(rt, a.number as u64);
+    number(rt, a.place as u64);
+    print(rt, b"\n");
 }
 
 // R1 with byte i made v, where that is a change.
-fn change(i: usize, v: u8)
+fn change(rt: &impl Print, i: usize, v: u8)
     requires { i < 29 }
 {
     let mut rule = R1;
@@ -41,50 +45,47 @@ fn change(i: usize, v: u8)
         return;
     }
     rule[i] = v;
-    io::write_all(STDOUT_FILENO, b"change");
-    number(i as u64);
-    number(v as u64);
-    finish(rule_reader::read_rule(&rule));
+    print(rt, b"change");
+    number(rt, i as u64);
+    number(rt, v as u64);
+    finish(rt, rule_reader::read_rule(&rule));
 }
 
-fn changes_at(i: usize)
+fn changes_at(rt: &impl Print, i: usize)
     requires { i < 29 }
 {
     let mut left: usize = 256;
     while 0 < left {
-        change(i, (256 - left) as u8);
+        change(rt, i, (256 - left) as u8);
         left -= 1;
     }
 }
 
-fn changes() {
+fn changes(rt: &impl Print) {
     let mut left: usize = 29;
     while 0 < left {
-        changes_at(29 - left);
+        changes_at(rt, 29 - left);
         left -= 1;
     }
 }
 
 // Every cut of a rule, the whole rule too.
-fn cuts(label: &[u8], rule: &[u8]) {
+fn cuts(rt: &impl Print, label: &[u8], rule: &[u8]) {
     let mut n: usize = 0;
     while n < rule.len() {
-        line(label, n, &rule[0..n]);
+        line(rt, label, n, &rule[0..n]);
         n += 1;
     }
-    line(label, n, rule);
+    line(rt, label, n, rule);
 }
 
-fn read_file(path: &[u8], buf: &mut [u8]) -> usize
+fn read_file(files: &impl Files, path: &str, buf: &mut [u8]) -> usize
     ensures { IsPrefixLen result buf.new }
 {
-    let fd = os::open_read(path);
-    if fd < 0 {
-        return 0;
+    match fs::open(files, path) {
+        Ok(mut file) => streams::read_full(&mut file, buf),
+        Err(_) => 0,
     }
-    let n = io::read_full(fd, buf);
-    libc::close(fd);
-    n
 }
 
 // The answers by number: how many, and the sum of their places.
@@ -96,20 +97,20 @@ fn tally(counts: &mut [u64; 10], sums: &mut [u64; 10], a: Answer) {
     }
 }
 
-fn print_tally(counts: &[u64; 10], sums: &[u64; 10]) {
+fn print_tally(rt: &impl Print, counts: &[u64; 10], sums: &[u64; 10]) {
     let mut k: usize = 0;
     while k < 10 {
-        io::write_all(STDOUT_FILENO, b"lengths");
-        number(k as u64);
-        number(counts[k]);
-        number(sums[k]);
-        io::write_all(STDOUT_FILENO, b"\n");
+        print(rt, b"lengths");
+        number(rt, k as u64);
+        number(rt, counts[k]);
+        number(rt, sums[k]);
+        print(rt, b"\n");
         k += 1;
     }
 }
 
 // Every length from 0 to 65,535 of a file of skips that is never closed.
-fn lengths() {
+fn lengths(rt: &impl Print) {
     let mut rule = [2u8; 65535];
     rule[0] = 0x52;
     rule[1] = 0x55;
@@ -125,7 +126,7 @@ fn lengths() {
         tally(&mut counts, &mut sums, rule_reader::read_rule(&rule[0..n]));
         n += 1;
     }
-    print_tally(&counts, &sums);
+    print_tally(rt, &counts, &sums);
 }
 
 // The header of one word, skips, and a closing 00 at `last`.
@@ -145,11 +146,11 @@ fn closed_at(last: usize) -> [u8; 4097]
 }
 
 // A rule of n bytes, all skips.
-fn skips(n: usize)
+fn skips(rt: &impl Print, n: usize)
     requires { (8 ≤ n) × (n ≤ 4097) }
 {
     let rule = closed_at(n - 1);
-    line(b"skips", n, &rule[0..n]);
+    line(rt, b"skips", n, &rule[0..n]);
 }
 
 // The byte at every step from `from` on, so many times.
@@ -180,54 +181,54 @@ fn header(kind: u8) -> [u8; 64] {
 }
 
 // v0 := an expression d deep, sums that lean on the left.
-fn deep(d: usize)
+fn deep(rt: &impl Print, d: usize)
     requires { (1 ≤ d) × (d ≤ 10) }
 {
     let mut rule = header(0);
     rule[7] = 1;
     let codes = every(rule, 9, 1, d - 1, 0x20);
     let whole = every(codes, 8 + d, 2, d, 0x10);
-    line(b"deep", d, &whole[0..9 + 3 * d]);
+    line(rt, b"deep", d, &whole[0..9 + 3 * d]);
 }
 
 // Ifs on v0, d deep, each in the first block of the one before.
-fn nested(d: usize)
+fn nested(rt: &impl Print, d: usize)
     requires { (1 ≤ d) × (d ≤ 10) }
 {
     let codes = every(header(1), 7, 3, d, 0x03);
     let whole = every(codes, 8, 3, d, 0x10);
-    line(b"nested", d, &whole[0..8 + 5 * d]);
+    line(rt, b"nested", d, &whole[0..8 + 5 * d]);
 }
 
-fn deeps() {
+fn deeps(rt: &impl Print) {
     let mut left: usize = 10;
     while 0 < left {
-        deep(11 - left);
+        deep(rt, 11 - left);
         left -= 1;
     }
 }
 
-fn nests() {
+fn nests(rt: &impl Print) {
     let mut left: usize = 10;
     while 0 < left {
-        nested(11 - left);
+        nested(rt, 11 - left);
         left -= 1;
     }
 }
 
-fn main() {
+fn main(rt: HostRuntime) {
     let mut good = [0u8; 4097];
-    let n = read_file(b"good.rul", &mut good);
+    let n = read_file(&rt, "good.rul", &mut good);
     let r1 = R1;
-    changes();
-    cuts(b"cut", &r1);
-    cuts(b"good", &good[..n]);
-    lengths();
-    skips(8);
-    skips(9);
-    skips(4095);
-    skips(4096);
-    skips(4097);
-    deeps();
-    nests();
+    changes(&rt);
+    cuts(&rt, b"cut", &r1);
+    cuts(&rt, b"good", &good[..n]);
+    lengths(&rt);
+    skips(&rt, 8);
+    skips(&rt, 9);
+    skips(&rt, 4095);
+    skips(&rt, 4096);
+    skips(&rt, 4097);
+    deeps(&rt);
+    nests(&rt);
 }

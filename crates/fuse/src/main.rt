@@ -2,32 +2,41 @@
 #![tactic(auto)]
 
 ghost use Rattle.std.specs.Prelude.{◌≡◌, true, ◌≤◌, eqb, length};
-ghost use Rattle.io.specs.Counts.{IsPrefixLen};
 ghost use Rattle.base.specs.Buffers.{over};
 ghost use Rattle.fused.specs.Answers.{write_answer, written_over};
 ghost use Rattle.report.specs.Line.{line_of};
 ghost use Rattle.report.specs.Limits.{most_line};
+ghost use Rattle.streams.specs.Counts.{IsPrefixLen};
 
-use libc::STDOUT_FILENO;
+use std::fmt::InlineText;
+use std::fs::{OpenFile, OpenOptions, Permissions};
+use std::io::{Eprint, Error, ErrorKind, Read, Write};
+use std::os::unix::fs::{OpenOptionsExt, PermissionsExt};
+use std::random::RandomSource;
+use std::rt::Files;
+use std::{fs, io};
 
 // One byte more than the limit of each file is read, so that a longer one is seen.
 const RULE_ROOM: usize = rule::MOST_RULE_BYTES + 1;
 
 const PLAN_ROOM: usize = plan::MOST_PLAN_BYTES + 1;
 
+// How many names are tried for the file that becomes fused.cir, where files have them already.
+const TRIES: usize = 1000;
+
 // Nothing is left to read: a read answers 0, neither a byte nor a failure.
-fn at_end(fd: i32) -> bool {
+fn at_end(file: &mut impl Read) -> bool {
     let mut next = [0u8; 1];
-    libc::read(fd, &mut next) == 0
+    matches!(file.read(&mut next), Ok(0))
 }
 
 // Fills buf from an open file. A file that a failing read cuts short is one that cannot be read, and counts as empty.
-fn read_open(fd: i32, buf: &mut [u8]) -> usize
+fn read_open(file: &mut impl Read, buf: &mut [u8]) -> usize
     ensures { IsPrefixLen result buf.new }
 {
-    let n = io::read_full(fd, buf);
+    let n = streams::read_full(file, buf);
     if n < buf.len() {
-        if !at_end(fd) {
+        if !at_end(file) {
             return 0;
         }
     }
@@ -35,40 +44,76 @@ fn read_open(fd: i32, buf: &mut [u8]) -> usize
 }
 
 // Fills buf from the file, and answers how many bytes it has; a file that cannot be read has none.
-fn read_file(path: &[u8], buf: &mut [u8]) -> usize
+fn read_file(files: &impl Files, path: &str, buf: &mut [u8]) -> usize
     ensures { IsPrefixLen result buf.new }
 {
-    let fd = os::open_read(path);
-    if fd < 0 {
-        return 0;
+    match fs::open(files, path) {
+        Ok(mut file) => read_open(&mut file, buf),
+        Err(_) => 0,
     }
-    let n = read_open(fd, buf);
-    libc::close(fd);
-    n
 }
 
 // All of the bytes are in the file, on its device, and the file is closed. Others may read it, as they may a file made
 // in the usual way: one of create_temp is its owner's alone.
-fn fill(fd: i32, bytes: &[u8]) -> bool {
-    let whole = io::write_all(fd, bytes) && libc::fsync(fd) == 0;
-    libc::fchmod(fd, 0o644);
-    libc::close(fd) == 0 && whole
+fn fill<F: Write + OpenFile + Drop>(mut file: F, bytes: &[u8]) -> io::Result<()> {
+    file.write_all(bytes)?;
+    file.sync_all()?;
+    let _ = file.set_permissions(Permissions::from_mode(0o644));
+    Ok(())
+}
+
+// An open file and its name: `fused.cir.` and six digits that the system gives.
+#[derive(Drop)]
+struct Temp<F> {
+    file: F,
+    name: InlineText<16>,
+}
+
+// Makes a file under a name that no file had.
+fn create_temp<R: Files + RandomSource>(rt: &R) -> io::Result<Temp<R::File>> {
+    for _ in 0..TRIES {
+        let mut bits = [0u8; 4];
+        rt.fill_bytes(&mut bits)?;
+        let digits = u32::from_le_bytes(bits) & 0xFFFFFF;
+        let name = InlineText::<16>::of(format_args!("fused.cir.{digits:06x}"));
+        let made = OpenOptions::new()
+            .write(true)
+            .create_new(true)
+            .mode(0o600)
+            .open(rt, name.as_str());
+        match made {
+            Ok(file) => return Ok(Temp { file, name }),
+            Err(e) if e.kind() == ErrorKind::AlreadyExists => {}
+            Err(e) => return Err(e),
+        }
+    }
+    Err(Error::from(ErrorKind::AlreadyExists))
+}
+
+// Fills a file and renames it.
+fn put<R: Files>(rt: &R, file: R::File, name: &str, bytes: &[u8]) -> io::Result<()> {
+    fill(file, bytes)?;
+    fs::rename(rt, name, "fused.cir")
 }
 
 // Writes the bytes under a name of their own and renames that, so that fused.cir is whole or not there.
-fn save(bytes: &[u8]) -> bool {
-    let mut name = *b"fused.cir.XXXXXX";
-    let fd = os::create_temp(&mut name);
-    if fd < 0 {
-        os::fail(b"fused.cir");
-        return false;
+fn save<R: Files + RandomSource + Eprint>(rt: &R, bytes: &[u8]) -> bool {
+    let temp = match create_temp(rt) {
+        Ok(temp) => temp,
+        Err(e) => {
+            streams::fail(rt, "fused.cir", e);
+            return false;
+        }
+    };
+    let name = temp.name;
+    match put(rt, temp.file, name.as_str(), bytes) {
+        Ok(()) => true,
+        Err(e) => {
+            streams::fail(rt, "fused.cir", e);
+            let _ = fs::remove_file(rt, name.as_str());
+            false
+        }
     }
-    if fill(fd, bytes) && os::rename(&name, b"fused.cir") == 0 {
-        return true;
-    }
-    os::fail(b"fused.cir");
-    os::unlink(&name);
-    false
 }
 
 // What is to be saved and printed: whether there is a file, and how many bytes of the file and of the line stand in their buffers.
@@ -101,22 +146,22 @@ fn fuse_rule(rule: &[u8], plan: &[u8], file: &mut [u8], line: &mut [u8]) -> Fuse
 
 // One byte more than each limit is read, so that a file too long is seen to be. There is no line where the file could not be saved, and the line is
 // printed in one write.
-fn main() {
+fn main(rt: HostRuntime) {
     let mut rule = [0u8; RULE_ROOM];
     let mut plan = [0u8; PLAN_ROOM];
     let mut file = [0u8; file::MOST_FILE_BYTES];
     let mut line = [0u8; report::MOST_LINE];
-    let r = read_file(b"rule.rul", &mut rule);
-    let p = read_file(b"rule.pln", &mut plan);
+    let r = read_file(&rt, "rule.rul", &mut rule);
+    let p = read_file(&rt, "rule.pln", &mut plan);
     let fused = fuse_rule(&rule[..r], &plan[..p], &mut file, &mut line);
     let bytes = fused.bytes;
     let n = fused.line;
     if fused.accepted {
-        if !save(&file[0..bytes]) {
+        if !save(&rt, &file[0..bytes]) {
             return;
         }
     }
-    if !io::write_all(STDOUT_FILENO, &line[0..n]) {
-        os::fail(b"standard output");
+    if let Err(e) = rt.write_all(&line[0..n]) {
+        streams::fail(&rt, "standard output", e);
     }
 }

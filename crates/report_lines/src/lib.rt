@@ -12,6 +12,17 @@ use base::Answer;
 // The last refusal that is printed with its place.
 const LAST_PLACED: u8 = 11;
 
+// Copies a text that finds room to the buffer's start. Answers how many bytes it has.
+fn copy(text: &[u8], out: &mut [u8]) -> usize
+    requires { length text.now ≤ length out.old }
+    ensures counted { result ≡ length text.now }
+    ensures written { out.new ≡ over text.now out.old }
+{
+    let n = text.len();
+    out[0..n].copy_from_slice(text);
+    n
+}
+
 // The digits of n, the highest first: those of n / 10 and then the last. At most 20 calls deep.
 fn put_decimal(n: usize, out: &mut [u8]) -> usize
     requires { length (decimal n) ≤ length out.old }
@@ -58,7 +69,7 @@ fn put_front(word: &[u8], numbers: &[usize], out: &mut [u8]) -> usize
     ensures counted { result ≡ length (word.now ++ flat spaced numbers.now) }
     ensures written { out.new ≡ over (word.now ++ flat spaced numbers.now) out.old }
 {
-    let n = bytes::copy(word, out);
+    let n = copy(word, out);
     n + put_numbers(numbers, &mut out[n..])
 }
 
@@ -124,7 +135,7 @@ fn put_whole(text: &[u8], out: &mut [u8]) -> usize
     if out.len() < text.len() {
         return 0;
     }
-    bytes::copy(text, out)
+    copy(text, out)
 }
 
 // Writes n in decimal digits; no number has more than 20. Answers how many bytes it wrote.

@@ -1,5 +1,5 @@
 //! Linnetshelf's proved tool, called from Rust. Every function passes its arguments on to the
-//! function `linnet_` and its name of the archive that `rt staticlib linnet` writes, and adds nothing;
+//! function `linnet_` and its name of the archive that `rt lib` writes in crates/linnet, and adds nothing;
 //! only `record` makes a slice of the part that it is told.
 //! What each does, and the numbers of the refusals, stands in `linnet.h`.
 

@@ -308,7 +308,7 @@ fn c_programs_call_it() {
     ]);
     gcc.arg("-I").arg(root.join("linnet"));
     gcc.arg(root.join("linnet/c/examples.c"));
-    gcc.arg(root.join("target/staticlib/liblinnet.a"));
+    gcc.arg(root.join("crates/linnet/out/liblinnet.a"));
     gcc.arg("-o").arg(&program);
     assert!(gcc.status().expect("gcc runs").success(), "{gcc:?}");
     let ran = Command::new(&program).output().expect("it runs");
