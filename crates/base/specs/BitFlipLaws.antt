@@ -1,11 +1,10 @@
 -- Laws for document 01, "Needed gates (000 Def. 4)": changing bit t alone of a number changes that bit, keeps the number's size, and done twice changes nothing.
-use Rattle.std.specs.Prelude.{◌≡◌, refl, Bool, true, false, not, [], ◌∷◌, ◌⊎◌, ℕ, zero, suc, ◌+◌, ◌*◌, ◌/◌, ◌%◌, ◌^◌, ◌<◌}
+use Rattle.std.specs.Prelude.{◌≡◌, refl, Bool, true, false, not, ℕ, zero, suc, ◌+◌, ◌*◌, ◌/◌, ◌%◌, ◌^◌, ◌<◌}
 use Rattle.std.proofs.Common.{sym, ap, ap₂, ◌∙◌, arith}
 use Rattle.std.proofs.Math.Bool.{not-not}
 use Rattle.std.specs.Int.Bits.{bit_xor, differ, xor_step, xor_zero_r}
 use Rattle.std.proofs.lemmas.Nat.{xor_lt}
 use Rattle.std.proofs.Math.Pow.{pow-lt}
-use Rattle.base.specs.Lists.{◌∈◌}
 use Rattle.base.specs.Bits.{odd, bit_of, bit, unlike, flip_bit}
 use Rattle.base.specs.BitLaws.{half, odd_bit, low_bit, rebuilt, bit_zero, bit_suc, bit_xor_lem, bit_pow}
 

@@ -1,5 +1,5 @@
 -- The number whose words are given, for any number of words: its size, its bits, its bytes; what is common, unions and differences go word by word.
-use Rattle.std.specs.Prelude.{◌≡◌, refl, Bool, true, ◌&&◌, ℕ, zero, suc, ◌+◌, ◌-◌, ◌*◌, ◌/◌, ◌%◌, ◌^◌, ◌≤◌, ◌<◌, eqb, length, get_or, set, replicate}
+use Rattle.std.specs.Prelude.{◌≡◌, refl, Bool, ◌&&◌, ℕ, zero, suc, ◌+◌, ◌-◌, ◌*◌, ◌/◌, ◌%◌, ◌^◌, ◌<◌, eqb, length, get_or, set, replicate}
 use Rattle.std.proofs.Math.Path.{sym, ap₂}
 use Rattle.std.proofs.Common.{ap, ◌∙◌, zero-add, add-zero, add_comm, mul_comm, pow-add, eqb-true, eq-eqb}
 use Rattle.std.proofs.Math.Bool.{and-true, and_assoc}

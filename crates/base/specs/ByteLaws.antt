@@ -1,5 +1,5 @@
 -- Lists of bytes: the empty one, one byte more, two joined, the parts of a joined one.
-use Rattle.std.specs.Prelude.{◌≡◌, List, [], ◌∷◌, ◌++◌, ℕ, zero, suc, ◌+◌, ◌<◌, length, drop}
+use Rattle.std.specs.Prelude.{List, [], ◌∷◌, ◌++◌, ℕ, zero, suc, ◌+◌, ◌<◌, length, drop}
 use Rattle.std.proofs.Common.{arith, length-drop, get_or-drop}
 use Rattle.std.proofs.Math.Seq.{drop-append_seam}
 use Rattle.base.specs.Numbers.{Bytes}

@@ -1,10 +1,10 @@
 -- Laws for document 01, "Needed gates (000 Def. 4)": changing bit t alone of a setting's number changes condition t alone.
-use Rattle.std.specs.Prelude.{◌≡◌, refl, not, List, [], ◌∷◌, ◌⊎◌, ℕ, zero, suc, ◌+◌, ◌*◌, ◌/◌, ◌%◌, ◌^◌, ◌<◌, eqb, length, get_or}
+use Rattle.std.specs.Prelude.{◌≡◌, refl, not, List, [], ◌∷◌, ◌⊎◌, ℕ, zero, suc, ◌+◌, ◌*◌, ◌/◌, ◌<◌, eqb, length, get_or}
 use Rattle.std.proofs.Common.{sym, ap, ◌∙◌, inl, inr, arith, eq-eqb, ne_eqb}
 use Rattle.base.specs.Lists.{◌∈◌}
 use Rattle.base.specs.MemberLaws.{get_or_in}
 use Rattle.base.specs.TestLaws.{split, same?}
-use Rattle.base.specs.Bits.{odd, bit_of, bit, flip_bit}
+use Rattle.base.specs.Bits.{odd, bit_of, flip_bit}
 use Rattle.base.specs.Settings.{setting_of, Agree, Once, flip}
 use Rattle.base.specs.BitLaws.{half, odd_bit}
 use Rattle.base.specs.BitFlipLaws.{flip_zero, flip_suc}

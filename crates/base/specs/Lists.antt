@@ -1,5 +1,5 @@
 -- Document 01, throughout: lists of numbers, membership as a type and as a test, numbers below a bound, the members that pass a test, tests of all members, runs of numbers, joined lists.
-use Rattle.std.specs.Prelude.{◌≡◌, Bool, true, false, cond, ◌&&◌, List, [], ◌∷◌, ◌++◌, ◌⊎◌, ℕ, zero, suc, ◌+◌, ◌<◌, eqb}
+use Rattle.std.specs.Prelude.{◌≡◌, Bool, true, false, cond, ◌&&◌, List, [], ◌∷◌, ◌++◌, ◌⊎◌, ℕ, zero, suc, ◌<◌, eqb}
 
 infix 40 ◌∈◌
 -- a stands in the list

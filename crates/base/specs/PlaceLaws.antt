@@ -1,7 +1,7 @@
 -- Laws for document 01, "Needed gates (000 Def. 4)": a set of settings depends only on the bits that it rests on; the settings beyond the conditions there are repeat the pattern.
-use Rattle.std.specs.Prelude.{◌≡◌, Bool, true, false, List, ℕ, ◌%◌, ◌^◌, ◌≤◌, ◌<◌, ltb, length, get_or}
+use Rattle.std.specs.Prelude.{◌≡◌, Bool, true, false, List, ℕ, ◌%◌, ◌^◌, ◌≤◌, ◌<◌, ltb, length}
 use Rattle.std.proofs.Common.{sym, ap, ◌∙◌, true≢false, le_of_eq, mod-lt, lt_of_lt_of_le, arith, pow_mono, pow_pos, ltb-true, ltb-false}
-use Rattle.base.specs.Lists.{Inside, ◌∈◌, keep, upto}
+use Rattle.base.specs.Lists.{Inside, ◌∈◌, upto}
 use Rattle.base.specs.ListLaws.{length_from, length_keep, keep_same}
 use Rattle.base.specs.MemberLaws.{from_below, keep_from}
 use Rattle.base.specs.TestLaws.{split}

@@ -1,5 +1,5 @@
 -- Document 01, "Needed gates (000 Def. 4)": a set of settings, held as a number whose bit j is 1 when setting j is in it.
-use Rattle.std.specs.Prelude.{◌≡◌, Bool, true, not, List, ℕ, ◌+◌, ◌*◌, ◌/◌, ◌^◌, ◌<◌, eqb}
+use Rattle.std.specs.Prelude.{◌≡◌, Bool, true, not, List, ℕ, ◌/◌, ◌^◌, ◌<◌, eqb}
 use Rattle.std.specs.Int.Bits.{bit_and, bit_or, bit_xor}
 use Rattle.base.specs.Lists.{keep, upto}
 use Rattle.base.specs.Bits.{bit, unlike, flip_bit, collect}

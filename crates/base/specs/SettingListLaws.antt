@@ -1,5 +1,5 @@
 -- Laws for document 01, "Needed gates (000 Def. 4)": a search below a number finds what passes, or nothing does; runs of numbers, and what is kept of them, hold nothing twice.
-use Rattle.std.specs.Prelude.{◌≡◌, refl, Bool, true, false, List, [], ◌∷◌, ◌++◌, ◌⊎◌, ℕ, zero, suc, ◌+◌, ◌≤◌, ◌<◌, get_or}
+use Rattle.std.specs.Prelude.{◌≡◌, refl, Bool, true, false, List, [], ◌∷◌, ◌⊎◌, ℕ, zero, suc, ◌+◌, ◌≤◌, ◌<◌, get_or}
 use Rattle.std.proofs.Common.{sym, ◌∙◌, true≢false, inl, inr, zero-add, arith}
 use Rattle.std.proofs.lemmas.Bool.{false≢true}
 use Rattle.base.specs.Lists.{◌∈◌, keep, from, upto}

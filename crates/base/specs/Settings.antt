@@ -1,5 +1,5 @@
 -- Document 01, "Needed gates (000 Def. 4)": what a setting is, how settings are numbered, and what a test of settings rests on.
-use Rattle.std.specs.Prelude.{◌≡◌, Bool, true, false, not, cond, List, [], ◌∷◌, ℕ, zero, suc, ◌+◌, ◌*◌, ◌/◌, ◌%◌, ◌^◌, eqb, length}
+use Rattle.std.specs.Prelude.{◌≡◌, Bool, true, false, not, cond, List, [], ◌∷◌, ℕ, zero, suc, ◌+◌, ◌*◌, ◌/◌, ◌^◌, eqb, length}
 use Rattle.base.specs.Lists.{◌∈◌, keep}
 use Rattle.base.specs.Bits.{odd, bit_of, unlike}
 

@@ -1,11 +1,11 @@
 -- Laws for document 01, "The fused circuit file": the settings that a table goes through, each from the one before it; the first gives every condition 0.
-use Rattle.std.specs.Prelude.{◌≡◌, Bool, true, false, cond, ◌&&◌, [], ◌∷◌, ℕ, zero, suc, ◌+◌, ◌-◌, ◌*◌, ◌/◌, ◌%◌, ◌^◌, ◌≤◌, ◌<◌, min, eqb}
+use Rattle.std.specs.Prelude.{◌≡◌, Bool, true, false, cond, ◌&&◌, ℕ, zero, suc, ◌+◌, ◌-◌, ◌*◌, ◌/◌, ◌%◌, ◌^◌, ◌<◌, min}
 use Rattle.std.proofs.Math.Path.{refl}
 use Rattle.std.proofs.Common.{sym, ap, ap₂, ◌∙◌, div-one, add-one, shr-shr, eq-eqb, ne_eqb}
 use Rattle.std.proofs.Math.Bool.{and-true}
 use native.Mathlib.Omega.{arith}
 use Rattle.std.specs.Int.Bits.{bit_and, and_step}
-use Rattle.base.specs.Lists.{◌∈◌, keep, from}
+use Rattle.base.specs.Lists.{keep, from}
 use Rattle.base.specs.MemberLaws.{keep_from, from_below}
 use Rattle.base.specs.TestLaws.{split}
 use Rattle.base.specs.Bits.{odd, bit_of, bit}

@@ -1,5 +1,5 @@
 -- Kinds: results are of their kind; so are the figures of a direct run, and those of the gates of a circuit whose gates fit.
-use Rattle.std.specs.Prelude.{ℕ, zero, suc, ◌*◌, ◌≤◌, ◌<◌, ◌≡◌, refl, List, true, false, ◌&&◌, ◌||◌, ◌⊎◌, ltb, length, get_or, set}
+use Rattle.std.specs.Prelude.{ℕ, zero, suc, ◌<◌, ◌≡◌, refl, List, ◌⊎◌, ltb, length, get_or, set}
 use Rattle.std.proofs.Common.{◌∙◌, inl, inr, arith, ltb-true, ltb-false, get_or-set_same, get_or-set_other}
 use Rattle.std.proofs.Math.Path.{subst}
 use Rattle.std.proofs.Math.ListN.{get_or-eq_default}

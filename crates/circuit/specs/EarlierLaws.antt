@@ -1,5 +1,5 @@
 -- Gates made one after the other: what lies inside a circuit, and that arguments are made before their gates.
-use Rattle.std.specs.Prelude.{ℕ, zero, suc, ◌≤◌, ◌<◌, ◌≡◌, refl, List, [], ◌∷◌, ◌++◌, ◌⊎◌, length, get_or, ltb}
+use Rattle.std.specs.Prelude.{ℕ, zero, suc, ◌<◌, ◌≡◌, refl, [], ◌∷◌, ◌++◌, ◌⊎◌, length, ltb}
 use Rattle.std.proofs.Common.{ap, inl, inr, arith, ltb-true, ltb-false}
 use Rattle.std.proofs.Math.ListN.{get_or-eq_default}
 use Rattle.base.specs.Lists.{◌∈◌, Inside}

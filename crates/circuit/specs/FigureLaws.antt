@@ -1,6 +1,6 @@
 -- Figures, gate by gate: each reads only its gate's arguments, so each gate gives its value of those before it.
-use Rattle.std.specs.Prelude.{ℕ, zero, suc, ◌+◌, ◌<◌, ◌≡◌, refl, List, [], ◌∷◌, ◌++◌, map, length, get_or}
-use Rattle.std.proofs.Common.{ap, ◌∙◌, inl, inr, zero-add, arith}
+use Rattle.std.specs.Prelude.{ℕ, zero, suc, ◌<◌, ◌≡◌, refl, List, [], ◌∷◌, map, length, get_or}
+use Rattle.std.proofs.Common.{ap, inl, inr, zero-add, arith}
 use Rattle.base.specs.Lists.{◌∈◌}
 use Rattle.base.specs.ListLaws.{map_same}
 use Rattle.base.specs.Runs.{run_at}

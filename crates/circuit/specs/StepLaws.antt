@@ -4,7 +4,6 @@ use Rattle.base.specs.Results.{result_of, is_one}
 use Rattle.base.specs.declared.Operation.{Operation}
 use Rattle.rule.specs.Tree.{Expr, variable, word, bit, one, two, Statement, assign, skip, branch, Block, end, then}
 use Rattle.circuit.specs.Running.{figure_of, run_statement, run_block}
-use Rattle.circuit.specs.Gates as gate
 use Rattle.circuit.specs.PlainCircuit.{Making, make_expr, choices, assigned_in, as_before, make_statement, condition_made, first_made, second_made}
 
 -- The direct run.

@@ -1,5 +1,5 @@
 -- Making a block, statement after statement, and so a whole rule: then the lent arrays hold the gates and outputs of its plain circuit; of more than 256 gates the count is 257.
-use Rattle.std.specs.Prelude.{ℕ, ◌+◌, ◌-◌, ◌≤◌, ◌<◌, ◌≡◌, Bool, ◌||◌, List, length, get_or}
+use Rattle.std.specs.Prelude.{ℕ, ◌+◌, ◌≤◌, ◌<◌, ◌≡◌, Bool, ◌||◌, List, length, get_or}
 use Rattle.std.proofs.Common.{arith, ◌∙◌, ext_get_or}
 use Rattle.std.proofs.Math.Path.{refl, sym, ap, subst, subst⁻¹}
 use Rattle.std.proofs.Math.Bool.{true, false, or-false}

@@ -4,7 +4,7 @@ use Rattle.std.proofs.Common.{sym, ◌∙◌, inl, inr}
 use Rattle.std.proofs.Math.Path.{ap}
 use native.Mathlib.Omega.{arith}
 use Rattle.std.proofs.Math.ListN.{get_or}
-use Rattle.base.specs.Lists.{◌∈◌, Inside}
+use Rattle.base.specs.Lists.{Inside}
 use Rattle.base.specs.Codes.{entry_of, operation_of}
 use Rattle.base.specs.CodeLaws.{two_arguments, one_argument}
 use Rattle.base.specs.Sets.{given, without}

@@ -1,6 +1,6 @@
 -- Document 02, C-16, "What a month saved": its sentences, each quoted above its theorems. b is any bytes as a batch, e an entry (a rule and a plan), es the entries of a batch.
 use Rattle.std.specs.Prelude.{ℕ, ◌-◌, ◌≤◌, ◌<◌, ◌≡◌, ◌⊎◌, length, take}
-use Rattle.std.proofs.Common.{arith, sym, ap, ◌∙◌}
+use Rattle.std.proofs.Common.{arith, sym, ap}
 use mathlib.Core.List.{List, ◌∷◌, ◌++◌, map, flatten}
 use Rattle.base.specs.Numbers.{Bytes}
 use Rattle.base.specs.Answers.{refusal}

@@ -1,5 +1,5 @@
 -- The rows 29 and 30: where one is answered, two members and a setting that needs both, or a group that a chain of waits leads back to, are found.
-use Rattle.std.specs.Prelude.{ℕ, ◌^◌, ◌<◌, ◌≡◌, refl, Bool, true, false, cond, List, [], ◌∷◌, ◌++◌, ◌↔◌, eqb, get_or, take}
+use Rattle.std.specs.Prelude.{ℕ, ◌^◌, ◌<◌, ◌≡◌, refl, Bool, true, false, cond, List, [], ◌∷◌, ◌++◌, eqb, get_or, take}
 use Rattle.std.proofs.Common.{lt_of_le_of_lt, sym, ◌∙◌, true≢false, inl, inr}
 use Rattle.std.specs.Int.Bits.{bit_and}
 use Rattle.std.proofs.lemmas.Nat.{and_le_l}
@@ -23,7 +23,7 @@ use Rattle.circuit.specs.WholeLaws.{accepted}
 use Rattle.plan.specs.PlanFile.{Plan, groups_in}
 use Rattle.plan.specs.Groups.{group_of, Waits, Chain}
 use Rattle.plan.specs.SameGroups.{Joined}
-use Rattle.plan.specs.Rows.{every_group, parted, placed, Row, layout_rows, join_rows, order_rows, plan_row, plan_answer}
+use Rattle.plan.specs.Rows.{every_group, parted, placed, layout_rows, join_rows, order_rows, plan_row, plan_answer}
 use Rattle.plan.specs.FailingLaws.{fails_at, hold_both}
 use Rattle.plan.specs.GroupLaws.{group_of_named}
 use Rattle.plan.proofs.WaitLaws.{circle_found}

@@ -1,5 +1,5 @@
 -- Laws for document 02, C-11: circuit files are answered by the rows of the table; our own are read, and their runs give what the direct run of their rule gives.
-use Rattle.std.specs.Prelude.{ℕ, ◌≤◌, ◌<◌, ◌≡◌, refl, true, false, List, [], ◌↔◌, eqb, ltb, length, take}
+use Rattle.std.specs.Prelude.{ℕ, ◌<◌, ◌≡◌, refl, true, List, [], ◌↔◌, eqb, ltb, length}
 use Rattle.std.proofs.Common.{arith, sym, ap, ◌∙◌, true≢false, eqb-true, ltb-true, ltb-false}
 use Rattle.std.proofs.Math.Path.{subst⁻¹}
 use Rattle.std.proofs.lemmas.Bool.{eqb-false}

@@ -1,5 +1,5 @@
 -- Any list of rows with distinct numbers: the first failing row fixes the answer; where tests hold exactly when the rows' facts do, the first failing test is that row's.
-use Rattle.std.specs.Prelude.{ℕ, zero, suc, ◌≤◌, ◌<◌, ◌≡◌, refl, Bool, true, false, not, ◌&&◌, List, [], ◌∷◌, map, ◌⊎◌, ◌↔◌, eqb, ltb, length, get_or, drop}
+use Rattle.std.specs.Prelude.{ℕ, zero, suc, ◌<◌, ◌≡◌, refl, Bool, true, not, ◌&&◌, List, [], ◌∷◌, map, ◌⊎◌, ◌↔◌, eqb, ltb, length, get_or, drop}
 use Rattle.std.proofs.Common.{arith, sym, ap, subst, ◌∙◌, true≢false, inl, inr, ltb-true}
 use Rattle.std.proofs.lemmas.Bool.{eqb-false, not-true}
 use Rattle.base.specs.Lists.{◌∈◌, every}

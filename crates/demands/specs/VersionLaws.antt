@@ -1,7 +1,6 @@
 -- Laws for document 02, C-17: version 2 is written, either is read, any other is 60; a guard of more wires than its version admits is 61; a circuit gives the same figures in both.
-use Rattle.std.specs.Prelude.{ℕ, ◌+◌, ◌-◌, ◌%◌, ◌^◌, ◌≤◌, ◌<◌, ◌≡◌, refl, true, List, [], ◌∷◌, ◌↔◌, length, take}
+use Rattle.std.specs.Prelude.{ℕ, ◌^◌, ◌≤◌, ◌<◌, ◌≡◌, refl, true, List, [], ◌∷◌, length, take}
 use Rattle.std.proofs.Common.{arith, sym, ap, subst, ◌∙◌, ⊎_elim, pow_mono, lt_of_lt_of_le}
-use Rattle.base.specs.Lists.{◌∈◌}
 use Rattle.base.specs.Numbers.{Bytes}
 use Rattle.base.specs.NumberLaws.{bits_bytes}
 use Rattle.base.specs.Answers.{refusal}

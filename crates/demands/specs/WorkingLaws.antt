@@ -7,7 +7,6 @@ use Rattle.base.specs.Numbers.{Bytes}
 use Rattle.base.specs.TestLaws.{split}
 use Rattle.base.specs.Settings.{Setting}
 use Rattle.base.specs.Parsing.{IsRead}
-use Rattle.base.specs.declared.Answer.{Answer}
 use Rattle.rule.specs.Header.{variables, working_of, working_at}
 use Rattle.rule.specs.Tree.{Block}
 use Rattle.rule.specs.Format.{rule_bytes}

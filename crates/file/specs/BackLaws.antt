@@ -1,6 +1,6 @@
 -- Laws for document 01, "The fused circuit file": the bytes of wires and of each form of record, taken apart and put together again, are the same bytes;
 -- the theorems that rest on them are in InverseLaws.
-use Rattle.std.specs.Prelude.{ℕ, zero, suc, ◌+◌, ◌*◌, ◌≤◌, ◌<◌, ◌≡◌, refl, List, [], ◌∷◌, ◌++◌, length, drop, get_or}
+use Rattle.std.specs.Prelude.{ℕ, zero, suc, ◌+◌, ◌*◌, ◌≤◌, ◌≡◌, refl, List, [], ◌∷◌, ◌++◌, length, drop, get_or}
 use Rattle.std.proofs.Common.{sym, ap, ap₂, subst, ◌∙◌, append_assoc, inl, inr, arith}
 use Rattle.base.specs.ListLaws.{drop_one, drop_two}
 use Rattle.base.specs.Numbers.{bytes_of, number_at, Bytes}

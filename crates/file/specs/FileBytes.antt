@@ -1,5 +1,5 @@
 -- Laws for document 01, "The fused circuit file": a file of records that fit consists of bytes.
-use Rattle.std.specs.Prelude.{◌≡◌, List, [], ◌∷◌, ◌++◌, ℕ, ◌<◌, length}
+use Rattle.std.specs.Prelude.{List, [], ◌∷◌, ◌++◌, ℕ, ◌<◌, length}
 use Rattle.std.proofs.Common.{arith}
 use Rattle.base.specs.Numbers.{bytes_of, Bytes}
 use Rattle.base.specs.NumberLaws.{bytes_below}

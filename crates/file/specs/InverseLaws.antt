@@ -2,7 +2,7 @@
 -- What is put together and taken apart is the same: a record by `record_found` (FoundRecords), a file by `file_found` (FileLaws).
 -- What is taken apart and put together is the same bytes: a record by `record_back`, records one after another by `records_back`, a file by `file_back`, where the bytes are
 -- bytes and laid out (LaidOut). So the files that are laid out are just those that can be written: `file_format`.
-use Rattle.std.specs.Prelude.{ℕ, zero, suc, ◌+◌, ◌-◌, ◌*◌, ◌^◌, ◌≤◌, ◌<◌, ◌≡◌, ◌↔◌, length, take, get_or}
+use Rattle.std.specs.Prelude.{ℕ, zero, suc, ◌+◌, ◌-◌, ◌<◌, ◌≡◌, ◌↔◌, length, take, get_or}
 use Rattle.std.proofs.Math.Path.{refl, sym, ap, ap₂, subst⁻¹}
 use Rattle.std.proofs.Common.{subst, ◌∙◌, add-zero, arith, length-append, take-append-drop, take_at}
 use mathlib.Core.List.{List, ◌∷◌, ◌++◌, append_assoc, append-nil}

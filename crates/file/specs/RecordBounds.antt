@@ -1,5 +1,5 @@
 -- A record's first bytes: which codes there are, and what a record can be by its code.
-use Rattle.std.specs.Prelude.{◌≡◌, refl, ℕ, ◌≤◌, ◌<◌, length, get_or}
+use Rattle.std.specs.Prelude.{◌≡◌, refl, ℕ, ◌≤◌, length, get_or}
 use Rattle.std.proofs.Common.{inl, inr, arith}
 use Rattle.base.specs.Lists.{◌∈◌}
 use Rattle.base.specs.Codes.{byte_of, start_code}

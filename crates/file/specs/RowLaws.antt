@@ -1,11 +1,9 @@
 -- Rows 60 and 61: their tests reflect a head with its mark and limits, and a file that is laid out; the mark is that of one of the two versions.
-use Rattle.std.specs.Prelude.{ℕ, zero, suc, ◌+◌, ◌*◌, ◌^◌, ◌≤◌, ◌<◌, ◌≡◌, refl, List, [], ◌∷◌, true, ◌&&◌, ◌⊎◌, ◌↔◌, eqb, leb, length, take, get_or}
+use Rattle.std.specs.Prelude.{ℕ, zero, suc, ◌+◌, ◌*◌, ◌≤◌, ◌<◌, ◌≡◌, refl, List, true, ◌⊎◌, ◌↔◌, leb, length, take, get_or}
 use Rattle.std.proofs.Common.{sym, ap, ◌∙◌, inl, inr, ⊎_elim, arith, get_or-take, eqb-true, eq-eqb, leb-true, le-leb}
-use Rattle.base.specs.Lists.{◌∈◌, elem, same}
+use Rattle.base.specs.Lists.{elem}
 use Rattle.base.specs.MemberLaws.{elem→∈, ∈→elem, same_right}
 use Rattle.base.specs.TestLaws.{both, and, either, or_left, or_right}
-use Rattle.base.specs.declared.Kind.{Kind}
-use Rattle.base.specs.declared.Kind.TheVariants as kind
 use Rattle.file.specs.Records.{Record, input, word, bit, operation, choice, pick, guard}
 use Rattle.file.specs.Versions.{Version, one, two, version_of, most_guard_wires}
 use Rattle.file.specs.CircuitFile.{mark}

@@ -5,7 +5,6 @@ use Rattle.std.proofs.Math.Path.{subst⁻¹}
 use Rattle.std.proofs.Math.ListN.{get_or-eq_default}
 use Rattle.base.specs.TestLaws.{split, both, and}
 use Rattle.base.specs.declared.Kind.{Kind}
-use Rattle.base.specs.declared.Kind.TheVariants as kind
 use Rattle.file.specs.Records.{Record, input, word, bit, operation, choice, pick, guard, record_in, NotInput}
 use Rattle.file.specs.RecordLaws.{Along, along_each, along_at, ReadsBefore, below_earlier}
 use Rattle.file.specs.WireKinds.{wire_kind}

@@ -1,5 +1,5 @@
 -- The versions of a circuit file: the byte of each names it; a guard's table has a bit for each setting of the most wires; no version has more wires or bytes of a table than the second.
-use Rattle.std.specs.Prelude.{ℕ, ◌+◌, ◌*◌, ◌^◌, ◌≤◌, ◌<◌, ◌≡◌, refl}
+use Rattle.std.specs.Prelude.{ℕ, ◌*◌, ◌^◌, ◌≤◌, ◌<◌, ◌≡◌, refl}
 use Rattle.std.proofs.Common.{sym, ap, ◌∙◌, arith, pow_mono}
 use Rattle.base.specs.NumberLaws.{bits_bytes}
 use Rattle.file.specs.Versions.{Version, one, two, version_byte, version_of, most_guard_wires, table_bytes}

@@ -1,7 +1,6 @@
 // Definitions and laws of the circuit file (specs/), and the number of a wire. Nothing here knows a rule or a plan; the code is in the crates `file_..`.
 #![tactic(auto)]
 
-
 // The number of a wire of a circuit file: its record's number. A rule's gate number is never taken for one: it has a type of its own.
 #[derive(Clone, Copy)]
 pub struct WireId(pub u16);

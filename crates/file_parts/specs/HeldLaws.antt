@@ -1,10 +1,9 @@
 -- The kind of a record's wire, by its first byte: what the code reads of a table that holds the kinds of earlier wires is that kind, and it reads inside the file and the table.
-use Rattle.std.specs.Prelude.{ℕ, suc, ◌+◌, ◌-◌, ◌*◌, ◌≤◌, ◌<◌, ◌≡◌, refl, Bool, true, false, List, ◌∷◌, length, get_or}
+use Rattle.std.specs.Prelude.{ℕ, suc, ◌+◌, ◌-◌, ◌≤◌, ◌<◌, ◌≡◌, refl, Bool, true, false, List, ◌∷◌, length, get_or}
 use Rattle.std.proofs.Common.{sym, ap, subst, ◌∙◌, inl, inr, arith}
 use Rattle.base.specs.Numbers.{number_at}
 use Rattle.base.specs.Lists.{Inside}
 use Rattle.base.specs.Codes.{start_code}
-use Rattle.base.specs.declared.Code.{Code}
 use Rattle.base.specs.declared.Kind.{Kind}
 use Rattle.base.specs.declared.Kind.TheVariants as kind
 use Rattle.file.specs.Records.{Record, pick, reads}

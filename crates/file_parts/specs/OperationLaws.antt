@@ -1,8 +1,7 @@
 -- The record of an operation by its byte: how many bytes it has, and whether it gives a bit.
 use Rattle.std.specs.Prelude.{ℕ, ◌≡◌, Bool, true, List, get_or}
-use Rattle.std.proofs.Common.{sym, ap, ◌∙◌}
+use Rattle.std.proofs.Common.{sym, ap}
 use Rattle.base.specs.Codes.{entry_of, byte_of}
-use Rattle.base.specs.declared.Kind.{Kind}
 use Rattle.base.specs.declared.Kind.TheVariants as kind
 use Rattle.base.specs.declared.Operation.{Operation}
 use Rattle.base.specs.declared.Operation.TheVariants.{Sum, Difference, Product, LessThan, Equal, And, Or, Not}

@@ -5,7 +5,6 @@ use Rattle.std.proofs.lemmas.List.{length-map}
 use Rattle.base.specs.Lists.{upto}
 use Rattle.base.specs.Numbers.{Bytes}
 use Rattle.base.specs.declared.Kind.{Kind}
-use Rattle.base.specs.declared.Answer.{Answer}
 use Rattle.base.specs.ParsingLaws.{is_read}
 use Rattle.rule.specs.Header.{kind_at}
 use Rattle.rule.specs.Rule.{read_rule}

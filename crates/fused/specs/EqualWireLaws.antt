@@ -1,6 +1,6 @@
 -- Laws for document 02, C-18, on an accepted plan: when members have one wire at a place, what stands where a group has no guards and what its wire holds; that a
 -- joined gate still comes after the conditions that it rests on; what a group's records come to by its picks.
-use Rattle.std.specs.Prelude.{ℕ, ◌+◌, ◌*◌, ◌≤◌, ◌<◌, ◌≡◌, refl, true, List, [], ◌∷◌, ◌++◌, map, ◌↔◌, get_or}
+use Rattle.std.specs.Prelude.{ℕ, ◌+◌, ◌*◌, ◌≤◌, ◌<◌, ◌≡◌, refl, true, List, [], ◌∷◌, map, ◌↔◌, get_or}
 use Rattle.std.proofs.Math.Path.{sym, ap, ap₂}
 use Rattle.std.proofs.Common.{◌∙◌, arith}
 use Rattle.std.proofs.lemmas.Simd.{map-map}

@@ -1,5 +1,5 @@
 -- Laws for document 01, "The fused circuit file": the records and outputs of an accepted plan fit their bytes; so its file, taken apart, gives them back.
-use Rattle.std.specs.Prelude.{◌≡◌, List, map, ◌⊎◌, ℕ, ◌+◌, ◌≤◌, ◌<◌, eqb, ltb, length}
+use Rattle.std.specs.Prelude.{◌≡◌, List, map, ◌⊎◌, ℕ, ◌≤◌, ◌<◌, eqb, ltb, length}
 use Rattle.std.proofs.Common.{sym, ◌∙◌, ⊎_elim, arith, eqb-true, ltb-true, ltb-false}
 use Rattle.std.proofs.Math.ListN.{get_or-eq_default}
 use Rattle.file.specs.Versions.{written_version}
@@ -9,7 +9,6 @@ use Rattle.base.specs.ListLaws.{length_from, length_keep}
 use Rattle.base.specs.TestLaws.{split}
 use Rattle.base.specs.declared.Operation.{Operation}
 use Rattle.base.specs.Numbers.{Bytes}
-use Rattle.base.specs.declared.Answer.{Answer}
 use Rattle.base.specs.ParsingLaws.{is_read}
 use Rattle.rule.specs.Header.{variables, kind_at}
 use Rattle.rule.specs.Rule.{read_rule}

@@ -9,7 +9,6 @@ use Rattle.base.specs.Lists.{◌∈◌, upto}
 use Rattle.base.specs.MemberLaws.{map_in, from_below}
 use Rattle.base.specs.Numbers.{Bytes}
 use Rattle.base.specs.TestLaws.{split}
-use Rattle.base.specs.declared.Answer.{Answer}
 use Rattle.file.specs.Records.{ReadsEarlier}
 use Rattle.file.specs.WireFigures.{wire_figure}
 use Rattle.file.specs.CircuitFile.{no_wire}

@@ -2,7 +2,6 @@
 use Rattle.std.specs.Prelude.{ℕ, ◌<◌, ◌≡◌, List, false, length, get_or}
 use Rattle.std.proofs.Common.{ap, ◌∙◌, arith}
 use Rattle.base.specs.Numbers.{Bytes}
-use Rattle.base.specs.declared.Answer.{Answer}
 use Rattle.rule.specs.Header.{variables, kind_at, working_at}
 use Rattle.circuit.specs.PlainCircuit.{gates_of, outputs_of}
 use Rattle.circuit.specs.GateKinds.{kind_of_gate}

@@ -1,6 +1,6 @@
 -- Where the records of a group stand in the fused circuit, as they follow from the wires of the whole circuit; distinct groups have distinct wires, and what a group
 -- waits for has an earlier one.
-use Rattle.std.specs.Prelude.{ℕ, ◌+◌, ◌-◌, ◌≤◌, ◌<◌, ◌≡◌, refl, List, [], ◌∷◌, ◌++◌, ◌↔◌, ◌⊎◌, length}
+use Rattle.std.specs.Prelude.{ℕ, ◌+◌, ◌-◌, ◌<◌, ◌≡◌, refl, List, [], ◌∷◌, ◌++◌, ◌↔◌, ◌⊎◌, length}
 use Rattle.std.proofs.Common.{sym, ap, ◌∙◌, append_assoc, append-nil, inl, inr, arith}
 use Rattle.base.specs.Lists.{◌∈◌}
 use Rattle.base.specs.TestLaws.{same?}

@@ -1,5 +1,5 @@
 -- Laws for document 02, C-18, "If no pick remains, write no guards for the group": every guard of a fused circuit is named by a pick.
-use Rattle.std.specs.Prelude.{ℕ, suc, ◌+◌, ◌-◌, ◌≤◌, ◌<◌, ◌≡◌}
+use Rattle.std.specs.Prelude.{ℕ, suc, ◌+◌, ◌≤◌, ◌<◌, ◌≡◌}
 use Rattle.std.proofs.Common.{sym, ap, ◌∙◌, zero-add, arith}
 use mathlib.Core.List.{List, [], ◌∷◌, ◌++◌, map, append_assoc, append-nil}
 use Rattle.std.proofs.Math.ListN.{length}
@@ -9,14 +9,13 @@ use Rattle.base.specs.declared.Operation.{Operation}
 use Rattle.file.specs.Records.{Pair, Record, input, word, bit, operation, choice, pick, guard, record_in}
 use Rattle.file.specs.WireKinds.{guards_of}
 use Rattle.file.specs.RecordLaws.{Along, along_append, along_at}
-use Rattle.circuit.specs.Gates.{Gate, Gates, gate_at, arguments}
-use Rattle.circuit.specs.Gates as gate
+use Rattle.circuit.specs.Gates.{Gates, gate_at, arguments}
 use Rattle.circuit.specs.PlainCircuit.{gates_of}
 use Rattle.circuit_needed.specs.Pass.{rule_preconditions}
 use Rattle.plan.specs.PlanFile.{groups_in, EachGroup}
 use Rattle.plan.specs.Groups.{group_of, members}
 use Rattle.plan.specs.Order.{order}
-use Rattle.fused.specs.Emission.{alone, gate_operation, pairs, picked, guarded, joined, guard_of, values_at, emit}
+use Rattle.fused.specs.Emission.{gate_operation, pairs, picked, guarded, joined, guard_of, values_at, emit}
 use Rattle.fused.specs.FusedCircuit.{group_records, written, fused, records_of}
 use Rattle.fused.specs.EmitLaws.{alone_any}
 use Rattle.fused.specs.JoinedParts.{pick_of, operation_reads}

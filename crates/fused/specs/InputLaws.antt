@@ -10,7 +10,6 @@ use Rattle.base.specs.ListLaws.{length_from, upto_more, get_or_upto}
 use Rattle.base.specs.MemberLaws.{in_append}
 use Rattle.base.specs.TestLaws.{split}
 use Rattle.base.specs.Settings.{Once}
-use Rattle.base.specs.declared.Answer.{Answer}
 use Rattle.rule.specs.Header.{variables, kind_at}
 use Rattle.circuit.specs.Gates.{Gate, Gates, gate_at, arguments}
 use Rattle.circuit.specs.Gates as gate

@@ -7,15 +7,14 @@ use Rattle.base.specs.declared.Operation.{Operation}
 use Rattle.file.specs.Records.{Record, input, word, bit, operation, choice, pick, guard, record_in, Pair}
 use Rattle.file.specs.WireKinds.{values_of}
 use Rattle.file.specs.RecordLaws.{Along, along_map, along_at}
-use Rattle.circuit.specs.Gates.{Gate, gate_at, arguments, Gates}
-use Rattle.circuit.specs.Gates as gate
+use Rattle.circuit.specs.Gates.{gate_at, arguments, Gates}
 use Rattle.circuit.specs.PlainCircuit.{gates_of, gate_count}
 use Rattle.circuit_needed.specs.Pass.{rule_preconditions}
 use Rattle.plan.specs.PlanFile.{groups_in}
 use Rattle.plan.specs.Groups.{group_of, members}
 use Rattle.plan.specs.GroupLaws.{member_of}
 use Rattle.plan.specs.Rows.{plan_answer}
-use Rattle.fused.specs.Emission.{alone, gate_operation, pairs, one_wire, joined, guard_of, values_at, emit}
+use Rattle.fused.specs.Emission.{gate_operation, pairs, one_wire, joined, guard_of, values_at, emit}
 use Rattle.fused.specs.FusedCircuit.{records_of, wire_of}
 use Rattle.fused.specs.JoinedParts.{joined_along}
 use Rattle.fused.specs.EmitLaws.{alone_any, emit_two}

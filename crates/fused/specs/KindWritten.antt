@@ -22,7 +22,7 @@ use Rattle.plan.specs.Order.{Ordered}
 use Rattle.plan.specs.GroupLaws.{member_of, of_member}
 use Rattle.plan.specs.RestLaws.{rests_right}
 use Rattle.plan.specs.ReadsLaws.{waits_argument, waits_rests}
-use Rattle.file.specs.Records.{operation, pick}
+use Rattle.file.specs.Records.{pick}
 use Rattle.file.specs.WireKinds.{record_kind, AllOf, RecordFits}
 use Rattle.file.specs.WireKindLaws.{GivesKind, KindsGiven}
 use Rattle.file.specs.RecordLaws.{Along, along_append, along_left, along_right}

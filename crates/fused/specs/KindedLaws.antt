@@ -11,7 +11,7 @@ use Rattle.rule.specs.Header.{kind_at}
 use Rattle.circuit.specs.Gates.{Gate, arguments}
 use Rattle.circuit.specs.Gates as gate
 use Rattle.circuit.specs.GateKinds.{gate_kind, GateFits}
-use Rattle.file.specs.Records.{Record, operation, pick}
+use Rattle.file.specs.Records.{Record, pick}
 use Rattle.file.specs.WireKinds.{guards_of, values_of, record_kind, AllOf, RecordFits}
 use Rattle.file.specs.WireKindLaws.{GivesKind, KindsGiven}
 use Rattle.file.specs.RecordLaws.{Along, along_map}

@@ -9,7 +9,6 @@ use Rattle.base.specs.TestLaws.{split}
 use Rattle.base.specs.Numbers.{Bytes}
 use Rattle.base.specs.Codes.{Fits}
 use Rattle.base.specs.declared.Kind.{Kind}
-use Rattle.base.specs.declared.Answer.{Answer}
 use Rattle.rule.specs.Header.{variables, kind_at}
 use Rattle.plan.specs.Rows.{plan_answer}
 use Rattle.file.specs.Versions.{written_version}

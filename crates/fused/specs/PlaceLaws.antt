@@ -1,6 +1,6 @@
 -- An argument place of a joined group (document 02, C-18): its members have one wire there exactly when each has the first one's.
 use Rattle.std.specs.Prelude.{ℕ, ◌<◌, ◌≡◌, refl, true, false, List, [], ◌∷◌, eqb, length, get_or}
-use Rattle.std.proofs.Common.{◌∙◌, inl, inr, arith, eqb-true, eq-eqb}
+use Rattle.std.proofs.Common.{inl, inr, arith, eqb-true, eq-eqb}
 use Rattle.std.proofs.lemmas.Bool.{false≢true}
 use Rattle.base.specs.Lists.{◌∈◌}
 use Rattle.base.specs.TestLaws.{split}

@@ -9,7 +9,6 @@ use Rattle.base.specs.Codes.{entry_of}
 use Rattle.base.specs.declared.Operation.{Operation}
 use Rattle.base.specs.Parsing.{parsed}
 use Rattle.base.specs.ParsingLaws.{is_read}
-use Rattle.base.specs.declared.Answer.{Answer}
 use Rattle.rule.specs.Header.{variables}
 use Rattle.rule.specs.Tree.{Block}
 use Rattle.rule.specs.Rule.{read_rule}

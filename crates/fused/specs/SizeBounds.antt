@@ -6,7 +6,6 @@ use native.Mathlib.Omega.{arith}
 use Rattle.base.specs.Lists.{upto}
 use Rattle.base.specs.ListLaws.{length_from}
 use Rattle.base.specs.Settings.{Once}
-use Rattle.base.specs.declared.Answer.{Answer}
 use Rattle.base.specs.ParsingLaws.{is_read}
 use Rattle.file.specs.Versions.{written_version}
 use Rattle.file.specs.Records.{records_cost}

@@ -1,5 +1,5 @@
 -- The guards of picks: whatever figures the other wires hold, at most one guard of a pick is 1.
-use Rattle.std.specs.Prelude.{ℕ, zero, suc, ◌+◌, ◌≤◌, ◌<◌, ◌≡◌, refl, Bool, true, false, List, [], ◌∷◌, ◌++◌, map, length, get_or}
+use Rattle.std.specs.Prelude.{ℕ, suc, ◌≤◌, ◌<◌, ◌≡◌, refl, Bool, true, false, List, [], ◌∷◌, ◌++◌, map, length, get_or}
 use Rattle.std.proofs.Common.{ap, ◌∙◌, inl, inr, zero-add, arith}
 use Rattle.base.specs.Lists.{◌∈◌, upto}
 use Rattle.base.specs.TestLaws.{split}
@@ -10,13 +10,12 @@ use Rattle.file.specs.Records.{Record}
 use Rattle.file.specs.Sums.{guards_at_one}
 use Rattle.file.specs.SumLaws.{GivesGuard, OneGuard}
 use Rattle.file.specs.RecordLaws.{Along, along_append, along_left, along_right, along_map}
-use Rattle.circuit.specs.Gates.{Gate, Gates, gate_at, arguments, Earlier, conditions}
-use Rattle.circuit.specs.Gates as gate
+use Rattle.circuit.specs.Gates.{Gates, gate_at, arguments, Earlier, conditions}
 use Rattle.circuit.specs.Limits.{most_conditions}
 use Rattle.circuit_needed.specs.Pass.{needed, precondition_sets}
 use Rattle.circuit_needed.specs.PassLaws.{needed_sound}
 use Rattle.plan.specs.Groups.{members}
-use Rattle.fused.specs.Emission.{alone, gate_operation, pairs, one_wire, guard_of, values_at, emit}
+use Rattle.fused.specs.Emission.{gate_operation, pairs, one_wire, guard_of, values_at, emit}
 use Rattle.fused.specs.FusedCircuit.{Written, group_records, written}
 use Rattle.fused.specs.EmitLaws.{alone_any}
 use Rattle.fused.specs.JoinedParts.{joined_along, joined_guards}

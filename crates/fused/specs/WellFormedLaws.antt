@@ -1,16 +1,13 @@
 -- Laws for document 02, C-11: "Every file that our writer makes is read": the circuit of an accepted plan is well-formed, so rows 60 to 62 find no fault with its file.
-use Rattle.std.specs.Prelude.{ℕ, ◌^◌, ◌≤◌, ◌<◌, ◌≡◌, refl, List, [], ◌∷◌, map, ◌⊎◌, length, get_or}
+use Rattle.std.specs.Prelude.{ℕ, ◌<◌, ◌≡◌, refl, List, [], ◌∷◌, map, ◌⊎◌, length, get_or}
 use Rattle.std.proofs.Common.{sym, ap, ◌∙◌, inl, inr, arith}
 use Rattle.std.proofs.lemmas.List.{length-map}
 use Rattle.base.specs.Lists.{upto}
 use Rattle.base.specs.TestLaws.{split}
 use Rattle.base.specs.Numbers.{Bytes}
-use Rattle.base.specs.Sets.{rests}
-use Rattle.base.specs.declared.Answer.{Answer}
 use Rattle.rule.specs.Header.{variables, kind_at, working_at}
 use Rattle.rule.specs.FirstStatement.{rule_read}
-use Rattle.circuit.specs.Gates.{Gate, Gates, gate_at, arguments, conditions}
-use Rattle.circuit.specs.Gates as gate
+use Rattle.circuit.specs.Gates.{Gates, gate_at, arguments}
 use Rattle.circuit.specs.Limits.{most_conditions}
 use Rattle.circuit.specs.PlainCircuit.{gates_of, gate_count}
 use Rattle.circuit_needed.specs.Pass.{rule_preconditions}
@@ -28,7 +25,7 @@ use Rattle.file.specs.CircuitFile.{file_bytes, no_wire}
 use Rattle.file.specs.CircuitRows.{circuit_row}
 use Rattle.file.specs.WellFormed.{TableFits, Standing, WellFormed}
 use Rattle.file.specs.FormatLaws.{well_row}
-use Rattle.fused.specs.Emission.{alone, gate_operation, guard_of, values_at, emit}
+use Rattle.fused.specs.Emission.{gate_operation, guard_of, values_at, emit}
 use Rattle.fused.specs.FusedCircuit.{records_of, output_wire, output_wires, fused_file}
 use Rattle.fused.specs.OutputLaws.{outputs_length, output_at, working_wire}
 use Rattle.fused.specs.EmitLaws.{alone_any}

@@ -1,7 +1,6 @@
 -- What the arrays of an accepted plan hold: the rule's gates in quads, and the members of each group.
-use Rattle.std.specs.Prelude.{ℕ, ◌*◌, ◌≤◌, ◌<◌, ◌≡◌, List, ◌⊎◌, length, get_or, take}
-use Rattle.std.proofs.Common.{sym, ap, ◌∙◌, inl, inr}
-use Rattle.base.specs.Lists.{◌∈◌}
+use Rattle.std.specs.Prelude.{ℕ, ◌*◌, ◌<◌, ◌≡◌, List, ◌⊎◌, length, get_or, take}
+use Rattle.std.proofs.Common.{sym, inl, inr}
 use Rattle.base.specs.TestLaws.{same?}
 use Rattle.circuit.specs.PlainCircuit.{gates_of, gate_count}
 use Rattle.circuit.specs.Quads.{quads_of}

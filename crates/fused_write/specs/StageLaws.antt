@@ -1,7 +1,7 @@
 -- What the arrays hold after i turns is what is written of the fused circuit after i groups.
 use Prim.Native.Nat.{ℕ, zero, suc, ◌+◌, ◌-◌, ◌≤◌, ◌<◌}
 use Rattle.std.proofs.Common.{arith, sym, ap₂, ◌∙◌, inl, inr, length-append, get_or-set_same, get_or-set_other}
-use Rattle.std.specs.Prelude.{◌≡◌, List, [], ◌∷◌, ◌++◌, set}
+use Rattle.std.specs.Prelude.{◌≡◌, List, ◌∷◌, ◌++◌, set}
 use Rattle.std.proofs.Math.Path.{ap, subst}
 use Rattle.std.proofs.Math.ListN.{length, get_or, length-set}
 use Rattle.std.proofs.lemmas.List.{length-replicate}
@@ -21,7 +21,6 @@ use Rattle.plan.specs.ReadsLaws.{waits_argument, waits_rests}
 use Rattle.plan_check.specs.Checked.{writing_order, checked_groups, checked_places, checked_order}
 use Rattle.plan_check.specs.CheckedLaws.{group_is, turn_is}
 use Rattle.file.specs.Records.{Record}
-use Rattle.fused.specs.Emission.{emit}
 use Rattle.fused.specs.FusedCircuit.{Written, group_records, written}
 use Rattle.fused.specs.EmitSame.{emit_same, emit_alike}
 use Rattle.fused.specs.PlannedLaws.{planned_level}

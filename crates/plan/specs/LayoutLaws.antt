@@ -1,5 +1,5 @@
 -- Layout: a plan that is laid out is, byte for byte, its gate count and its groups put together.
-use Rattle.std.specs.Prelude.{◌≡◌, refl, ℕ, zero, suc, ◌+◌, ◌*◌, ◌≤◌, ◌<◌, length, take, drop, get_or}
+use Rattle.std.specs.Prelude.{◌≡◌, refl, ℕ, zero, suc, ◌+◌, ◌*◌, ◌≤◌, length, drop, get_or}
 use Rattle.std.proofs.Math.Path.{sym, ap₂}
 use Rattle.std.proofs.Common.{ap, ◌∙◌, arith, add-one, take-append-drop, drop-cons}
 use mathlib.Core.List.{List, ◌∷◌, ◌++◌, append_assoc}

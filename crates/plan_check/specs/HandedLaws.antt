@@ -1,18 +1,16 @@
 -- What the check of a refused plan hands up: the circuit, and no groups. The tables of a plan that is laid out name groups by their smallest members, and tell which are joined.
-use Rattle.std.specs.Prelude.{ℕ, ◌-◌, ◌≤◌, ◌<◌, ◌≡◌, refl, List, ◌⊎◌, not, eqb, leb, get_or, replicate}
+use Rattle.std.specs.Prelude.{ℕ, ◌≤◌, ◌<◌, ◌≡◌, refl, List, ◌⊎◌, not, eqb, leb, get_or, replicate}
 use Rattle.std.proofs.Common.{arith, sym, ◌∙◌, inl, inr, eq-eqb, ne_eqb, le-leb}
 use Rattle.std.proofs.Math.Path.{ap}
 use Rattle.std.proofs.Math.ListN.{length}
 use Rattle.base.specs.TestLaws.{same?}
 use Rattle.base.specs.Answers.{refusal}
 use Rattle.base.specs.declared.Answer.{Answer}
-use Rattle.circuit.specs.Gates.{conditions}
 use Rattle.circuit.specs.Limits.{most_gates}
 use Rattle.base.specs.Buffers.{padded}
 use Rattle.circuit_needed.specs.Built.{built_quads, built_needs, built_outputs, built_conditions}
 use Rattle.plan.specs.PlanFile.{groups_in, Apart}
-use Rattle.plan.specs.Groups.{group_of, Named, groups, members}
-use Rattle.plan.specs.Order.{order}
+use Rattle.plan.specs.Groups.{group_of, Named, members}
 use Rattle.plan.specs.Rows.{layout_rows, first_failing, plan_answer}
 use Rattle.plan.specs.RowLaws.{apart_right}
 use Rattle.plan.specs.FailingLaws.{none_fails}

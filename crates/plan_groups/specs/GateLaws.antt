@@ -7,7 +7,6 @@ use Rattle.base.specs.MemberLaws.{every_same}
 use Rattle.base.specs.TestLaws.{split, both}
 use Rattle.base.specs.Codes.{code_of}
 use Rattle.base.specs.CodeLaws.{byte_back}
-use Rattle.base.specs.declared.Code.{Code}
 use Rattle.circuit.specs.Gates.{Gate, Gates, gate_at, cost_of}
 use Rattle.circuit_needed.specs.Held.{choice_code, code_at, gate_in}
 use Rattle.circuit_needed.specs.QuadLaws.{KindIn, chooses, is_word, is_bit_lem, applies, starts, kind_in_lem, choice_in, word_in, bit_in_lem, applied_in, cost_in}

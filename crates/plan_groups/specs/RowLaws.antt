@@ -1,6 +1,6 @@
 -- Rows 20 to 29 and 32: the code's tests are the rows' tests, and the first that fails is answered; where none of 20 to 26 does, the plan's groups can be read.
 use Rattle.std.specs.Prelude.{ℕ, ◌+◌, ◌≤◌, ◌<◌, ◌≡◌, refl, List, [], ◌∷◌, Bool, true, false, ◌&&◌, leb, ltb, length, get_or, take}
-use Rattle.std.proofs.Common.{sym, ap, ◌∙◌, arith}
+use Rattle.std.proofs.Common.{sym, ◌∙◌, arith}
 use borrow.Author.Tests.{eq-eqb, ne_eqb, leb-true, le-leb, lt-leb}
 use Rattle.base.specs.Lists.{every, same}
 use Rattle.base.specs.TestLaws.{both}

@@ -1,5 +1,5 @@
 -- Feeding: in whatever pieces a batch comes, and whatever the buffer has room for, what is printed is its report.
-use Rattle.std.specs.Prelude.{true, false, ◌⊎◌, ◌≡◌, eqb, leb, length}
+use Rattle.std.specs.Prelude.{◌⊎◌, ◌≡◌, eqb, leb, length}
 use mathlib.Core.List.{List, [], ◌∷◌, ◌++◌, append_assoc, append-nil, flatten}
 use Rattle.std.proofs.Common.{inl, inr, sym, ◌∙◌, arith}
 use Rattle.std.proofs.Math.Logic.{⊎_elim}

@@ -1,5 +1,5 @@
 -- Any bytes as a batch: each is one of the five sorts, and its report is what is printed of that sort; the sums are those of the accepted entries.
-use Rattle.std.specs.Prelude.{true, false, ◌⊎◌, ◌≡◌, refl, ℕ, zero, suc, ◌+◌, ◌-◌, ◌≤◌, ◌<◌, eqb, leb, length, take, drop}
+use Rattle.std.specs.Prelude.{true, false, ◌⊎◌, ◌≡◌, refl, ℕ, zero, suc, ◌+◌, ◌-◌, ◌≤◌, ◌<◌, leb, length, take, drop}
 use Rattle.std.proofs.Common.{true≢false, inl, inr, ⊎_elim, subst, ◌∙◌, zero-add, add-zero, arith, length-drop, take-append-drop, drop-drop, length-take-le, leb-true, leb-false, eqb-true}
 use mathlib.Core.List.{List, [], ◌∷◌, ◌++◌, append_assoc, append-nil, map, flat_map}
 use Rattle.std.proofs.Math.Path.{sym, ap}

@@ -1,7 +1,6 @@
 // Definitions and laws of what is printed (specs/): the line of an answer, the batch and its report. How far a report is, which the code keeps, is here.
 #![tactic(auto)]
 
-
 // How long a printed line can be, as specs/Limits.antt has it: the line of an answer, and the last line of a report.
 pub const MOST_LINE: usize = 93;
 

@@ -1,5 +1,5 @@
 -- Laws for document 02, C-13: a well-formed rule stays well-formed whichever of its variables work.
-use Rattle.std.specs.Prelude.{ℕ, ◌≤◌, ◌<◌, ◌≡◌, List, length, get_or}
+use Rattle.std.specs.Prelude.{ℕ, ◌<◌, ◌≡◌, List, length, get_or}
 use Rattle.std.proofs.Common.{arith, ap, subst, length-append}
 use Rattle.base.specs.declared.Kind.{Kind}
 use Rattle.rule.specs.Header.{working_of, working_at}

@@ -1,7 +1,7 @@
 -- What reading finds, expressions: what was read is typed, not too deep, and its bytes stand in the file from its first place to the place after it.
 use Prim.Native.Nat.{ℕ, zero, suc, ◌+◌, ◌-◌, ◌≤◌, ◌<◌}
 use native.Mathlib.Omega.{arith}
-use Rattle.std.specs.Prelude.{◌≡◌, Bool, true, false, ltb, leb, eqb, get_or, take}
+use Rattle.std.specs.Prelude.{◌≡◌, Bool, true, false, ltb, leb, eqb, get_or}
 use Rattle.std.proofs.Math.Path.{refl, sym, ap}
 use Rattle.std.proofs.Common.{◌∙◌, ⊎_elim}
 use mathlib.Core.List.{List, ◌∷◌, ◌++◌, append_assoc}

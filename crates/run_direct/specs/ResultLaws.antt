@@ -1,5 +1,5 @@
 -- What a direct run writes: figures past the V variables change nothing, and the first V are the results.
-use Rattle.std.specs.Prelude.{ℕ, ◌+◌, ◌-◌, ◌≤◌, ◌≡◌, List, length, take, drop}
+use Rattle.std.specs.Prelude.{ℕ, ◌+◌, ◌≡◌, List, length, take, drop}
 use Rattle.std.proofs.Common.{sym, ap, ◌∙◌, take_at}
 use Rattle.base.specs.Buffers.{over}
 use Rattle.base.specs.Parsing.{parsed, IsRead}

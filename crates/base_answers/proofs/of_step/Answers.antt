@@ -1,4 +1,3 @@
-use borrow.Author.Rules.{rules}
 use mathlib.Core.Path.{ap, sym, ◌∙◌}
 use Rattle.base.specs.Answers.{answer_of}
 use Rattle.base_answers.proofs.of_step.Goals as goal

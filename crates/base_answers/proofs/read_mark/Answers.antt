@@ -1,8 +1,6 @@
-use Prim.Native.Nat.{◌≤◌, ◌-◌}
 use borrow.Author.Rules.{rules}
-use mathlib.Core.Path.{◌≡◌, refl, sym, ap, ◌∙◌}
-use lib.ListN.{length, drop}
-use Rattle.base.specs.Parsing.{step_of, read_mark}
+use mathlib.Core.Path.{refl, sym, ap, ◌∙◌}
+use Rattle.base.specs.Parsing.{step_of}
 use Rattle.base.specs.ParsingLaws.{mark_more, mark_wrong, mark_end}
 use Rattle.base_answers.proofs.read_mark.Goals as goal
 

@@ -1,9 +1,7 @@
 use Prim.Native.Nat.{◌≤◌, ◌-◌}
-use borrow.Author.Rules.{rules}
-use mathlib.Core.Path.{◌≡◌, refl, sym, ap, ◌∙◌}
+use mathlib.Core.Path.{◌≡◌}
 use lib.ListN.{length, drop}
-use Rattle.base.specs.Parsing.{step_of, read_mark}
-use Rattle.base.specs.ParsingLaws.{mark_more, mark_wrong, mark_end}
+use Rattle.base.specs.Parsing.{read_mark}
 use Rattle.base_answers.proofs.read_mark.Given as goal
 
 -- what is left of the mark decides

@@ -1,4 +1,3 @@
-use borrow.Author.Rules.{rules}
 use Rattle.base.specs.BitWords.{bit_in}
 use Rattle.base_bits.proofs.has.Goals as goal
 

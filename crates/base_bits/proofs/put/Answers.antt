@@ -2,7 +2,6 @@ use lib.Bits.{bit_or}
 use lib.ListN.{set, get_or}
 use Prim.Native.Nat.{ℕ, ◌+◌, ◌/◌}
 use mathlib.Core.Path.{ap}
-use borrow.Author.Rules.{rules}
 use Rattle.base.specs.BitWords.{put_bit}
 use Rattle.base_bits.proofs.put.Goals as goal
 

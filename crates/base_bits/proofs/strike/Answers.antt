@@ -2,7 +2,6 @@ use lib.Bits.{bit_xor}
 use lib.ListN.{set, get_or}
 use Prim.Native.Nat.{ℕ, ◌/◌}
 use mathlib.Core.Path.{ap}
-use borrow.Author.Rules.{rules}
 use Rattle.base.specs.BitWords.{strike_bit}
 use Rattle.base_bits.proofs.strike.Goals as goal
 

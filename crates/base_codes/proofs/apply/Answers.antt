@@ -1,5 +1,4 @@
 use Rattle.base.specs.Results.{result_of}
-use borrow.Author.Rules.{rules}
 use Rattle.base_codes.proofs.apply.Goals as goal
 
 pub returns-in-Sum : goal.returns-in-Sum

@@ -1,9 +1,8 @@
-use mathlib.Core.Logic.{⊎_elim, inl, inr}
+use mathlib.Core.Logic.{inl, inr}
 use native.Mathlib.Omega.{arith}
 use mathlib.Core.Path.{ap, sym, ◌∙◌}
 use Rattle.base.specs.Codes.{entry_of, code_of}
 use Rattle.base.specs.CodeLaws.{code_operation, code_unknown}
-use borrow.Author.Rules.{rules}
 use Rattle.base_codes.proofs.code_of.Goals as goal
 use Rattle.base_codes.proofs.code_of.Goals.{in_default-via-then-b-lt32, in_default-via-else-b-lt32+else-b-lt40}
 

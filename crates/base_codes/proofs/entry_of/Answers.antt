@@ -1,5 +1,4 @@
 use mathlib.Core.Path.{sym, ap}
-use borrow.Author.Rules.{rules}
 use Rattle.base.specs.Codes.{entry_of}
 use Rattle.base.specs.CodeLaws.{entry_form}
 use Rattle.base.specs.declared.Form.{Form}

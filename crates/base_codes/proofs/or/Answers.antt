@@ -1,5 +1,4 @@
 use borrow.Author.Tests.{eq-eqb, ne_eqb}
-use borrow.Author.Rules.{rules}
 use Rattle.base_codes.proofs.or.Goals as goal
 
 pub returns-then-a-eq1 : goal.returns-then-a-eq1

@@ -1,6 +1,5 @@
 use mathlib.Core.Path.{sym, ap, ◌∙◌}
 use Prim.Native.Nat.{ℕ, ◌%◌}
-use borrow.Author.Rules.{rules}
 use Rattle.base.specs.Bits.{bit}
 use Rattle.base.specs.BitJoinedLaws.{joined_bit}
 use Rattle.base.specs.SetsHeld.{words_of, set_of}

@@ -1,6 +1,5 @@
-use mathlib.Core.Path.{◌≡◌, sym}
+use mathlib.Core.Path.{sym}
 use native.Mathlib.Nat.{add-zero}
-use borrow.Author.Rules.{rules}
 use Rattle.base.specs.SetsHeld.{set_of}
 use Rattle.base.specs.SetsHeldLaws.{sets_words}
 use Rattle.base_settings.proofs.load.Goals as goal

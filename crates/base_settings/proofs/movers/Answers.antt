@@ -1,6 +1,5 @@
 use mathlib.Core.Path.{◌≡◌, refl, sym}
 use native.Mathlib.Omega.{arith}
-use borrow.Author.Rules.{rules}
 use Rattle.base.specs.SetLimits.{set_conditions}
 use Rattle.base.specs.SetsHeld.{words_of, set_of}
 use Rattle.base.specs.MoverLaws.{movers_within, movers_across}

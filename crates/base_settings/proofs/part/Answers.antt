@@ -1,6 +1,5 @@
 use mathlib.Core.Path.{◌≡◌, refl, sym, ap, ◌∙◌}
 use lib.Bits.{bit_and, bit_xor, and_lt}
-use borrow.Author.Rules.{rules}
 use Rattle.base.specs.BitWords.{joined, wordwise}
 use Rattle.base.specs.BitJoinedLaws.{fit_by, joined_and, joined_xor}
 use Rattle.base.specs.SetLimits.{set_settings}

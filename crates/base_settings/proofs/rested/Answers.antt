@@ -1,12 +1,7 @@
 use mathlib.Core.Path.{sym, ◌∙◌}
-use mathlib.Core.Logic.{⊎_elim}
-use Prim.Native.Nat.{◌-◌}
 use native.Mathlib.Omega.{arith}
-use borrow.Author.Rules.{rules}
 use Rattle.base.specs.SetLimits.{set_conditions}
-use Rattle.base.specs.Sets.{rests_on}
-use Rattle.base.specs.SetsHeld.{set_of}
-use Rattle.base_settings.proofs.Laws.{Listing, listing_start, listing_room, listing_in, listing_out, listing_end}
+use Rattle.base_settings.proofs.Laws.{listing_start, listing_room, listing_in, listing_out, listing_end}
 use Rattle.base_settings.proofs.rested.Goals as goal
 use Rattle.base_settings.proofs.rested.Goals.{then-rests_on, else-rests_on}
 

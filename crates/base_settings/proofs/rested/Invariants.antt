@@ -1,12 +1,8 @@
-use mathlib.Core.Path.{sym, ◌∙◌}
-use mathlib.Core.Logic.{⊎_elim}
 use Prim.Native.Nat.{◌-◌}
-use native.Mathlib.Omega.{arith}
-use borrow.Author.Rules.{rules}
 use Rattle.base.specs.SetLimits.{set_conditions}
 use Rattle.base.specs.Sets.{rests_on}
 use Rattle.base.specs.SetsHeld.{set_of}
-use Rattle.base_settings.proofs.Laws.{Listing, listing_start, listing_room, listing_in, listing_out, listing_end}
+use Rattle.base_settings.proofs.Laws.{Listing}
 use Rattle.base_settings.proofs.rested.Given as goal
 
 abbrev pub invariant-loop-t : goal.invariant-loop-t

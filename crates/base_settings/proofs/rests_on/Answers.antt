@@ -2,7 +2,6 @@ use mathlib.Core.Path.{sym, ap, ◌∙◌}
 use mathlib.Core.Bool.{not}
 use Prim.Native.Nat.{ℕ}
 use lib.Dec.{eqb}
-use borrow.Author.Rules.{rules}
 use Rattle.base.specs.SetLimits.{set_conditions}
 use Rattle.base.specs.SetLaws.{rests_on_shift}
 use Rattle.base.specs.SetsHeld.{set_of}

@@ -2,7 +2,6 @@ use mathlib.Core.Path.{◌≡◌, refl}
 use Prim.Native.Nat.{ℕ, suc, ◌+◌, ◌*◌}
 use native.Mathlib.Omega.{arith}
 use lib.ListN.{length-set}
-use borrow.Author.Rules.{rules}
 use Rattle.base.specs.SetLimits.{set_words}
 use Rattle.base.specs.SetsHeld.{words_of, set_of}
 use Rattle.base.specs.SetsHeldLaws.{sets_store}

@@ -1,12 +1,8 @@
 use mathlib.Core.Path.{sym, ap, ◌∙◌}
-use mathlib.Core.Logic.{⊎_elim}
-use Prim.Native.Nat.{ℕ, ◌-◌, ◌^◌}
+use Prim.Native.Nat.{ℕ, ◌^◌}
 use native.Mathlib.Omega.{arith}
-use borrow.Author.Rules.{rules}
-use Rattle.base.specs.SetLimits.{set_conditions, set_words}
-use Rattle.base.specs.SetsHeld.{set_of}
 use Rattle.base.specs.SetsHeldLaws.{sets_one}
-use Rattle.base_settings.proofs.Tabling.{Tabling, rested_few, tabling_start, tabling_low, tabling_in, tabling_out, tabling_end}
+use Rattle.base_settings.proofs.Tabling.{rested_few, tabling_start, tabling_low, tabling_in, tabling_out, tabling_end}
 use Rattle.base_settings.proofs.table.Goals as goal
 use Rattle.base_settings.proofs.table.Goals.{then-has, else-has}
 

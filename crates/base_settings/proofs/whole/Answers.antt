@@ -1,4 +1,3 @@
-use borrow.Author.Rules.{rules}
 use Rattle.base.specs.Bits.{collect}
 use Rattle.base.specs.BitWords.{joined}
 use Rattle.base_settings.proofs.whole.Goals as goal

@@ -1,5 +1,4 @@
 use mathlib.Core.Path.{sym, ◌∙◌}
-use borrow.Author.Rules.{rules}
 use Rattle.base.specs.SetLimits.{set_settings}
 use Rattle.base.specs.SetsHeld.{set_of}
 use Rattle.base.specs.SetsHeldLaws.{set_below}

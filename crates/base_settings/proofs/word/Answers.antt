@@ -1,6 +1,5 @@
 use mathlib.Core.Path.{◌≡◌}
 use native.Mathlib.Omega.{arith}
-use borrow.Author.Rules.{rules}
 use Rattle.base_settings.proofs.word.Goals as goal
 
 pub returns-in_default : goal.returns-in_default

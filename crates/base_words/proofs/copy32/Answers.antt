@@ -1,5 +1,4 @@
-use Rattle.std.proofs.Common.{◌≡◌, ℕ, ◌-◌, ◌≤◌, List, length, get_or, take, set, sym, refl, ap, ◌∙◌, length-set, rules}
-use Rattle.base.specs.Buffers.{over}
+use Rattle.std.proofs.Common.{ℕ, List, get_or, set, sym, refl, ap, ◌∙◌, length-set, rules}
 use Rattle.base.specs.BufferLaws.{over_nil, copy_more, copy_all}
 use Rattle.base_words.proofs.copy32.Goals as goal
 

@@ -1,6 +1,5 @@
-use Rattle.std.proofs.Common.{◌≡◌, ℕ, ◌-◌, ◌≤◌, List, length, get_or, take, set, sym, refl, ap, ◌∙◌, length-set, rules}
+use Rattle.std.proofs.Common.{◌≡◌, ◌-◌, ◌≤◌, length, take}
 use Rattle.base.specs.Buffers.{over}
-use Rattle.base.specs.BufferLaws.{over_nil, copy_more, copy_all}
 use Rattle.base_words.proofs.copy32.Given as goal
 
 abbrev pub invariant-loop-i : goal.invariant-loop-i

@@ -1,6 +1,5 @@
 -- The product of two words fits 64 bits, by `below`; the rest is arithmetic.
 use Rattle.base.specs.NumberLaws.{below}
-use Rattle.std.proofs.Common.{rules}
 use Rattle.base_words.proofs.product.Goals as goal
 
 pub overflow_mul-result : goal.overflow_mul-result

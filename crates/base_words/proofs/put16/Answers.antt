@@ -1,5 +1,5 @@
 -- Two stores from the start, which are the two bytes of the number.
-use Rattle.std.proofs.Common.{◌/◌, ◌%◌, arith, rules}
+use Rattle.std.proofs.Common.{◌/◌, ◌%◌, arith}
 use Rattle.base.specs.NumberLaws.{bytes_append, bytes_one}
 use Rattle.base.specs.BufferLaws.{sets_over}
 use Rattle.base_words.proofs.put16.Goals as goal

@@ -1,6 +1,5 @@
 -- The two halves, the second in the rest of the buffer.
 use Rattle.base_words.proofs.Halves.{halves}
-use Rattle.std.proofs.Common.{rules}
 use Rattle.base_words.proofs.put64.Goals as goal
 
 pub returns : goal.returns

@@ -1,5 +1,5 @@
 -- Two bytes are the number of two bytes, by `number_split` at widths 1 and 1.
-use Rattle.std.proofs.Common.{◌+◌, sym, arith, rules}
+use Rattle.std.proofs.Common.{◌+◌, sym, arith}
 use Rattle.base.specs.NumberLaws.{number_split, number_one}
 use Rattle.base_words.proofs.read16.Goals as goal
 

@@ -1,5 +1,5 @@
 -- Two numbers of 16 bits are one of 32, by `number_split`.
-use Rattle.std.proofs.Common.{sym, rules}
+use Rattle.std.proofs.Common.{sym}
 use Rattle.base.specs.NumberLaws.{number_split}
 use Rattle.base_words.proofs.read32.Goals as goal
 

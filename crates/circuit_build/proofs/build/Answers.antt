@@ -1,4 +1,3 @@
-use borrow.Author.Rules.{rules}
 use mathlib.Core.Path.{refl}
 use Rattle.circuit.specs.WholeLaws.{answer_refused, answer_read}
 use Rattle.circuit_build.specs.MakingLaws.{made_earlier, whole_answer, whole_few, whole_ready}

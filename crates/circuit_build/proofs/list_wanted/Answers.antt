@@ -1,9 +1,6 @@
-use borrow.Author.Rules.{rules}
 use native.Mathlib.Omega.{arith}
-use mathlib.Core.Logic.{⊎_elim}
-use Prim.Native.Nat.{◌-◌, ◌≤◌}
-use Rattle.rule.specs.Header.{variables}
-use Rattle.circuit_build.specs.WantingLaws.{Listing, listing_start, listing_working, listing_result, listing_end}
+use Prim.Native.Nat.{◌≤◌}
+use Rattle.circuit_build.specs.WantingLaws.{listing_start, listing_working, listing_result, listing_end}
 use Rattle.circuit_build.proofs.list_wanted.Goals as goal
 use Rattle.circuit_build.proofs.list_wanted.Goals.{then-working_at, else-working_at}
 

@@ -1,7 +1,6 @@
 use mathlib.Core.Path.{refl}
 use Rattle.circuit.specs.WholeLaws.{answer_refused, answer_read}
 use Rattle.circuit_build.specs.MakingLaws.{made_earlier, whole_answer}
-use borrow.Author.Rules.{rules}
 use Rattle.circuit_build.proofs.read_rule.Goals as goal
 
 pub returns-then-a-ne0 : goal.returns-then-a-ne0

@@ -1,7 +1,6 @@
 use native.Mathlib.Omega.{arith}
 use mathlib.Core.Path.{sym, ◌∙◌}
 use Rattle.circuit_build.specs.MakingLaws.{whole_over, whole_eleven, whole_taken}
-use borrow.Author.Rules.{rules}
 use Rattle.circuit_build.proofs.whole.Goals as goal
 
 pub returns-then-count-gt-MOST_GATES : goal.returns-then-count-gt-MOST_GATES

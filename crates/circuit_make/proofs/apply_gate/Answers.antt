@@ -2,7 +2,6 @@ use mathlib.Core.Path.{◌≡◌, sym, ◌∙◌}
 use mathlib.Core.Bool.{true, false}
 use Rattle.circuit.specs.PlainCircuit.{turned}
 use Rattle.circuit_make.specs.QuadLaws.{two_applied}
-use borrow.Author.Rules.{rules}
 use Rattle.circuit_make.proofs.apply_gate.Goals as goal
 
 pub returns-then-turned : goal.returns-then-turned

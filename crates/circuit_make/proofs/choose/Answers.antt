@@ -1,7 +1,6 @@
 use mathlib.Core.Path.{refl}
 use Rattle.circuit.specs.Gates.{choice}
 use Rattle.circuit_make.specs.ChoiceLaws.{pushed_chose}
-use borrow.Author.Rules.{rules}
 use Rattle.circuit_make.proofs.choose.Goals as goal
 
 pub returns : goal.returns

@@ -1,8 +1,4 @@
 use mathlib.Core.Path.{sym, ◌∙◌}
-use mathlib.Core.Logic.{⊎_elim}
-use Prim.Native.Nat.{◌-◌}
-use borrow.Author.Rules.{rules}
-use Rattle.circuit_make.specs.Holding.{ChosenTo}
 use Rattle.circuit_make.specs.ChoiceLaws.{chosen_none, chosen_not, chosen_one, chosen_all}
 use Rattle.circuit_make.proofs.make_choices.Goals as goal
 use Rattle.circuit_make.proofs.make_choices.Goals.{then-among, else-among}

@@ -1,5 +1,4 @@
 use Rattle.circuit_make.specs.QuadLaws.{push_full, push_stores}
-use borrow.Author.Rules.{rules}
 use Rattle.circuit_make.proofs.push.Goals as goal
 
 -- src/lib.rt:36:16

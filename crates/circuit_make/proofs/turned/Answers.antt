@@ -1,6 +1,5 @@
 use mathlib.Core.Path.{◌≡◌, sym, ◌∙◌}
 use mathlib.Core.Bool.{true}
-use borrow.Author.Rules.{rules}
 use Rattle.base.specs.Codes.{commutes}
 use Rattle.circuit_make.proofs.turned.Goals as goal
 

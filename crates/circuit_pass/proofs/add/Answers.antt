@@ -1,5 +1,4 @@
 use mathlib.Core.Path.{refl, ◌∙◌}
-use borrow.Author.Rules.{rules}
 use Rattle.circuit_pass.proofs.add.Goals as goal
 
 pub returns : goal.returns

@@ -1,4 +1,3 @@
-use borrow.Author.Rules.{rules}
 use Rattle.circuit_needed.specs.PassingLaws.{wanted_room, found_needed}
 use Rattle.circuit_pass.proofs.find_needed.Goals as goal
 

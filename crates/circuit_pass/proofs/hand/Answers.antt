@@ -1,6 +1,5 @@
 use native.Mathlib.Omega.{arith}
 use Rattle.circuit_needed.specs.HandSteps.{choice_known, choice_hands, two_inside, two_hands, one_inside, one_hands, none_hands}
-use borrow.Author.Rules.{rules}
 use Rattle.circuit_pass.proofs.hand.Goals as goal
 
 pub returns-then-code-lt-SUM : goal.returns-then-code-lt-SUM

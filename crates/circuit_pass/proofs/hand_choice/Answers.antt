@@ -5,7 +5,6 @@ use lib.ListN.{get_or}
 use Rattle.base.specs.Sets.{given, without}
 use Rattle.base.specs.SetsHeld.{set_of, sets_in}
 use Rattle.circuit_needed.specs.PassingLaws.{choice_sets}
-use borrow.Author.Rules.{rules}
 use Rattle.circuit.specs.Limits.{most_settings}
 use Rattle.circuit_pass.proofs.hand_choice.Goals as goal
 

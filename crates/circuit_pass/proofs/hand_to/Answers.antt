@@ -3,7 +3,6 @@ use Rattle.base.specs.Sets.{whole}
 use Rattle.base.specs.SetsHeld.{set_of}
 use Rattle.circuit.specs.Limits.{most_settings}
 use borrow.Author.Tests.{eqb-true}
-use borrow.Author.Rules.{rules}
 use Rattle.circuit_pass.proofs.hand_to.Goals as goal
 
 pub returns-then-is_whole : goal.returns-then-is_whole

@@ -1,7 +1,5 @@
-use borrow.Author.Rules.{rules}
-use native.Mathlib.Omega.{arith}
 use Rattle.base.specs.SetsHeld.{sets_in}
-use Rattle.circuit_needed.specs.PassingLaws.{WalkingBack, walking_start, walking_final, walking_step, walking_end}
+use Rattle.circuit_needed.specs.PassingLaws.{WalkingBack}
 use Rattle.circuit_pass.proofs.pass.Given as goal
 
 abbrev pub invariant-loop-i : goal.invariant-loop-i

@@ -1,9 +1,7 @@
-use borrow.Author.Rules.{rules}
-use mathlib.Core.Path.{refl}
 use Prim.Native.Nat.{◌-◌}
 use lib.ListN.{length}
 use Rattle.base.specs.SetsHeld.{sets_in}
-use Rattle.circuit_needed.specs.PassingLaws.{Wanting, wanting_start, wanting_inside, wanting_step, wanting_end}
+use Rattle.circuit_needed.specs.PassingLaws.{Wanting}
 use Rattle.circuit_pass.proofs.want_all.Given as goal
 
 abbrev pub invariant-loop-x : goal.invariant-loop-x

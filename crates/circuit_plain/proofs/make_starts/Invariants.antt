@@ -1,11 +1,7 @@
-use mathlib.Core.Path.{◌≡◌, refl, ap, ◌∙◌}
-use native.Mathlib.Omega.{arith}
+use mathlib.Core.Path.{◌≡◌}
 use Prim.Native.Nat.{◌-◌}
-use borrow.Author.Rules.{rules}
 use Rattle.rule.specs.Header.{variables}
-use Rattle.base.specs.Codes.{start_code}
 use Rattle.circuit_make.specs.Holding.{Started}
-use Rattle.circuit_make.specs.ChoiceLaws.{started_none, started_more, started_all}
 use Rattle.circuit_plain.proofs.make_starts.Given as goal
 
 abbrev pub invariant-loop-x : goal.invariant-loop-x

@@ -1,4 +1,3 @@
-use borrow.Author.Rules.{rules}
 use mathlib.Core.Path.{◌∙◌}
 use Rattle.circuit_needed.specs.HeldLaws.{code_above}
 use Rattle.circuit_quads.proofs.code_entry.Goals as goal

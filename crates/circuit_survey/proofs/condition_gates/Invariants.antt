@@ -1,8 +1,5 @@
-use borrow.Author.Rules.{rules}
-use native.Mathlib.Omega.{arith}
-use mathlib.Core.Logic.{⊎_elim}
 use Prim.Native.Nat.{◌-◌}
-use Rattle.circuit_needed.specs.GatherLaws.{GatheringConditions, gathering_start, gathering_fits, gathering_one, gathering_none, gathering_end}
+use Rattle.circuit_needed.specs.GatherLaws.{GatheringConditions}
 use Rattle.circuit_survey.proofs.condition_gates.Given as goal
 
 abbrev pub invariant-loop-g : goal.invariant-loop-g

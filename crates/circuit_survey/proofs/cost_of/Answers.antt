@@ -1,4 +1,3 @@
-use borrow.Author.Rules.{rules}
 use mathlib.Core.Path.{ap, sym, ◌∙◌}
 use Rattle.base.specs.declared.Code.{Code}
 use Rattle.circuit_needed.specs.HeldLaws.{cost_choice, cost_other}

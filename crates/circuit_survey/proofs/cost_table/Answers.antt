@@ -1,4 +1,3 @@
-use borrow.Author.Rules.{rules}
 use mathlib.Core.Path.{refl}
 use Rattle.base.specs.Codes.{code_of, operation_of}
 use Rattle.circuit_needed.specs.Held.{code_cost, cost_table}

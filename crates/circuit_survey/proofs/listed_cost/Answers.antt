@@ -1,4 +1,3 @@
-use borrow.Author.Rules.{rules}
 use mathlib.Core.Path.{◌∙◌}
 use Rattle.circuit_needed.specs.HeldLaws.{cost_listed, cost_past}
 use Rattle.circuit_survey.proofs.listed_cost.Goals as goal

@@ -1,8 +1,5 @@
-use borrow.Author.Rules.{rules}
 use native.Mathlib.Omega.{arith}
-use mathlib.Core.Logic.{⊎_elim}
-use Prim.Native.Nat.{◌-◌}
-use Rattle.circuit_needed.specs.RankLaws.{Numbering, numbering_start, numbering_fits, numbering_one, numbering_none, numbering_end}
+use Rattle.circuit_needed.specs.RankLaws.{numbering_start, numbering_fits, numbering_one, numbering_none, numbering_end}
 use Rattle.circuit_survey.proofs.number_marked.Goals as goal
 use Rattle.circuit_survey.proofs.number_marked.Goals.{then-ranks-g-ne0, else-ranks-g-ne0}
 

@@ -1,9 +1,6 @@
-use borrow.Author.Rules.{rules}
 use native.Mathlib.Omega.{arith}
 use mathlib.Core.Path.{refl}
-use mathlib.Core.Logic.{⊎_elim}
-use Prim.Native.Nat.{◌-◌}
-use Rattle.circuit_needed.specs.SurveyLaws.{Surveying, survey_start, survey_bit, survey_inside, survey_few, survey_room, survey_choice, survey_other, survey_end}
+use Rattle.circuit_needed.specs.SurveyLaws.{survey_start, survey_bit, survey_inside, survey_few, survey_room, survey_choice, survey_other, survey_end}
 use Rattle.circuit_survey.proofs.survey.Goals as goal
 use Rattle.circuit_survey.proofs.survey.Goals.{then-code-eq-CHOICE, else-code-eq-CHOICE}
 

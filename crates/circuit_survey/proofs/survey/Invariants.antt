@@ -1,9 +1,5 @@
-use borrow.Author.Rules.{rules}
-use native.Mathlib.Omega.{arith}
-use mathlib.Core.Path.{refl}
-use mathlib.Core.Logic.{⊎_elim}
 use Prim.Native.Nat.{◌-◌}
-use Rattle.circuit_needed.specs.SurveyLaws.{Surveying, survey_start, survey_bit, survey_inside, survey_few, survey_room, survey_choice, survey_other, survey_end}
+use Rattle.circuit_needed.specs.SurveyLaws.{Surveying}
 use Rattle.circuit_survey.proofs.survey.Given as goal
 
 abbrev pub invariant-loop-i : goal.invariant-loop-i

@@ -2,7 +2,6 @@ use Prim.Native.Nat.{ℕ}
 use lib.ListN.{get_or}
 use mathlib.Core.Bool.{false}
 use mathlib.Core.Path.{ap}
-use borrow.Author.Rules.{rules}
 use Rattle.file_parts.proofs.is_bit.Goals as goal
 
 pub returns : goal.returns

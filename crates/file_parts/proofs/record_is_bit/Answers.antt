@@ -1,4 +1,3 @@
-use borrow.Author.Rules.{rules}
 use Rattle.base.specs.declared.Kind.TheVariants as kind
 use Rattle.base.specs.declared.Operation.TheVariants.{Sum, Difference, Product}
 use Rattle.file_parts.specs.FirstByteLaws.{first_inside}

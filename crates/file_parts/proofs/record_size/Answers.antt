@@ -1,6 +1,5 @@
 use mathlib.Core.Path.{sym}
 use native.Mathlib.Omega.{arith}
-use borrow.Author.Rules.{rules}
 use Rattle.base.specs.declared.Kind.TheVariants as kind
 use Rattle.file.specs.FoundForms.{form_input, form_word, form_bit, form_choice, form_pick, form_guard}
 use Rattle.file_parts.specs.FirstByteLaws.{first_inside, version_inside}

@@ -1,4 +1,3 @@
-use borrow.Author.Rules.{rules}
 use native.Mathlib.Omega.{arith}
 use mathlib.Core.Path.{◌∙◌}
 use Rattle.fused_write.specs.PreparedLaws.{rule_long, refused_prepared, check_taken, check_gates, check_before, arrays_turnable, bytes_few, counts_are}

@@ -1,4 +1,3 @@
-use borrow.Author.Rules.{rules}
 use mathlib.Core.Path.{refl, ◌∙◌}
 use Rattle.fused_write.specs.WriteLaws.{refused_writes, short_writes, file_writes}
 use Rattle.base.specs.SetsHeldLaws.{sets_clear}

@@ -1,4 +1,3 @@
-use borrow.Author.Rules.{rules}
 use mathlib.Core.Path.{refl}
 use Rattle.circuit.specs.Limits.{most_gates}
 use Rattle.base.specs.SetsHeldLaws.{sets_clear}

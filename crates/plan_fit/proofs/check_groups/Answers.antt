@@ -1,5 +1,3 @@
-use borrow.Author.Rules.{rules}
-use borrow.Author.Tests.{not-true, not-false}
 use mathlib.Core.Path.{sym, ◌∙◌}
 use Rattle.base.specs.SetsHeld.{sets_in}
 use Rattle.circuit_needed.specs.Held.{gates_in}

@@ -1,4 +1,3 @@
-use borrow.Author.Rules.{rules}
 use mathlib.Core.Path.{ap}
 use lib.Dec.{ltb}
 use Rattle.base.specs.declared.Code.{Code}

@@ -1,10 +1,4 @@
-use borrow.Author.Rules.{rules}
-use borrow.Author.Tests.{not-true, not-false}
-use Rattle.base.specs.SetsHeld.{sets_in}
-use Rattle.circuit_needed.specs.Held.{gates_in}
-use Rattle.plan_groups.specs.Tests.{join_test}
-use Rattle.plan_groups.specs.Walks.{Ahead}
-use Rattle.plan_groups.specs.GroupLaws.{lie_inside, TestingGroups, testing_start, testing_fails, testing_step, testing_end, readable_lie, ahead_start, ahead_fits, ahead_step}
+use Rattle.plan_groups.specs.GroupLaws.{lie_inside, testing_start, testing_fails, testing_step, testing_end, readable_lie, ahead_start, ahead_fits, ahead_step}
 use Rattle.plan_fit.proofs.every_join.Goals as goal
 
 pub groups_counted-unchecked-requires : goal.groups_counted-unchecked-requires

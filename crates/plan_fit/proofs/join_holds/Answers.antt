@@ -1,4 +1,3 @@
-use borrow.Author.Rules.{rules}
 use mathlib.Core.Path.{◌∙◌}
 use Rattle.plan_groups.specs.RowLaws.{join_parted, join_members}
 use Rattle.plan_fit.proofs.join_holds.Goals as goal

@@ -1,4 +1,3 @@
-use borrow.Author.Rules.{rules}
 use Rattle.plan_groups.specs.GateLaws.{member_costly, member_alike}
 use Rattle.plan_fit.proofs.member_holds.Goals as goal
 

@@ -1,9 +1,5 @@
-use borrow.Author.Rules.{rules}
-use native.Mathlib.Omega.{arith}
-use borrow.Author.Tests.{not-true, not-false}
 use Prim.Native.Nat.{◌-◌}
-use Rattle.plan_groups.specs.MemberLaws.{walk_byte}
-use Rattle.plan_groups.specs.WalkLaws.{Holding, holding_start, holding_fails, holding_step, holding_end}
+use Rattle.plan_groups.specs.WalkLaws.{Holding}
 use Rattle.plan_fit.proofs.members_hold.Given as goal
 
 abbrev pub invariant-loop-k : goal.invariant-loop-k

@@ -1,10 +1,6 @@
-use borrow.Author.Rules.{rules}
 use native.Mathlib.Omega.{arith}
-use borrow.Author.Tests.{not-true, not-false}
-use Prim.Native.Nat.{◌-◌}
-use Rattle.base.specs.SetsHeld.{set_of, sets_in}
 use Rattle.plan_groups.specs.MemberLaws.{walk_byte}
-use Rattle.plan_groups.specs.WalkLaws.{Parting, parting_start, parting_fails, parting_step, parting_end}
+use Rattle.plan_groups.specs.WalkLaws.{parting_start, parting_fails, parting_step, parting_end}
 use Rattle.plan_fit.proofs.members_part.Goals as goal
 
 pub size_at-size-requires : goal.size_at-size-requires

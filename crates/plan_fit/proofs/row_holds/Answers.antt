@@ -1,4 +1,3 @@
-use borrow.Author.Rules.{rules}
 use mathlib.Core.Path.{◌∙◌}
 use Rattle.plan_groups.specs.RowLaws.{row_order, row_joins}
 use Rattle.plan_fit.proofs.row_holds.Goals as goal

@@ -1,7 +1,5 @@
-use borrow.Author.Rules.{rules}
-use borrow.Author.Tests.{not-true, not-false}
 use Rattle.plan_groups.specs.Tests.{shape_test}
-use Rattle.plan_groups.specs.GroupLaws.{lie_here, lie_inside, TestingGroups, testing_start, testing_fails, testing_step, testing_end}
+use Rattle.plan_groups.specs.GroupLaws.{TestingGroups}
 use Rattle.plan_groups.proofs.every_shape.Given as goal
 
 abbrev pub invariant-loop-left : goal.invariant-loop-left

@@ -1,5 +1,4 @@
-use borrow.Author.Rules.{rules}
-use Rattle.plan_groups.specs.GroupLaws.{Ending, ending_start, ending_outside, ending_past, ending_step, ending_end}
+use Rattle.plan_groups.specs.GroupLaws.{ending_start, ending_outside, ending_past, ending_step, ending_end}
 use Rattle.plan_groups.proofs.groups_end.Goals as goal
 
 pub loop-left-init : goal.loop-left-init

@@ -1,5 +1,4 @@
-use borrow.Author.Rules.{rules}
-use Rattle.plan_groups.specs.GroupLaws.{Ending, ending_start, ending_outside, ending_past, ending_step, ending_end}
+use Rattle.plan_groups.specs.GroupLaws.{Ending}
 use Rattle.plan_groups.proofs.groups_end.Given as goal
 
 abbrev pub invariant-loop-left : goal.invariant-loop-left

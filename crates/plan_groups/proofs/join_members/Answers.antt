@@ -1,10 +1,8 @@
-use borrow.Author.Rules.{rules}
 use native.Mathlib.Omega.{arith}
 use mathlib.Core.Path.{refl}
 use mathlib.Core.Bool.{false≢true}
-use Prim.Native.Nat.{◌-◌}
 use Rattle.plan_groups.specs.MemberLaws.{walk_byte}
-use Rattle.plan_groups.specs.PutLaws.{PuttingMembers, putting_start, putting_fails, putting_step, putting_free, putting_groups, putting_places}
+use Rattle.plan_groups.specs.PutLaws.{putting_start, putting_fails, putting_step, putting_free, putting_groups, putting_places}
 use Rattle.plan_groups.proofs.join_members.Goals as goal
 
 pub size_at-size-requires : goal.size_at-size-requires

@@ -1,5 +1,3 @@
-use borrow.Author.Rules.{rules}
-use borrow.Author.Tests.{not-true, not-false}
 use mathlib.Core.Path.{sym, ◌∙◌}
 use Rattle.plan_groups.specs.RowLaws.{size_right, row_20, row_21, row_22, row_23, row_24, row_25, row_none, layout_lie}
 use Rattle.plan_groups.proofs.layout_row.Goals as goal

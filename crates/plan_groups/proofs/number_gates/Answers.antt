@@ -1,8 +1,6 @@
-use borrow.Author.Rules.{rules}
 use native.Mathlib.Omega.{arith}
 use mathlib.Core.Path.{refl}
-use Prim.Native.Nat.{◌-◌}
-use Rattle.plan_groups.specs.TableLaws.{CountingGates, counting_start, counting_step, counting_end}
+use Rattle.plan_groups.specs.TableLaws.{counting_start, counting_step, counting_end}
 use Rattle.plan_groups.proofs.number_gates.Goals as goal
 
 pub loop-g-init : goal.loop-g-init

@@ -1,7 +1,5 @@
-use borrow.Author.Rules.{rules}
-use native.Mathlib.Omega.{arith}
 use Prim.Native.Nat.{◌-◌}
-use Rattle.plan_groups.specs.WalkLaws.{Climbing, climbing_start, climbing_low, climbing_high, climbing_step, climbing_end}
+use Rattle.plan_groups.specs.WalkLaws.{Climbing}
 use Rattle.plan_groups.proofs.numbers_rise.Given as goal
 
 abbrev pub invariant-loop-k : goal.invariant-loop-k

@@ -1,6 +1,5 @@
 use mathlib.Core.Path.{◌∙◌}
 use Rattle.plan.specs.NumberLaws.{member_at}
-use borrow.Author.Rules.{rules}
 use Rattle.plan_member.proofs.member.Goals as goal
 
 pub returns : goal.returns

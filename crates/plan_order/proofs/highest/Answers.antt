@@ -1,6 +1,6 @@
 use borrow.Author.Rules.{rules}
 use native.Mathlib.Omega.{arith}
-use Rattle.plan_order.specs.HighestLaws.{Rising, rising_start, rising_room, rising_next, rising_end}
+use Rattle.plan_order.specs.HighestLaws.{rising_start, rising_room, rising_next, rising_end}
 use Rattle.plan_order.proofs.highest.Goals as goal
 
 pub loop-y-init : goal.loop-y-init

@@ -1,6 +1,4 @@
-use borrow.Author.Rules.{rules}
-use native.Mathlib.Omega.{arith}
-use Rattle.plan_order.specs.HighestLaws.{Rising, rising_start, rising_room, rising_next, rising_end}
+use Rattle.plan_order.specs.HighestLaws.{Rising}
 use Rattle.plan_order.proofs.highest.Given as goal
 
 abbrev pub invariant-loop-y : goal.invariant-loop-y

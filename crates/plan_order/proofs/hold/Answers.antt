@@ -1,4 +1,3 @@
-use borrow.Author.Rules.{rules}
 use Rattle.plan_order.specs.HoldLaws.{lowered_yes, lowered_no}
 use Rattle.plan_order.proofs.hold.Goals as goal
 

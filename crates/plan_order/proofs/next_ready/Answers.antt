@@ -1,9 +1,6 @@
-use mathlib.Core.Logic.{⊎_elim}
 use mathlib.Core.Path.{sym, ◌∙◌}
-use borrow.Author.Rules.{rules}
 use native.Mathlib.Omega.{arith}
-use Prim.Native.Nat.{◌-◌}
-use Rattle.plan_order.specs.SearchLaws.{Searching, TestingWords, searching_start, searching_past, searching_held, searching_end, testing_start, testing_next, testing_end}
+use Rattle.plan_order.specs.SearchLaws.{searching_start, searching_past, searching_held, searching_end, testing_start, testing_next, testing_end}
 use Rattle.plan_order.proofs.next_ready.Goals as goal
 use Rattle.plan_order.proofs.next_ready.Goals.{then-has+else-w-ge-SET_WORDS+then-both-ne0, else-has}
 

@@ -1,9 +1,5 @@
-use mathlib.Core.Logic.{⊎_elim}
-use mathlib.Core.Path.{sym, ◌∙◌}
-use borrow.Author.Rules.{rules}
-use native.Mathlib.Omega.{arith}
 use Prim.Native.Nat.{◌-◌}
-use Rattle.plan_order.specs.SearchLaws.{Searching, TestingWords, searching_start, searching_past, searching_held, searching_end, testing_start, testing_next, testing_end}
+use Rattle.plan_order.specs.SearchLaws.{Searching, TestingWords}
 use Rattle.plan_order.proofs.next_ready.Given as goal
 
 abbrev pub invariant-waits : goal.invariant-waits

@@ -1,14 +1,9 @@
-use borrow.Author.Rules.{rules}
-use mathlib.Core.Path.{◌≡◌, refl, sym, ◌∙◌}
+use mathlib.Core.Path.{refl, sym, ◌∙◌}
 use native.Mathlib.Omega.{arith}
-use Prim.Native.Nat.{ℕ, ◌-◌}
-use mathlib.Core.List.{List, []}
-use lib.ListN.{length, get_or}
-use Rattle.plan.specs.Groups.{groups}
+use mathlib.Core.List.{[]}
 use Rattle.plan_order.specs.HoldLaws.{same_all, same_else}
 use Rattle.plan_order.specs.PlacingLaws.{placing_room, placing_on}
-use Rattle.plan_order.specs.OrderingLaws.{PlacingIn, ordering_start, ordering_circle, ordering_end}
-use Rattle.base.specs.SetsHeld.{sets_in}
+use Rattle.plan_order.specs.OrderingLaws.{ordering_start, ordering_circle, ordering_end}
 use Rattle.plan_order.proofs.order_in.Goals as goal
 
 pub find_waits-requires : goal.find_waits-requires

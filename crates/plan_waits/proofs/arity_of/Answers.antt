@@ -1,5 +1,4 @@
 use mathlib.Core.Path.{ap}
-use borrow.Author.Rules.{rules}
 use Rattle.plan_waits.specs.ReadLaws.{arity_choice, arity_other}
 use Rattle.base.specs.declared.Code.{Code}
 use Rattle.plan_waits.proofs.arity_of.Goals as goal

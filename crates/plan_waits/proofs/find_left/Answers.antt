@@ -1,10 +1,7 @@
-use mathlib.Core.Logic.{⊎_elim}
 use mathlib.Core.Path.{sym, ◌∙◌}
-use borrow.Author.Rules.{rules}
 use native.Mathlib.Omega.{arith}
-use Prim.Native.Nat.{◌-◌}
 use Rattle.base.specs.BitWordLaws.{clear_words}
-use Rattle.plan_waits.specs.LeftLaws.{Listing, listing_start, listing_yes, listing_no, listing_end}
+use Rattle.plan_waits.specs.LeftLaws.{listing_start, listing_yes, listing_no, listing_end}
 use Rattle.plan_waits.proofs.find_left.Goals as goal
 use Rattle.plan_waits.proofs.find_left.Goals.{then-group-i, else-group-i}
 

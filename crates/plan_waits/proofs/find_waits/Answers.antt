@@ -1,12 +1,8 @@
-use mathlib.Core.Logic.{⊎_elim}
 use mathlib.Core.Path.{◌∙◌}
-use borrow.Author.Rules.{rules}
 use native.Mathlib.Omega.{arith}
-use Prim.Native.Nat.{◌-◌}
-use lib.ListN.{length}
-use Rattle.base.specs.SetsHeld.{set_of, sets_in}
+use Rattle.base.specs.SetsHeld.{set_of}
 use Rattle.base.specs.SettingListsLaws.{rested_are, rested_lists}
-use Rattle.plan_waits.specs.GatherLaws.{GatheringWaits, gathering_start, gathering_group, gathering_size}
+use Rattle.plan_waits.specs.GatherLaws.{gathering_start, gathering_group, gathering_size}
 use Rattle.plan_waits.specs.GatherLaws.{gathering_arguments, gathering_conditions, gathering_alone, gathering_joined, gathering_end}
 use Rattle.plan_waits.proofs.find_waits.Goals as goal
 use Rattle.plan_waits.proofs.find_waits.Goals.{then-places-i-ne0, else-places-i-ne0}

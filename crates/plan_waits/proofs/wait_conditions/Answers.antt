@@ -1,11 +1,8 @@
-use borrow.Author.Rules.{rules}
 use native.Mathlib.Omega.{arith}
-use Prim.Native.Nat.{◌-◌, ◌*◌}
-use mathlib.Core.List.{map}
 use lib.ListN.{get_or, length-map}
 use Rattle.base.specs.SettingLists.{conditions_in}
 use Rattle.base.specs.SettingListsLaws.{list_at}
-use Rattle.plan_waits.specs.ArgumentLaws.{Putting, putting_start, putting_into, putting_step, putting_end, listed_gate}
+use Rattle.plan_waits.specs.ArgumentLaws.{putting_start, putting_into, putting_step, putting_end, listed_gate}
 use Rattle.plan_waits.proofs.wait_conditions.Goals as goal
 
 pub loop-i-init : goal.loop-i-init

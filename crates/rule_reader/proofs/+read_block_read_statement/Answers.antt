@@ -1,6 +1,5 @@
-use mathlib.Core.Path.{◌≡◌, refl, sym, ap, ◌∙◌}
+use mathlib.Core.Path.{refl, sym, ap, ◌∙◌}
 use native.Mathlib.Omega.{arith}
-use lib.ListN.{length}
 use Rattle.base.specs.declared.Kind.TheVariants.{Bit}
 use Rattle.base.specs.declared.Form.TheVariants as form
 use Rattle.base.specs.Parsing.{step_of}
@@ -13,7 +12,7 @@ use Rattle.rule.specs.FuelLaws.{block_forward, statement_forward}
 use Rattle.rule_reader.proofs.Arms.{no_statement}
 use Rattle.rule.specs.BlockLaws.{statement_as, branch_deep, branch_refused, branch_first, branch_second, block_short, block_end, block_refused, block_more}
 use borrow.Author.Rules.{rules}
-use Prim.Native.Nat.{ℕ, ◌+◌, ◌-◌, ◌*◌, ◌<◌, ◌≤◌}
+use Prim.Native.Nat.{◌+◌, ◌-◌}
 use Rattle.rule_reader.proofs.+read_block_read_statement.Goals as goal
 
 pub read_block-loop-here-smaller : goal.read_block-loop-here-smaller

@@ -1,19 +1,8 @@
-use mathlib.Core.Path.{◌≡◌, refl, sym, ap, ◌∙◌}
-use native.Mathlib.Omega.{arith}
+use mathlib.Core.Path.{◌≡◌}
 use lib.ListN.{length}
-use Rattle.base.specs.declared.Kind.TheVariants.{Bit}
-use Rattle.base.specs.declared.Form.TheVariants as form
 use Rattle.base.specs.Parsing.{step_of}
-use Rattle.base.specs.ParsingLaws.{forward_past}
-use Rattle.rule.specs.Limits.{deepest}
-use Rattle.rule.specs.Expressions.{read_expr}
-use Rattle.rule.specs.ExpressionLaws.{expr_forward}
-use Rattle.rule.specs.Blocks.{read_block, read_statement}
-use Rattle.rule.specs.FuelLaws.{block_forward, statement_forward}
-use Rattle.rule_reader.proofs.Arms.{no_statement}
-use Rattle.rule.specs.BlockLaws.{statement_as, branch_deep, branch_refused, branch_first, branch_second, block_short, block_end, block_refused, block_more}
-use borrow.Author.Rules.{rules}
-use Prim.Native.Nat.{ℕ, ◌+◌, ◌-◌, ◌*◌, ◌<◌, ◌≤◌}
+use Rattle.rule.specs.Blocks.{read_block}
+use Prim.Native.Nat.{◌+◌, ◌-◌, ◌*◌, ◌≤◌}
 use Rattle.rule_reader.proofs.+read_block_read_statement.Given as goal
 
 abbrev pub decreases-read_block : goal.decreases-read_block

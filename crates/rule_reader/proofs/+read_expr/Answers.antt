@@ -1,15 +1,12 @@
 use mathlib.Core.Path.{◌≡◌, refl, sym, ap, ◌∙◌}
-use mathlib.Core.Logic.{⊎_elim}
 use native.Mathlib.Omega.{arith}
-use borrow.Author.Tests.{not-true, not-false}
 use Rattle.base.specs.declared.Form.TheVariants.{Variable, Word, Bit}
 use Rattle.base.specs.Parsing.{step_of}
 use Rattle.base.specs.declared.Step.TheVariants.{Past}
 use Rattle.rule_reader.proofs.Arms.{no_expression}
 use Rattle.rule.specs.Expressions.{read_expr}
 use Rattle.rule.specs.ExpressionLaws.{below, expr_short, expr_as, expr_kind, expr_deep, expr_refused, expr_one, expr_two}
-use borrow.Author.Rules.{rules}
-use Prim.Native.Nat.{ℕ, ◌+◌, ◌-◌, ◌<◌}
+use Prim.Native.Nat.{◌+◌, ◌-◌}
 use Rattle.rule_reader.proofs.+read_expr.Goals as goal
 use Rattle.rule_reader.proofs.+read_expr.Goals.{then-is_variable, else-is_variable}
 

@@ -1,5 +1,4 @@
 use mathlib.Core.Path.{sym}
-use borrow.Author.Rules.{rules}
 use Rattle.rule.specs.HeaderLaws.{kind_bit, kind_word}
 use Rattle.rule_reader.proofs.kind_at.Goals as goal
 

@@ -9,7 +9,6 @@ use Rattle.rule.specs.Limits.{deepest}
 use Rattle.rule.specs.Expressions.{read_expr}
 use Rattle.rule.specs.Blocks.{read_assign}
 use Rattle.rule.specs.BlockLaws.{assign_past}
-use borrow.Author.Rules.{rules}
 use Rattle.rule_reader.proofs.read_assign.Goals as goal
 
 pub returns-then-s-at : goal.returns-then-s-at

@@ -1,8 +1,7 @@
 use Rattle.base.specs.ParsingLaws.{none_left, some_left}
 use mathlib.Core.Path.{sym, ◌∙◌}
-use borrow.Author.Tests.{not-true, not-false, lt-ltb, le-ltb, lt-leb, le-leb}
+use borrow.Author.Tests.{lt-ltb, le-ltb, lt-leb, le-leb}
 use Rattle.rule.specs.Expressions.{read_bit}
-use borrow.Author.Rules.{rules}
 use Rattle.rule_reader.proofs.read_bit.Goals as goal
 
 pub returns-then-not-same_kind : goal.returns-then-not-same_kind

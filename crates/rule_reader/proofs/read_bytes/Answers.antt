@@ -1,6 +1,5 @@
 use mathlib.Core.Path.{sym, ◌∙◌}
 use Rattle.rule.specs.RuleLaws.{header_past, rule_header, rule_block, rule_after, rule_whole}
-use borrow.Author.Rules.{rules}
 use Rattle.rule_reader.proofs.read_bytes.Goals as goal
 
 pub read_block-requires : goal.read_block-requires

@@ -1,6 +1,5 @@
 use mathlib.Core.Path.{sym, ◌∙◌}
 use Rattle.rule.specs.RuleLaws.{header_mark, header_none, header_many, header_kinds}
-use borrow.Author.Rules.{rules}
 use Rattle.rule_reader.proofs.read_header.Goals as goal
 
 pub returns-then-count-eq0 : goal.returns-then-count-eq0

@@ -1,9 +1,6 @@
 use borrow.Author.Rules.{rules}
-use Prim.Native.Nat.{◌≤◌}
-use mathlib.Core.Path.{◌≡◌, refl, sym, ap, ◌∙◌}
-use lib.ListN.{length}
+use mathlib.Core.Path.{refl, sym, ap, ◌∙◌}
 use Rattle.base.specs.Parsing.{step_of}
-use Rattle.rule.specs.Header.{read_kinds}
 use Rattle.rule.specs.RuleLaws.{kinds_none, kinds_short, kinds_wrong, kinds_more}
 use Rattle.rule_reader.proofs.read_kinds.Goals as goal
 

@@ -1,10 +1,7 @@
-use borrow.Author.Rules.{rules}
 use Prim.Native.Nat.{◌≤◌}
-use mathlib.Core.Path.{◌≡◌, refl, sym, ap, ◌∙◌}
+use mathlib.Core.Path.{◌≡◌}
 use lib.ListN.{length}
-use Rattle.base.specs.Parsing.{step_of}
 use Rattle.rule.specs.Header.{read_kinds}
-use Rattle.rule.specs.RuleLaws.{kinds_none, kinds_short, kinds_wrong, kinds_more}
 use Rattle.rule_reader.proofs.read_kinds.Given as goal
 
 abbrev pub invariant-loop-left : goal.invariant-loop-left

@@ -3,7 +3,6 @@ use Rattle.base.specs.Answers.{answer_of}
 use Rattle.base.specs.Parsing.{Parsed, step_of}
 use Rattle.rule.specs.Tree.{Block}
 use Rattle.rule.specs.RuleLaws.{rule_small, rule_large}
-use borrow.Author.Rules.{rules}
 use Rattle.rule_reader.proofs.read_rule.Goals as goal
 
 pub returns-then-rule-lt-LEAST_RULE_BYTES : goal.returns-then-rule-lt-LEAST_RULE_BYTES

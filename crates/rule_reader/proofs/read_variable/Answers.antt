@@ -1,8 +1,7 @@
 use Rattle.base.specs.ParsingLaws.{none_left, some_left}
 use mathlib.Core.Path.{sym, ◌∙◌}
-use borrow.Author.Tests.{not-true, not-false, lt-ltb, le-ltb}
+use borrow.Author.Tests.{lt-ltb, le-ltb}
 use Rattle.rule.specs.Expressions.{read_variable}
-use borrow.Author.Rules.{rules}
 use Rattle.rule_reader.proofs.read_variable.Goals as goal
 
 pub returns-then-deep-eq0 : goal.returns-then-deep-eq0

@@ -1,5 +1,4 @@
 use mathlib.Core.Path.{refl}
-use borrow.Author.Rules.{rules}
 use Rattle.rule.specs.Header.{working_of}
 use Rattle.rule_reader.proofs.working_at.Goals as goal
 

@@ -9,7 +9,6 @@ use Rattle.circuit.specs.WholeLaws.{accepted}
 use Rattle.run.specs.Inputs.{input_row}
 use Rattle.run.specs.InputLaws.{inputs_count, inputs_room}
 use Rattle.run.specs.DirectLaws.{rule_answer_lem, rule_results, inputs_answer, inputs_results, run_answer_lem, run_results_lem}
-use borrow.Author.Rules.{rules}
 use Rattle.run_direct.proofs.run.Goals as goal
 
 pub returns-then-a-ne0 : goal.returns-then-a-ne0

@@ -1,5 +1,5 @@
 use native.Mathlib.Omega.{arith}
-use mathlib.Core.Path.{◌≡◌, ap, subst, ◌∙◌}
+use mathlib.Core.Path.{ap, subst, ◌∙◌}
 use mathlib.Core.List.{List}
 use Prim.Native.Nat.{ℕ}
 use Rattle.base.specs.Buffers.{over}
@@ -7,7 +7,6 @@ use Rattle.base.specs.Parsing.{IsRead}
 use Rattle.rule.specs.FirstStatement.{rule_read}
 use Rattle.run_direct.specs.ResultLaws.{rule_ran}
 use Rattle.run_direct.specs.WritingLaws.{run_written}
-use borrow.Author.Rules.{rules}
 use Rattle.run_direct.proofs.run_checked.Goals as goal
 
 pub bounds-rule-5 : goal.bounds-rule-5

@@ -1,9 +1,5 @@
-use borrow.Author.Rules.{rules}
 use native.Mathlib.Omega.{arith}
-use mathlib.Core.Logic.{⊎_elim}
-use Prim.Native.Nat.{◌-◌}
-use Rattle.rule.specs.Header.{variables}
-use Rattle.run_direct.specs.WritingLaws.{Writing, writing_start, writing_length, writing_working, writing_result, writing_end}
+use Rattle.run_direct.specs.WritingLaws.{writing_start, writing_length, writing_working, writing_result, writing_end}
 use Rattle.run_direct.proofs.write_results.Goals as goal
 use Rattle.run_direct.proofs.write_results.Goals.{then-working_at, else-working_at}
 

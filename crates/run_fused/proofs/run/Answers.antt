@@ -1,4 +1,3 @@
-use borrow.Author.Rules.{rules}
 use mathlib.Core.Path.{refl, sym, ◌∙◌}
 use Rattle.run_fused.specs.StepLaws.{refused_run, kinds_there, inputs_refused, run_done}
 use Rattle.base.specs.SetsHeldLaws.{sets_clear}

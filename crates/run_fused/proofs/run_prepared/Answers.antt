@@ -1,4 +1,3 @@
-use borrow.Author.Rules.{rules}
 use native.Mathlib.Omega.{arith}
 use Rattle.run_fused.specs.StepLaws.{size_inside, part_runnable, part_run}
 use Rattle.run_fused.proofs.run_prepared.Goals as goal

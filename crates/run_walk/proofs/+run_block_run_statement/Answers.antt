@@ -1,19 +1,11 @@
-use mathlib.Core.Path.{◌≡◌}
 use native.Mathlib.Omega.{arith}
-use lib.ListN.{length}
-use Rattle.base.specs.declared.Kind.TheVariants.{Bit}
-use Rattle.base.specs.declared.Form.{Form}
 use Rattle.base.specs.declared.Form.TheVariants as form
 use Rattle.base.specs.ParsingLaws.{forward_read}
-use Rattle.base.specs.Parsing.{IsRead}
 use Rattle.rule.specs.ExpressionLaws.{expr_forward}
-use Rattle.rule.specs.Blocks.{branch_with, statement_form, read_block}
 use Rattle.rule.specs.FuelLaws.{block_forward, statement_forward}
-use Rattle.run_walk.specs.Walking.{AmidBlock}
 use Rattle.run_walk.specs.BlockLaws.{statement_taken, statement_ran, skip_ran, branch_level, test_taken, first_taken, second_taken}
 use Rattle.run_walk.specs.BlockLaws.{branch_yes, branch_no, amid_start, amid_inside, amid_end, amid_taken, amid_more}
 use borrow.Author.Rules.{rules}
-use Prim.Native.Nat.{ℕ, ◌+◌, ◌-◌, ◌*◌, ◌<◌, ◌≤◌}
 use Rattle.run_walk.proofs.+run_block_run_statement.Goals as goal
 
 pub run_block-loop-here-smaller : goal.run_block-loop-here-smaller

@@ -1,8 +1,6 @@
 use mathlib.Core.Path.{sym, ◌∙◌}
 use Rattle.base.specs.ParsingLaws.{read_past, not_refused}
 use Rattle.rule.specs.Blocks.{read_block}
-use borrow.Author.Rules.{rules}
-use Rattle.rule_reader.proofs.read_block.Reads as read-block-reads
 use Rattle.run_walk.proofs.pass_block.Goals as goal
 
 pub returns-in-Past : goal.returns-in-Past
