@@ -1,5 +1,5 @@
 -- A run of steps: what it took and printed so far is what the definition's run does; a step that takes bytes brings it nearer, one that takes none ends it.
-use Rattle.std.specs.Prelude.{List, [], ◌∷◌, ◌++◌, ◌≡◌, refl, ℕ, zero, suc, ◌+◌, ◌-◌, ◌≤◌, ◌<◌, length, take, drop}
+use Rattle.std.specs.Prelude.{List, [], ◌++◌, ◌≡◌, refl, ℕ, suc, ◌+◌, ◌-◌, ◌≤◌, ◌<◌, length, take, drop}
 use Rattle.std.proofs.Common.{append-nil, inl, inr, ⊎_elim, sym, ap, ◌∙◌, add-zero, arith, length-append, length-drop, drop-drop}
 use borrow.Rule.Slice.PartMut.{put_mid}
 use Rattle.base.specs.Buffers.{over}

@@ -1,12 +1,10 @@
 -- A step: the code's tests tell whether a part or an entry is whole, the parts that it lends are the entry's rule and plan, and what it did is what the definition's step does.
-use Rattle.std.specs.Prelude.{true, false, cond, ◌&&◌, List, [], ◌∷◌, ◌++◌, ◌≡◌, refl, ℕ, zero, suc, ◌+◌, ◌-◌, ◌*◌, ◌≤◌, ◌<◌, leb, length, take, drop}
+use Rattle.std.specs.Prelude.{true, false, cond, List, [], ◌∷◌, ◌≡◌, refl, ℕ, zero, suc, ◌+◌, ◌-◌, ◌≤◌, ◌<◌, length, take, drop}
 use Rattle.std.proofs.Common.{sym, ap, ◌∙◌, length-drop, take_all, drop-drop, le-leb}
 use native.Mathlib.Omega.{arith}
 use Rattle.std.proofs.lemmas.Bool.{lt-leb}
 use Rattle.base.specs.TestLaws.{split}
-use Rattle.base.specs.Lists.{same}
 use Rattle.base.specs.Numbers.{number_at}
-use Rattle.base.specs.Buffers.{over}
 use Rattle.base.specs.BufferLaws.{over_nil}
 use Rattle.base.specs.declared.Answer.{Answer}
 use Rattle.fused.specs.Answers.{fused_answer}

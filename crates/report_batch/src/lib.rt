@@ -64,6 +64,7 @@ fn take_head(s: &[u8]) -> Taken
 }
 
 // The bytes of the part at the start, or 0 where it is not whole.
+#[tactic(auto, using(crate::specs::TakenLaws::cut_short))]
 fn part_size(s: &[u8]) -> usize
     ensures size { result ≡ cond (has_part s.now) (part_size s.now) 0 }
     ensures small { result ≤ most_part }

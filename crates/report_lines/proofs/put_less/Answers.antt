@@ -37,5 +37,6 @@ overflow_add-result c = record { fits = omega (arith, room c.args.before c.args.
 
 pub returns : goal.returns
 returns c =
-    let r = put_less (c.args.after - c.args.before) _ c.args.out.now _ (room c.args.before c.args.after c.args.out.now c.requires c.if-after-before.false) c.put_decimal.ensures.counted c.put_decimal.ensures.written in
+    let fits = room c.args.before c.args.after c.args.out.now c.requires c.if-after-before.false in
+    let r = put_less (c.args.after - c.args.before) _ c.args.out.now _ fits c.put_decimal.ensures.counted c.put_decimal.ensures.written in
     rw (less_negative c.args.before c.args.after c.if-after-before.false) (record { counted = r.0; written = r.1 })

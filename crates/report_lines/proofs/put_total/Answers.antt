@@ -6,10 +6,16 @@ pub put_front-n-requires : goal.put_front-n-requires
 put_front-n-requires c = omega (arith, length_total c.args.accepted c.args.refused c.args.before c.args.after, c.requires)
 
 pub slice_bounds-put_less-count : goal.slice_bounds-put_less-count
-slice_bounds-put_less-count c = omega (arith, total_fits c.args.accepted c.args.refused c.args.before c.args.after c.args.out.now _ _ c.requires c.put_front-n.ensures.counted c.put_front-n.ensures.written)
+slice_bounds-put_less-count c = omega (
+  arith,
+  total_fits c.args.accepted c.args.refused c.args.before c.args.after c.args.out.now _ _ c.requires c.put_front-n.ensures.counted c.put_front-n.ensures.written,
+)
 
 pub slice_bounds-put_less-start : goal.slice_bounds-put_less-start
-slice_bounds-put_less-start c = omega (arith, total_fits c.args.accepted c.args.refused c.args.before c.args.after c.args.out.now _ _ c.requires c.put_front-n.ensures.counted c.put_front-n.ensures.written)
+slice_bounds-put_less-start c = omega (
+  arith,
+  total_fits c.args.accepted c.args.refused c.args.before c.args.after c.args.out.now _ _ c.requires c.put_front-n.ensures.counted c.put_front-n.ensures.written,
+)
 
 pub put_less-k-requires : goal.put_less-k-requires
 put_less-k-requires c = total_room c.args.accepted c.args.refused c.args.before c.args.after c.args.out.now _ _ c.requires c.put_front-n.ensures.counted c.put_front-n.ensures.written

@@ -22,5 +22,7 @@ pub overflow_add-result : goal.overflow_add-result
 overflow_add-result c = record { fits = omega (arith, room c.args.word.now c.args.numbers.now c.args.out.now c.requires, c.put_front-n.ensures.counted, c.well_formed) }
 
 pub returns : goal.returns
-returns c = let r = rw (line_ended c.args.word.now c.args.numbers.now) at
-    (ended _ c.args.out.now _ _ (room c.args.word.now c.args.numbers.now c.args.out.now c.requires) c.put_front-n.ensures.counted c.put_front-n.ensures.written) in record { counted = r.0; written = r.1 }
+returns c =
+    let fits = room c.args.word.now c.args.numbers.now c.args.out.now c.requires in
+    let r = rw (line_ended c.args.word.now c.args.numbers.now) at (ended _ c.args.out.now _ _ fits c.put_front-n.ensures.counted c.put_front-n.ensures.written) in
+    record { counted = r.0; written = r.1 }
