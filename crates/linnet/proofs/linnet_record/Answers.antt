@@ -1,4 +1,3 @@
-use borrow.Author.Rules.{rules}
 use Rattle.file.specs.ReadLaws.{part_wide}
 use Rattle.linnet.proofs.linnet_record.Goals as goal
 
