@@ -20,7 +20,7 @@ use Rattle.circuit.specs.Whole.{whole_within, rule_answer}
 use Rattle.plan.specs.PlanFile.{groups_in}
 use Rattle.plan.specs.Groups.{groups, rests_of, waits_for}
 use Rattle.plan.specs.Order.{order}
-use Rattle.plan.specs.Rows.{plan_row, plan_answer, is_costly, placed as all_Placed}
+use Rattle.plan.specs.Rows.{plan_row, plan_answer, is_costly, placed as all_placed}
 use Rattle.plan.specs.Examples.{p1}
 use Rattle.file.specs.Records.{records_cost}
 use Rattle.fused.specs.Emission.{one_wire, joined}
@@ -57,7 +57,7 @@ unfolding number kind_of working_of operation_of code_of read_mark read_count re
     statement_with block_with block_fuel read_block read_rule apply_gate make_expr assigns_in assigns choices make_statement make_block plain_circuit conditions collect numbers
     preconditions precondition_sets costs whole_within rule_answer rests_on rests groups_in groups rests_of waits_for order plan_row plan_answer bytes_of spread table_over table
     one_wire joined written fused fused_file records_cost fused_counts fused_answer digits decimal spaced line placed line_of spaced_less total_line flat_map headed has_part has_entry entry_answer plus
-    report_from report_of all_Placed is_costly wanted_of entry_bytes batch_of
+    report_from report_of all_placed is_costly wanted_of entry_bytes batch_of
 saved_nine = refl
 
 -- the folder examples/dearer-plan: two ands, which the plan joins; the picks for them cost more than an and
@@ -75,7 +75,7 @@ unfolding number kind_of working_of operation_of code_of read_mark read_count re
     statement_with block_with block_fuel read_block read_rule apply_gate make_expr assigns_in assigns choices make_statement make_block plain_circuit conditions collect numbers
     preconditions precondition_sets costs whole_within rule_answer rests_on rests groups_in groups rests_of waits_for order plan_row plan_answer bytes_of spread table_over table
     one_wire joined written fused fused_file records_cost fused_counts fused_answer digits decimal spaced line placed line_of spaced_less total_line flat_map headed has_part has_entry entry_answer plus
-    report_from report_of all_Placed is_costly wanted_of entry_bytes batch_of
+    report_from report_of all_placed is_costly wanted_of entry_bytes batch_of
 lost_nine = refl
 
 -- one byte more, one byte less, and one byte less than its first entry
@@ -85,7 +85,7 @@ unfolding number kind_of working_of operation_of code_of read_mark read_count re
     statement_with block_with block_fuel read_block read_rule apply_gate make_expr assigns_in assigns choices make_statement make_block plain_circuit conditions collect numbers
     preconditions precondition_sets costs whole_within rule_answer rests_on rests groups_in groups rests_of waits_for order plan_row plan_answer bytes_of spread table_over table
     one_wire joined written fused fused_file records_cost fused_counts fused_answer digits decimal spaced line placed line_of spaced_less total_line flat_map headed has_part has_entry entry_answer plus
-    report_from report_of all_Placed is_costly wanted_of entry_bytes batch_of
+    report_from report_of all_placed is_costly wanted_of entry_bytes batch_of
 not_whole = refl
 
 -- a batch that counts no entry is whole; one that ends before its header, and one of another version, are not
