@@ -278,7 +278,7 @@ fn file_line(rt: &impl Print, file: &[u8], inputs: &[u32], results: &mut [u32]) 
     print_words(rt, results);
 }
 
-// The line of a case, but for an operation that is not built.
+// The line of a case, but for an operation that is not built. Answers whether there is one and it could be ended.
 fn work(
     rt: &impl Print,
     operation: u8,
@@ -316,8 +316,7 @@ fn work(
             return false;
         }
     }
-    print(rt, b"\n");
-    true
+    rt.write_all(b"\n").is_ok()
 }
 
 // What follows the first six bytes of a case.

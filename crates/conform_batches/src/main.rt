@@ -12,10 +12,11 @@ const WINDOW: usize = 262144;
 
 const LARGEST: usize = 65536;
 
-fn print(rt: &impl Print, text: &[u8], n: usize)
+// Answers whether so many bytes of the text could be written.
+fn print(rt: &impl Print, text: &[u8], n: usize) -> bool
     requires { n ≤ length text.now }
 {
-    let _ = rt.write_all(&text[0..n]);
+    rt.write_all(&text[0..n]).is_ok()
 }
 
 fn least(a: usize, b: usize) -> usize
@@ -42,15 +43,15 @@ fn read_piece(
     to + n
 }
 
-fn finish(rt: &impl Print, progress: Progress) {
+// The last line and an empty one. Answers whether they could be written.
+fn finish(rt: &impl Print, progress: Progress) -> bool {
     let mut line = [0u8; report::MOST_TOTAL];
     let n = report_batch::finish(progress, &mut line);
-    print(rt, &line, n);
-    print(rt, b"\n", 1);
+    print(rt, &line, n) && print(rt, b"\n", 1)
 }
 
-// The report of a batch of so many bytes, which come in pieces of `size`.
-fn case(rt: &impl Print, input: &mut impl Read, size: usize, bytes: usize) {
+// The report of a batch of so many bytes, which come in pieces of `size`. Answers whether it could be ended.
+fn case(rt: &impl Print, input: &mut impl Read, size: usize, bytes: usize) -> bool {
     let mut window = [0u8; WINDOW];
     let mut out = [0u8; 65536];
     let mut progress = Progress::Head;
@@ -60,7 +61,9 @@ fn case(rt: &impl Print, input: &mut impl Read, size: usize, bytes: usize) {
         let taken = report_batch::take_entries(progress, &window[0..to], &mut out);
         progress = taken.progress;
         let bytes = taken.bytes;
-        print(rt, &out, taken.printed);
+        if !print(rt, &out, taken.printed) {
+            return false;
+        }
         if bytes != 0 {
             to = report_batch::drop_front(&mut window, to, bytes);
         } else {
@@ -78,10 +81,10 @@ fn case(rt: &impl Print, input: &mut impl Read, size: usize, bytes: usize) {
             left = left - piece;
         }
     }
-    finish(rt, progress);
+    finish(rt, progress)
 }
 
-// Reads the head of a case and answers whether it was there.
+// Reads the head of a case; answers whether it was there and the report of the case could be written.
 fn next_case(rt: &impl Print, input: &mut impl Read) -> bool {
     let mut head = [0u8; 6];
     if streams::read_full(input, &mut head) != 6 {
@@ -90,11 +93,10 @@ fn next_case(rt: &impl Print, input: &mut impl Read) -> bool {
     let size = base_words::wide16(base_words::read16(&head, 0));
     let bytes = base_words::read32(&head, 2) as usize;
     if size == 0 {
-        case(rt, input, LARGEST, bytes);
+        case(rt, input, LARGEST, bytes)
     } else {
-        case(rt, input, size, bytes);
+        case(rt, input, size, bytes)
     }
-    true
 }
 
 fn main(rt: HostRuntime) {

@@ -62,7 +62,7 @@ fn fill<F: Write + OpenFile + Drop>(mut file: F, bytes: &[u8]) -> io::Result<()>
     Ok(())
 }
 
-// An open file and its name: `fused.cir.` and six digits that the system gives.
+// An open file and its name: `fused.cir.` and six hexadecimal digits, at random.
 #[derive(Drop)]
 struct Temp<F> {
     file: F,

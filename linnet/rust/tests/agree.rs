@@ -156,7 +156,7 @@ fn of_extern_blocks() -> Vec<Operation> {
 
 #[test]
 fn every_operation_is_the_same_in_all_texts() {
-    let rattle = with_slices(RATTLE, "#[no_mangle]\npub extern \"C\" fn linnet_");
+    let rattle = with_slices(RATTLE, "#[unsafe(no_mangle)]\npub extern \"C\" fn linnet_");
     assert_eq!(rattle.len(), 9);
     assert_eq!(rattle.len(), RATTLE.matches("extern \"C\"").count());
     assert_eq!(of_header(), rattle);
@@ -224,7 +224,7 @@ fn rooms() -> (usize, usize) {
 #[test]
 fn all_structs_are_the_same_in_all_texts() {
     for (name, c) in [("Answer", "answer"), ("Shown", "shown"), ("Part", "part")] {
-        let open = format!("#[repr(C)]\npub struct {name} {{");
+        let open = format!("#[repr(C)]\n#[derive(Clone, Copy)]\npub struct {name} {{");
         // A struct stands in the crate whose operations give it, and in one crate only.
         let mut found = [RATTLE, BASE, FILE_READER]
             .iter()
