@@ -278,7 +278,7 @@ fn file_line(rt: &impl Print, file: &[u8], inputs: &[u32], results: &mut [u32]) 
     print_words(rt, results);
 }
 
-// The line of a case, but for an operation that is not built. Answers whether there is one and it could be ended.
+// The line of a case, but for an operation that is not built.
 fn work(
     rt: &impl Print,
     operation: u8,
@@ -316,7 +316,8 @@ fn work(
             return false;
         }
     }
-    rt.write_all(b"\n").is_ok()
+    print(rt, b"\n");
+    true
 }
 
 // What follows the first six bytes of a case.

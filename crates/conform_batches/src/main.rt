@@ -12,11 +12,10 @@ const WINDOW: usize = 262144;
 
 const LARGEST: usize = 65536;
 
-// Answers whether so many bytes of the text could be written.
-fn print(rt: &impl Print, text: &[u8], n: usize) -> bool
+fn print(rt: &impl Print, text: &[u8], n: usize)
     requires { n ≤ length text.now }
 {
-    rt.write_all(&text[0..n]).is_ok()
+    let _ = rt.write_all(&text[0..n]);
 }
 
 fn least(a: usize, b: usize) -> usize
@@ -43,15 +42,15 @@ fn read_piece(
     to + n
 }
 
-// The last line and an empty one. Answers whether they could be written.
-fn finish(rt: &impl Print, progress: Progress) -> bool {
+fn finish(rt: &impl Print, progress: Progress) {
     let mut line = [0u8; report::MOST_TOTAL];
     let n = report_batch::finish(progress, &mut line);
-    print(rt, &line, n) && print(rt, b"\n", 1)
+    print(rt, &line, n);
+    print(rt, b"\n", 1);
 }
 
-// The report of a batch of so many bytes, which come in pieces of `size`. Answers whether it could be ended.
-fn case(rt: &impl Print, input: &mut impl Read, size: usize, bytes: usize) -> bool {
+// The report of a batch of so many bytes, which come in pieces of `size`.
+fn case(rt: &impl Print, input: &mut impl Read, size: usize, bytes: usize) {
     let mut window = [0u8; WINDOW];
     let mut out = [0u8; 65536];
     let mut progress = Progress::Head;
@@ -61,9 +60,7 @@ fn case(rt: &impl Print, input: &mut impl Read, size: usize, bytes: usize) -> bo
         let taken = report_batch::take_entries(progress, &window[0..to], &mut out);
         progress = taken.progress;
         let bytes = taken.bytes;
-        if !print(rt, &out, taken.printed) {
-            return false;
-        }
+        print(rt, &out, taken.printed);
         if bytes != 0 {
             to = report_batch::drop_front(&mut window, to, bytes);
         } else {
@@ -81,10 +78,10 @@ fn case(rt: &impl Print, input: &mut impl Read, size: usize, bytes: usize) -> bo
             left = left - piece;
         }
     }
-    finish(rt, progress)
+    finish(rt, progress);
 }
 
-// Reads the head of a case; answers whether it was there and the report of the case could be written.
+// Reads the head of a case and answers whether it was there.
 fn next_case(rt: &impl Print, input: &mut impl Read) -> bool {
     let mut head = [0u8; 6];
     if streams::read_full(input, &mut head) != 6 {
@@ -93,10 +90,11 @@ fn next_case(rt: &impl Print, input: &mut impl Read) -> bool {
     let size = base_words::wide16(base_words::read16(&head, 0));
     let bytes = base_words::read32(&head, 2) as usize;
     if size == 0 {
-        case(rt, input, LARGEST, bytes)
+        case(rt, input, LARGEST, bytes);
     } else {
-        case(rt, input, size, bytes)
+        case(rt, input, size, bytes);
     }
+    true
 }
 
 fn main(rt: HostRuntime) {
