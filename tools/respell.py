@@ -81,6 +81,9 @@ def turn(path, names):
     elif path.endswith(".rt"):
         # a name of neither a dash nor two cases may be a function's
         new = lines(text, "//", {a: b for a, b in names.items() if not re.fullmatch(r"[a-z0-9_]+", a)})
+    elif path.endswith(".md"):
+        # names of folders and of other tools' functions stand in pages too
+        new = span(text, {a: b for a, b in names.items() if not re.fullmatch(r"[a-z0-9_]+", a) and not os.path.exists(os.path.join("examples", a))})
     elif path.endswith(".edit"):
         new = "\n".join(l if l.startswith(("#", "file:")) else code(l, names) for l in text.split("\n"))
     else:

@@ -16,10 +16,10 @@ use Rattle.plan.proofs.AnyOrderLaws as any
 use Rattle.fused.specs.FusedCircuit.{fused_file}
 use Rattle.fused.specs.GroupOrderLaws as files
 
--- "Groups must now stand in rising order of their smallest member", and "the acceptance rule now includes this order": `in_order_lem` of `Acceptable`, in demand 3's
+-- "Groups must now stand in rising order of their smallest member", and "the acceptance rule now includes this order": `in_order` of `Acceptable`, in demand 3's
 -- `plan_accepted`.
 pub accepted_in_order : (s p : List ℕ) → (plan_answer s p).number ≡ 0 → GroupsRise (groups_in p)
-accepted_in_order s p h = ((laws.plan_accepted s p).0 h).1.in_order_lem
+accepted_in_order s p h = ((laws.plan_accepted s p).0 h).1.in_order
 
 -- "two accepted plans for a rule that form the same groups are then the same bytes."
 pub same_bytes : (s p q : List ℕ) → Bytes p → Bytes q → (plan_answer s p).number ≡ 0 → (plan_answer s q).number ≡ 0

@@ -93,7 +93,7 @@ module _ (s : List ℕ) (b : Block) (n : ℕ) (read : read_rule s ≡ parsed b n
         laid_out = l;
         exist = exist;
         once = once;
-        in_order_lem = (order_right (groups_in p)).0 t32;
+        in_order = (order_right (groups_in p)).0 t32;
         one_costly = (costly_right (gates_of s) (groups_in p) l.joins).0 (t27, t28);
         exclude = (each_right _ _ (parted_right (gates_of s) (wanted_of s) (rule_preconditions s) (rule_exclude s b n read few)) (groups_in p)).0 t29;
         no_circle = (placed_right (gates_of s) (wanted_of s) (rule_earlier s b n read) (wanted_inside s b n read) few (group_of (groups_in p))
@@ -109,7 +109,7 @@ module _ (s : List ℕ) (b : Block) (n : ℕ) (read : read_rule s ≡ parsed b n
       (placed_right (gates_of s) (wanted_of s) (rule_earlier s b n read) (wanted_inside s b n read) few (group_of (groups_in p))
       (group_of_named (groups_in p) l.joins l.rising a.once)).1 a.no_circle in
       (hold_both (layout_rows (gate_count s) p) (joins ++ order_rows (gates_of s) (rule_preconditions s) p)).1
-      ((layout_right s p).1 (l, (a.exist, a.once)), ((order_right (groups_in p)).1 a.in_order_lem, (costly.0, (costly.1, (t29, (t30, tt))))))
+      ((layout_right s p).1 (l, (a.exist, a.once)), ((order_right (groups_in p)).1 a.in_order, (costly.0, (costly.1, (t29, (t30, tt))))))
 
 -- for an accepted rule, no row fails exactly when the plan is acceptable
 pub row_right : (s p : List ℕ) → (rule_answer s).number ≡ 0 → (plan_row s p ≡ 0) ↔ Acceptable s p

@@ -50,5 +50,5 @@ pub same_bytes : (s p q : List ℕ) → Bytes p → Bytes q → Acceptable s p �
 same_bytes s p q bp bq a b same =
     laid_bytes p bp s a.laid_out
     ∙ ap (plan_bytes (gate_count s)) (same_groups (gate_count s) (groups_in p) (groups_in q) (laid s p a.laid_out a.once) (laid s q b.laid_out b.once) a.exist b.exist
-    a.in_order_lem b.in_order_lem (same_names s p q a.laid_out b.laid_out a.once b.once same))
+    a.in_order b.in_order (same_names s p q a.laid_out b.laid_out a.once b.once same))
     ∙ sym (laid_bytes q bq s b.laid_out)

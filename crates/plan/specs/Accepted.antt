@@ -47,7 +47,7 @@ pub record Acceptable (s p : List ℕ) : Type 0 where
   pub laid_out : LaidOut s p
   pub exist : EachGroup (Exist (gate_count s)) (groups_in p)
   pub once : Apart (groups_in p)
-  pub in_order_lem : GroupsRise (groups_in p)
+  pub in_order : GroupsRise (groups_in p)
   pub one_costly : EachGroup (OneCostly (gates_of s)) (groups_in p)
   pub exclude : EachGroup (NoTwoNeeded (gates_of s) (wanted_of s)) (groups_in p)
   pub no_circle : NoCircle (gates_of s) (wanted_of s) (group_of (groups_in p))
