@@ -1,6 +1,7 @@
 -- What a lent buffer or an array holds after stores, and after its rest was handed on: a list written over its start (`over`), or a list and zeros (`padded`).
 use Rattle.std.specs.Prelude.{◌≡◌, refl, List, [], ◌∷◌, ◌++◌, ℕ, zero, suc, ◌+◌, ◌-◌, ◌≤◌, ◌<◌, length, take, drop, get_or, set, replicate}
-use Rattle.std.proofs.Common.{sym, ap, ◌∙◌, append_assoc, append-nil, zero-add, add-one, arith, length-append, length-take, length-drop, take-suc, length-take-le, take_at, drop_at, drop-drop, drop-cons, take_all}
+use Rattle.std.proofs.Common.{sym, ap, ◌∙◌, append_assoc, append-nil, zero-add, add-one, arith, length-append, length-take, length-drop, take-suc, length-take-le, take_at, drop_at}
+use Rattle.std.proofs.Common.{drop-drop, drop-cons, take_all}
 use Rattle.std.proofs.lemmas.List.{length-replicate, set_at}
 use Rattle.std.proofs.Math.ListN.{get_or-append}
 use Rattle.std.proofs.lemmas.List.Edits.{sets, sets-eq}

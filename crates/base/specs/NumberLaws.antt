@@ -1,6 +1,8 @@
 -- Big-endian numbers of any width: a number written and read back is the same, and so are bytes read and written; the number of two runs of bytes by those of each.
 use Rattle.std.specs.Prelude.{◌≡◌, refl, List, [], ◌∷◌, ◌++◌, ℕ, zero, suc, ◌+◌, ◌*◌, ◌/◌, ◌%◌, ◌^◌, ◌≤◌, ◌<◌, length, take, drop, get_or}
-use Rattle.std.proofs.Common.{sym, ap, ap₂, ◌∙◌, zero-add, suc-add, add_assoc, zero-mul, add-mul, mul_assoc, mul_comm, le_of_lt, lt_of_le_of_lt, mul-le-mul_left, mul-lt-mul_of_pos_right, mod-eq_of_lt, div-add-mod', arith, length-append, length-drop, take-append-drop, pow_pos, pow-add, take-add, take_at, drop-drop, drop-cons, length-take-le, get_or-take, get_or-drop}
+use Rattle.std.proofs.Common.{sym, ap, ap₂, ◌∙◌, zero-add, suc-add, add_assoc, zero-mul, add-mul, mul_assoc, mul_comm, le_of_lt, lt_of_le_of_lt, mul-le-mul_left, mul-lt-mul_of_pos_right}
+use Rattle.std.proofs.Common.{mod-eq_of_lt, div-add-mod', arith, length-append, length-drop, take-append-drop, pow_pos, pow-add, take-add, take_at, drop-drop, drop-cons, length-take-le}
+use Rattle.std.proofs.Common.{get_or-take, get_or-drop}
 use Rattle.std.proofs.Math.Path.{subst⁻¹}
 use Rattle.std.proofs.Math.Nat.{pow-succ', one-le-pow, div-div-eq-div-mul, mul-add-div_right, mul-add-mod_self_right}
 use Rattle.std.proofs.Math.Arith.{digits_lt, digits_div, mod-mul}

@@ -1,7 +1,8 @@
 -- Sets of settings as code holds them, in four words or in lent ones: what is stored is read, other sets stay, clear words are empty sets, and the sets fix the words.
 use Rattle.std.specs.Prelude.{◌≡◌, refl, List, [], ◌∷◌, ◌++◌, map, ◌⊎◌, ℕ, suc, ◌+◌, ◌*◌, ◌/◌, ◌%◌, ◌^◌, ◌≤◌, ◌<◌, length, get_or, take, drop, set, replicate}
 use Rattle.std.proofs.Math.Path.{sym, ap}
-use Rattle.std.proofs.Common.{◌∙◌, append_assoc, inl, inr, arith, length-set, length-drop, ext_get_or, get_or-take, get_or-drop, get_or-set_same, get_or-set_other, length-take-le, take_all, take_at, drop_at}
+use Rattle.std.proofs.Common.{◌∙◌, append_assoc, inl, inr, arith, length-set, length-drop, ext_get_or, get_or-take, get_or-drop, get_or-set_same, get_or-set_other, length-take-le, take_all}
+use Rattle.std.proofs.Common.{take_at, drop_at}
 use Rattle.std.proofs.lemmas.List.{length-map, length-replicate}
 use Rattle.std.proofs.lemmas.List.Edits.{sets, sets-eq}
 use Rattle.std.proofs.Math.Seq.{length-sets}

@@ -27,7 +27,8 @@ pub example_1 : rule_preconditions r1 ≡
     0xFFFFFFFFFFFFFFFFFFFFFFFFFFFFFFFFFFFFFFFFFFFFFFFFFFFFFFFFFFFFFFFF ∷ 0xAAAAAAAAAAAAAAAAAAAAAAAAAAAAAAAAAAAAAAAAAAAAAAAAAAAAAAAAAAAAAAAA
     ∷ 0xFFFFFFFFFFFFFFFFFFFFFFFFFFFFFFFFFFFFFFFFFFFFFFFFFFFFFFFFFFFFFFFF ∷ 0xAAAAAAAAAAAAAAAAAAAAAAAAAAAAAAAAAAAAAAAAAAAAAAAAAAAAAAAAAAAAAAAA
     ∷ 0x5555555555555555555555555555555555555555555555555555555555555555 ∷ 0xFFFFFFFFFFFFFFFFFFFFFFFFFFFFFFFFFFFFFFFFFFFFFFFFFFFFFFFFFFFFFFFF ∷ []
-unfolding number kind_of working_of operation_of code_of read_mark read_count read_kinds read_header read_variable read_word read_bit operation_with expr_with read_expr read_assign branch_with wanted_of
+unfolding number kind_of working_of operation_of code_of read_mark read_count read_kinds read_header read_variable read_word read_bit operation_with expr_with read_expr
+    read_assign branch_with wanted_of
     statement_with block_with block_fuel read_block read_rule apply_gate make_expr assigns_in assigns choices make_statement make_block plain_circuit conditions collect numbers
     preconditions precondition_sets
 example_1 = refl
@@ -41,21 +42,24 @@ example_6_conditions = refl
 pub example_6 : map (set r2) (4 ∷ 5 ∷ 6 ∷ 7 ∷ []) ≡
     0xAAAAAAAAAAAAAAAAAAAAAAAAAAAAAAAAAAAAAAAAAAAAAAAAAAAAAAAAAAAAAAAA ∷ 0xAAAAAAAAAAAAAAAAAAAAAAAAAAAAAAAAAAAAAAAAAAAAAAAAAAAAAAAAAAAAAAAA
     ∷ 0x5555555555555555555555555555555555555555555555555555555555555555 ∷ 0x4444444444444444444444444444444444444444444444444444444444444444 ∷ []
-unfolding number kind_of working_of operation_of code_of read_mark read_count read_kinds read_header read_variable read_word read_bit operation_with expr_with read_expr read_assign branch_with wanted_of
+unfolding number kind_of working_of operation_of code_of read_mark read_count read_kinds read_header read_variable read_word read_bit operation_with expr_with read_expr
+    read_assign branch_with wanted_of
     statement_with block_with block_fuel read_block read_rule apply_gate make_expr assigns_in assigns choices make_statement make_block plain_circuit conditions collect numbers
     preconditions precondition_sets
 example_6 = refl
 
 -- so 4 and 7 exclude each other, and 5 and 6
 pub example_6_excludes : excludes (set r2 4) (set r2 7) ∷ excludes (set r2 5) (set r2 6) ∷ [] ≡ true ∷ true ∷ []
-unfolding number kind_of working_of operation_of code_of read_mark read_count read_kinds read_header read_variable read_word read_bit operation_with expr_with read_expr read_assign branch_with wanted_of
+unfolding number kind_of working_of operation_of code_of read_mark read_count read_kinds read_header read_variable read_word read_bit operation_with expr_with read_expr
+    read_assign branch_with wanted_of
     statement_with block_with block_fuel read_block read_rule apply_gate make_expr assigns_in assigns choices make_statement make_block plain_circuit conditions collect numbers
     preconditions precondition_sets
 example_6_excludes = refl
 
 -- example 7: nothing needs gates 0 to 2
 pub example_7 : rule_preconditions r7 ≡ 0 ∷ 0 ∷ 0 ∷ 0xFFFFFFFFFFFFFFFFFFFFFFFFFFFFFFFFFFFFFFFFFFFFFFFFFFFFFFFFFFFFFFFF ∷ []
-unfolding number kind_of working_of operation_of code_of read_mark read_count read_kinds read_header read_variable read_word read_bit operation_with expr_with read_expr read_assign branch_with wanted_of
+unfolding number kind_of working_of operation_of code_of read_mark read_count read_kinds read_header read_variable read_word read_bit operation_with expr_with read_expr
+    read_assign branch_with wanted_of
     statement_with block_with block_fuel read_block read_rule apply_gate make_expr assigns_in assigns choices make_statement make_block plain_circuit conditions collect numbers
     preconditions precondition_sets
 example_7 = refl
@@ -64,13 +68,15 @@ example_7 = refl
 pub example_8 : set r8 5 ∷ set r8 9 ∷ bit_and (set r8 5) (set r8 9) ∷ [] ≡
     0xAAAAAAAAAAAAAAAAAAAAAAAAAAAAAAAAAAAAAAAAAAAAAAAAAAAAAAAAAAAAAAAA ∷ 0xCCCCCCCCCCCCCCCCCCCCCCCCCCCCCCCCCCCCCCCCCCCCCCCCCCCCCCCCCCCCCCCC
     ∷ 0x8888888888888888888888888888888888888888888888888888888888888888 ∷ []
-unfolding number kind_of working_of operation_of code_of read_mark read_count read_kinds read_header read_variable read_word read_bit operation_with expr_with read_expr read_assign branch_with wanted_of
+unfolding number kind_of working_of operation_of code_of read_mark read_count read_kinds read_header read_variable read_word read_bit operation_with expr_with read_expr
+    read_assign branch_with wanted_of
     statement_with block_with block_fuel read_block read_rule apply_gate make_expr assigns_in assigns choices make_statement make_block plain_circuit conditions collect numbers
     preconditions precondition_sets
 example_8 = refl
 
 pub example_8_excludes : excludes (set r8 5) (set r8 9) ≡ false
-unfolding number kind_of working_of operation_of code_of read_mark read_count read_kinds read_header read_variable read_word read_bit operation_with expr_with read_expr read_assign branch_with wanted_of
+unfolding number kind_of working_of operation_of code_of read_mark read_count read_kinds read_header read_variable read_word read_bit operation_with expr_with read_expr
+    read_assign branch_with wanted_of
     statement_with block_with block_fuel read_block read_rule apply_gate make_expr assigns_in assigns choices make_statement make_block plain_circuit conditions collect numbers
     preconditions precondition_sets
 example_8_excludes = refl

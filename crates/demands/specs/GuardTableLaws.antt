@@ -81,7 +81,8 @@ module _ (s p : List ℕ) (earlier : Earlier (gates_of s)) (inside : (g : ℕ) �
     table = table most_conditions set;
     is = refl;
     rests = rests_right (gates_of s) (wanted_of s) earlier inside few m;
-    rising = subst⁻¹ Rising (rests_list (gates_of s) (wanted_of s) earlier inside few m) (rising_keep _ (conditions (gates_of s)) (rising_places (conditions (gates_of s)) (conditions_rise (gates_of s))));
+    rising = subst⁻¹ Rising (rests_list (gates_of s) (wanted_of s) earlier inside few m)
+        (rising_keep _ (conditions (gates_of s)) (rising_places (conditions (gates_of s)) (conditions_rise (gates_of s))));
     bits = λ j l σ g. (
       λ t. needed_sound (gates_of s) (wanted_of s) σ m (sym (told j l σ g) ∙ t),
       λ n. told j l σ g ∙ needed_complete (gates_of s) (wanted_of s) σ earlier inside m n,

@@ -81,7 +81,8 @@ module _ (kinds other : List ℕ) (o : OnlyWorking kinds other) (b : Block) (w :
           contrary x k y f = true≢false (sym (more x k y) ∙ sym (rule_working other b x (omega (arith, k, o.many))) ∙ f)
 
 -- any output of a circuit that is read may be made no wire
-pub no_wire_read : (ver : Version) (v : ℕ) (R : List Record) (outputs : List ℕ) → circuits.WellFormed ver v R outputs → (x : ℕ) → (circuit_answer (file_bytes ver v R (set outputs x no_wire))).number ≡ 0
+pub no_wire_read : (ver : Version) (v : ℕ) (R : List Record) (outputs : List ℕ) → circuits.WellFormed ver v R outputs → (x : ℕ)
+    → (circuit_answer (file_bytes ver v R (set outputs x no_wire))).number ≡ 0
 no_wire_read ver v R outputs w x = answer_number (file_bytes ver v R (set outputs x no_wire)) ∙ well_row ver v R (set outputs x no_wire) (well_less ver v R outputs x w)
 
 pub no_wire_run : (ver : Version) (v : ℕ) (R : List Record) (outputs : List ℕ) → circuits.WellFormed ver v R outputs → (x : ℕ) (inputs : List ℕ)

@@ -56,7 +56,8 @@ pub saved_nine : report_of two_of_r1 ≡ first_line ++ (second_line ++ (total ++
 unfolding number kind_of working_of operation_of code_of read_mark read_count read_kinds read_header read_variable read_word read_bit operation_with expr_with read_expr read_assign branch_with
     statement_with block_with block_fuel read_block read_rule apply_gate make_expr assigns_in assigns choices make_statement make_block plain_circuit conditions collect numbers
     preconditions precondition_sets costs whole_within rule_answer rests_on rests groups_in groups rests_of waits_for order plan_row plan_answer bytes_of spread table_over table
-    one_wire joined written fused fused_file records_cost fused_counts fused_answer digits decimal spaced line placed line_of spaced_less total_line flat_map headed has_part has_entry entry_answer plus
+    one_wire joined written fused fused_file records_cost fused_counts fused_answer digits decimal spaced line placed line_of spaced_less total_line flat_map headed has_part
+    has_entry entry_answer plus
     report_from report_of all_placed is_costly wanted_of entry_bytes batch_of
 saved_nine = refl
 
@@ -74,7 +75,8 @@ pub lost_nine : report_of (batch_of (dearer ∷ []))
 unfolding number kind_of working_of operation_of code_of read_mark read_count read_kinds read_header read_variable read_word read_bit operation_with expr_with read_expr read_assign branch_with
     statement_with block_with block_fuel read_block read_rule apply_gate make_expr assigns_in assigns choices make_statement make_block plain_circuit conditions collect numbers
     preconditions precondition_sets costs whole_within rule_answer rests_on rests groups_in groups rests_of waits_for order plan_row plan_answer bytes_of spread table_over table
-    one_wire joined written fused fused_file records_cost fused_counts fused_answer digits decimal spaced line placed line_of spaced_less total_line flat_map headed has_part has_entry entry_answer plus
+    one_wire joined written fused fused_file records_cost fused_counts fused_answer digits decimal spaced line placed line_of spaced_less total_line flat_map headed has_part
+    has_entry entry_answer plus
     report_from report_of all_placed is_costly wanted_of entry_bytes batch_of
 lost_nine = refl
 
@@ -84,7 +86,8 @@ pub not_whole : map report_of ((two_of_r1 ++ (0x00 ∷ [])) ∷ take 95 two_of_r
 unfolding number kind_of working_of operation_of code_of read_mark read_count read_kinds read_header read_variable read_word read_bit operation_with expr_with read_expr read_assign branch_with
     statement_with block_with block_fuel read_block read_rule apply_gate make_expr assigns_in assigns choices make_statement make_block plain_circuit conditions collect numbers
     preconditions precondition_sets costs whole_within rule_answer rests_on rests groups_in groups rests_of waits_for order plan_row plan_answer bytes_of spread table_over table
-    one_wire joined written fused fused_file records_cost fused_counts fused_answer digits decimal spaced line placed line_of spaced_less total_line flat_map headed has_part has_entry entry_answer plus
+    one_wire joined written fused fused_file records_cost fused_counts fused_answer digits decimal spaced line placed line_of spaced_less total_line flat_map headed has_part
+    has_entry entry_answer plus
     report_from report_of all_placed is_costly wanted_of entry_bytes batch_of
 not_whole = refl
 

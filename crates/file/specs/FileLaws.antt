@@ -12,7 +12,8 @@ use Rattle.base.specs.NumberLaws.{length_bytes, number_found}
 use Rattle.file.specs.Records.{Record, record_in}
 use Rattle.file.specs.Versions.{Version}
 use Rattle.file.specs.CircuitFile.{mark, wires_bytes, record_bytes, records_bytes, file_bytes}
-use Rattle.file.specs.FileFigures.{version_in, wires_at, record_at, size_at, records_from, place_after, first_record, file_variables, wire_count, file_records, file_outputs, output_figure, file_figures}
+use Rattle.file.specs.FileFigures.{version_in, wires_at, record_at, size_at, records_from, place_after, first_record, file_variables, wire_count, file_records, file_outputs, output_figure}
+use Rattle.file.specs.FileFigures.{file_figures}
 use Rattle.file.specs.FitRecords.{Wires, AllReadBack, FileFits}
 use Rattle.file.specs.VersionLaws.{version_back}
 use Rattle.file.specs.SizeLaws.{size_append, file_size}

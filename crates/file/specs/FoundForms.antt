@@ -103,7 +103,8 @@ module _ (x : List ℕ) (at : ℕ) where
   form_guard h =
       let n = get_or x (at + 1) 0 in
       read_as (guard (wires_at n x (at + 2)) (number_at (table_bytes (version_in x)) x (at + 2 + 2 * n))) (2 + 2 * n + table_bytes (version_in x)) (rw h)
-      (guard_size (version_in x) (wires_at n x (at + 2)) (number_at (table_bytes (version_in x)) x (at + 2 + 2 * n)) ∙ ap (λ (k : ℕ). 2 + 2 * k + table_bytes (version_in x)) (wires_length n x (at + 2)))
+      (guard_size (version_in x) (wires_at n x (at + 2)) (number_at (table_bytes (version_in x)) x (at + 2 + 2 * n))
+      ∙ ap (λ (k : ℕ). 2 + 2 * k + table_bytes (version_in x)) (wires_length n x (at + 2)))
 
   pub form_other : OtherByte (get_or x at 0)
       → (record_at x at ≡ operation (operation_of (get_or x at 0)) (wires_at (code_of (get_or x at 0)).arity x (at + 1))) × (size_at x at ≡ 1 + 2 * (code_of (get_or x at 0)).arity)

@@ -45,7 +45,8 @@ module _ (f : List ℕ) (v at : ℕ) (k : Workable f v most_wires at) where
   pick_takes h = (omega (arith, k.whole.inside, (form_pick f at h).1), wires_as _ (form_pick f at h).0)
 
   pub guard_takes : get_or f at 0 ≡ 0x32
-      → (get_or f (at + 1) 0 ≤ most_guard_wires (version_in f)) × (at + 2 + 2 * get_or f (at + 1) 0 + table_bytes (version_in f) ≤ length f) × Inside most_wires (wires_at (get_or f (at + 1) 0) f (at + 2))
+      → (get_or f (at + 1) 0 ≤ most_guard_wires (version_in f)) × (at + 2 + 2 * get_or f (at + 1) 0 + table_bytes (version_in f) ≤ length f)
+      × Inside most_wires (wires_at (get_or f (at + 1) 0) f (at + 2))
   guard_takes h = (
     rw (wires_length (get_or f (at + 1) 0) f (at + 2)) at (subst (Bounded (version_in f)) (form_guard f at h).0 k.whole.bounded),
     omega (arith, k.whole.inside, (form_guard f at h).1),

@@ -48,7 +48,8 @@ module _ (f : List ℕ) (at : ℕ) where
 
     -- what is none of the other codes, nor sum, difference or product, gives a bit
     pub bit_gives : {N : Type 0} → WholeAt f at
-        → ((((((((((N × (get_or f at 0 ≡ 0x00 → ⊥)) × (get_or f at 0 ≡ 0x01 → ⊥)) × (get_or f at 0 ≡ 0x11 → ⊥)) × (get_or f at 0 ≡ 0x12 → ⊥)) × (get_or f at 0 ≡ 0x20 → ⊥)) × (get_or f at 0 ≡ 0x21 → ⊥))
+        → ((((((((((N × (get_or f at 0 ≡ 0x00 → ⊥)) × (get_or f at 0 ≡ 0x01 → ⊥)) × (get_or f at 0 ≡ 0x11 → ⊥)) × (get_or f at 0 ≡ 0x12 → ⊥)) × (get_or f at 0 ≡ 0x20 → ⊥))
+        × (get_or f at 0 ≡ 0x21 → ⊥))
         × (get_or f at 0 ≡ 0x22 → ⊥)) × (get_or f at 0 ≡ 0x30 → ⊥)) × (get_or f at 0 ≡ 0x31 → ⊥)) × (get_or f at 0 ≡ 0x32 → ⊥))
         → true ≡ is_bit (record_kind (held_kind bits) (record_at f at))
     bit_gives whole r = go (known_coded (get_or f at 0) whole.known)

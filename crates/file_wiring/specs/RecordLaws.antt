@@ -113,7 +113,8 @@ module _ (f : List ℕ) (at : ℕ) (whole : WholeAt f at) where
 
       pub guard_in_lem : get_or f at 0 ≡ 0x32
           → (b : Bool)
-          → b ≡ (every (fits i k kind.Bit) (wires_by 2 (get_or f (at + 1) 0) f (at + 2)) && ltb (number_at (table_bytes (version_in f)) f (at + 2 + 2 * get_or f (at + 1) 0)) (2 ^ 2 ^ get_or f (at + 1) 0))
+          → b ≡ (every (fits i k kind.Bit) (wires_by 2 (get_or f (at + 1) 0) f (at + 2))
+          && ltb (number_at (table_bytes (version_in f)) f (at + 2 + 2 * get_or f (at + 1) 0)) (2 ^ 2 ^ get_or f (at + 1) 0))
           → b ≡ stands v k i (record_at f at)
       guard_in_lem h b q =
           let N = get_or f (at + 1) 0 in

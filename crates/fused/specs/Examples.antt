@@ -31,21 +31,24 @@ use Rattle.circuit_needed.specs.Needed.{wanted_of}
 
 -- example 3, whole, in version 00 02 (document 02, C-17), with no pick between equal wires (C-18)
 pub example_3 : fused_file r1 p1 ≡ file3
-unfolding number kind_of working_of operation_of code_of read_mark read_count read_kinds read_header read_variable read_word read_bit operation_with expr_with read_expr read_assign branch_with wanted_of is_costly
+unfolding number kind_of working_of operation_of code_of read_mark read_count read_kinds read_header read_variable read_word read_bit operation_with expr_with read_expr
+    read_assign branch_with wanted_of is_costly
     placed statement_with block_with block_fuel read_block read_rule apply_gate make_expr assigns_in assigns choices make_statement make_block plain_circuit conditions collect numbers
     preconditions precondition_sets rests_on rests groups_in groups rests_of waits_for order bytes_of spread table_over table one_wire joined written fused fused_file
 example_3 = refl
 
 -- its counts: 6 gates, 8 wires, 114 bytes, cost 33 before and 24 after; a buffer of 113: 50
 pub example_3_answer : write_answer r1 p1 114 ≡ success 6 8 114 33 24
-unfolding number kind_of working_of operation_of code_of read_mark read_count read_kinds read_header read_variable read_word read_bit operation_with expr_with read_expr read_assign branch_with wanted_of is_costly
+unfolding number kind_of working_of operation_of code_of read_mark read_count read_kinds read_header read_variable read_word read_bit operation_with expr_with read_expr
+    read_assign branch_with wanted_of is_costly
     placed statement_with block_with block_fuel read_block read_rule apply_gate make_expr assigns_in assigns choices make_statement make_block plain_circuit conditions collect numbers
     preconditions precondition_sets costs whole_within rule_answer rests_on rests groups_in groups rests_of waits_for order plan_row plan_answer bytes_of spread table_over table
     one_wire joined written fused fused_file records_cost fused_counts write_answer
 example_3_answer = refl
 
 pub example_3_short : write_answer r1 p1 113 ≡ refusal 50 0
-unfolding number kind_of working_of operation_of code_of read_mark read_count read_kinds read_header read_variable read_word read_bit operation_with expr_with read_expr read_assign branch_with wanted_of is_costly
+unfolding number kind_of working_of operation_of code_of read_mark read_count read_kinds read_header read_variable read_word read_bit operation_with expr_with read_expr
+    read_assign branch_with wanted_of is_costly
     placed statement_with block_with block_fuel read_block read_rule apply_gate make_expr assigns_in assigns choices make_statement make_block plain_circuit conditions collect numbers
     preconditions precondition_sets costs whole_within rule_answer rests_on rests groups_in groups rests_of waits_for order plan_row plan_answer bytes_of spread table_over table
     one_wire joined written fused fused_file records_cost fused_counts write_answer

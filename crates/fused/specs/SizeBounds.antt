@@ -76,7 +76,8 @@ plan_written s p h done once =
     let m = written_most s (gates_of s) (rule_shaped s b n read) (rule_preconditions s) (group_of (groups_in p)) (members_costly s p x) done once in
     (omega (arith, m.0, a.gates), omega (arith, m.1, a.gates), omega (arith, m.2, a.gates))
 
-pub plan_most : (s p : List ℕ) → (plan_answer s p).number ≡ 0 → (length (records_of s p) ≤ most_wires) × (length (records_bytes written_version (records_of s p)) ≤ most_record_bytes) × (cost_after s p ≤ 10240)
+pub plan_most : (s p : List ℕ) → (plan_answer s p).number ≡ 0 → (length (records_of s p) ≤ most_wires)
+    × (length (records_bytes written_version (records_of s p)) ≤ most_record_bytes) × (cost_after s p ≤ 10240)
 unfolding fused
 plan_most s p h =
     plan_written s p h (order (gates_of s) (rule_preconditions s) (group_of (groups_in p)))

@@ -121,7 +121,8 @@ joined_first quads p group at g j e = let f = first_member quads p group at g (f
 rested_most : (sets ms : List ℕ) → rested_by sets ms ≤ most_conditions * length ms
 rested_most sets [] = omega arith
 rested_most sets (m ∷ ms) =
-    let z : length (rests most_conditions (get_or sets m 0)) + rested_by sets ms ≤ most_conditions * suc (length ms) = omega (arith, few_rests most_conditions (get_or sets m 0), rested_most sets ms) in
+    let z : length (rests most_conditions (get_or sets m 0)) + rested_by sets ms ≤ most_conditions * suc (length ms) =
+    omega (arith, few_rests most_conditions (get_or sets m 0), rested_most sets ms) in
     z
 
 pub rested_few : (sets p : List ℕ) (at : ℕ) → rested_by sets (group_at p at) ≤ most_conditions * get_or p at 0

@@ -37,35 +37,40 @@ pairs n a b c d =
 
 -- R1 with P1: accepted, with R1's counts
 pub example_p1 : plan_answer r1 p1 ≡ success 6 0 0 33 0
-unfolding number kind_of working_of operation_of code_of read_mark read_count read_kinds read_header read_variable read_word read_bit operation_with expr_with read_expr read_assign branch_with wanted_of is_costly
+unfolding number kind_of working_of operation_of code_of read_mark read_count read_kinds read_header read_variable read_word read_bit operation_with expr_with read_expr
+    read_assign branch_with wanted_of is_costly
     placed statement_with block_with block_fuel read_block read_rule apply_gate make_expr assigns_in assigns choices make_statement make_block plain_circuit conditions collect numbers
     preconditions precondition_sets costs whole_within rule_answer rests_on rests groups_in groups rests_of waits_for order plan_row plan_answer
 example_p1 = refl
 
 -- example 5: group 3, 5 in R1: 27
 pub example_5 : plan_answer r1 (pair 6 3 5) ≡ refusal 27 0
-unfolding number kind_of working_of operation_of code_of read_mark read_count read_kinds read_header read_variable read_word read_bit operation_with expr_with read_expr read_assign branch_with wanted_of is_costly
+unfolding number kind_of working_of operation_of code_of read_mark read_count read_kinds read_header read_variable read_word read_bit operation_with expr_with read_expr
+    read_assign branch_with wanted_of is_costly
     placed statement_with block_with block_fuel read_block read_rule apply_gate make_expr assigns_in assigns choices make_statement make_block plain_circuit conditions collect numbers
     preconditions precondition_sets costs whole_within rule_answer rests_on rests groups_in groups rests_of waits_for order plan_row plan_answer
 example_5 = refl
 
 -- example 6: groups {4, 7} or {5, 6} alone: accepted. Both: 30
 pub example_6 : map (plan_row r2) (pair 11 4 7 ∷ pair 11 5 6 ∷ pairs 11 4 7 5 6 ∷ []) ≡ 0 ∷ 0 ∷ 30 ∷ []
-unfolding number kind_of working_of operation_of code_of read_mark read_count read_kinds read_header read_variable read_word read_bit operation_with expr_with read_expr read_assign branch_with wanted_of is_costly
+unfolding number kind_of working_of operation_of code_of read_mark read_count read_kinds read_header read_variable read_word read_bit operation_with expr_with read_expr
+    read_assign branch_with wanted_of is_costly
     placed statement_with block_with block_fuel read_block read_rule apply_gate make_expr assigns_in assigns choices make_statement make_block plain_circuit conditions collect numbers
     preconditions precondition_sets rests_on rests groups_in groups rests_of waits_for order plan_row
 example_6 = refl
 
 -- example 7: group {1, 2}: 30, though nothing needs either
 pub example_7 : plan_row r7 (pair 4 1 2) ≡ 30
-unfolding number kind_of working_of operation_of code_of read_mark read_count read_kinds read_header read_variable read_word read_bit operation_with expr_with read_expr read_assign branch_with wanted_of is_costly
+unfolding number kind_of working_of operation_of code_of read_mark read_count read_kinds read_header read_variable read_word read_bit operation_with expr_with read_expr
+    read_assign branch_with wanted_of is_costly
     placed statement_with block_with block_fuel read_block read_rule apply_gate make_expr assigns_in assigns choices make_statement make_block plain_circuit conditions collect numbers
     preconditions precondition_sets rests_on rests groups_in groups rests_of waits_for order plan_row
 example_7 = refl
 
 -- example 8: group {5, 9}: 29
 pub example_8 : plan_row r8 (pair 11 5 9) ≡ 29
-unfolding number kind_of working_of operation_of code_of read_mark read_count read_kinds read_header read_variable read_word read_bit operation_with expr_with read_expr read_assign branch_with wanted_of is_costly
+unfolding number kind_of working_of operation_of code_of read_mark read_count read_kinds read_header read_variable read_word read_bit operation_with expr_with read_expr
+    read_assign branch_with wanted_of is_costly
     placed statement_with block_with block_fuel read_block read_rule apply_gate make_expr assigns_in assigns choices make_statement make_block plain_circuit conditions collect numbers
     preconditions precondition_sets rests_on rests groups_in groups rests_of waits_for order plan_row
 example_8 = refl
@@ -77,7 +82,8 @@ pub examples_rows :
     take 8 p1 ∷ set p1 4 2 ∷ set p1 6 7 ∷ (p1 ++ (0x00 ∷ [])) ∷ (take 8 p1 ++ (0x01 ∷ 0x01 ∷ 0x00 ∷ 0x03 ∷ [])) ∷ pair 6 4 3 ∷ pair 6 3 6 ∷ pairs 6 3 4 4 5 ∷ []
     ) ++ (plan_row r2 (pair 11 4 6) ∷ [])
     ≡ 20 ∷ 21 ∷ 22 ∷ 23 ∷ 24 ∷ 25 ∷ 25 ∷ 26 ∷ 28 ∷ []
-unfolding number kind_of working_of operation_of code_of read_mark read_count read_kinds read_header read_variable read_word read_bit operation_with expr_with read_expr read_assign branch_with wanted_of is_costly
+unfolding number kind_of working_of operation_of code_of read_mark read_count read_kinds read_header read_variable read_word read_bit operation_with expr_with read_expr
+    read_assign branch_with wanted_of is_costly
     placed statement_with block_with block_fuel read_block read_rule apply_gate make_expr assigns_in assigns choices make_statement make_block plain_circuit conditions collect numbers
     preconditions precondition_sets rests_on rests groups_in groups rests_of waits_for order plan_row
 examples_rows = refl

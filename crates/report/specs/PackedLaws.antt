@@ -15,7 +15,8 @@ use Rattle.base.specs.MemberLaws.{same_right}
 use Rattle.fused.specs.Answers.{fused_answer}
 use Rattle.report.specs.Line.{line_of}
 use Rattle.report.specs.declared.Sums.{Sums}
-use Rattle.report.specs.Batch.{batch_mark, head_bytes, headed, has_part, part_of, past_part, has_entry, entry_answer, entry_size, past_entry, no_sums, plus, refused75, total_of, report_from, report_of}
+use Rattle.report.specs.Batch.{batch_mark, head_bytes, headed, has_part, part_of, past_part, has_entry, entry_answer, entry_size, past_entry, no_sums, plus, refused75, total_of, report_from}
+use Rattle.report.specs.Batch.{report_of}
 use Rattle.report.specs.Packed.{Entry, Fits, AllFit, part_bytes, entry_bytes, head_of, batch_of, answer_to, lines_of}
 use Rattle.report.specs.PartLaws.{part_whole, past_both, entry_fits, entry_size_more}
 

@@ -35,8 +35,10 @@ example_2_rows = refl
 -- the places of the results, one more than are needed
 example_2_run : run_results (rule_answer r1) r1 (1 ∷ 6 ∷ 7 ∷ []) (9 ∷ 9 ∷ 9 ∷ 9 ∷ []) ∷ run_results (rule_answer r1) r1 (2 ∷ 6 ∷ 7 ∷ []) (9 ∷ 9 ∷ 9 ∷ 9 ∷ []) ∷ []
     ≡ (1 ∷ 42 ∷ 7 ∷ 9 ∷ []) ∷ (9 ∷ 9 ∷ 9 ∷ 9 ∷ []) ∷ []
-unfolding over number kind_of working_of operation_of code_of result_of read_mark read_count read_kinds read_header read_variable read_word read_bit operation_with expr_with read_expr read_assign written_for
-    branch_with statement_with block_with block_fuel read_block read_rule figure_of run_statement run_block some_above inputs_row input_row run_rule run_writes run_answer run_results apply_gate make_expr
+unfolding over number kind_of working_of operation_of code_of result_of read_mark read_count read_kinds read_header read_variable read_word read_bit operation_with expr_with
+    read_expr read_assign written_for
+    branch_with statement_with block_with block_fuel read_block read_rule figure_of run_statement run_block some_above inputs_row input_row run_rule run_writes run_answer
+    run_results apply_gate make_expr
     assigns_in assigns choices make_statement make_block plain_circuit costs conditions whole_within rule_answer
 example_2_run = refl
 

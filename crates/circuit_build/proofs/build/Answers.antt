@@ -6,7 +6,8 @@ use Rattle.circuit_build.proofs.build.Goals as goal
 
 pub returns-then-a-ne0 : goal.returns-then-a-ne0
 returns-then-a-ne0 c = let r = let s = c.args.rule.now in
-    built_nothing s _ _ _ _ _ (answer_refused s _ c.read_rule-a.ensures c.if-a-ne0.true) c.if-a-ne0.true c.requires in record { answer = r.0; quads = r.1.0; needs = r.1.1.0; outputs = r.1.1.1.0; conditions = r.1.1.1.1 }
+    built_nothing s _ _ _ _ _ (answer_refused s _ c.read_rule-a.ensures c.if-a-ne0.true) c.if-a-ne0.true c.requires in
+    record { answer = r.0; quads = r.1.0; needs = r.1.1.0; outputs = r.1.1.1.0; conditions = r.1.1.1.1 }
 
 pub make_rule-count-requires : goal.make_rule-count-requires
 make_rule-count-requires c = let p = c.requires in

@@ -21,7 +21,10 @@ working_at-requires c = omega (arith, c.requires.0.0, c.loop-x-test.true)
 
 pub overflow_add-k : goal.overflow_add-k
 overflow_add-k c = let i = c.loop-x.invariant in
-    let low : c.if-working_at.more ≤ 1 = elim c.if-working_at.branch [ then-working_at w ↦ omega (arith, w.more-is) | else-working_at w ↦ omega (arith, w.more-is) ] in
+    let low : c.if-working_at.more ≤ 1 = elim c.if-working_at.branch [
+      | then-working_at w ↦ omega (arith, w.more-is)
+      | else-working_at w ↦ omega (arith, w.more-is)
+    ] in
     record { fits = omega (arith, i.few, i.so_far, c.loop-x-test.true, low) }
 
 pub overflow_add-x : goal.overflow_add-x
@@ -31,7 +34,10 @@ pub loop-x-preserved : goal.loop-x-preserved
 loop-x-preserved c = let i = c.loop-x.invariant in
     let l = c.loop-x-test.true in
     let e = c.working_at.ensures in
-    elim c.if-working_at.branch [ then-working_at w ↦ listing_working _ _ _ _ _ _ _ i l e w.if-working_at.true w.more-is | else-working_at w ↦ listing_result _ _ _ _ _ _ _ i l e w.if-working_at.false w.more-is ]
+    elim c.if-working_at.branch [
+      | then-working_at w ↦ listing_working _ _ _ _ _ _ _ i l e w.if-working_at.true w.more-is
+      | else-working_at w ↦ listing_result _ _ _ _ _ _ _ i l e w.if-working_at.false w.more-is
+    ]
 
 pub returns : goal.returns
 returns c = let r = listing_end _ _ _ _ _ c.loop-x.invariant c.loop-x-test.false in record { listed = r.0; within = r.1 }

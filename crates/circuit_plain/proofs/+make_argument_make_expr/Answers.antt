@@ -11,7 +11,10 @@ use Prim.Native.Nat.{ℕ}
 use Rattle.circuit_plain.proofs.+make_argument_make_expr.Goals as goal
 
 pub make_expr-make_argument-x-requires : goal.make_expr-make_argument-x-requires
-make_expr-make_argument-x-requires t c = (omega (arith, level _ _ _ _ c.requires.1 _ c.code_of-c.ensures _ c.in-Apply.is), (c.requires.0, first_taken _ _ _ _ c.requires.1 _ c.code_of-c.ensures _ c.in-Apply.is))
+make_expr-make_argument-x-requires t c = (
+  omega (arith, level _ _ _ _ c.requires.1 _ c.code_of-c.ensures _ c.in-Apply.is),
+  (c.requires.0, first_taken _ _ _ _ c.requires.1 _ c.code_of-c.ensures _ c.in-Apply.is),
+)
 
 pub make_expr-make_argument-y-requires : goal.make_expr-make_argument-y-requires
 make_expr-make_argument-y-requires t c = (

@@ -68,7 +68,8 @@ pub make_block-overflow_cast-n : goal.make_block-overflow_cast-n
 make_block-overflow_cast-n t c = record { fits = omega (arith, c.make_statement-x.ensures.small) }
 
 pub make_block-loop-here-smaller : goal.make_block-loop-here-smaller
-make_block-loop-here-smaller t c = omega (arith, block_inside _ _ _ (rest_taken _ _ _ _ _ _ _ _ _ _ _ c.loop-here.invariant.0), forward_read _ (statement_forward _ _ _) c.make_statement-x.ensures.made.read)
+make_block-loop-here-smaller t c =
+    omega (arith, block_inside _ _ _ (rest_taken _ _ _ _ _ _ _ _ _ _ _ c.loop-here.invariant.0), forward_read _ (statement_forward _ _ _) c.make_statement-x.ensures.made.read)
 
 pub make_branch-make_expr-test-requires : goal.make_branch-make_expr-test-requires
 make_branch-make_expr-test-requires t c = (c.requires.0, test_taken _ _ _ c.requires.1.1)
@@ -98,14 +99,16 @@ pub make_statement-make_branch-requires : goal.make_statement-make_branch-requir
 make_statement-make_branch-requires t c = (omega arith, (c.requires.0, (c.requires.1.0, statement_read_as _ _ _ _ c.code_of-c.ensures c.requires.1.1 form.Branch c.in-Branch.is)))
 
 pub make_statement-returns-in-Assign : goal.make_statement-returns-in-Assign
-make_statement-returns-in-Assign t c = record { made = done_as _ _ _ _ _ (statement_as _ _ _ _ form.Assign c.code_of-c.ensures c.in-Assign.is) c.make_assign.ensures.made; small = c.make_assign.ensures.small }
+make_statement-returns-in-Assign t c =
+    record { made = done_as _ _ _ _ _ (statement_as _ _ _ _ form.Assign c.code_of-c.ensures c.in-Assign.is) c.make_assign.ensures.made; small = c.make_assign.ensures.small }
 
 pub make_statement-returns-in-Skip : goal.make_statement-returns-in-Skip
 make_statement-returns-in-Skip t c = let p = c.passed.ensures in
     record { made = made_skip _ _ _ _ c.code_of-c.ensures c.in-Skip.is _ _ _ _ _ _ p.0 p.1.0 p.1.1; small = rw p.1.0 (search rules) }
 
 pub make_statement-returns-in-Branch : goal.make_statement-returns-in-Branch
-make_statement-returns-in-Branch t c = record { made = done_as _ _ _ _ _ (statement_as _ _ _ _ form.Branch c.code_of-c.ensures c.in-Branch.is) c.make_branch.ensures.made; small = c.make_branch.ensures.small }
+make_statement-returns-in-Branch t c =
+    record { made = done_as _ _ _ _ _ (statement_as _ _ _ _ form.Branch c.code_of-c.ensures c.in-Branch.is) c.make_branch.ensures.made; small = c.make_branch.ensures.small }
 
 pub make_statement-returns-in-End : goal.make_statement-returns-in-End
 make_statement-returns-in-End t c = absurd (statement_read_as _ _ _ _ c.code_of-c.ensures c.requires.1.1 form.End c.in-End.is)

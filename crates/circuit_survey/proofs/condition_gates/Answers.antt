@@ -25,7 +25,10 @@ overflow_add-t c =
 pub loop-g-preserved : goal.loop-g-preserved
 loop-g-preserved c = let i = c.loop-g.invariant in
     let l = c.loop-g-test.true in
-    elim c.if-ranks-g-ne0.branch [ then-ranks-g-ne0 w ↦ gathering_one _ _ _ _ _ _ _ i l w.if-ranks-g-ne0.true w.gates-is w.t-is | else-ranks-g-ne0 w ↦ gathering_none _ _ _ _ _ _ _ i l w.if-ranks-g-ne0.false w.gates-is w.t-is ]
+    elim c.if-ranks-g-ne0.branch [
+      | then-ranks-g-ne0 w ↦ gathering_one _ _ _ _ _ _ _ i l w.if-ranks-g-ne0.true w.gates-is w.t-is
+      | else-ranks-g-ne0 w ↦ gathering_none _ _ _ _ _ _ _ i l w.if-ranks-g-ne0.false w.gates-is w.t-is
+    ]
 
 pub returns : goal.returns
 returns c = gathering_end _ _ _ _ _ c.loop-g.invariant c.loop-g-test.false

@@ -12,7 +12,10 @@ overflow_add-t c = record { fits = omega (arith, numbering_fits _ _ _ _ _ c.loop
 pub loop-g-preserved : goal.loop-g-preserved
 loop-g-preserved c = let l = c.loop-g in
     let t = c.loop-g-test.true in
-    elim c.if-ranks-g-ne0.branch [ then-ranks-g-ne0 w ↦ numbering_one _ _ _ _ _ _ _ l.invariant t w.if-ranks-g-ne0.true w.ranks-is w.t-is | else-ranks-g-ne0 w ↦ numbering_none _ _ _ _ _ _ _ l.invariant t w.if-ranks-g-ne0.false w.ranks-is w.t-is ]
+    elim c.if-ranks-g-ne0.branch [
+      | then-ranks-g-ne0 w ↦ numbering_one _ _ _ _ _ _ _ l.invariant t w.if-ranks-g-ne0.true w.ranks-is w.t-is
+      | else-ranks-g-ne0 w ↦ numbering_none _ _ _ _ _ _ _ l.invariant t w.if-ranks-g-ne0.false w.ranks-is w.t-is
+    ]
 
 pub returns : goal.returns
 returns c = numbering_end _ _ _ _ _ c.loop-g.invariant c.loop-g-test.false

@@ -54,7 +54,11 @@ overflow_add-cost c = record { fits = omega (arith, survey_room _ _ _ _ _ _ c.lo
 pub loop-i-preserved : goal.loop-i-preserved
 loop-i-preserved c = let l = c.loop-i in
     let t = c.loop-i-test.true in
-    elim c.if-code-eq-CHOICE.branch [ then-code-eq-CHOICE w ↦ survey_choice _ _ _ _ _ _ l.invariant t _ _ _ _ w.if-code-eq-CHOICE.true w.argument-c.ensures w.ranks-is w.conditions-is c.listed_cost-cost.ensures | else-code-eq-CHOICE w ↦ survey_other _ _ _ _ _ _ l.invariant t _ _ _ w.if-code-eq-CHOICE.false w.ranks-is w.conditions-is c.listed_cost-cost.ensures ]
+    elim c.if-code-eq-CHOICE.branch [
+      | then-code-eq-CHOICE w ↦ survey_choice _ _ _ _ _ _ l.invariant t _ _ _ _ w.if-code-eq-CHOICE.true
+          w.argument-c.ensures w.ranks-is w.conditions-is c.listed_cost-cost.ensures
+      | else-code-eq-CHOICE w ↦ survey_other _ _ _ _ _ _ l.invariant t _ _ _ w.if-code-eq-CHOICE.false w.ranks-is w.conditions-is c.listed_cost-cost.ensures
+    ]
 
 pub returns : goal.returns
 returns c = let r = survey_end _ _ _ _ _ _ c.loop-i.invariant c.loop-i-test.false in record { counted = r.0; cost = r.1.0; marked = r.1.1 }

@@ -4,7 +4,13 @@ use Rattle.plan_groups.specs.RowLaws.{shape_readable, layout_before, layout_26, 
 use Rattle.plan_groups.proofs.group_gates.Goals as goal
 
 pub returns-then-row-ne0 : goal.returns-then-row-ne0
-returns-then-row-ne0 c = record { number = layout_before c.args.count c.args.plan.now _ c.layout_row-row.ensures c.if-row-ne0.true; groups = λ e. absurd (c.if-row-ne0.true e); places = λ e. absurd (c.if-row-ne0.true e); refused = λ e. c.requires.1 }
+returns-then-row-ne0 c =
+    record {
+      number = layout_before c.args.count c.args.plan.now _ c.layout_row-row.ensures c.if-row-ne0.true;
+      groups = λ e. absurd (c.if-row-ne0.true e);
+      places = λ e. absurd (c.if-row-ne0.true e);
+      refused = λ e. c.requires.1;
+    }
 
 pub join_groups-requires : goal.join_groups-requires
 join_groups-requires c = (shape_readable c.args.count c.args.plan.now c.requires.0 (sym c.layout_row-row.ensures ∙ c.if-row-ne0.false), c.requires.1)

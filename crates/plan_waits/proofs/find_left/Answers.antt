@@ -18,7 +18,10 @@ overflow_add-n c = let i = c.loop-i.invariant in
 pub loop-i-preserved : goal.loop-i-preserved
 loop-i-preserved c = let i = c.loop-i.invariant in
     let t = c.loop-i-test.true in
-    elim c.if-group-i.branch [ then-group-i w ↦ listing_yes _ _ _ _ _ _ _ i t w.if-group-i.true (w.left-is ∙ w.put.ensures) w.n-is | else-group-i w ↦ listing_no _ _ _ _ _ _ _ i t w.if-group-i.false w.left-is w.n-is ]
+    elim c.if-group-i.branch [
+      | then-group-i w ↦ listing_yes _ _ _ _ _ _ _ i t w.if-group-i.true (w.left-is ∙ w.put.ensures) w.n-is
+      | else-group-i w ↦ listing_no _ _ _ _ _ _ _ i t w.if-group-i.false w.left-is w.n-is
+    ]
 
 pub shape_of-left : goal.shape_of-left
 shape_of-left c = c.loop-i.invariant.words.size ∙ sym (clear_words 4 _ c.requires.1).size

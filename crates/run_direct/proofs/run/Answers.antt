@@ -28,7 +28,11 @@ returns-then-row-ne0 c = let s = c.args.rule.now in let inputs = c.args.inputs.n
     let e = c.read_rule-a.ensures in
     let zero : (rule_answer s).number ≡ 0 = ap (λ (b : Answer). b.number) (sym e) ∙ c.if-a-ne0.false in
     let row = c.inputs_refusal-row.ensures in
-    let refused : input_row s inputs (length results) ≡ 0 → ⊥ = λ z. c.if-row-ne0.true (row ∙ z) in record { answer = c.refused.ensures ∙ ap (λ (k : ℕ). refusal k 0) row ∙ sym (inputs_answer (rule_answer s) s inputs zero (length results) refused); results = sym (inputs_results (rule_answer s) s inputs zero results refused) }
+    let refused : input_row s inputs (length results) ≡ 0 → ⊥ = λ z. c.if-row-ne0.true (row ∙ z) in
+    record {
+      answer = c.refused.ensures ∙ ap (λ (k : ℕ). refusal k 0) row ∙ sym (inputs_answer (rule_answer s) s inputs zero (length results) refused);
+      results = sym (inputs_results (rule_answer s) s inputs zero results refused);
+    }
 
 pub run_checked-requires : goal.run_checked-requires
 run_checked-requires c = let s = c.args.rule.now in let inputs = c.args.inputs.now in let results = c.args.results.now in
@@ -42,4 +46,8 @@ returns c = let s = c.args.rule.now in let inputs = c.args.inputs.now in let res
     let e = c.read_rule-a.ensures in
     let zero : (rule_answer s).number ≡ 0 = ap (λ (b : Answer). b.number) (sym e) ∙ c.if-a-ne0.false in
     let row : input_row s inputs (length results) ≡ 0 = sym c.inputs_refusal-row.ensures
-    ∙ c.if-row-ne0.false in record { answer = e ∙ sym (run_answer_lem (rule_answer s) s inputs zero (length results) row); results = c.run_checked.ensures ∙ sym (run_results_lem (rule_answer s) s inputs zero results row) }
+    ∙ c.if-row-ne0.false in
+    record {
+      answer = e ∙ sym (run_answer_lem (rule_answer s) s inputs zero (length results) row);
+      results = c.run_checked.ensures ∙ sym (run_results_lem (rule_answer s) s inputs zero results row);
+    }

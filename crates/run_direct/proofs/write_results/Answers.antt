@@ -27,7 +27,10 @@ loop-x-preserved c = let i = c.loop-x.invariant in
     let e = c.wide8-i.ensures.0 in
     let l = c.loop-x-test.true in
     let k = c.working_at.ensures in
-    elim c.if-working_at.branch [ then-working_at w ↦ writing_working _ _ _ _ _ i l _ _ e _ k w.if-working_at.true w.written-is | else-working_at w ↦ writing_result _ _ _ _ _ i l _ _ e _ k w.if-working_at.false w.written-is ]
+    elim c.if-working_at.branch [
+      | then-working_at w ↦ writing_working _ _ _ _ _ i l _ _ e _ k w.if-working_at.true w.written-is
+      | else-working_at w ↦ writing_result _ _ _ _ _ i l _ _ e _ k w.if-working_at.false w.written-is
+    ]
 
 pub shape_of-results : goal.shape_of-results
 shape_of-results c = writing_length _ _ _ _ _ c.loop-x.invariant
