@@ -49,3 +49,5 @@ pub mod ResultLaws
 pub mod Inputs
 pub mod InputLaws
 pub mod FillLaws
+pub mod Rows
+pub mod Refusals

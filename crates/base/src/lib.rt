@@ -2,6 +2,9 @@
 // operation answers; codes, kinds and the operation table. The types of these, which every layer names, are here; the code is in the crates `base_..`.
 #![tactic(auto)]
 
+ghost use Rattle.std.specs.Prelude.{◌≡◌};
+ghost use Rattle.base.specs.Refusals.{refused_by, refused_by_row, answers};
+
 // The seven numbers that every operation of the tool returns.
 #[repr(C)]
 #[derive(Clone, Copy)]
@@ -22,15 +25,123 @@ pub enum Step {
     Refused(u8, usize),
 }
 
+// The rows of the table of refusals, each with the table's number.
+#[derive(Clone, Copy, PartialEq, Eq)]
+pub enum Row {
+    RuleSize = 1,
+    RuleMark = 2,
+    RuleHead = 3,
+    RuleCut = 4,
+    UnknownCode = 5,
+    NoVariable = 6,
+    WrongKind = 7,
+    TooDeep = 8,
+    BytesLeft = 9,
+    ManyGates = 10,
+    ManyConditions = 11,
+    PlanSize = 20,
+    PlanMark = 21,
+    GateCount = 22,
+    PlanEnd = 23,
+    GroupSize = 24,
+    GroupNumbers = 25,
+    InTwoGroups = 26,
+    NotCostly = 27,
+    NotAlike = 28,
+    NotApart = 29,
+    Circle = 30,
+    GroupOrder = 32,
+    InputCount = 40,
+    InputBit = 41,
+    ResultRoom = 42,
+    FileRoom = 50,
+    CircuitHead = 60,
+    CircuitRecords = 61,
+    CircuitWires = 62,
+    Batch = 75,
+}
+
+// A refusal: its row, and the place that it names.
+#[derive(Clone, Copy, PartialEq, Eq)]
+pub struct Refusal {
+    pub row: Row,
+    pub place: usize,
+}
+
+impl Row {
+    // The refusal by this row at a place.
+    pub fn at(self, place: usize) -> Refusal
+        ensures { result ≡ record { row = self; place = place } }
+    {
+        Refusal { row: self, place }
+    }
+}
+
+// A row that names no place has the place 0.
+impl From<Row> for Refusal {
+    ghost from_gives = { refused_by_row };
+
+    fn from(row: Row) -> Refusal {
+        row.at(0)
+    }
+}
+
+// The counts of a success, those that the operation works out; the others are 0.
+#[derive(Clone, Copy, PartialEq, Eq)]
+pub struct Counts {
+    pub gates: usize,
+    pub wires: usize,
+    pub bytes: usize,
+    pub before: usize,
+    pub after: usize,
+}
+
+// A refusal counts nothing.
+impl From<Refusal> for Answer {
+    ghost from_gives = { refused_by };
+
+    fn from(refusal: Refusal) -> Answer {
+        Answer {
+            number: refusal.row as u8,
+            place: refusal.place,
+            gates: 0,
+            wires: 0,
+            bytes: 0,
+            before: 0,
+            after: 0,
+        }
+    }
+}
+
+// What an operation does or refuses, in the seven numbers.
+impl From<Result<Counts, Refusal>> for Answer {
+    ghost from_gives = { answers };
+
+    fn from(done: Result<Counts, Refusal>) -> Answer {
+        match done {
+            Ok(counts) => Answer {
+                number: 0,
+                place: 0,
+                gates: counts.gates,
+                wires: counts.wires,
+                bytes: counts.bytes,
+                before: counts.before,
+                after: counts.after,
+            },
+            Err(refusal) => Answer::from(refusal),
+        }
+    }
+}
+
 // What a figure is: a word of 32 bits or a bit.
-#[derive(Clone, Copy)]
+#[derive(Clone, Copy, PartialEq, Eq)]
 pub enum Kind {
     Word,
     Bit,
 }
 
 // The operations of the table.
-#[derive(Clone, Copy)]
+#[derive(Clone, Copy, PartialEq, Eq)]
 pub enum Operation {
     Sum,
     Difference,
@@ -43,7 +154,7 @@ pub enum Operation {
 }
 
 // What a code byte opens.
-#[derive(Clone, Copy)]
+#[derive(Clone, Copy, PartialEq, Eq)]
 pub enum Form {
     End,
     Assign,

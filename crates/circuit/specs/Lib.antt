@@ -17,3 +17,4 @@ pub mod Examples
 pub mod Whole
 pub mod WholeLaws
 pub mod WholeExamples
+pub mod Clear

@@ -1,6 +1,9 @@
 // Definitions and laws of the plain circuit (specs/), the number of a gate, and the places of lent arrays; the code is in the crates `circuit_..`.
 #![tactic(auto)]
 
+ghost use Rattle.std.specs.Prelude.{◌≡◌};
+ghost use Rattle.circuit.specs.Clear.{clear};
+
 // A gate's number in the plain circuit; never taken for a wire number of a circuit file.
 #[derive(Clone, Copy)]
 pub struct GateId(pub u16);
@@ -36,3 +39,29 @@ pub const SUM: u32 = 0x20;
 pub const NOT: u32 = 0x27;
 
 pub const CHOICE: u32 = 0x30;
+
+// The plain circuit of a rule in fixed memory, with what the layers above ask of it: its gates' quads and how many they are, each gate's set of settings,
+// every variable's last gate, and each condition's gate; zeros after them.
+#[derive(Clone, Copy)]
+pub struct Circuit {
+    pub quads: [u32; QUAD_ROOM],
+    pub needs: [u64; NEED_WORDS],
+    pub outputs: [u16; VARIABLE_ROOM],
+    pub conditions: [u16; CONDITION_ROOM],
+    pub count: usize,
+}
+
+impl Circuit {
+    // Nothing is built yet.
+    pub fn clear() -> Circuit
+        ensures { result ≡ clear }
+    {
+        Circuit {
+            quads: [0u32; QUAD_ROOM],
+            needs: [0u64; NEED_WORDS],
+            outputs: [0u16; VARIABLE_ROOM],
+            conditions: [0u16; CONDITION_ROOM],
+            count: 0,
+        }
+    }
+}

@@ -24,3 +24,4 @@ pub mod FoundLaws
 pub mod PlaceLaws
 pub mod ReadsLaws
 pub mod Examples
+pub mod Ungrouped
