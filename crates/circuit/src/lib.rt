@@ -2,11 +2,20 @@
 #![tactic(auto)]
 
 ghost use Rattle.std.specs.Prelude.{◌≡◌};
-ghost use Rattle.circuit.specs.Clear.{clear};
+ghost use Rattle.circuit.specs.Clear.{clear, Clear};
 
 // A gate's number in the plain circuit; never taken for a wire number of a circuit file.
-#[derive(Clone, Copy)]
+#[derive(Clone, Copy, PartialEq, Eq, PartialOrd, Ord)]
 pub struct GateId(pub u16);
+
+impl GateId {
+    // Its place in an array that has one for each gate.
+    pub fn index(self) -> usize
+        ensures { result ≡ self.0 }
+    {
+        self.0 as usize
+    }
+}
 
 // The gates and the conditions of a plain circuit, at most, as specs/Limits.antt has them.
 pub const MOST_GATES: u16 = 256;
@@ -54,7 +63,8 @@ pub struct Circuit {
 impl Circuit {
     // Nothing is built yet.
     pub fn clear() -> Circuit
-        ensures { result ≡ clear }
+        ensures is { result ≡ clear }
+        ensures clear { Clear result }
     {
         Circuit {
             quads: [0u32; QUAD_ROOM],

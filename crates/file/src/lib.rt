@@ -1,9 +1,20 @@
 // Definitions and laws of the circuit file (specs/), and the number of a wire. Nothing here knows a rule or a plan; the code is in the crates `file_..`.
 #![tactic(auto)]
 
+ghost use Rattle.std.specs.Prelude.{◌≡◌};
+
 // The number of a wire of a circuit file: its record's number. A rule's gate number is never taken for one: it has a type of its own.
-#[derive(Clone, Copy)]
+#[derive(Clone, Copy, PartialEq, Eq, PartialOrd, Ord)]
 pub struct WireId(pub u16);
+
+impl WireId {
+    // Its place in an array that has one for each wire.
+    pub fn index(self) -> usize
+        ensures { result ≡ self.0 }
+    {
+        self.0 as usize
+    }
+}
 
 // As an output it names no wire.
 pub const NO_WIRE: u16 = 0xFFFF;

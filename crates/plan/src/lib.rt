@@ -2,7 +2,7 @@
 #![tactic(auto)]
 
 ghost use Rattle.std.specs.Prelude.{◌≡◌};
-ghost use Rattle.plan.specs.Ungrouped.{ungrouped};
+ghost use Rattle.plan.specs.Ungrouped.{ungrouped, Ungrouped};
 
 use circuit::GATE_ROOM;
 
@@ -24,7 +24,8 @@ pub struct Grouping {
 impl Grouping {
     // No plan is checked yet.
     pub fn clear() -> Grouping
-        ensures { result ≡ ungrouped }
+        ensures is { result ≡ ungrouped }
+        ensures clear { Ungrouped result }
     {
         Grouping {
             group: [0u16; GATE_ROOM],
