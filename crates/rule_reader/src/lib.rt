@@ -5,39 +5,21 @@ ghost use Rattle.std.specs.Prelude.{◌≡◌, true, ◌+◌, ◌≤◌, ◌<◌
 ghost use Rattle.base.specs.Answers.{answer_of};
 ghost use Rattle.base.specs.Parsing.{step_of, Past};
 ghost use Rattle.base.specs.Refusals.{step_in};
-ghost use Rattle.rule.specs.Header.{HasKinds, kind_at, working_at, read_kinds, read_header};
+ghost use Rattle.rule.specs.Header.{variables, read_kinds, read_header};
 ghost use Rattle.rule.specs.Expressions.{read_variable, read_word, read_bit, read_expr};
 ghost use Rattle.rule.specs.Blocks.{read_assign, read_statement, read_block};
 ghost use Rattle.rule.specs.Rule.{read_rule};
 ghost use Rattle.rule.specs.Limits.{least_rule_bytes, most_rule_bytes, most_variables};
 
 use base::{Answer, Counts, Form, Kind, Refusal, Row};
-
-// The kind of variable x, which the header has.
-pub fn kind_at(s: &[u8], x: u8) -> Kind
-    requires { 6 + x < length s.now }
-    ensures { result ≡ kind_at s.now x }
-{
-    if s[6 + x as usize] % 2 == 1 {
-        Kind::Bit
-    } else {
-        Kind::Word
-    }
-}
-
-// Whether variable x, which the header has, is a working one.
-pub fn working_at(s: &[u8], x: u8) -> bool
-    requires { 6 + x < length s.now }
-    ensures { result ≡ working_at s.now x }
-{
-    s[6 + x as usize] / 2 % 2 == 1
-}
+use rule::Rule;
 
 // 10 variable, its code at `at`.
-fn read_variable(s: &[u8], at: usize, want: Kind, deep: u8) -> Result<usize, Refusal>
-    requires { HasKinds s.now × (at < length s.now) }
-    ensures { step_in result ≡ step_of (read_variable s.now want deep at) }
+fn read_variable(rule: Rule, at: usize, want: Kind, deep: u8) -> Result<usize, Refusal>
+    requires { at < length rule.bytes.now }
+    ensures { step_in result ≡ step_of (read_variable rule.entry.bytes.now want deep at) }
 {
+    let s = rule.bytes;
     if deep == 0 {
         return Err(Refusal(Row::TooDeep, at));
     }
@@ -45,10 +27,10 @@ fn read_variable(s: &[u8], at: usize, want: Kind, deep: u8) -> Result<usize, Ref
         return Err(Refusal(Row::RuleCut, s.len()));
     }
     let x = s[at + 1];
-    if s[5] <= x {
+    if rule.variables() <= x {
         return Err(Refusal(Row::NoVariable, at + 1));
     }
-    if kind_at(s, x) != want {
+    if rule.kind_at(x) != want {
         return Err(Refusal(Row::WrongKind, at + 1));
     }
     Ok(at + 2)
@@ -92,10 +74,10 @@ fn read_bit(s: &[u8], at: usize, want: Kind, deep: u8) -> Result<usize, Refusal>
 }
 
 // Is a variable of the kind wanted read at `at`? Most arguments are one, and take no further call.
-fn is_variable(s: &[u8], at: usize, want: Kind, deep: u8) -> bool
-    requires { HasKinds s.now }
-    ensures { result ≡ true → (at + 1 < length s.now) × (Past (at + 2) ≡ step_of (read_expr deep s.now want at)) }
+fn is_variable(rule: Rule, at: usize, want: Kind, deep: u8) -> bool
+    ensures { result ≡ true → (at + 1 < length rule.entry.bytes.now) × (Past (at + 2) ≡ step_of (read_expr deep rule.entry.bytes.now want at)) }
 {
+    let s = rule.bytes;
     if deep == 0 {
         return false;
     }
@@ -107,25 +89,25 @@ fn is_variable(s: &[u8], at: usize, want: Kind, deep: u8) -> bool
         return false;
     }
     let x = s[at + 1];
-    if s[5] <= x {
+    if rule.variables() <= x {
         return false;
     }
-    kind_at(s, x) == want
+    rule.kind_at(x) == want
 }
 
 // An expression of the kind wanted, at most `deep` levels deep. It hands on a copy of the slice: else the compiler moves the slice as
 // one piece, whose two words its callers stored apart, and each call waits for both.
-fn read_expr(s: &[u8], at: usize, want: Kind, deep: u8) -> Result<usize, Refusal>
-    requires { HasKinds s.now }
-    ensures { step_in result ≡ step_of (read_expr deep s.now want at) }
+fn read_expr(rule: Rule, at: usize, want: Kind, deep: u8) -> Result<usize, Refusal>
+    ensures { step_in result ≡ step_of (read_expr deep rule.entry.bytes.now want at) }
 {
+    let s = rule.bytes;
     if s.len() <= at {
         return Err(Refusal(Row::RuleCut, s.len()));
     }
     let c = base_codes::code_of(s[at]);
     let form = c.form;
     match form {
-        Form::Variable => read_variable(s, at, want, deep),
+        Form::Variable => read_variable(rule, at, want, deep),
         Form::Word => read_word(s, at, want, deep),
         Form::Bit => read_bit(s, at, want, deep),
         Form::Apply(_) => {
@@ -137,61 +119,62 @@ fn read_expr(s: &[u8], at: usize, want: Kind, deep: u8) -> Result<usize, Refusal
             if deep == 0 {
                 return Err(Refusal(Row::TooDeep, at));
             }
-            let rest = s;
-            let next = if is_variable(s, at + 1, takes, deep - 1) {
+            let next = if is_variable(rule, at + 1, takes, deep - 1) {
                 at + 3
             } else {
-                read_expr(rest, at + 1, takes, deep - 1)?
+                read_expr(rule, at + 1, takes, deep - 1)?
             };
             if c.arity == 1 {
                 return Ok(next);
             }
-            if is_variable(s, next, takes, deep - 1) {
+            if is_variable(rule, next, takes, deep - 1) {
                 return Ok(next + 2);
             }
-            read_expr(rest, next, takes, deep - 1)
+            read_expr(rule, next, takes, deep - 1)
         }
         _ => Err(Refusal(Row::UnknownCode, at)),
     }
 }
 
 // 01 variable expression, its code at `at`.
-fn read_assign(s: &[u8], at: usize) -> Result<usize, Refusal>
-    requires { HasKinds s.now × (at < length s.now) }
-    ensures { step_in result ≡ step_of (read_assign s.now at) }
+fn read_assign(rule: Rule, at: usize) -> Result<usize, Refusal>
+    requires { at < length rule.bytes.now }
+    ensures { step_in result ≡ step_of (read_assign rule.entry.bytes.now at) }
 {
+    let s = rule.bytes;
     if s.len() <= at + 1 {
         return Err(Refusal(Row::RuleCut, s.len()));
     }
     let x = s[at + 1];
-    if s[5] <= x {
+    if rule.variables() <= x {
         return Err(Refusal(Row::NoVariable, at + 1));
     }
-    let want = kind_at(s, x);
-    if is_variable(s, at + 2, want, rule::DEEPEST) {
+    let want = rule.kind_at(x);
+    if is_variable(rule, at + 2, want, rule::DEEPEST) {
         return Ok(at + 4);
     }
-    read_expr(s, at + 2, want, rule::DEEPEST)
+    read_expr(rule, at + 2, want, rule::DEEPEST)
 }
 
 // A statement, its code at `at`. `nest` is how many ifs may still nest.
 #[cycle(read_block_read_statement)]
-fn read_statement(s: &[u8], at: usize, nest: u8) -> Result<usize, Refusal>
-    requires { HasKinds s.now × (at < length s.now) }
-    ensures { step_in result ≡ step_of (read_statement s.now nest at) }
+fn read_statement(rule: Rule, at: usize, nest: u8) -> Result<usize, Refusal>
+    requires { at < length rule.bytes.now }
+    ensures { step_in result ≡ step_of (read_statement rule.entry.bytes.now nest at) }
 {
+    let s = rule.bytes;
     let c = base_codes::code_of(s[at]);
     let form = c.form;
     match form {
-        Form::Assign => read_assign(s, at),
+        Form::Assign => read_assign(rule, at),
         Form::Skip => Ok(at + 1),
         Form::Branch => {
             if nest == 0 {
                 return Err(Refusal(Row::TooDeep, at));
             }
-            let first = read_expr(s, at + 1, Kind::Bit, rule::DEEPEST)?;
-            let second = read_block(s, first, nest - 1)?;
-            read_block(s, second, nest - 1)
+            let first = read_expr(rule, at + 1, Kind::Bit, rule::DEEPEST)?;
+            let second = read_block(rule, first, nest - 1)?;
+            read_block(rule, second, nest - 1)
         }
         _ => Err(Refusal(Row::UnknownCode, at)),
     }
@@ -199,10 +182,10 @@ fn read_statement(s: &[u8], at: usize, nest: u8) -> Result<usize, Refusal>
 
 // A block: statements closed by 00. A loop over them, so that only nesting takes stack.
 #[cycle(read_block_read_statement)]
-pub fn read_block(s: &[u8], at: usize, nest: u8) -> Result<usize, Refusal>
-    requires { HasKinds s.now }
-    ensures { step_in result ≡ step_of (read_block s.now nest at) }
+pub fn read_block(rule: Rule, at: usize, nest: u8) -> Result<usize, Refusal>
+    ensures { step_in result ≡ step_of (read_block rule.entry.bytes.now nest at) }
 {
+    let s = rule.bytes;
     let mut here = at;
     loop {
         if s.len() <= here {
@@ -211,7 +194,7 @@ pub fn read_block(s: &[u8], at: usize, nest: u8) -> Result<usize, Refusal>
         if s[here] == 0 {
             return Ok(here + 1);
         }
-        here = read_statement(s, here, nest)?;
+        here = read_statement(rule, here, nest)?;
     }
 }
 
@@ -253,7 +236,7 @@ fn read_bytes(s: &[u8]) -> Result<usize, Refusal>
     ensures { step_in result ≡ step_of (read_rule s.now) }
 {
     let body = read_header(s)?;
-    let end = read_block(s, body, rule::NESTED)?;
+    let end = read_block(Rule { bytes: s }, body, rule::NESTED)?;
     if end < s.len() {
         return Err(Refusal(Row::BytesLeft, end));
     }

@@ -19,56 +19,56 @@ use Rattle.rule_reader.proofs.+read_block_read_statement.Goals as goal
 pub read_block-loop-here-smaller : goal.read_block-loop-here-smaller
 read_block-loop-here-smaller t c = let a = c.args in
     let l = c.loop-here in
-    omega (arith, forward_past (read_statement a.s.now a.nest l.here) (statement_forward a.s.now a.nest l.here) c.in_ok-here.ensures)
+    omega (arith, forward_past (read_statement a.rule.bytes.now a.nest l.here) (statement_forward a.rule.bytes.now a.nest l.here) c.in_ok-here.ensures)
 
 pub read_block-loop-here-preserved : goal.read_block-loop-here-preserved
 read_block-loop-here-preserved t c = let a = c.args in
     let l = c.loop-here in
     let step = c.in_ok-here.ensures in (
-      omega (arith, forward_past (read_statement a.s.now a.nest l.here) (statement_forward a.s.now a.nest l.here) step),
-      block_more a.s.now a.nest l.here c.if-s-here.false c.if-s-here-eq0.false step ∙ l.invariant.1,
+      omega (arith, forward_past (read_statement a.rule.bytes.now a.nest l.here) (statement_forward a.rule.bytes.now a.nest l.here) step),
+      block_more a.rule.bytes.now a.nest l.here c.if-s-here.false c.if-s-here-eq0.false step ∙ l.invariant.1,
     )
 
 pub read_block-returns-in_err-here : goal.read_block-returns-in_err-here
 read_block-returns-in_err-here t c = let a = c.args in
     let l = c.loop-here in
     passed _ _ c.from_residual.ensures.1
-    (block_refused a.s.now a.nest l.here c.if-s-here.false c.if-s-here-eq0.false c.in_err-here.ensures ∙ l.invariant.1)
+    (block_refused a.rule.bytes.now a.nest l.here c.if-s-here.false c.if-s-here-eq0.false c.in_err-here.ensures ∙ l.invariant.1)
 
 pub read_statement-read_block-requires : goal.read_statement-read_block-requires
 read_statement-read_block-requires t c = let a = c.args in
-    omega (arith, forward_past (read_expr deepest a.s.now Bit (a.at + 1)) (expr_forward deepest a.s.now Bit (a.at + 1)) c.in_ok-first-in-Branch.ensures)
+    omega (arith, forward_past (read_expr deepest a.rule.bytes.now Bit (a.at + 1)) (expr_forward deepest a.rule.bytes.now Bit (a.at + 1)) c.in_ok-first-in-Branch.ensures)
 
 pub read_statement-read_block-requires-in-Branch : goal.read_statement-read_block-requires-in-Branch
 read_statement-read_block-requires-in-Branch t c = let a = c.args in
     let first = c.in_ok-first-in-Branch.first in
     omega (
       arith,
-      forward_past (read_expr deepest a.s.now Bit (a.at + 1)) (expr_forward deepest a.s.now Bit (a.at + 1)) c.in_ok-first-in-Branch.ensures,
-      forward_past (read_block a.s.now (a.nest - 1) first) (block_forward a.s.now (a.nest - 1) first) c.in_ok-second-in-Branch.ensures,
+      forward_past (read_expr deepest a.rule.bytes.now Bit (a.at + 1)) (expr_forward deepest a.rule.bytes.now Bit (a.at + 1)) c.in_ok-first-in-Branch.ensures,
+      forward_past (read_block a.rule.bytes.now (a.nest - 1) first) (block_forward a.rule.bytes.now (a.nest - 1) first) c.in_ok-second-in-Branch.ensures,
     )
 
 pub read_statement-returns-in_ok-second-in-Branch : goal.read_statement-returns-in_ok-second-in-Branch
 read_statement-returns-in_ok-second-in-Branch t c = let a = c.args in
-    branch_second a.s.now a.nest a.at c.code_of-c.result c.code_of-c.ensures c.in-Branch.is c.if-nest-eq0.false
+    branch_second a.rule.bytes.now a.nest a.at c.code_of-c.result c.code_of-c.ensures c.in-Branch.is c.if-nest-eq0.false
     c.in_ok-first-in-Branch.ensures c.in_ok-second-in-Branch.ensures c.read_block-in-Branch.ensures
 
 pub read_statement-returns-in_err-second-in-Branch : goal.read_statement-returns-in_err-second-in-Branch
 read_statement-returns-in_err-second-in-Branch t c = let a = c.args in
     passed _ _ c.from_residual-in_err-second-in-Branch.ensures.1
-    (branch_first a.s.now a.nest a.at c.code_of-c.result c.code_of-c.ensures c.in-Branch.is c.if-nest-eq0.false
+    (branch_first a.rule.bytes.now a.nest a.at c.code_of-c.result c.code_of-c.ensures c.in-Branch.is c.if-nest-eq0.false
     c.in_ok-first-in-Branch.ensures c.in_err-second-in-Branch.ensures)
 
 pub read_statement-returns-in_err-first-in-Branch : goal.read_statement-returns-in_err-first-in-Branch
 read_statement-returns-in_err-first-in-Branch t c = let a = c.args in
     passed _ _ c.from_residual.ensures.1
-    (branch_refused a.s.now a.nest a.at c.code_of-c.result c.code_of-c.ensures c.in-Branch.is c.if-nest-eq0.false c.in_err-first-in-Branch.ensures)
+    (branch_refused a.rule.bytes.now a.nest a.at c.code_of-c.result c.code_of-c.ensures c.in-Branch.is c.if-nest-eq0.false c.in_err-first-in-Branch.ensures)
 
 pub read_statement-returns-in_default : goal.read_statement-returns-in_default
 read_statement-returns-in_default t c = let a = c.args in
     let code = c.code_of-c.result in
-    ap step_of (sym (statement_as a.s.now a.nest a.at code code.form c.code_of-c.ensures refl
-    ∙ no_statement code.form (read_block a.s.now) a.s.now a.nest a.at c.in_default.not-Assign c.in_default.not-Skip c.in_default.not-Branch))
+    ap step_of (sym (statement_as a.rule.bytes.now a.nest a.at code code.form c.code_of-c.ensures refl
+    ∙ no_statement code.form (read_block a.rule.bytes.now) a.rule.bytes.now a.nest a.at c.in_default.not-Assign c.in_default.not-Skip c.in_default.not-Branch))
 
 pub read_block-loop-here-init : goal.read_block-loop-here-init
 read_block-loop-here-init t c = (search rules, refl)

@@ -18,25 +18,25 @@ module _ (n at v : ℕ) (h : 6 + v ≤ n) (l : at ≤ n - 2) where
   second-there = omega arith
 
 pub overflow_sub-s : goal.overflow_sub-s
-overflow_sub-s c = omega (arith, c.requires)
+overflow_sub-s c = omega (arith, c.args.rule.kinds)
 
 pub bounds-s-at : goal.bounds-s-at
-bounds-s-at c = first-there _ _ _ c.requires c.if-s-at.false
+bounds-s-at c = first-there _ _ _ c.args.rule.kinds c.if-s-at.false
 
 pub bounds-s-at-2 : goal.bounds-s-at-2
-bounds-s-at-2 c = second-there _ _ _ c.requires c.if-s-at.false
+bounds-s-at-2 c = second-there _ _ _ c.args.rule.kinds c.if-s-at.false
 
 pub returns : goal.returns
 unfolding read_variable
 returns c e = let a = c.args in
     let l = c.if-s-at.false in
-    let b = second-there _ _ _ c.requires l in (
+    let b = second-there _ _ _ c.args.rule.kinds l in (
       b,
-      sym (ap step_of (expr_variable a.deep a.s.now a.want a.at (first-there _ _ _ c.requires l) c.if-s-at-ne-VARIABLE.false)
+      sym (ap step_of (expr_variable a.deep a.rule.bytes.now a.want a.at (first-there _ _ _ c.args.rule.kinds l) c.if-s-at-ne-VARIABLE.false)
           ∙ rw (
             some_left _ c.if-deep-eq0.false,
             lt-ltb _ _ b,
-            lt-ltb _ _ c.if-s-x.false,
+            lt-ltb _ _ (rw c.variables.ensures at c.if-variables-x.false),
             ← c.kind_at.ensures,
             kind_eq _ _ c.eq.ensures e,
           )),

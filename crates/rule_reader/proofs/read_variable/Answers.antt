@@ -12,9 +12,9 @@ pub returns-then-s-at : goal.returns-then-s-at
 unfolding read_variable
 returns-then-s-at c = rw (some_left _ c.if-deep-eq0.false, le-ltb _ _ c.if-s-at.true)
 
-pub returns-then-s-x : goal.returns-then-s-x
+pub returns-then-variables-x : goal.returns-then-variables-x
 unfolding read_variable
-returns-then-s-x c = rw (some_left _ c.if-deep-eq0.false, lt-ltb _ _ c.if-s-at.false, le-ltb _ _ c.if-s-x.true)
+returns-then-variables-x c = rw (some_left _ c.if-deep-eq0.false, lt-ltb _ _ c.if-s-at.false, le-ltb _ _ (rw c.variables.ensures at c.if-variables-x.true))
 
 pub returns-then-ne : goal.returns-then-ne
 unfolding read_variable
@@ -22,7 +22,7 @@ returns-then-ne c = rw (
   some_left _ c.if-deep-eq0.false,
   lt-ltb _ _
       c.if-s-at.false,
-  lt-ltb _ _ c.if-s-x.false,
+  lt-ltb _ _ (rw c.variables.ensures at c.if-variables-x.false),
   ← c.kind_at.ensures,
   kind_ne _ _ c.ne.ensures c.if-ne.true,
 )
@@ -33,7 +33,7 @@ returns c = rw (
   some_left _ c.if-deep-eq0.false,
   lt-ltb _ _
       c.if-s-at.false,
-  lt-ltb _ _ c.if-s-x.false,
+  lt-ltb _ _ (rw c.variables.ensures at c.if-variables-x.false),
   ← c.kind_at.ensures,
   kind_not_ne _ _ c.ne.ensures c.if-ne.false,
 )
