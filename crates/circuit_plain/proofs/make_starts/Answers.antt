@@ -12,9 +12,9 @@ pub loop-x-preserved : goal.loop-x-preserved
 loop-x-preserved c = let a = c.args in
     let l = c.loop-x in (
       l.invariant.0,
-      started_more a.s.now l.quads l.present l.x l.n c.start_code-code.result c.push-n.result _ l.invariant.1
+      started_more a.s.now l.quads l.present l.x l.n _ c.push-n.result _ l.invariant.1
           (omega (arith, l.invariant.0, c.loop-x-test.true)) c.requires.0.few
-          (c.start_code-code.ensures ∙ ap start_code c.kind_at.ensures) c.push-n.ensures,
+          ? c.push-n.ensures,
     )
 
 pub returns : goal.returns
