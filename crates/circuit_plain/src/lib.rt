@@ -293,7 +293,7 @@ fn make_block(
         let x = make_statement(s, here, nest, present, quads, n);
         here = x.next;
         n = x.count as u16;
-        assigned = assigned | x.assigned;
+        assigned |= x.assigned;
     }
 }
 
