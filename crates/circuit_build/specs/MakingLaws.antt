@@ -5,12 +5,11 @@ use Rattle.std.proofs.Math.Path.{subst⁻¹}
 use Rattle.std.proofs.lemmas.Bool.{lt-leb}
 use Rattle.base.specs.TestLaws.{split}
 use Rattle.base.specs.Answers.{success, refusal}
-use Rattle.base.specs.ParsingLaws.{is_read, read_refused}
+use Rattle.base.specs.ParsingLaws.{is_read, past_read, read_refused}
 use Rattle.base.specs.Rows.{number_of}
 use Rattle.base.specs.declared.Refusal.{Refusal}
-use Rattle.base.specs.declared.Step.TheVariants.{Refused}
 use Rattle.circuit_build.specs.RowLaws.{some_row}
-use Rattle.base.specs.Parsing.{IsRead, step_of}
+use Rattle.base.specs.Parsing.{IsRead, Past, Refused, step_of}
 use Rattle.base.specs.declared.Answer.{Answer}
 use Rattle.rule.specs.Rule.{read_rule}
 use Rattle.circuit.specs.Limits.{most_gates, most_conditions}
@@ -113,13 +112,16 @@ module _ (s : List ℕ) (read : IsRead (read_rule s)) (quads present : List ℕ)
       }
 
 -- a refusal that is the rule's answer
-module _ (s : List ℕ) (r : Refusal) (e : refusal (number_of r.row) r.place ≡ rule_answer s) where
+module _ (s : List ℕ) (r : Refusal) (e : refusal (number_of r.0) r.1 ≡ rule_answer s) where
   pub refused_row : (rule_answer s).number ≡ 0 → ⊥
-  refused_row h = some_row r.row (ap (λ (a : Answer). a.number) e ∙ h)
+  refused_row h = some_row r.0 (ap (λ (a : Answer). a.number) e ∙ h)
 
   pub refused_count : 0 ≡ (rule_answer s).gates
   refused_count = ap (λ (a : Answer). a.gates) e
 
--- what reading refuses is answered so
-pub read_answer : (s : List ℕ) (r : Refusal) → Refused (number_of r.row) r.place ≡ step_of (read_rule s) → refusal (number_of r.row) r.place ≡ rule_answer s
+-- what reading takes was read, and what it refuses is answered so
+pub read_taken : (s : List ℕ) {n : ℕ} → Past n ≡ step_of (read_rule s) → IsRead (read_rule s)
+read_taken s h = past_read (read_rule s) h
+
+pub read_answer : (s : List ℕ) (r : Refusal) → Refused (number_of r.0) r.1 ≡ step_of (read_rule s) → refusal (number_of r.0) r.1 ≡ rule_answer s
 read_answer s r h = sym (answer_bytes s (read_refused (read_rule s) h))

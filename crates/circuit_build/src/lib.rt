@@ -1,7 +1,7 @@
 // Reading a rule as its caller sees it, rows 1 to 11, and building its plain circuit.
 #![tactic(auto)]
 
-ghost use Rattle.std.specs.Prelude.{◌≡◌, ◌++◌, ◌-◌, ◌≤◌, length, take, replicate, MatchResult};
+ghost use Rattle.std.specs.Prelude.{◌≡◌, ◌++◌, ◌-◌, ◌≤◌, length, take, replicate};
 ghost use Rattle.rule.specs.Limits.{most_variables};
 ghost use Rattle.rule.specs.Header.{variables, HasKinds};
 ghost use Rattle.base.specs.Lists.{Inside};
@@ -16,11 +16,7 @@ ghost use Rattle.circuit.specs.Whole.{rule_answer};
 ghost use Rattle.circuit_needed.specs.Built.{built_quads, built_needs, built_outputs, built_conditions};
 ghost use Rattle.circuit_build.specs.Making.{whole_in};
 ghost use Rattle.base.specs.SetsHeld.{sets_in};
-ghost use Rattle.base.specs.Rows.{number_of};
 ghost use Rattle.base.specs.Refusals.{answer_in};
-ghost use Rattle.base.specs.Parsing.{IsRead, step_of};
-ghost use Rattle.base.specs.declared.Step.TheVariants.{Refused};
-ghost use Rattle.rule.specs.Rule.{read_rule};
 ghost use Rattle.circuit.specs.Clear.{Clear};
 ghost use Rattle.circuit.specs.Rooms.{gate_room, variable_room};
 
@@ -38,12 +34,12 @@ fn whole(
     ensures { (answer_in result ≡ whole_in quads.now count size) × (count ≤ gate_room → Marked (gates_in quads.now count) ranks.new) }
 {
     if circuit::MOST_GATES < count {
-        return Err(Row::ManyGates.at(size));
+        return Err(Refusal(Row::ManyGates, size));
     }
     let n = count as usize;
     let found = circuit_survey::survey(quads, n, ranks);
     if circuit::MOST_CONDITIONS < found.conditions as usize {
-        return Err(Row::ManyConditions.at(size));
+        return Err(Refusal(Row::ManyConditions, size));
     }
     Ok(Counts {
         gates: n,
@@ -54,42 +50,13 @@ fn whole(
     })
 }
 
-// The row of a number of the reader's, 1 to 9.
-fn row_of(number: u8) -> Row
-    requires { (1 ≤ number) × (number ≤ 9) }
-    ensures { number_of result ≡ number }
-{
-    match number {
-        1 => Row::RuleSize,
-        2 => Row::RuleMark,
-        3 => Row::RuleHead,
-        4 => Row::RuleCut,
-        5 => Row::UnknownCode,
-        6 => Row::NoVariable,
-        7 => Row::WrongKind,
-        8 => Row::TooDeep,
-        _ => Row::BytesLeft,
-    }
-}
-
-// Rows 1 to 9.
-fn read(rule: &[u8]) -> Result<(), Refusal>
-    ensures { MatchResult result (λ _. IsRead (read_rule rule.now)) (λ r. Refused (number_of r.row) r.place ≡ step_of (read_rule rule.now)) }
-{
-    let a = rule_reader::read_rule(rule);
-    if a.number != 0 {
-        return Err(row_of(a.number).at(a.place));
-    }
-    Ok(())
-}
-
 // Reads a rule: the refusal by rows 1 to 11, or its gates and their cost.
 fn try_read(rule: &[u8]) -> Result<Counts, Refusal>
     ensures { answer_in result ≡ rule_answer rule.now }
 {
     // A copy is handed on: so the compiler takes the rule's place and length in two registers, not through memory.
     let rest = rule;
-    read(rest)?;
+    rule_reader::read(rest)?;
     let mut quads = [0u32; QUAD_ROOM];
     let mut present = [0u16; VARIABLE_ROOM];
     let mut ranks = [0u16; GATE_ROOM];
@@ -114,19 +81,13 @@ fn list_wanted(
     ensures listed { take result wanted.new ≡ wanted_among rule.now outputs.now }
     ensures within { result ≤ length wanted.new }
 {
-    let v = rule[5];
     let mut k: usize = 0;
-    let mut x: u8 = 0;
-    while x < v {
+    for x in 0..rule[5] {
         // Each is put down, and stays if its variable is a result.
         wanted[k] = outputs[x as usize];
-        let more: usize = if rule_reader::working_at(rule, x) {
-            0
-        } else {
-            1
-        };
-        k = k + more;
-        x = x + 1;
+        if !rule_reader::working_at(rule, x) {
+            k += 1;
+        }
     }
     k
 }
@@ -162,7 +123,7 @@ pub fn build(rule: &[u8], circuit: &mut Circuit) -> Result<Counts, Refusal>
     ensures count { circuit.new.count ≡ (rule_answer rule.now).gates }
 {
     circuit.count = 0;
-    read(rule)?;
+    rule_reader::read(rule)?;
     let mut ranks = [0u16; GATE_ROOM];
     let made = circuit_plain::make_rule(rule, &mut circuit.quads, &mut circuit.outputs);
     match whole(rule.len(), &circuit.quads, made, &mut ranks) {
