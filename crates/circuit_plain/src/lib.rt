@@ -4,7 +4,6 @@
 ghost use Rattle.std.specs.Prelude.{◌≡◌, ◌+◌, ◌^◌, ◌<◌, length, get_or, replicate};
 ghost use Rattle.base.specs.Parsing.{IsRead};
 ghost use Rattle.rule.specs.Header.{variables};
-ghost use Rattle.rule.specs.RuleLaws.{Headed};
 ghost use Rattle.rule.specs.Expressions.{read_expr};
 ghost use Rattle.rule.specs.Blocks.{read_assign, branch_with, read_statement, read_block};
 ghost use Rattle.rule.specs.Rule.{read_rule};
@@ -15,6 +14,7 @@ ghost use Rattle.circuit.specs.Rooms.{quad_room, variable_room};
 
 use base::{Form, Kind};
 use circuit::{GateId, QUAD_ROOM, VARIABLE_ROOM};
+use rule::Rule;
 
 // What an expression was made into: the place after it, the gate that it stands for, and the gates then.
 // The count is last, in the second half of a word: a half word stored in the first is loaded with the whole word, which stalls.
@@ -50,7 +50,7 @@ fn make_variable(s: &[u8], at: usize, present: &[u16; VARIABLE_ROOM], count: u16
 // The expression at `at`, which reading took, from the variables' present gates.
 #[cycle(make_argument_make_expr)]
 fn make_expr(
-    s: &[u8],
+    rule: Rule,
     at: usize,
     want: Kind,
     deep: u8,
@@ -58,9 +58,10 @@ fn make_expr(
     quads: &mut [u32; QUAD_ROOM],
     count: u16,
 ) -> MadeExpr
-    requires { Headed s.now (6 + variables s.now) × IsRead (read_expr deep s.now want at) }
-    ensures { ExprMade s.now (read_expr deep s.now want at) present.now quads.old count result.next result.gate.0 result.count quads.new }
+    requires { IsRead (read_expr deep rule.bytes.now want at) }
+    ensures { ExprMade rule.entry.bytes.now (read_expr deep rule.entry.bytes.now want at) present.now quads.old count result.next result.gate.0 result.count quads.new }
 {
+    let s = rule.bytes;
     let c = base_codes::code_of(s[at]);
     match c.form {
         Form::Variable => make_variable(s, at, present, count),
@@ -82,7 +83,7 @@ fn make_expr(
         }
         Form::Apply(op) => {
             let takes = c.takes;
-            let x = make_argument(s, at + 1, takes, deep - 1, present, quads, count);
+            let x = make_argument(rule, at + 1, takes, deep - 1, present, quads, count);
             if c.arity == 1 {
                 MadeExpr {
                     next: x.next,
@@ -97,7 +98,7 @@ fn make_expr(
                     gate: GateId(x.count),
                 }
             } else {
-                let y = make_argument(s, x.next, takes, deep - 1, present, quads, x.count);
+                let y = make_argument(rule, x.next, takes, deep - 1, present, quads, x.count);
                 MadeExpr {
                     next: y.next,
                     count: circuit_make::apply_gate(quads, y.count, op, x.gate, y.gate),
@@ -112,7 +113,7 @@ fn make_expr(
 // The same for an argument or a value, most of which are variables: no further call for one.
 #[cycle(make_argument_make_expr)]
 fn make_argument(
-    s: &[u8],
+    rule: Rule,
     at: usize,
     want: Kind,
     deep: u8,
@@ -120,13 +121,14 @@ fn make_argument(
     quads: &mut [u32; QUAD_ROOM],
     count: u16,
 ) -> MadeExpr
-    requires { Headed s.now (6 + variables s.now) × IsRead (read_expr deep s.now want at) }
-    ensures { ExprMade s.now (read_expr deep s.now want at) present.now quads.old count result.next result.gate.0 result.count quads.new }
+    requires { IsRead (read_expr deep rule.bytes.now want at) }
+    ensures { ExprMade rule.entry.bytes.now (read_expr deep rule.entry.bytes.now want at) present.now quads.old count result.next result.gate.0 result.count quads.new }
 {
+    let s = rule.bytes;
     if s[at] == base_codes::VARIABLE {
         return make_variable(s, at, present, count);
     }
-    make_expr(s, at, want, deep, present, quads, count)
+    make_expr(rule, at, want, deep, present, quads, count)
 }
 
 // No code of an expression: reading took none such.
@@ -147,13 +149,13 @@ fn only(x: u8) -> u32
 }
 
 // Gates 0 to V - 1: the variables' starting values.
-fn make_starts(s: &[u8], present: &mut [u16; VARIABLE_ROOM], quads: &mut [u32; QUAD_ROOM]) -> u16
-    requires { Headed s.now (6 + variables s.now) × ((quads.old ≡ replicate quad_room 0) × (present.old ≡ replicate variable_room 0)) }
-    ensures { Held s.now (starts (variables s.now)) quads.new present.new result }
+fn make_starts(rule: Rule, present: &mut [u16; VARIABLE_ROOM], quads: &mut [u32; QUAD_ROOM]) -> u16
+    requires { (quads.old ≡ replicate quad_room 0) × (present.old ≡ replicate variable_room 0) }
+    ensures { Held rule.entry.bytes.now (starts (variables rule.entry.bytes.now)) quads.new present.new result }
 {
     let mut n: u16 = 0;
-    for x in 0..s[5] {
-        let code = rule_reader::kind_at(s, x) as u32;
+    for x in 0..rule.variables() {
+        let code = rule.kind_at(x) as u32;
         n = circuit_make::push(quads, n, code, x as u32, 0, 0);
         present[x as usize] = x as u16;
     }
@@ -162,22 +164,23 @@ fn make_starts(s: &[u8], present: &mut [u16; VARIABLE_ROOM], quads: &mut [u32; Q
 
 // 01 variable expression, its code at `at`.
 fn make_assign(
-    s: &[u8],
+    rule: Rule,
     at: usize,
     present: &mut [u16; VARIABLE_ROOM],
     quads: &mut [u32; QUAD_ROOM],
     count: u16,
 ) -> MadePart
-    requires { Headed s.now (6 + variables s.now) × IsRead (read_assign s.now at) }
-    ensures made { Done make_statement assigns_in s.now (read_assign s.now at) quads.old present.old count
+    requires { IsRead (read_assign rule.bytes.now at) }
+    ensures made { Done make_statement assigns_in rule.entry.bytes.now (read_assign rule.entry.bytes.now at) quads.old present.old count
         result.next result.count result.assigned quads.new present.new }
     ensures small { result.count < 65536 }
 {
+    let s = rule.bytes;
     let x = s[at + 1];
     let value = make_argument(
-        s,
+        rule,
         at + 2,
-        rule_reader::kind_at(s, x),
+        rule.kind_at(x),
         rule::DEEPEST,
         present,
         quads,
@@ -205,30 +208,38 @@ fn passed(next: usize, count: u16) -> MadePart
 // 03 expression block block, its code at `at`. Both blocks start from the variables as before the first.
 #[cycle(make_block_make_branch_make_statement)]
 fn make_branch(
-    s: &[u8],
+    rule: Rule,
     at: usize,
     nest: u8,
     present: &mut [u16; VARIABLE_ROOM],
     quads: &mut [u32; QUAD_ROOM],
     count: u16,
 ) -> MadePart
-    requires { Headed s.now (6 + variables s.now) × ((at < length s.now) × IsRead (branch_with (read_block s.now) s.now nest at)) }
-    ensures made { Done make_statement assigns_in s.now (branch_with (read_block s.now) s.now nest at) quads.old present.old count
+    requires { (at < length rule.bytes.now) × IsRead (branch_with (read_block rule.bytes.now) rule.bytes.now nest at) }
+    ensures made { Done make_statement assigns_in rule.entry.bytes.now (branch_with (read_block rule.entry.bytes.now) rule.entry.bytes.now nest at) quads.old present.old count
         result.next result.count result.assigned quads.new present.new }
     ensures small { result.count < 65536 }
 {
-    let test = make_expr(s, at + 1, Kind::Bit, rule::DEEPEST, present, quads, count);
+    let test = make_expr(
+        rule,
+        at + 1,
+        Kind::Bit,
+        rule::DEEPEST,
+        present,
+        quads,
+        count,
+    );
     let mut first = *present;
     let mut second = *present;
-    let x = make_block(s, test.next, nest - 1, &mut first, quads, test.count);
-    let y = make_block(s, x.next, nest - 1, &mut second, quads, x.count as u16);
+    let x = make_block(rule, test.next, nest - 1, &mut first, quads, test.count);
+    let y = make_block(rule, x.next, nest - 1, &mut second, quads, x.count as u16);
     let assigned = x.assigned | y.assigned;
     let more = circuit_make::make_choices(
         test.gate,
         &first,
         &second,
         assigned,
-        s[5],
+        rule.variables(),
         present,
         quads,
         y.count as u16,
@@ -243,23 +254,24 @@ fn make_branch(
 // A statement, its code at `at`. `nest` is how many ifs may still nest.
 #[cycle(make_block_make_branch_make_statement)]
 fn make_statement(
-    s: &[u8],
+    rule: Rule,
     at: usize,
     nest: u8,
     present: &mut [u16; VARIABLE_ROOM],
     quads: &mut [u32; QUAD_ROOM],
     count: u16,
 ) -> MadePart
-    requires { Headed s.now (6 + variables s.now) × ((at < length s.now) × IsRead (read_statement s.now nest at)) }
-    ensures made { Done make_statement assigns_in s.now (read_statement s.now nest at) quads.old present.old count
+    requires { (at < length rule.bytes.now) × IsRead (read_statement rule.bytes.now nest at) }
+    ensures made { Done make_statement assigns_in rule.entry.bytes.now (read_statement rule.entry.bytes.now nest at) quads.old present.old count
         result.next result.count result.assigned quads.new present.new }
     ensures small { result.count < 65536 }
 {
+    let s = rule.bytes;
     let c = base_codes::code_of(s[at]);
     match c.form {
-        Form::Assign => make_assign(s, at, present, quads, count),
+        Form::Assign => make_assign(rule, at, present, quads, count),
         Form::Skip => passed(at + 1, count),
-        Form::Branch => make_branch(s, at, nest, present, quads, count),
+        Form::Branch => make_branch(rule, at, nest, present, quads, count),
         _ => passed(at, count),
     }
 }
@@ -267,18 +279,19 @@ fn make_statement(
 // A block: statements closed by 00. A loop over them, so that only nesting takes stack.
 #[cycle(make_block_make_branch_make_statement)]
 fn make_block(
-    s: &[u8],
+    rule: Rule,
     at: usize,
     nest: u8,
     present: &mut [u16; VARIABLE_ROOM],
     quads: &mut [u32; QUAD_ROOM],
     count: u16,
 ) -> MadePart
-    requires { Headed s.now (6 + variables s.now) × IsRead (read_block s.now nest at) }
-    ensures made { Done make_block assigns s.now (read_block s.now nest at) quads.old present.old count
+    requires { IsRead (read_block rule.bytes.now nest at) }
+    ensures made { Done make_block assigns rule.entry.bytes.now (read_block rule.entry.bytes.now nest at) quads.old present.old count
         result.next result.count result.assigned quads.new present.new }
     ensures small { result.count < 65536 }
 {
+    let s = rule.bytes;
     let mut here = at;
     let mut n = count;
     let mut assigned: u32 = 0;
@@ -290,7 +303,7 @@ fn make_block(
                 assigned,
             };
         }
-        let x = make_statement(s, here, nest, present, quads, n);
+        let x = make_statement(rule, here, nest, present, quads, n);
         here = x.next;
         n = x.count as u16;
         assigned |= x.assigned;
@@ -303,8 +316,9 @@ pub fn make_rule(s: &[u8], quads: &mut [u32; QUAD_ROOM], present: &mut [u16; VAR
     requires { IsRead (read_rule s.now) × ((quads.old ≡ replicate quad_room 0) × (present.old ≡ replicate variable_room 0)) }
     ensures { RuleMade s.now quads.new present.new result }
 {
-    let v = s[5] as usize;
-    let count = make_starts(s, present, quads);
-    let made = make_block(s, 6 + v, rule::NESTED, present, quads, count);
+    let rule = Rule { bytes: s };
+    let v = rule.variables() as usize;
+    let count = make_starts(rule, present, quads);
+    let made = make_block(rule, 6 + v, rule::NESTED, present, quads, count);
     made.count as u16
 }

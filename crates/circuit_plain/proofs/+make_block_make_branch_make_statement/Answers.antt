@@ -25,27 +25,27 @@ make_block-loop-here-preserved t c = let e = c.make_statement-x.ensures in (
 
 pub make_branch-make_block-x-requires : goal.make_branch-make_block-x-requires
 make_branch-make_block-x-requires t c = let test = c.make_expr-test.ensures in (
-  omega (arith, forward_read (read_expr deepest c.args.s.now Bit (c.args.at + 1)) (expr_forward _ _ _ _) test.read),
-  (c.requires.0, first_taken _ _ _ c.requires.1.1 _ _ _ _ _ _ _ test),
+  omega (arith, forward_read (read_expr deepest c.args.rule.bytes.now Bit (c.args.at + 1)) (expr_forward _ _ _ _) test.read),
+  (first_taken _ _ _ c.requires.1 _ _ _ _ _ _ _ test),
 )
 
 pub make_branch-make_block-y-requires : goal.make_branch-make_block-y-requires
 make_branch-make_block-y-requires t c = let test = c.make_expr-test.ensures in
     let first = c.make_block-x.ensures.made in
-    let past = forward_read (read_expr deepest c.args.s.now Bit (c.args.at + 1)) (expr_forward _ _ _ _) test.read in (
+    let past = forward_read (read_expr deepest c.args.rule.bytes.now Bit (c.args.at + 1)) (expr_forward _ _ _ _) test.read in (
       omega (arith, past, forward_read _ (block_forward _ _ _) first.read),
-      (c.requires.0, second_taken _ _ _ c.requires.1.1 _ _ _ _ _ _ _ test _ _ _ _ _ first),
+      (second_taken _ _ _ c.requires.1 _ _ _ _ _ _ _ test _ _ _ _ _ first),
     )
 
 pub make_branch-returns : goal.make_branch-returns
 make_branch-returns t c = record {
-  made = made_branch _ _ _ c.requires.1.1 _ _ _ _ _ _ _ c.make_expr-test.ensures _ _ _ _ _ c.make_block-x.ensures.made _ _ _ _ _ c.make_block-y.ensures.made
-      c.requires.0.few _ _ _ _ refl c.make_choices-more.ensures;
+  made = made_branch _ _ _ c.requires.1 _ _ _ _ _ _ _ c.make_expr-test.ensures _ _ _ _ _ c.make_block-x.ensures.made _ _ _ _ _ c.make_block-y.ensures.made
+      c.args.rule.few _ _ _ _ refl (rw c.variables.ensures at c.make_choices-more.ensures);
   small = search rules;
 }
 
 pub make_block-loop-here-init : goal.make_block-loop-here-init
-make_block-loop-here-init t c = (walked_none _ _ _ _ _ _ c.requires.1, search rules)
+make_block-loop-here-init t c = (walked_none _ _ _ _ _ _ c.requires, search rules)
 
 pub make_block-bounds-s-here : goal.make_block-bounds-s-here
 make_block-bounds-s-here t c = block_inside _ _ _ (rest_taken _ _ _ _ _ _ _ _ _ _ _ c.loop-here.invariant.0)
@@ -62,7 +62,7 @@ make_block-returns-then-s-here-eq0 t c = record { made = walked_all _ _ _ _ _ _ 
 pub make_block-make_statement-x-requires : goal.make_block-make_statement-x-requires
 make_block-make_statement-x-requires t c = (
   omega (arith, c.loop-here.invariant.0.onward, block_inside _ _ _ (rest_taken _ _ _ _ _ _ _ _ _ _ _ c.loop-here.invariant.0)),
-  (c.requires.0, (block_inside _ _ _ (rest_taken _ _ _ _ _ _ _ _ _ _ _ c.loop-here.invariant.0), statement_taken _ _ _ _ _ _ _ _ _ _ _ c.loop-here.invariant.0 c.if-s-here-eq0.false)),
+  ((block_inside _ _ _ (rest_taken _ _ _ _ _ _ _ _ _ _ _ c.loop-here.invariant.0), statement_taken _ _ _ _ _ _ _ _ _ _ _ c.loop-here.invariant.0 c.if-s-here-eq0.false)),
 )
 
 pub make_block-overflow_cast-n : goal.make_block-overflow_cast-n
@@ -73,31 +73,28 @@ make_block-loop-here-smaller t c =
     omega (arith, block_inside _ _ _ (rest_taken _ _ _ _ _ _ _ _ _ _ _ c.loop-here.invariant.0), forward_read _ (statement_forward _ _ _) c.make_statement-x.ensures.made.read)
 
 pub make_branch-make_expr-test-requires : goal.make_branch-make_expr-test-requires
-make_branch-make_expr-test-requires t c = (c.requires.0, test_taken _ _ _ c.requires.1.1)
+make_branch-make_expr-test-requires t c = (test_taken _ _ _ c.requires.1)
 
 pub make_branch-overflow_sub-nest : goal.make_branch-overflow_sub-nest
-make_branch-overflow_sub-nest t c = branch_level _ _ _ c.requires.1.1
+make_branch-overflow_sub-nest t c = branch_level _ _ _ c.requires.1
 
 pub make_branch-overflow_sub-nest-2 : goal.make_branch-overflow_sub-nest-2
-make_branch-overflow_sub-nest-2 t c = branch_level _ _ _ c.requires.1.1
+make_branch-overflow_sub-nest-2 t c = branch_level _ _ _ c.requires.1
 
 pub make_branch-overflow_cast-x : goal.make_branch-overflow_cast-x
 make_branch-overflow_cast-x t c = record { fits = omega (arith, c.make_block-x.ensures.small) }
-
-pub make_branch-bounds-s-5 : goal.make_branch-bounds-s-5
-make_branch-bounds-s-5 t c = omega (arith, c.requires.0.kinds)
 
 pub make_branch-overflow_cast-y : goal.make_branch-overflow_cast-y
 make_branch-overflow_cast-y t c = record { fits = omega (arith, c.make_block-y.ensures.small) }
 
 pub make_branch-make_choices-more-requires : goal.make_branch-make_choices-more-requires
-make_branch-make_choices-more-requires t c = c.requires.0.few
+make_branch-make_choices-more-requires t c = rw c.variables.ensures c.args.rule.few
 
 pub make_statement-make_assign-requires : goal.make_statement-make_assign-requires
-make_statement-make_assign-requires t c = (c.requires.0, statement_read_as _ _ _ _ c.code_of-c.ensures c.requires.1.1 form.Assign c.in-Assign.is)
+make_statement-make_assign-requires t c = (statement_read_as _ _ _ _ c.code_of-c.ensures c.requires.1 form.Assign c.in-Assign.is)
 
 pub make_statement-make_branch-requires : goal.make_statement-make_branch-requires
-make_statement-make_branch-requires t c = (omega arith, (c.requires.0, (c.requires.1.0, statement_read_as _ _ _ _ c.code_of-c.ensures c.requires.1.1 form.Branch c.in-Branch.is)))
+make_statement-make_branch-requires t c = (omega arith, ((c.requires.0, statement_read_as _ _ _ _ c.code_of-c.ensures c.requires.1 form.Branch c.in-Branch.is)))
 
 pub make_statement-returns-in-Assign : goal.make_statement-returns-in-Assign
 make_statement-returns-in-Assign t c =
@@ -113,4 +110,4 @@ make_statement-returns-in-Branch t c =
 
 pub make_statement-returns-in_default : goal.make_statement-returns-in_default
 make_statement-returns-in_default t c = absurd
-    (statement_opens _ _ _ c.requires.1.1 _ c.code_of-c.ensures c.in_default.not-Assign c.in_default.not-Skip c.in_default.not-Branch)
+    (statement_opens _ _ _ c.requires.1 _ c.code_of-c.ensures c.in_default.not-Assign c.in_default.not-Skip c.in_default.not-Branch)

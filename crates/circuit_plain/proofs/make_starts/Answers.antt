@@ -14,15 +14,15 @@ code_is kind.Bit = refl
 
 pub loop-x-init : goal.loop-x-init
 loop-x-init c = let a = c.args in
-    (refl, started_none a.s.now a.quads.now a.present.now c.requires.1.0 c.requires.1.1)
+    (c.variables-x-end.ensures, started_none a.rule.bytes.now a.quads.now a.present.now c.requires.0 c.requires.1)
 
 pub loop-x-preserved : goal.loop-x-preserved
 loop-x-preserved c = let l = c.loop-x in (
   l.invariant.0,
-  started_more c.args.s.now l.quads l.present l.x l.n _ c.push-n.result _ l.invariant.1 (omega (arith, l.invariant.0, c.loop-x-test.true)) c.requires.0.few
+  started_more c.args.rule.bytes.now l.quads l.present l.x l.n _ c.push-n.result _ l.invariant.1 (omega (arith, l.invariant.0, c.loop-x-test.true)) c.args.rule.few
       (rw c.kind_at-code.ensures (code_is _)) c.push-n.ensures,
 )
 
 pub returns : goal.returns
 returns c = let l = c.loop-x in
-    started_all c.args.s.now l.quads l.present l.x l.n l.invariant.1 (omega (arith, l.invariant.0, c.loop-x-test.false))
+    started_all c.args.rule.bytes.now l.quads l.present l.x l.n l.invariant.1 (omega (arith, l.invariant.0, c.loop-x-test.false))

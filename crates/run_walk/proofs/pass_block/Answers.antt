@@ -14,9 +14,9 @@ taken m (Ok n) h e = refl
 taken m (Err x) h e = absurd (not_refused m h e)
 
 pub unwrap-requires : goal.unwrap-requires
-unwrap-requires c = taken _ _ c.requires.1 c.read_block.ensures
+unwrap-requires c = taken _ _ c.requires c.read_block.ensures
 
 pub returns : goal.returns
 returns c = let a = c.args in
-    let r = read_past (read_block a.s.now a.nest a.at) (ap step_in (sym c.unwrap.ensures) ∙ c.read_block.ensures) in
+    let r = read_past (read_block a.rule.bytes.now a.nest a.at) (ap step_in (sym c.unwrap.ensures) ∙ c.read_block.ensures) in
     record { what = r.0; read = r.1 }
