@@ -50,8 +50,8 @@ fn whole(
     })
 }
 
-// Reads a rule: the refusal by rows 1 to 11, or its gates and their cost.
-fn try_read(rule: &[u8]) -> Result<Counts, Refusal>
+// Reads a rule: its gates and their cost, or its refusal by rows 1 to 11.
+pub fn read(rule: &[u8]) -> Result<Counts, Refusal>
     ensures { answer_in result ≡ rule_answer rule.now }
 {
     // A copy is handed on: so the compiler takes the rule's place and length in two registers, not through memory.
@@ -68,7 +68,7 @@ fn try_read(rule: &[u8]) -> Result<Counts, Refusal>
 pub fn read_rule(rule: &[u8]) -> Answer
     ensures { result ≡ rule_answer rule.now }
 {
-    Answer::from(try_read(rule))
+    Answer::from(read(rule))
 }
 
 // The gates that are wanted from the start, out of every variable's last gate: those of the result variables, at the start of `wanted`. Gives how many they are.

@@ -1,7 +1,7 @@
 use Rattle.std.proofs.Common.{refl}
 use Rattle.base.proofs.PassedLaws.{passed_answer}
 use Rattle.circuit_build.specs.MakingLaws.{made_earlier, whole_answer, read_taken, read_answer}
-use Rattle.circuit_build.proofs.try_read.Goals as goal
+use Rattle.circuit_build.proofs.read.Goals as goal
 
 pub returns-in_err-read : goal.returns-in_err-read
 returns-in_err-read c = passed_answer _ _ c.from_residual.ensures.1 (read_answer _ _ c.in_err-read.ensures)
