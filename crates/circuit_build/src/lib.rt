@@ -2,8 +2,6 @@
 #![tactic(auto)]
 
 ghost use Rattle.std.specs.Prelude.{◌≡◌, ◌++◌, ◌-◌, ◌≤◌, length, take, replicate};
-ghost use Rattle.rule.specs.Limits.{most_variables};
-ghost use Rattle.rule.specs.Header.{variables, HasKinds};
 ghost use Rattle.base.specs.Lists.{Inside};
 ghost use Rattle.circuit.specs.Limits.{most_conditions};
 ghost use Rattle.circuit.specs.Gates.{Earlier};
@@ -22,6 +20,7 @@ ghost use Rattle.circuit.specs.Rooms.{gate_room, variable_room};
 
 use base::{Answer, Counts, Refusal, Row};
 use circuit::{Circuit, GATE_ROOM, NEED_WORDS, QUAD_ROOM, VARIABLE_ROOM};
+use rule::Rule;
 
 // Rows 10 and 11, or the counts, of the gates that lie in `quads`; the conditions are marked in `ranks`, which are lent clear.
 fn whole(
@@ -73,19 +72,19 @@ pub fn read_rule(rule: &[u8]) -> Answer
 
 // The gates that are wanted from the start, out of every variable's last gate: those of the result variables, at the start of `wanted`. Gives how many they are.
 fn list_wanted(
-    rule: &[u8],
+    rule: Rule,
     outputs: &[u16; VARIABLE_ROOM],
     wanted: &mut [u16; VARIABLE_ROOM],
 ) -> usize
-    requires { (HasKinds rule.now × (variables rule.now ≤ most_variables)) × (length wanted.old ≡ variable_room) }
-    ensures listed { take result wanted.new ≡ wanted_among rule.now outputs.now }
+    requires { length wanted.old ≡ variable_room }
+    ensures listed { take result wanted.new ≡ wanted_among rule.entry.bytes.now outputs.now }
     ensures within { result ≤ length wanted.new }
 {
     let mut k: usize = 0;
-    for x in 0..rule[5] {
+    for x in 0..rule.variables() {
         // Each is put down, and stays if its variable is a result.
         wanted[k] = outputs[x as usize];
-        if !rule_reader::working_at(rule, x) {
+        if !rule.working_at(x) {
             k += 1;
         }
     }
@@ -94,16 +93,16 @@ fn list_wanted(
 
 // Every gate's precondition, from what the rule wants of its outputs, in sets that are lent clear.
 fn rule_needs(
-    rule: &[u8],
+    rule: Rule,
     quads: &[u32; QUAD_ROOM],
     count: usize,
     ranks: &[u16; GATE_ROOM],
     outputs: &[u16; VARIABLE_ROOM],
     needs: &mut [u64; NEED_WORDS],
 )
-    requires { ((HasKinds rule.now × (variables rule.now ≤ most_variables)) × (Passable quads.now ranks.now count × Inside count (wanted_among rule.now outputs.now)))
+    requires { (Passable quads.now ranks.now count × Inside count (wanted_among rule.bytes.now outputs.now))
         × (sets_in needs.old ≡ replicate gate_room 0) }
-    ensures { sets_in needs.new ≡ precondition_sets most_conditions (gates_in quads.now count) (wanted_among rule.now outputs.now)
+    ensures { sets_in needs.new ≡ precondition_sets most_conditions (gates_in quads.now count) (wanted_among rule.entry.bytes.now outputs.now)
         ++ replicate (gate_room - count) 0 }
 {
     let mut wanted = [0u16; VARIABLE_ROOM];
@@ -132,7 +131,7 @@ pub fn build(rule: &[u8], circuit: &mut Circuit) -> Result<Counts, Refusal>
             circuit.count = n;
             circuit_survey::number_marked(n, &mut ranks);
             rule_needs(
-                rule,
+                Rule { bytes: rule },
                 &circuit.quads,
                 n,
                 &ranks,

@@ -7,8 +7,7 @@ ghost use Rattle.base.specs.Buffers.{over};
 ghost use Rattle.base.specs.Parsing.{IsRead};
 ghost use Rattle.base.specs.Rows.{row_in};
 ghost use Rattle.base.specs.Refusals.{answer_in};
-ghost use Rattle.rule.specs.Limits.{most_variables};
-ghost use Rattle.rule.specs.Header.{variables, HasKinds};
+ghost use Rattle.rule.specs.Header.{variables};
 ghost use Rattle.rule.specs.Rule.{read_rule};
 ghost use Rattle.circuit.specs.Running.{written_for, run_writes};
 ghost use Rattle.circuit.specs.Whole.{rule_answer};
@@ -17,20 +16,17 @@ ghost use Rattle.run.specs.Direct.{run_answer, run_results};
 
 use base::{Answer, Counts, Refusal, Row};
 use circuit::VARIABLE_ROOM;
+use rule::Rule;
 
 // What a run writes of the figures at its end, into the first V results: 0 for a working variable.
-fn write_results(rule: &[u8], figures: &[u32; VARIABLE_ROOM], results: &mut [u32])
-    requires { HasKinds rule.now × (variables rule.now ≤ most_variables) × (variables rule.now ≤ length results.old) }
-    ensures { results.new ≡ over (map (λ x. written_for rule.now x (get_or figures.now x 0)) (upto (variables rule.now))) results.old }
+fn write_results(rule: Rule, figures: &[u32; VARIABLE_ROOM], results: &mut [u32])
+    requires { variables rule.bytes.now ≤ length results.old }
+    ensures { results.new ≡ over (map (λ x. written_for rule.entry.bytes.now x (get_or figures.now x 0)) (upto (variables rule.entry.bytes.now))) results.old }
 {
-    for x in 0..rule[5] {
+    for x in 0..rule.variables() {
         let i = x as usize;
         let figure = figures[i];
-        results[i] = if rule_reader::working_at(rule, x) {
-            0
-        } else {
-            figure
-        };
+        results[i] = if rule.working_at(x) { 0 } else { figure };
     }
 }
 
@@ -41,7 +37,8 @@ fn run_checked(rule: &[u8], inputs: &[u32], results: &mut [u32])
         × (variables rule.now ≤ length results.old) }
     ensures { results.new ≡ over (run_writes rule.now inputs.now) results.old }
 {
-    let v = rule[5] as usize;
+    let rule = Rule { bytes: rule };
+    let v = rule.variables() as usize;
     let mut figures = [0u32; VARIABLE_ROOM];
     base_words::copy32(inputs, &mut figures);
     run_walk::run_block(rule, 6 + v, rule::NESTED, &mut figures);
@@ -49,11 +46,10 @@ fn run_checked(rule: &[u8], inputs: &[u32], results: &mut [u32])
 }
 
 // Rows 40 to 42 of the inputs of a rule, the lowest first. `room` is how many results there is place for.
-pub fn inputs_refusal(rule: &[u8], inputs: &[u32], room: usize) -> Result<(), Row>
-    requires { HasKinds rule.now }
-    ensures { row_in result ≡ input_row rule.now inputs.now room }
+pub fn inputs_refusal(rule: Rule, inputs: &[u32], room: usize) -> Result<(), Row>
+    ensures { row_in result ≡ input_row rule.entry.bytes.now inputs.now room }
 {
-    base_answers::inputs_refusal(rule[5], |x| rule_reader::kind_at(rule, x), inputs, room)
+    base_answers::inputs_refusal(rule.bytes[5], |x| rule.kind_at(x), inputs, room)
 }
 
 // A direct run of a rule on its inputs: into the first V results go every variable's figure at its end, 0 for a working one. A refusal writes nothing.
@@ -62,7 +58,7 @@ fn try_run(rule: &[u8], inputs: &[u32], results: &mut [u32]) -> Result<Counts, R
     ensures results { results.new ≡ run_results (rule_answer rule.now) rule.now inputs.now results.old }
 {
     let counts = circuit_build::read(rule)?;
-    inputs_refusal(rule, inputs, results.len())?;
+    inputs_refusal(Rule { bytes: rule }, inputs, results.len())?;
     run_checked(rule, inputs, results);
     Ok(counts)
 }

@@ -1,8 +1,9 @@
 use Rattle.std.proofs.Common.{refl, sym, ◌∙◌}
 use Rattle.base.proofs.PassedLaws.{passed_answer}
+use Rattle.rule.specs.FirstStatement.{rule_read}
 use Rattle.circuit_build.specs.MakingLaws.{made_earlier, whole_answer, whole_few, whole_count, whole_ready, read_taken, read_answer, refused_row, refused_count}
 use Rattle.circuit_build.specs.BuiltLaws.{no_quads, no_needs, no_outputs, no_conditions}
-use Rattle.circuit_build.specs.BuiltLaws.{ready_variables, ready_passable, ready_wanted, ready_few, ready_quads, ready_needs, ready_outputs, ready_conditions}
+use Rattle.circuit_build.specs.BuiltLaws.{ready_passable, ready_wanted, ready_few, ready_quads, ready_needs, ready_outputs, ready_conditions}
 use Rattle.circuit_build.proofs.build.Goals as goal
 
 pub returns-in_err-read : goal.returns-in_err-read
@@ -26,10 +27,15 @@ number_marked-requires c =
     let h = whole_few _ (read_taken _ c.in_ok-read.ensures) _ _ _ c.make_rule-made.ensures _ c.in-Ok.ensures.0 refl in
     (h, (c.in-Ok.ensures.1 h).size)
 
+pub invariant_of-rule_needs : goal.invariant_of-rule_needs
+invariant_of-rule_needs c =
+    let h = (rule_read _ (read_taken _ c.in_ok-read.ensures)).header in
+    record { kinds = h.kinds; few = h.few }
+
 pub rule_needs-requires : goal.rule_needs-requires
 rule_needs-requires c =
     let r = whole_ready _ (read_taken _ c.in_ok-read.ensures) _ _ _ c.make_rule-made.ensures _ c.in-Ok.ensures.0 refl _ _ c.in-Ok.ensures.1 c.number_marked.ensures in
-    ((ready_variables _ _ _ _ _ r, (ready_passable _ _ _ _ _ r, ready_wanted _ _ _ _ _ r)), c.requires.1.0)
+    ((ready_passable _ _ _ _ _ r, ready_wanted _ _ _ _ _ r), c.requires.1.0)
 
 pub condition_gates-requires : goal.condition_gates-requires
 condition_gates-requires c =

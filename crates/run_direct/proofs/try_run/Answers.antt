@@ -20,9 +20,10 @@ returns-in_err-counts c = let s = c.args.rule.now in
       results = sym (rule_results (rule_answer s) s c.args.inputs.now h c.args.results.now);
     }
 
-pub inputs_refusal-requires : goal.inputs_refusal-requires
-inputs_refusal-requires c = let s = c.args.rule.now in
-    (rule_read s (accepted s (ap (λ (b : Answer). b.number) (sym c.in_ok-counts.ensures))).read).header.kinds
+pub invariant_of-inputs_refusal : goal.invariant_of-inputs_refusal
+invariant_of-inputs_refusal c = let s = c.args.rule.now in
+    let h = (rule_read s (accepted s (ap (λ (b : Answer). b.number) (sym c.in_ok-counts.ensures))).read).header in
+    record { kinds = h.kinds; few = h.few }
 
 pub returns-in_err-inputs_refusal : goal.returns-in_err-inputs_refusal
 returns-in_err-inputs_refusal c = let s = c.args.rule.now in let inputs = c.args.inputs.now in let results = c.args.results.now in
