@@ -70,15 +70,14 @@ pub fn read_rule(rule: &[u8]) -> Answer
     Answer::from(read(rule))
 }
 
-// The gates that are wanted from the start, out of every variable's last gate: those of the result variables, at the start of `wanted`. Gives how many they are.
-fn list_wanted(
+// The gates that are wanted from the start, out of every variable's last gate: those of the result variables, put down in `wanted`, which is lent for them.
+fn list_wanted<'a>(
     rule: Rule,
     outputs: &[u16; VARIABLE_ROOM],
-    wanted: &mut [u16; VARIABLE_ROOM],
-) -> usize
+    wanted: &'a mut [u16; VARIABLE_ROOM],
+) -> &'a [u16]
     requires { length wanted.old ≡ variable_room }
-    ensures listed { take result wanted.new ≡ wanted_among rule.entry.bytes.now outputs.now }
-    ensures within { result ≤ length wanted.new }
+    ensures { result.now ≡ wanted_among rule.entry.bytes.now outputs.now }
 {
     let mut k: usize = 0;
     for x in 0..rule.variables() {
@@ -88,26 +87,26 @@ fn list_wanted(
             k += 1;
         }
     }
-    k
+    &wanted[..k]
 }
 
 // Every gate's precondition, from what the rule wants of its outputs, in sets that are lent clear.
-fn rule_needs(
-    rule: Rule,
-    quads: &[u32; QUAD_ROOM],
-    count: usize,
-    ranks: &[u16; GATE_ROOM],
-    outputs: &[u16; VARIABLE_ROOM],
-    needs: &mut [u64; NEED_WORDS],
-)
-    requires { (Passable quads.now ranks.now count × Inside count (wanted_among rule.bytes.now outputs.now))
-        × (sets_in needs.old ≡ replicate gate_room 0) }
-    ensures { sets_in needs.new ≡ precondition_sets most_conditions (gates_in quads.now count) (wanted_among rule.entry.bytes.now outputs.now)
-        ++ replicate (gate_room - count) 0 }
+fn rule_needs(rule: Rule, ranks: &[u16; GATE_ROOM], circuit: &mut Circuit)
+    requires { (Passable circuit.old.quads ranks.now circuit.old.count × Inside circuit.old.count (wanted_among rule.bytes.now circuit.old.outputs))
+        × (sets_in circuit.old.needs ≡ replicate gate_room 0) }
+    ensures needs { sets_in circuit.new.needs ≡ precondition_sets most_conditions (gates_in circuit.old.quads circuit.old.count) (wanted_among rule.entry.bytes.now circuit.old.outputs)
+        ++ replicate (gate_room - circuit.old.count) 0 }
+    ensures rest { circuit.new ≡ record circuit.old { needs = circuit.new.needs } }
 {
-    let mut wanted = [0u16; VARIABLE_ROOM];
-    let k = list_wanted(rule, outputs, &mut wanted);
-    circuit_pass::find_needed(quads, count, ranks, &wanted[0..k], needs);
+    let mut room = [0u16; VARIABLE_ROOM];
+    let wanted = list_wanted(rule, &circuit.outputs, &mut room);
+    circuit_pass::find_needed(
+        &circuit.quads,
+        circuit.count,
+        ranks,
+        wanted,
+        &mut circuit.needs,
+    );
 }
 
 // Builds the plain circuit of a rule into memory that is lent clear: four numbers a gate, each gate's precondition, every variable's last gate,
@@ -130,14 +129,7 @@ pub fn build(rule: &[u8], circuit: &mut Circuit) -> Result<Counts, Refusal>
             let n = made as usize;
             circuit.count = n;
             circuit_survey::number_marked(n, &mut ranks);
-            rule_needs(
-                Rule { bytes: rule },
-                &circuit.quads,
-                n,
-                &ranks,
-                &circuit.outputs,
-                &mut circuit.needs,
-            );
+            rule_needs(Rule { bytes: rule }, &ranks, circuit);
             circuit_survey::condition_gates(&ranks, n, &mut circuit.conditions);
             Ok(counts)
         }

@@ -1,4 +1,5 @@
-use Rattle.std.proofs.Common.{refl, sym, ◌∙◌}
+use Rattle.std.proofs.Common.{refl, sym, ap, ◌∙◌}
+use Rattle.circuit.specs.declared.Circuit.{Circuit}
 use Rattle.base.proofs.PassedLaws.{passed_answer}
 use Rattle.rule.specs.FirstStatement.{rule_read}
 use Rattle.circuit_build.specs.MakingLaws.{made_earlier, whole_answer, whole_few, whole_count, whole_ready, read_taken, read_answer, refused_row, refused_count}
@@ -40,20 +41,21 @@ rule_needs-requires c =
 pub condition_gates-requires : goal.condition_gates-requires
 condition_gates-requires c =
     let r = whole_ready _ (read_taken _ c.in_ok-read.ensures) _ _ _ c.make_rule-made.ensures _ c.in-Ok.ensures.0 refl _ _ c.in-Ok.ensures.1 c.number_marked.ensures in
-    (ready_few _ _ _ _ _ r, c.requires.1.1.1)
+    (ready_few _ _ _ _ _ r, ap (λ (k : Circuit). k.conditions) c.rule_needs.ensures.rest ∙ c.requires.1.1.1)
 
 pub returns-in-Ok : goal.returns-in-Ok
 returns-in-Ok c =
     let m = c.make_rule-made.ensures in
     let w = c.in-Ok.ensures.0 in
+    let f = c.rule_needs.ensures.rest in
     let r = whole_ready _ (read_taken _ c.in_ok-read.ensures) _ _ _ m _ w refl _ _ c.in-Ok.ensures.1 c.number_marked.ensures in
     record {
       answer = whole_answer _ (read_taken _ c.in_ok-read.ensures) _ _ _ m _ w;
-      quads = ready_quads _ _ _ _ _ r;
-      needs = ready_needs _ _ _ _ _ r _ c.rule_needs.ensures;
-      outputs = ready_outputs _ _ _ _ _ r;
+      quads = ap (λ (k : Circuit). k.quads) f ∙ ready_quads _ _ _ _ _ r;
+      needs = ready_needs _ _ _ _ _ r _ c.rule_needs.ensures.needs;
+      outputs = ap (λ (k : Circuit). k.outputs) f ∙ ready_outputs _ _ _ _ _ r;
       conditions = ready_conditions _ _ _ _ _ r _ c.condition_gates.ensures;
-      count = whole_count _ (read_taken _ c.in_ok-read.ensures) _ _ _ m _ w refl;
+      count = ap (λ (k : Circuit). k.count) f ∙ whole_count _ (read_taken _ c.in_ok-read.ensures) _ _ _ m _ w refl;
     }
 
 -- more gates or conditions than the limits: what was made is cleared

@@ -1,4 +1,4 @@
-use native.Mathlib.Omega.{arith}
+use Rattle.std.proofs.Common.{arith}
 use Rattle.circuit_build.specs.WantingLaws.{listing_start, listing_working, listing_result, listing_end}
 use Rattle.circuit_build.proofs.list_wanted.Goals as goal
 use Rattle.circuit_build.proofs.list_wanted.Goals.{then-not-working_at, else-not-working_at}
@@ -28,4 +28,4 @@ loop-x-preserved c = let i = c.loop-x.invariant in
     ]
 
 pub returns : goal.returns
-returns c = let r = listing_end _ _ _ _ _ c.loop-x.invariant (rw c.variables-x-end.ensures at c.loop-x-test.false) in record { listed = r.0; within = r.1 }
+returns c = listing_end _ _ _ _ _ c.loop-x.invariant (rw c.variables-x-end.ensures at c.loop-x-test.false)
