@@ -1,9 +1,9 @@
 -- Document 01, "The fused circuit file", and document 02, C-17: the versions of a circuit file and what each fixes: "the reader takes both versions, each with its own guard size".
 use Rattle.std.specs.Prelude.{ℕ, cond, eqb}
 
-pub data Version : Type 0 where
-  one : Version  -- 00 01
-  two : Version  -- 00 02
+-- 00 01 and 00 02, the enum of the code
+pub use Rattle.file.specs.declared.Version.{Version}
+pub use Rattle.file.specs.declared.Version.TheVariants.{One as one, Two as two}
 
 -- the last byte of the version
 abbrev pub version_byte : Version → ℕ
