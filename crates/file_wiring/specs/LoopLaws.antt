@@ -53,13 +53,6 @@ module _ (f : List ℕ) (v n : ℕ) (kinds : List Kind) (at i : ℕ) (p : AmidRe
   abbrev k : ℕ → Kind
   k = wire_kind (file_records f)
 
-  -- all stand, and this is the place after them
-  pub records_done : i ≡ n → Some at ≡ cond (all_stand v (wire_kind (file_records f)) 0 (file_records f)) (Some (record_place f n)) None
-  records_done e =
-      let z : n - i ≡ 0 = omega arith in
-      let t : all_stand v k 0 R ≡ true = p.same ∙ rw z in
-      rw t (ap Some (p.place ∙ ap (record_place f) e))
-
   module _ (h : i < n) where
     below : i < wire_count f
     below = omega (arith, p.count)
