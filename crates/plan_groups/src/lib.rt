@@ -16,7 +16,7 @@ ghost use Rattle.plan_groups.specs.Walks.{begins, Lie, ReadableGroup, Readable, 
 ghost use Rattle.circuit.specs.Rooms.{gate_room};
 ghost use Rattle.plan.specs.Limits.{least_plan_bytes, most_plan_bytes};
 
-use base::{Row, Step};
+use base::Row;
 use circuit::GATE_ROOM;
 use plan::Grouping;
 
@@ -63,10 +63,7 @@ fn marked(plan: &[u8]) -> bool
     requires { least_plan_bytes ≤ length plan.now }
     ensures { result ≡ same (take 5 plan.now) file.mark }
 {
-    match base_answers::read_mark(plan, b"PLN\x00\x01", 21) {
-        Step::Past(_) => true,
-        Step::Refused(_, _) => false,
-    }
+    base_answers::read_mark(plan, b"PLN\x00\x01", Row::PlanMark).is_ok()
 }
 
 // 23: as many groups as the plan counts lie in the file and end where it ends.
