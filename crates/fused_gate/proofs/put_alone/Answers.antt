@@ -36,7 +36,13 @@ pub overflow_cast-quads : goal.overflow_cast-quads
 overflow_cast-quads c =
     let d : (code_at c.args.quads.now c.index-i.result < 0x20) ⊎ (0x28 ≤ code_at c.args.quads.now c.index-i.result) =
     elim c.in_default.branch [ in_default-via-then-code-lt32 w ↦ inl (omega arith) | in_default-via-else-code-lt32+else-code-lt40 w ↦ inr (omega arith) ] in
-    rw c.index-i.ensures (record { fits = omega (arith, first_short _ _ c.requires.1.coded (short_in _ _ _ (rw c.index-i.ensures refl) c.requires.1.coded (λ x. omega (arith, x)) (λ x. omega (arith, x)) d)) })
+    rw c.index-i.ensures (record {
+      fits = omega (
+        arith,
+        first_short _ _ c.requires.1.coded (short_in _ _ _ (rw c.index-i.ensures refl) c.requires.1.coded (λ x.
+            omega (arith, x)) (λ x. omega (arith, x)) d),
+      );
+    })
 
 pub put_short-requires : goal.put_short-requires
 put_short-requires c =
@@ -48,4 +54,5 @@ pub returns-in_default : goal.returns-in_default
 returns-in_default c =
     let d : (code_at c.args.quads.now c.index-i.result < 0x20) ⊎ (0x28 ≤ code_at c.args.quads.now c.index-i.result) =
     elim c.in_default.branch [ in_default-via-then-code-lt32 w ↦ inl (omega arith) | in_default-via-else-code-lt32+else-code-lt40 w ↦ inr (omega arith) ] in
-    short_put _ _ _ _ _ (short_in _ _ _ (rw c.index-i.ensures refl) c.requires.1.coded (λ x. omega (arith, x)) (λ x. omega (arith, x)) d) (rw c.index-i.ensures at c.put_short.ensures)
+    short_put _ _ _ _ _ (short_in _ _ _ (rw c.index-i.ensures refl) c.requires.1.coded (λ x. omega (arith, x)) (λ x. omega (arith, x)) d) (rw c.index-i.ensures at
+    c.put_short.ensures)

@@ -15,10 +15,12 @@ pub wire-requires : goal.wire-requires
 wire-requires c = (c.requires.0, (omega (arith, c.loop-i-test.true, c.size-i-end.ensures)))
 
 pub returns-then-ne : goal.returns-then-ne
-returns-then-ne c = agreeing_fails _ _ _ _ _ _ _ c.loop-i.invariant _ (omega (arith, c.loop-i-test.true, c.size-i-end.ensures)) c.wire.ensures (sym c.ne.ensures ∙ c.if-ne.true)
+returns-then-ne c = agreeing_fails _ _ _ _ _ _ _ c.loop-i.invariant _ (omega (arith, c.loop-i-test.true, c.size-i-end.ensures)) c.wire.ensures (sym c.ne.ensures ∙
+    c.if-ne.true)
 
 pub loop-i-preserved : goal.loop-i-preserved
-loop-i-preserved c = agreeing_step _ _ _ _ _ _ _ c.loop-i.invariant _ (omega (arith, c.loop-i-test.true, c.size-i-end.ensures)) c.wire.ensures (sym c.ne.ensures ∙ c.if-ne.false)
+loop-i-preserved c = agreeing_step _ _ _ _ _ _ _ c.loop-i.invariant _ (omega (arith, c.loop-i-test.true, c.size-i-end.ensures)) c.wire.ensures (sym c.ne.ensures ∙
+    c.if-ne.false)
 
 pub returns : goal.returns
 returns c = agreeing_end _ _ _ _ _ _ _ c.loop-i.invariant c.requires.1 (omega (arith, c.loop-i-test.false, c.size-i-end.ensures))

@@ -12,7 +12,9 @@ pub put_operation-requires : goal.put_operation-requires
 put_operation-requires c = (behind_room _ _ _ c.requires.0 _ _ c.put_picks-n.ensures.counted c.put_picks-n.ensures.written, c.requires.1)
 
 pub overflow_add-result : goal.overflow_add-result
-overflow_add-result c = let z : c.put_picks-n.result + c.put_operation.result ≤ length c.args.out.now = behind_all _ _ _ c.requires.0 _ _ c.put_picks-n.ensures.counted c.put_picks-n.ensures.written _ c.put_operation.ensures.counted in search rules
+overflow_add-result c = let z : c.put_picks-n.result + c.put_operation.result ≤ length c.args.out.now = behind_all _ _ _ c.requires.0 _ _
+    c.put_picks-n.ensures.counted c.put_picks-n.ensures.written _ c.put_operation.ensures.counted in search rules
 
 pub returns : goal.returns
-returns c = behind_put _ _ _ c.requires.0 _ _ c.put_picks-n.ensures.counted c.put_picks-n.ensures.written _ c.put_operation.ensures.counted _ c.put_operation.ensures.written
+returns c = behind_put _ _ _ c.requires.0 _ _ c.put_picks-n.ensures.counted c.put_picks-n.ensures.written _ c.put_operation.ensures.counted _
+    c.put_operation.ensures.written

@@ -9,8 +9,11 @@ use Rattle.fused_group.proofs.Joint.put_guard.Goals as goal
 pub put_rested-requires : goal.put_rested-requires
 put_rested-requires c = let j = c.args.self in
     let r = c.rested-r.ensures in
-    let e = rested_are (set_of c.args.s) c.rested-r.result r.counted r.listed in
-    ((rw e (guard_room j.circuit.now.conditions (wire_by j.wiring) (set_of c.args.s) _ _ _ c.requires.0 c.put_short.ensures), c.requires.1), rested_lists _ _ r.counted r.listed)
+    let e = rested_are (set_of c.args.s) c.rested-r.result r.counted r.listed in (
+      (rw e (guard_room j.circuit.now.conditions (wire_by j.wiring) (set_of c.args.s) _ _ _ c.requires.0 c.put_short.ensures), c.requires.1),
+      rested_lists _ _
+          r.counted r.listed,
+    )
 
 pub slice_bounds-put_bytes-count : goal.slice_bounds-put_bytes-count
 slice_bounds-put_bytes-count c = let j = c.args.self in

@@ -22,7 +22,8 @@ pub put_pair-requires : goal.put_pair-requires
 put_pair-requires c = pairs_room _ _ _ _ _ _ _ _ _ _ c.loop-i.invariant (omega (arith, c.loop-i-test.true, c.size-i-end.ensures))
 
 pub loop-i-preserved : goal.loop-i-preserved
-loop-i-preserved c = pairs_step _ _ _ _ _ _ _ _ _ _ c.loop-i.invariant (omega (arith, c.loop-i-test.true, c.size-i-end.ensures)) _ _ _ (omega arith) c.wire-w.ensures c.put_pair.ensures
+loop-i-preserved c = pairs_step _ _ _ _ _ _ _ _ _ _ c.loop-i.invariant (omega (arith, c.loop-i-test.true, c.size-i-end.ensures)) _ _ _ (omega arith)
+    c.wire-w.ensures c.put_pair.ensures
 
 pub shape_of-out : goal.shape_of-out
 shape_of-out c = filling_same _ _ _ _ _ _ c.loop-i.invariant.filling (omega (arith, c.loop-i-test.false, c.size-i-end.ensures))
