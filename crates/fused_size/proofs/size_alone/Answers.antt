@@ -15,9 +15,11 @@ overflow_cast-code c = rw c.index.ensures (record { fits = omega (arith, coded_b
 pub returns-then-means-eq0 : goal.returns-then-means-eq0
 returns-then-means-eq0 c = let n : get_or c.args.quads.now (4 * c.index.result) 0 ≡ 0x30 → ⊥ = λ e. omega (arith, e) in
     let w : get_or c.args.quads.now (4 * c.index.result) 0 ≡ 0x11 → ⊥ = λ e. omega (arith, e) in
-    rw c.one-then-means-eq0.ensures (short_sized _ _ c.requires (rw c.index.ensures at n) (rw c.index.ensures at w) _ (rw c.index.ensures at c.code_of-means.ensures) c.if-means-eq0.true)
+    rw c.one-then-means-eq0.ensures (short_sized _ _ c.requires (rw c.index.ensures at n) (rw c.index.ensures at w) _ (rw c.index.ensures at
+    c.code_of-means.ensures) c.if-means-eq0.true)
 
 pub returns-else-means-eq0 : goal.returns-else-means-eq0
 returns-else-means-eq0 c = let n : get_or c.args.quads.now (4 * c.index.result) 0 ≡ 0x30 → ⊥ = λ e. omega (arith, e) in
     let w : get_or c.args.quads.now (4 * c.index.result) 0 ≡ 0x11 → ⊥ = λ e. omega (arith, e) in
-    rw (c.one-else-means-eq0.ensures, c.from.ensures) (applied_sized _ _ c.requires (rw c.index.ensures at n) (rw c.index.ensures at w) _ (rw c.index.ensures at c.code_of-means.ensures) c.if-means-eq0.false)
+    rw (c.one-else-means-eq0.ensures, c.from.ensures) (applied_sized _ _ c.requires (rw c.index.ensures at n) (rw c.index.ensures at w) _ (rw c.index.ensures at
+    c.code_of-means.ensures) c.if-means-eq0.false)
