@@ -12,31 +12,19 @@ const WINDOW: usize = 262144;
 
 const LARGEST: usize = 65536;
 
-fn print(rt: &impl Print, text: &[u8], n: usize)
-    requires { n ≤ length text.now }
-{
-    let _ = rt.write_all(&text[0..n]);
-}
-
-fn least(a: usize, b: usize) -> usize
-    ensures { (result ≤ a) × (result ≤ b) }
-{
-    if a < b { a } else { b }
-}
-
 // Reads a piece behind the bytes at hand. Answers how many there are then; none are kept where the report has stopped, whatever comes.
 fn read_piece(
     input: &mut impl Read,
     window: &mut [u8],
     to: usize,
     piece: usize,
-    stopped: bool,
+    progress: Progress,
 ) -> usize
     requires { to + piece ≤ length window.old }
     ensures { result ≤ length window.old }
 {
     let n = streams::read_full(input, &mut window[to..to + piece]);
-    if stopped {
+    if report_batch::has_stopped(progress) {
         return 0;
     }
     to + n
@@ -45,8 +33,8 @@ fn read_piece(
 fn finish(rt: &impl Print, progress: Progress) {
     let mut line = [0u8; report::MOST_TOTAL];
     let n = report_batch::finish(progress, &mut line);
-    print(rt, &line, n);
-    print(rt, b"\n", 1);
+    let _ = rt.write_all(&line[..n]);
+    let _ = rt.write_all(b"\n");
 }
 
 // The report of a batch of so many bytes, which come in pieces of `size`.
@@ -57,25 +45,19 @@ fn case(rt: &impl Print, input: &mut impl Read, size: usize, bytes: usize) {
     let mut to: usize = 0;
     let mut left = bytes;
     loop {
-        let taken = report_batch::take_entries(progress, &window[0..to], &mut out);
+        let taken = report_batch::take_entries(progress, &window[..to], &mut out);
         progress = taken.progress;
         let bytes = taken.bytes;
-        print(rt, &out, taken.printed);
+        let _ = rt.write_all(&out[..taken.printed]);
         if bytes != 0 {
             to = report_batch::drop_front(&mut window, to, bytes);
         } else {
-            let piece = least(least(size, left), WINDOW - to);
+            let piece = size.min(left).min(WINDOW - to);
             if piece == 0 {
                 break;
             }
-            to = read_piece(
-                input,
-                &mut window,
-                to,
-                piece,
-                report_batch::has_stopped(progress),
-            );
-            left = left - piece;
+            to = read_piece(input, &mut window, to, piece, progress);
+            left -= piece;
         }
     }
     finish(rt, progress);
@@ -87,20 +69,20 @@ fn next_case(rt: &impl Print, input: &mut impl Read) -> bool {
     if streams::read_full(input, &mut head) != 6 {
         return false;
     }
-    let size = base_words::wide16(base_words::read16(&head, 0));
-    let bytes = base_words::read32(&head, 2) as usize;
-    if size == 0 {
-        case(rt, input, LARGEST, bytes);
-    } else {
-        case(rt, input, size, bytes);
-    }
+    let size = match base_words::read16(&head, 0) {
+        0 => LARGEST,
+        size => usize::from(size),
+    };
+    case(rt, input, size, base_words::read32(&head, 2) as usize);
     true
 }
 
+// Case after case. The bound is more than any stream has, and lets the loop be seen to end.
 fn main(rt: HostRuntime) {
     let mut input = rt.stdin();
-    let mut left: u64 = 0xFFFFFFFFFFFFFFFF;
-    while 0 < left && next_case(&rt, &mut input) {
-        left -= 1;
+    for _ in 0..u64::MAX {
+        if !next_case(&rt, &mut input) {
+            return;
+        }
     }
 }

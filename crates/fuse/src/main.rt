@@ -1,16 +1,16 @@
 // Reads rule.rul and rule.pln in the current folder, writes fused.cir there if the plan is accepted, and prints one line.
 #![tactic(auto)]
 
-ghost use Rattle.std.specs.Prelude.{◌≡◌, true, ◌≤◌, eqb, length};
+ghost use Rattle.std.specs.Prelude.{◌≡◌, ◌≤◌, eqb, IfSome, length};
+ghost use Rattle.std.specs.Bool.{then_some};
 ghost use Rattle.base.specs.Buffers.{over};
 ghost use Rattle.fused.specs.Answers.{write_answer, written_over};
 ghost use Rattle.report.specs.Line.{line_of};
 ghost use Rattle.report.specs.Limits.{most_line};
-ghost use Rattle.streams.specs.Counts.{IsPrefixLen};
 
 use std::fmt::InlineText;
 use std::fs::{OpenFile, OpenOptions, Permissions};
-use std::io::{Eprint, Error, ErrorKind, Read, Write};
+use std::io::{Error, ErrorKind, Read, Write};
 use std::os::unix::fs::{OpenOptionsExt, PermissionsExt};
 use std::random::RandomSource;
 use std::rt::Files;
@@ -30,26 +30,20 @@ fn at_end(file: &mut impl Read) -> bool {
     matches!(file.read(&mut next), Ok(0))
 }
 
-// Fills buf from an open file. A file that a failing read cuts short is one that cannot be read, and counts as empty.
-fn read_open(file: &mut impl Read, buf: &mut [u8]) -> usize
-    ensures { IsPrefixLen result buf.new }
-{
+// What an open file has, as far as buf has room for it. A file that a failing read cuts short is one that cannot be read, and counts as empty.
+fn read_open<'a>(file: &mut impl Read, buf: &'a mut [u8]) -> &'a [u8] {
     let n = streams::read_full(file, buf);
-    if n < buf.len() {
-        if !at_end(file) {
-            return 0;
-        }
+    if n < buf.len() && !at_end(file) {
+        return &buf[..0];
     }
-    n
+    &buf[..n]
 }
 
-// Fills buf from the file, and answers how many bytes it has; a file that cannot be read has none.
-fn read_file(files: &impl Files, path: &str, buf: &mut [u8]) -> usize
-    ensures { IsPrefixLen result buf.new }
-{
+// What the file has, as far as buf has room for it; a file that cannot be read has nothing.
+fn read_file<'a>(files: &impl Files, path: &str, buf: &'a mut [u8]) -> &'a [u8] {
     match fs::open(files, path) {
         Ok(mut file) => read_open(&mut file, buf),
-        Err(_) => 0,
+        Err(_) => &buf[..0],
     }
 }
 
@@ -96,31 +90,21 @@ fn put<R: Files>(rt: &R, file: R::File, name: &str, bytes: &[u8]) -> io::Result<
     fs::rename(rt, name, "fused.cir")
 }
 
-// Writes the bytes under a name of their own and renames that, so that fused.cir is whole or not there.
-fn save<R: Files + RandomSource + Eprint>(rt: &R, bytes: &[u8]) -> bool {
-    let temp = match create_temp(rt) {
-        Ok(temp) => temp,
-        Err(e) => {
-            streams::fail(rt, "fused.cir", e);
-            return false;
-        }
-    };
+// Writes the bytes under a name of their own and renames that, so that fused.cir is whole or not there; the other file goes where that fails.
+fn save<R: Files + RandomSource>(rt: &R, bytes: &[u8]) -> io::Result<()> {
+    let temp = create_temp(rt)?;
     let name = temp.name;
-    match put(rt, temp.file, name.as_str(), bytes) {
-        Ok(()) => true,
-        Err(e) => {
-            streams::fail(rt, "fused.cir", e);
-            let _ = fs::remove_file(rt, name.as_str());
-            false
-        }
+    let saved = put(rt, temp.file, name.as_str(), bytes);
+    if saved.is_err() {
+        let _ = fs::remove_file(rt, name.as_str());
     }
+    saved
 }
 
-// What is to be saved and printed: whether there is a file, and how many bytes of the file and of the line stand in their buffers.
+// What is to be saved and printed: how many bytes of the file, where there is one, and of the line stand in their buffers.
 #[derive(Clone, Copy)]
 struct Fused {
-    accepted: bool,
-    bytes: usize,
+    file: Option<usize>,
     line: usize,
 }
 
@@ -128,18 +112,17 @@ struct Fused {
 // The line buffer holds the longest line.
 fn fuse_rule(rule: &[u8], plan: &[u8], file: &mut [u8], line: &mut [u8]) -> Fused
     requires { most_line ≤ length line.old }
-    ensures accepted { result.accepted ≡ eqb (write_answer rule.now plan.now (length file.old)).number 0 }
-    ensures bytes { result.bytes ≡ (write_answer rule.now plan.now (length file.old)).bytes }
+    ensures file { result.file ≡ then_some (eqb (write_answer rule.now plan.now (length file.old)).number 0)
+        (write_answer rule.now plan.now (length file.old)).bytes }
     ensures saved { file.new ≡ written_over rule.now plan.now file.old }
     ensures counted { result.line ≡ length (line_of (write_answer rule.now plan.now (length file.old))) }
     ensures printed { line.new ≡ over (line_of (write_answer rule.now plan.now (length file.old))) line.old }
-    ensures within { (result.accepted ≡ true → result.bytes ≤ length file.new) × (result.line ≤ length line.new) }
+    ensures within { IfSome result.file (λ n. n ≤ length file.new) × (result.line ≤ length line.new) }
 {
     let answer = fused_write::write(rule, plan, file);
     let n = report_lines::write_line(answer, line);
     Fused {
-        accepted: answer.number == 0,
-        bytes: answer.bytes,
+        file: (answer.number == 0).then_some(answer.bytes),
         line: n,
     }
 }
@@ -151,17 +134,16 @@ fn main(rt: HostRuntime) {
     let mut plan = [0u8; PLAN_ROOM];
     let mut file = [0u8; file::MOST_FILE_BYTES];
     let mut line = [0u8; report::MOST_LINE];
-    let r = read_file(&rt, "rule.rul", &mut rule);
-    let p = read_file(&rt, "rule.pln", &mut plan);
-    let fused = fuse_rule(&rule[..r], &plan[..p], &mut file, &mut line);
-    let bytes = fused.bytes;
-    let n = fused.line;
-    if fused.accepted {
-        if !save(&rt, &file[0..bytes]) {
+    let rule = read_file(&rt, "rule.rul", &mut rule);
+    let plan = read_file(&rt, "rule.pln", &mut plan);
+    let fused = fuse_rule(rule, plan, &mut file, &mut line);
+    if let Some(bytes) = fused.file {
+        if let Err(e) = save(&rt, &file[..bytes]) {
+            streams::fail(&rt, "fused.cir", e);
             return;
         }
     }
-    if let Err(e) = rt.write_all(&line[0..n]) {
+    if let Err(e) = rt.write_all(&line[..fused.line]) {
         streams::fail(&rt, "standard output", e);
     }
 }

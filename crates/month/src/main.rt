@@ -15,31 +15,42 @@ const WINDOW: usize = 262144;
 // What is printed at once: hundreds of lines.
 const OUT: usize = 65536;
 
-// Whether and when the progress line is shown: `on` where standard error is a terminal; `second` the last one seen; `passed` once the clock has
-// gone on by one, so that a whole second has passed at the next; `shown` once the line was shown.
+// How long the progress line has waited: the clock has not gone on yet; it has gone on by one, so that a whole second has passed at the next; the
+// line was shown.
+#[derive(Clone, Copy, PartialEq, Eq)]
+enum Wait {
+    First,
+    Whole,
+    Shown,
+}
+
+// When the progress line is shown: `second` is the last one seen. There is one where standard error is a terminal.
 #[derive(Clone, Copy)]
 struct Watch {
-    on: bool,
     second: u64,
-    passed: bool,
-    shown: bool,
+    wait: Wait,
+}
+
+// A stream that failed, as it is named, and why.
+#[derive(Drop)]
+struct Failed {
+    stream: &'static str,
+    why: io::Error,
 }
 
 // Seconds since 1970; a clock that cannot be read stands still.
 fn now(clock: &impl Clock) -> u64 {
-    match clock.since_1970() {
-        Ok(time) => time.as_secs(),
-        Err(_) => 0,
-    }
+    clock.since_1970().map_or(0, |time| time.as_secs())
 }
 
-fn begin(rt: &HostRuntime) -> Watch {
-    Watch {
-        on: rt.stderr().is_terminal(),
-        second: now(rt),
-        passed: false,
-        shown: false,
+fn begin(rt: &HostRuntime) -> Option<Watch> {
+    if !rt.stderr().is_terminal() {
+        return None;
     }
+    Some(Watch {
+        second: now(rt),
+        wait: Wait::First,
+    })
 }
 
 // The entries that are done, of those that the batch counts.
@@ -49,65 +60,51 @@ fn show(rt: &impl Eprint, done: usize, count: usize) {
 
 // Shows how far the report is, once a second and not in the first.
 fn tick<R: Clock + Eprint>(rt: &R, w: Watch, done: usize, count: usize) -> Watch {
-    if !w.on {
-        return w;
-    }
     let second = now(rt);
     if second == w.second {
         return w;
     }
-    if w.passed {
-        show(rt, done, count);
-    }
-    Watch {
-        on: true,
-        second,
-        passed: true,
-        shown: w.passed,
-    }
+    let wait = match w.wait {
+        Wait::First => Wait::Whole,
+        Wait::Whole | Wait::Shown => {
+            show(rt, done, count);
+            Wait::Shown
+        }
+    };
+    Watch { second, wait }
 }
 
 // Takes the progress line away, so that nothing else is printed behind it.
-fn wipe(rt: &impl Eprint, w: Watch) {
-    if w.shown {
-        let _ = rt.eprint("\r                        \r");
+fn wipe(rt: &impl Eprint, watch: Option<Watch>) {
+    if let Some(w) = watch {
+        if w.wait == Wait::Shown {
+            let _ = rt.eprint("\r                        \r");
+        }
     }
 }
 
 // How many entries are done, and how many the batch counts; nothing is shown before that is read.
-fn tell<R: Clock + Eprint>(rt: &R, w: Watch, progress: Progress) -> Watch
+fn tell<R: Clock + Eprint>(rt: &R, watch: Option<Watch>, progress: Progress) -> Option<Watch>
     requires { Within progress }
 {
-    match progress {
-        Progress::Entries(left, sums) => {
+    match (watch, progress) {
+        (Some(w), Progress::Entries(left, sums)) => {
             let done = sums.accepted + sums.refused;
-            tick(rt, w, done, done + left)
+            Some(tick(rt, w, done, done + left))
         }
-        _ => w,
+        _ => watch,
     }
 }
 
-// Prints so many bytes of the text behind the progress line's place. Answers whether they were written.
-fn print<R: Print + Eprint>(rt: &R, w: Watch, text: &[u8], n: usize) -> bool
-    requires { n ≤ length text.now }
-{
-    if n != 0 {
-        wipe(rt, w);
+// Prints the text behind the progress line's place.
+fn print<R: Print + Eprint>(rt: &R, watch: Option<Watch>, text: &[u8]) -> Result<(), Failed> {
+    if !text.is_empty() {
+        wipe(rt, watch);
     }
-    match rt.write_all(&text[0..n]) {
-        Ok(()) => true,
-        Err(e) => {
-            streams::fail(rt, "standard output", e);
-            false
-        }
-    }
-}
-
-// The last line, once nothing more is to be read.
-fn finish<R: Print + Eprint>(rt: &R, w: Watch, progress: Progress) {
-    let mut line = [0u8; report::MOST_TOTAL];
-    let n = report_batch::finish(progress, &mut line);
-    print(rt, w, &line, n);
+    rt.write_all(text).map_err(|why| Failed {
+        stream: "standard output",
+        why,
+    })
 }
 
 // Reads behind the bytes at hand, and answers how many there are then: as many as before at the end of the input, an error where it cannot be
@@ -120,41 +117,57 @@ fn read_behind(input: &mut impl Read, window: &mut [u8], to: usize) -> io::Resul
     Ok(to + got)
 }
 
+// The last line, once nothing more is to be read.
+fn finish<R: Print + Eprint>(
+    rt: &R,
+    watch: Option<Watch>,
+    progress: Progress,
+) -> Result<(), Failed> {
+    let mut line = [0u8; report::MOST_TOTAL];
+    let n = report_batch::finish(progress, &mut line);
+    print(rt, watch, &line[..n])
+}
+
 // Prints what is whole of the bytes at hand; reads on where nothing is.
-fn main(rt: HostRuntime) {
+fn report(rt: &HostRuntime) -> Result<(), Failed> {
     let mut window = [0u8; WINDOW];
     let mut out = [0u8; OUT];
     let mut progress = Progress::Head;
     let mut to: usize = 0;
-    let mut w = begin(&rt);
+    let mut watch = begin(rt);
     let mut input = rt.stdin();
     loop {
-        let taken = report_batch::take_entries(progress, &window[0..to], &mut out);
+        let taken = report_batch::take_entries(progress, &window[..to], &mut out);
         progress = taken.progress;
         let bytes = taken.bytes;
-        if !print(&rt, w, &out, taken.printed) {
-            return;
-        }
+        print(rt, watch, &out[..taken.printed])?;
         if bytes != 0 {
             to = report_batch::drop_front(&mut window, to, bytes);
+        } else if report_batch::has_stopped(progress) {
+            break;
         } else {
-            if report_batch::has_stopped(progress) {
-                break;
-            }
             let reached = match read_behind(&mut input, &mut window, to) {
                 Ok(reached) => reached,
-                Err(e) => {
-                    wipe(&rt, w);
-                    streams::fail(&rt, "standard input", e);
-                    return;
+                Err(why) => {
+                    wipe(rt, watch);
+                    return Err(Failed {
+                        stream: "standard input",
+                        why,
+                    });
                 }
             };
             if reached == to {
                 break;
             }
             to = reached;
-            w = tell(&rt, w, progress);
+            watch = tell(rt, watch, progress);
         }
     }
-    finish(&rt, w, progress);
+    finish(rt, watch, progress)
+}
+
+fn main(rt: HostRuntime) {
+    if let Err(failed) = report(&rt) {
+        streams::fail(&rt, failed.stream, failed.why);
+    }
 }

@@ -7,7 +7,7 @@ pub const MOST_LINE: usize = 93;
 pub const MOST_TOTAL: usize = 112;
 
 // The entries accepted and refused so far, and the accepted ones' cost before and after.
-#[derive(Clone, Copy)]
+#[derive(Clone, Copy, PartialEq, Eq, Default)]
 pub struct Sums {
     pub accepted: usize,
     pub refused: usize,
@@ -16,7 +16,7 @@ pub struct Sums {
 }
 
 // How far a report is: the head is to come; so many entries are to come; or it is refused with 75, whatever comes.
-#[derive(Clone, Copy)]
+#[derive(Clone, Copy, PartialEq, Eq)]
 pub enum Progress {
     Head,
     Entries(usize, Sums),
@@ -24,7 +24,7 @@ pub enum Progress {
 }
 
 // What a step did: how far the report is then, how many bytes it took and how many it printed.
-#[derive(Clone, Copy)]
+#[derive(Clone, Copy, PartialEq, Eq)]
 pub struct Taken {
     pub progress: Progress,
     pub bytes: usize,

@@ -1,9 +1,9 @@
 -- A step: the code's tests tell whether a part or an entry is whole, the parts that it lends are the entry's rule and plan, and what it did is what the definition's step does.
-use Rattle.std.specs.Prelude.{true, false, cond, List, [], ◌∷◌, ◌≡◌, refl, ℕ, zero, suc, ◌+◌, ◌-◌, ◌≤◌, ◌<◌, length, take, drop}
+use Rattle.std.specs.Prelude.{Bool, true, false, Some, None, List, [], ◌∷◌, ◌≡◌, refl, ℕ, zero, suc, ◌+◌, ◌-◌, ◌≤◌, ◌<◌, length, take, drop}
 use Rattle.std.proofs.Common.{sym, ap, ◌∙◌, length-drop, take_all, drop-drop, le-leb}
 use native.Mathlib.Omega.{arith}
 use Rattle.std.proofs.lemmas.Bool.{lt-leb}
-use Rattle.base.specs.TestLaws.{split}
+use Rattle.std.specs.Bool.{then_some}
 use Rattle.base.specs.Numbers.{number_at}
 use Rattle.base.specs.BufferLaws.{over_nil}
 use Rattle.base.specs.declared.Answer.{Answer}
@@ -18,7 +18,6 @@ use Rattle.report.specs.Batch.{part_size, has_part, part_of, past_part, has_entr
 use Rattle.report.specs.Steps.{Stepped, quiet, entry_step, ending}
 use Rattle.report.specs.Bounds.{Sized, Within, Nears, most_held, most_wanted}
 use Rattle.report.specs.Promised.{took, Quiet, Does}
-use Rattle.report.specs.PartLaws.{entry_parts, entry_fits}
 use Rattle.report.specs.StepLaws.{entry_past, entry_none}
 use Rattle.report.specs.BoundLaws.{plus_sized, entry_costs}
 
@@ -31,16 +30,22 @@ pub cut_short : (s : List ℕ) → 2 ≤ length s → length s < part_size s →
 unfolding has_part
 cut_short s h l = rw (le-leb 2 (length s) h, lt-leb (part_size s) (length s) l)
 
--- the size that the code has of a part: 0 where it is not whole
-pub size_none : (s : List ℕ) (r : ℕ) → r ≡ cond (has_part s) (part_size s) 0 → r ≡ 0 → has_part s ≡ false
-size_none s r e z = split (has_part s) (λ t. absurd (let k : r ≡ part_size s = rw t at e in omega arith)) (λ t. t)
+-- what the code has of a part or of an entry: none where it is not whole
+module _ {T : Type 0} where
+  pub none_cut : (b : Bool) (x : T) → None ≡ then_some b x → b ≡ false
+  none_cut false x e = refl
+  none_cut true x e = cc
 
-pub size_some : (s : List ℕ) (r : ℕ) → r ≡ cond (has_part s) (part_size s) 0 → (r ≡ 0 → ⊥) → (has_part s ≡ true) × (r ≡ part_size s)
-size_some s r e z = split (has_part s) (λ t. (t, rw t at e)) (λ t. absurd (z (rw t at e)))
+  pub some_whole : (b : Bool) (x y : T) → Some y ≡ then_some b x → (b ≡ true) × (y ≡ x)
+  some_whole true x y e = (refl, cc)
+  some_whole false x y e = cc
 
 -- the rest behind n bytes, as it is lent
 pub rest_lent : (s : List ℕ) (n : ℕ) → take (length s - n) (drop n s) ≡ drop n s
 rest_lent s n = take_all (length s - n) (drop n s) (rw (length-drop n s) (omega arith))
+
+pub plan_behind : (s : List ℕ) (r : ℕ) → r ≡ part_size s → take (length s - r) (drop r s) ≡ past_part s
+plan_behind s r e = rest_lent s r ∙ ap (λ (n : ℕ). drop n s) e
 
 -- an entry that is not whole
 pub rule_missing : (s : List ℕ) → has_part s ≡ false → has_entry s ≡ false
@@ -112,28 +117,11 @@ module _ (n : ℕ) (t : Sums) (s : List ℕ) (some : 1 ≤ n) where
   pub entry_taken : has_entry s ≡ true → entry_step n t s ≡ record { progress = Entries (n - 1) (plus t (entry_answer s)); taken = entry_size s; text = line_of (entry_answer s) }
   entry_taken h = let e : n ≡ suc (n - 1) = omega arith in ap (λ (m : ℕ). entry_step m t s) e ∙ entry_past (n - 1) t s h
 
--- the sizes that the code has of both parts of a whole entry
-pub sizes_are : (s : List ℕ) (r k : ℕ) → has_entry s ≡ true → r ≡ cond (has_part s) (part_size s) 0
-    → k ≡ cond (has_part (take (length s - r) (drop r s))) (part_size (take (length s - r) (drop r s))) 0
-    → (r ≡ part_size s) × (k ≡ part_size (past_part s)) × (entry_size s ≤ length s)
-sizes_are s r k h e f =
-    let (t, u) = entry_parts s h in
-    let a : r ≡ part_size s = rw t at e in
-    let b = f ∙ ap (λ (x : List ℕ). cond (has_part x) (part_size x) 0) (rest_lent s r ∙ ap (λ (n : ℕ). drop n s) a) in
-    (a, rw u at b, entry_fits s h)
-
 -- what is answered for the parts that it lends
 pub answer_lent : (s : List ℕ) (r k : ℕ) (a : Answer) → r ≡ part_size s → k ≡ part_size (past_part s)
     → a ≡ fused_answer (take (r - 2) (drop 2 s)) (take (r + k - (r + 2)) (drop (r + 2) s)) → a ≡ entry_answer s
 unfolding entry_answer
 answer_lent s r k a e f h = h ∙ rw (e, f, rule_lent s, plan_lent s)
-
--- the size that the code has of an entry: 0 where it is not whole
-pub whole_none : (s : List ℕ) (r : ℕ) → r ≡ cond (has_entry s) (entry_size s) 0 → r ≡ 0 → has_entry s ≡ false
-whole_none s r e z = split (has_entry s) (λ t. absurd (let k : r ≡ entry_size s = rw t at e in omega arith)) (λ t. t)
-
-pub whole_some : (s : List ℕ) (r : ℕ) → r ≡ cond (has_entry s) (entry_size s) 0 → (r ≡ 0 → ⊥) → (has_entry s ≡ true) × (r ≡ entry_size s)
-whole_some s r e z = split (has_entry s) (λ t. (t, rw t at e)) (λ t. absurd (z (rw t at e)))
 
 -- what is promised of an entry that is taken
 module _ (n : ℕ) (t u : Sums) (s : List ℕ) (a : Answer) (k printed : ℕ) (some : 1 ≤ n) (whole : has_entry s ≡ true) (size : k ≡ entry_size s) (answered : a ≡ entry_answer s) where

@@ -1,18 +1,19 @@
 // Document 02, C-16: a batch read step by step, one entry at most a step, from the bytes at hand.
 #![tactic(auto)]
 
-ghost use Rattle.std.specs.Prelude.{◌≡◌, true, cond, ◌+◌, ◌-◌, ◌≤◌, ◌<◌, length, take, drop};
+ghost use Rattle.std.specs.Prelude.{◌≡◌, true, ◌+◌, ◌-◌, ◌≤◌, ◌<◌, length, take, drop, IfSome, IsNone};
+ghost use Rattle.std.specs.Bool.{then_some};
 ghost use Rattle.base.specs.Lists.{same};
 ghost use Rattle.base.specs.Buffers.{over};
 ghost use Rattle.report.specs.Line.{put_over, put_count};
-ghost use Rattle.report.specs.Batch.{batch_mark, head_bytes, has_part, part_size, has_entry, entry_size, entry_answer, plus};
+ghost use Rattle.report.specs.Batch.{batch_mark, has_part, part_size, past_part, has_entry, entry_answer, plus};
 ghost use Rattle.report.specs.Steps.{head_step, entry_step, step, has_stopped, ending};
 ghost use Rattle.report.specs.Limits.{most_line};
 ghost use Rattle.report.specs.Bounds.{Sized, Costs, Within, most_part, most_held, Nears, Few};
 ghost use Rattle.report.specs.declared.Progress.TheVariants.{Head, Entries};
 ghost use Rattle.report.specs.Promised.{took, Quiet, Does, Drains};
 
-use base::{Answer, Step};
+use base::{Answer, Row};
 use report::{Progress, Sums, Taken};
 
 // The bytes of a batch before its first entry.
@@ -31,13 +32,9 @@ fn quiet(progress: Progress, bytes: usize) -> Taken
 
 // The mark and the version stand at the start.
 fn marked(s: &[u8]) -> bool
-    requires { head_bytes ≤ length s.now }
     ensures { result ≡ same (take 5 s.now) batch_mark }
 {
-    match base_answers::read_mark(s, b"BAT\x00\x01", 75) {
-        Step::Past(_) => true,
-        Step::Refused(_, _) => false,
-    }
+    s.starts_with(b"BAT\x00\x01")
 }
 
 fn take_head(s: &[u8]) -> Taken
@@ -51,59 +48,44 @@ fn take_head(s: &[u8]) -> Taken
     if !marked(s) {
         return quiet(Progress::Stopped, 0);
     }
-    let sums = Sums {
-        accepted: 0,
-        refused: 0,
-        before: 0,
-        after: 0,
-    };
-    quiet(
-        Progress::Entries(base_words::wide16(base_words::read16(s, 5)), sums),
-        HEAD,
-    )
+    let count = usize::from(base_words::read16(s, 5));
+    quiet(Progress::Entries(count, Sums::default()), HEAD)
 }
 
-// The bytes of the part at the start, or 0 where it is not whole.
+// The bytes of the part at the start; none where it is not whole.
 #[tactic(auto, using(crate::specs::TakenLaws::cut_short))]
-fn part_size(s: &[u8]) -> usize
-    ensures size { result ≡ cond (has_part s.now) (part_size s.now) 0 }
-    ensures small { result ≤ most_part }
-    ensures short { result ≡ 0 → length s.now < most_part }
+fn part_size(s: &[u8]) -> Option<usize>
+    ensures size { result ≡ then_some (has_part s.now) (part_size s.now) }
+    ensures small { IfSome result (λ n. n ≤ most_part) }
+    ensures short { IsNone result → length s.now < most_part }
 {
     if s.len() < 2 {
-        return 0;
+        return None;
     }
-    let size = 2 + base_words::wide16(base_words::read16(s, 0));
+    let size = 2 + usize::from(base_words::read16(s, 0));
     if s.len() < size {
-        return 0;
+        return None;
     }
-    size
+    Some(size)
 }
 
-// The bytes of the entry at the start, or 0 where it is not whole.
-fn entry_size(s: &[u8]) -> usize
-    ensures size { result ≡ cond (has_entry s.now) (entry_size s.now) 0 }
-    ensures small { result ≤ most_held }
-    ensures short { result ≡ 0 → length s.now < most_held }
+// The bytes of the rule and of the plan of the entry at the start; none where it is not whole.
+fn entry_sizes(s: &[u8]) -> Option<(usize, usize)>
+    ensures sizes { result ≡ then_some (has_entry s.now) (part_size s.now, part_size (past_part s.now)) }
+    ensures small { IfSome result (λ n. n.0 + n.1 ≤ most_held) }
+    ensures short { IsNone result → length s.now < most_held }
 {
-    let rule = part_size(s);
-    if rule == 0 {
-        return 0;
-    }
-    let plan = part_size(&s[rule..]);
-    if plan == 0 {
-        return 0;
-    }
-    rule + plan
+    let rule = part_size(s)?;
+    let plan = part_size(&s[rule..])?;
+    Some((rule, plan))
 }
 
-// What the tool answers for the entry at the start, which is whole.
-fn answer_entry(s: &[u8]) -> Answer
-    requires { has_entry s.now ≡ true }
+// What the tool answers for the entry at the start, which is whole; its parts have so many bytes.
+fn answer_entry(s: &[u8], rule: usize, plan: usize) -> Answer
+    requires whole { has_entry s.now ≡ true }
+    requires parts { (rule ≡ part_size s.now) × (plan ≡ part_size (past_part s.now)) }
     ensures { result ≡ entry_answer s.now }
 {
-    let rule = part_size(s);
-    let plan = part_size(&s[rule..]);
     fused_write::count(&s[2..rule], &s[rule + 2..rule + plan])
 }
 
@@ -114,17 +96,15 @@ fn add(sums: Sums, answer: Answer) -> Sums
 {
     if answer.number != 0 {
         return Sums {
-            accepted: sums.accepted,
             refused: sums.refused + 1,
-            before: sums.before,
-            after: sums.after,
+            ..sums
         };
     }
     Sums {
         accepted: sums.accepted + 1,
-        refused: sums.refused,
         before: sums.before + answer.before,
         after: sums.after + answer.after,
+        ..sums
     }
 }
 
@@ -135,15 +115,14 @@ fn take_entry(left: usize, sums: Sums, s: &[u8], out: &mut [u8]) -> Taken
     ensures kept { Within result.progress × Nears (Entries left sums) result }
     ensures few { Few result (length s.now) }
 {
-    let size = entry_size(s);
-    if size == 0 {
+    let Some((rule, plan)) = entry_sizes(s) else {
         return quiet(Progress::Entries(left, sums), 0);
-    }
-    let answer = answer_entry(s);
+    };
+    let answer = answer_entry(s, rule, plan);
     let printed = report_lines::write_line(answer, out);
     Taken {
         progress: Progress::Entries(left - 1, add(sums, answer)),
-        bytes: size,
+        bytes: rule + plan,
         printed,
     }
 }
@@ -155,7 +134,7 @@ fn take_end(sums: Sums, s: &[u8]) -> Taken
     ensures kept { Within result.progress × Nears (Entries 0 sums) result }
     ensures few { Few result (length s.now) }
 {
-    if s.len() == 0 {
+    if s.is_empty() {
         return quiet(Progress::Entries(0, sums), 0);
     }
     quiet(Progress::Stopped, 0)
@@ -170,12 +149,8 @@ fn step(progress: Progress, s: &[u8], out: &mut [u8]) -> Taken
 {
     match progress {
         Progress::Head => take_head(s),
-        Progress::Entries(left, sums) => {
-            if left == 0 {
-                return take_end(sums, s);
-            }
-            take_entry(left, sums, s, out)
-        }
+        Progress::Entries(0, sums) => take_end(sums, s),
+        Progress::Entries(left, sums) => take_entry(left, sums, s, out),
         Progress::Stopped => quiet(progress, 0),
     }
 }
@@ -215,20 +190,8 @@ pub fn finish(progress: Progress, out: &mut [u8]) -> usize
     ensures written { out.new ≡ put_over (ending progress) out.old }
 {
     match progress {
-        Progress::Head => report_lines::write_line(base_answers::refused(75, 0), out),
-        Progress::Entries(missing, sums) => {
-            if missing == 0 {
-                return report_lines::write_total(
-                    sums.accepted,
-                    sums.refused,
-                    sums.before,
-                    sums.after,
-                    out,
-                );
-            }
-            report_lines::write_line(base_answers::refused(75, 0), out)
-        }
-        Progress::Stopped => report_lines::write_line(base_answers::refused(75, 0), out),
+        Progress::Entries(0, sums) => report_lines::write_total(sums, out),
+        _ => report_lines::write_line(Answer::from(Row::Batch.at(0)), out),
     }
 }
 
@@ -236,11 +199,7 @@ pub fn finish(progress: Progress, out: &mut [u8]) -> usize
 pub fn has_stopped(progress: Progress) -> bool
     ensures { result ≡ has_stopped progress }
 {
-    match progress {
-        Progress::Head => false,
-        Progress::Entries(_, _) => false,
-        Progress::Stopped => true,
-    }
+    matches!(progress, Progress::Stopped)
 }
 
 // Takes the first `bytes` off the `to` bytes at hand: the others move to the start, and nothing behind them is touched. Answers how many they are.
@@ -249,10 +208,6 @@ pub fn drop_front(window: &mut [u8], to: usize, bytes: usize) -> usize
     ensures left { result ≡ to - bytes }
     ensures held { window.new ≡ over (take (to - bytes) (drop bytes window.old)) window.old }
 {
-    let mut i: usize = 0;
-    while i < to - bytes {
-        window[i] = window[bytes + i];
-        i = i + 1;
-    }
+    window.copy_within(bytes..to, 0);
     to - bytes
 }

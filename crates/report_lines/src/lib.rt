@@ -5,9 +5,11 @@ ghost use Rattle.std.specs.Prelude.{◌≡◌, ◌++◌, ◌≤◌, length};
 ghost use Rattle.base.specs.Buffers.{over};
 ghost use Rattle.base.specs.Lists.{flat};
 ghost use Rattle.report.specs.Line.{decimal, spaced, line, line_of, put_over, put_count};
-ghost use Rattle.report.specs.Total.{spaced_less, total_line};
+ghost use Rattle.report.specs.Total.{spaced_less};
+ghost use Rattle.report.specs.Batch.{total_of};
 
 use base::Answer;
+use report::Sums;
 
 // The last refusal that is printed with its place.
 const LAST_PLACED: u8 = 11;
@@ -53,12 +55,9 @@ fn put_numbers(numbers: &[usize], out: &mut [u8]) -> usize
     ensures counted { result ≡ length (flat spaced numbers.now) }
     ensures written { out.new ≡ over (flat spaced numbers.now) out.old }
 {
-    let mut at: usize = 0;
-    let mut i: usize = 0;
-    while i < numbers.len() {
-        let k = put_spaced(numbers[i], &mut out[at..]);
-        at = at + k;
-        i = i + 1;
+    let mut at = 0;
+    for n in numbers {
+        at += put_spaced(*n, &mut out[at..]);
     }
     at
 }
@@ -92,13 +91,11 @@ fn put_answer(answer: Answer, out: &mut [u8]) -> usize
         let counts = [answer.gates, answer.wires, answer.before, answer.after];
         return put_words(b"accepted", &counts, out);
     }
-    let number = base_words::wide8(answer.number);
+    let number = usize::from(answer.number);
     if answer.number <= LAST_PLACED {
-        let refusal = [number, answer.place];
-        return put_words(b"refused", &refusal, out);
+        return put_words(b"refused", &[number, answer.place], out);
     }
-    let refusal = [number];
-    put_words(b"refused", &refusal, out)
+    put_words(b"refused", &[number], out)
 }
 
 // Before less after, with its sign where it is negative.
@@ -115,14 +112,14 @@ fn put_less(before: usize, after: usize, out: &mut [u8]) -> usize
     put_decimal(after - before, &mut out[2..]) + 2
 }
 
-fn put_total(accepted: usize, refused: usize, before: usize, after: usize, out: &mut [u8]) -> usize
-    requires { length (total_line accepted refused before after) ≤ length out.old }
-    ensures counted { result ≡ length (total_line accepted refused before after) }
-    ensures written { out.new ≡ over (total_line accepted refused before after) out.old }
+fn put_total(sums: Sums, out: &mut [u8]) -> usize
+    requires { length (total_of sums) ≤ length out.old }
+    ensures counted { result ≡ length (total_of sums) }
+    ensures written { out.new ≡ over (total_of sums) out.old }
 {
-    let counts = [accepted, refused, before, after];
+    let counts = [sums.accepted, sums.refused, sums.before, sums.after];
     let n = put_front(b"total", &counts, out);
-    let k = put_less(before, after, &mut out[n..]);
+    let k = put_less(sums.before, sums.after, &mut out[n..]);
     out[n + k] = b'\n';
     n + k + 1
 }
@@ -159,17 +156,11 @@ pub fn write_line(answer: Answer, out: &mut [u8]) -> usize
 }
 
 // Writes the last line of a report. Answers how many bytes it wrote.
-pub fn write_total(
-    accepted: usize,
-    refused: usize,
-    before: usize,
-    after: usize,
-    out: &mut [u8],
-) -> usize
-    ensures counted { result ≡ put_count (total_line accepted refused before after) out.old }
-    ensures written { out.new ≡ put_over (total_line accepted refused before after) out.old }
+pub fn write_total(sums: Sums, out: &mut [u8]) -> usize
+    ensures counted { result ≡ put_count (total_of sums) out.old }
+    ensures written { out.new ≡ put_over (total_of sums) out.old }
 {
     let mut text = [0u8; report::MOST_TOTAL];
-    let n = put_total(accepted, refused, before, after, &mut text);
+    let n = put_total(sums, &mut text);
     put_whole(&text[0..n], out)
 }

@@ -1,8 +1,10 @@
+use mathlib.Core.Path.{◌≡◌, sym, ap, ◌∙◌}
 use mathlib.Core.Logic.{inl, inr}
-use mathlib.Core.Path.{sym, ap, ◌∙◌}
 use Prim.Native.Nat.{ℕ}
 use native.Mathlib.Omega.{arith}
+use borrow.Author.Rules.{rules}
 use borrow.Author.Tests.{le-leb, lt-leb}
+use Rattle.report.specs.declared.Sums.{Sums}
 use Rattle.report.specs.declared.Taken.{Taken}
 use Rattle.report.specs.declared.Progress.TheVariants.{Head, Entries}
 use Rattle.report.specs.Batch.{head_bytes, no_sums}
@@ -31,11 +33,12 @@ pub returns : goal.returns
 unfolding most_wanted
 returns c =
     let s = c.args.s.now in
-    let e = c.wide16.ensures.0 ∙ c.read16.ensures in
+    let e = c.from-count.ensures ∙ c.read16.ensures in
+    let none : c.default.result ≡ no_sums = search rules in
+    let q = rw none at c.quiet-2.ensures in
     let past = head_past s (le-leb _ _ c.if-s-lt-HEAD.false) (sym c.marked.ensures ∙ c.if-not-marked.false) in
     record {
-      done = quiet_took _ _ _ _ (past ∙ ap (λ (n : ℕ). quiet (Entries n no_sums) head_bytes) (sym e)) c.quiet-2.ensures;
-      kept = rw c.quiet-2.ensures
-          ((omega (arith, c.wide16.ensures.1), omega arith, omega arith), (omega (arith, c.wide16.ensures.1), λ z. omega (arith, c.wide16.ensures.1)));
-      few = rw c.quiet-2.ensures (λ z. absurd (omega (arith, z)));
+      done = quiet_took _ _ _ _ (past ∙ ap (λ (n : ℕ). quiet (Entries n no_sums) head_bytes) (sym e)) q;
+      kept = rw q ((omega (arith, c.from-count.ensures), omega arith, omega arith), (omega (arith, c.from-count.ensures), λ z. omega (arith, c.from-count.ensures)));
+      few = rw q (λ z. absurd (omega (arith, z)));
     }

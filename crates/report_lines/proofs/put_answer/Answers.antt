@@ -12,14 +12,14 @@ pub returns-then-answer-eq0 : goal.returns-then-answer-eq0
 returns-then-answer-eq0 c = rw (line_accepted c.args.answer c.if-answer-eq0.true) c.put_words.ensures
 
 pub put_words-requires-then-answer-le-LAST_PLACED : goal.put_words-requires-then-answer-le-LAST_PLACED
-put_words-requires-then-answer-le-LAST_PLACED c = rw c.wide8-number.ensures.0 (rw (line_placed c.args.answer c.if-answer-eq0.false c.if-answer-le-LAST_PLACED.true) at c.requires)
+put_words-requires-then-answer-le-LAST_PLACED c = rw c.from-number.ensures (rw (line_placed c.args.answer c.if-answer-eq0.false c.if-answer-le-LAST_PLACED.true) at c.requires)
 
 pub returns-then-answer-le-LAST_PLACED : goal.returns-then-answer-le-LAST_PLACED
 returns-then-answer-le-LAST_PLACED c =
-    rw (line_placed c.args.answer c.if-answer-eq0.false c.if-answer-le-LAST_PLACED.true) (rw c.wide8-number.ensures.0 at c.put_words-then-answer-le-LAST_PLACED.ensures)
+    rw (line_placed c.args.answer c.if-answer-eq0.false c.if-answer-le-LAST_PLACED.true) (rw c.from-number.ensures at c.put_words-then-answer-le-LAST_PLACED.ensures)
 
 pub put_words-requires-2 : goal.put_words-requires-2
-put_words-requires-2 c = rw c.wide8-number.ensures.0 (rw (line_unplaced c.args.answer c.if-answer-le-LAST_PLACED.false) at c.requires)
+put_words-requires-2 c = rw c.from-number.ensures (rw (line_unplaced c.args.answer c.if-answer-le-LAST_PLACED.false) at c.requires)
 
 pub returns : goal.returns
-returns c = rw (line_unplaced c.args.answer c.if-answer-le-LAST_PLACED.false) (rw c.wide8-number.ensures.0 at c.put_words-2.ensures)
+returns c = rw (line_unplaced c.args.answer c.if-answer-le-LAST_PLACED.false) (rw c.from-number.ensures at c.put_words-2.ensures)
