@@ -12,7 +12,7 @@ ghost use Rattle.rule.specs.Header.{variables, HasKinds};
 ghost use Rattle.fused_gate.specs.Emitted.{Written, Grouped};
 ghost use Rattle.fused_file.specs.Turns.{OutputsPlaced, PlaceOf};
 ghost use Rattle.fused_file.specs.Fusions.{output_by, group_bytes, stage_of, stage_bytes, file_for, GroupWired, MeasurableIn, GroupMeasured, MeasuresIn, Summed, PuttableIn, TurnableIn};
-ghost use Rattle.circuit.specs.Rooms.{gate_room, variable_room};
+ghost use Rattle.circuit.specs.Rooms.{gate_room};
 
 use circuit::{Circuit, GATE_ROOM, GateId, VARIABLE_ROOM};
 use file::WireId;
@@ -20,13 +20,14 @@ use fused_gate::Wiring;
 use fused_group::Joint;
 use fused_size::Size;
 use plan::Grouping;
+use rule::Rule;
 
 // The output of variable x of a rule: the wire of its last gate, no wire for a working one.
-fn output_of(rule: &[u8], x: u8, outputs: &[u16; VARIABLE_ROOM], wiring: Wiring) -> WireId
-    requires { (6 + x < length rule.now) × (x < variable_room) × Grouped wiring.group.now (get_or outputs.now x 0) }
-    ensures { result.0 ≡ output_by rule.now outputs.now wiring.entry x }
+fn output_of(rule: Rule, x: u8, outputs: &[u16; VARIABLE_ROOM], wiring: Wiring) -> WireId
+    requires { (x < variables rule.bytes.now) × Grouped wiring.group.now (get_or outputs.now x 0) }
+    ensures { result.0 ≡ output_by rule.entry.bytes.now outputs.now wiring.entry x }
 {
-    if rule_reader::working_at(rule, x) {
+    if rule.working_at(x) {
         WireId(file::NO_WIRE)
     } else {
         wiring.of(GateId(outputs[x as usize]))
@@ -34,11 +35,11 @@ fn output_of(rule: &[u8], x: u8, outputs: &[u16; VARIABLE_ROOM], wiring: Wiring)
 }
 
 // The outputs of a rule's variables.
-fn put_outputs(out: &mut [u8], rule: &[u8], outputs: &[u16; VARIABLE_ROOM], wiring: Wiring)
-    requires { (HasKinds rule.now × OutputsPlaced outputs.now (variables rule.now) wiring.group.now) × (2 * variables rule.now ≤ length out.old) }
-    ensures { out.new ≡ over (wires_bytes (map (output_by rule.now outputs.now wiring.entry) (upto (variables rule.now)))) out.old }
+fn put_outputs(out: &mut [u8], rule: Rule, outputs: &[u16; VARIABLE_ROOM], wiring: Wiring)
+    requires { OutputsPlaced outputs.now (variables rule.bytes.now) wiring.group.now × (2 * variables rule.bytes.now ≤ length out.old) }
+    ensures { out.new ≡ over (wires_bytes (map (output_by rule.entry.bytes.now outputs.now wiring.entry) (upto (variables rule.entry.bytes.now)))) out.old }
 {
-    for x in 0..rule[5] {
+    for x in 0..rule.variables() {
         let w = output_of(rule, x, outputs, wiring);
         base_words::put16(&mut out[2 * usize::from(x)..], w.0);
     }
@@ -190,7 +191,7 @@ impl Fusion<'_> {
         };
         put_outputs(
             &mut out[file::FIRST_RECORD + n..],
-            rule,
+            Rule { bytes: rule },
             &self.circuit.outputs,
             wiring,
         );
