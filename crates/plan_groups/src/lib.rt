@@ -165,7 +165,7 @@ fn join_members(plan: &[u8], at: usize, count: usize, grouping: &mut Grouping) -
     ensures free { result ≡ every (λ g. eqb (get_or grouping.old.places g 0) 0) (file.group_at plan.now at) }
     ensures groups { result ≡ true → grouping.new.group ≡ put_all (file.group_at plan.now at) (smallest (file.group_at plan.now at)) grouping.old.group }
     ensures places { result ≡ true → grouping.new.places ≡ put_all (file.group_at plan.now at) at grouping.old.places }
-    ensures order { grouping.new.order ≡ grouping.old.order }
+    ensures rest { (grouping.new.order ≡ grouping.old.order) × (grouping.new.groups ≡ grouping.old.groups) }
 {
     let first = plan_member::member(plan, at, 0);
     for k in 0..size_at(plan, at) {
@@ -185,7 +185,7 @@ fn join_groups(plan: &[u8], count: usize, grouping: &mut Grouping) -> bool
     ensures once { result ≡ checks.apart (file.groups_in plan.now) }
     ensures groups { result ≡ true → grouping.new.group ≡ group_table count (file.groups_in plan.now) }
     ensures places { result ≡ true → grouping.new.places ≡ place_table count plan.now }
-    ensures order { grouping.new.order ≡ grouping.old.order }
+    ensures rest { (grouping.new.order ≡ grouping.old.order) × (grouping.new.groups ≡ grouping.old.groups) }
 {
     number_gates(count, &mut grouping.group);
     let mut at = plan::LEAST_PLAN_BYTES;
@@ -205,12 +205,13 @@ pub fn group_gates(plan: &[u8], count: usize, grouping: &mut Grouping) -> Result
     ensures number { row_in result ≡ checks.first_failing (checks.layout_rows count plan.now) }
     ensures groups { row_in result ≡ 0 → grouping.new.group ≡ group_table count (file.groups_in plan.now) }
     ensures places { row_in result ≡ 0 → grouping.new.places ≡ place_table count plan.now }
-    ensures order { grouping.new.order ≡ grouping.old.order }
+    ensures rest { (grouping.new.order ≡ grouping.old.order) × (grouping.new.groups ≡ grouping.old.groups) }
     ensures refused { (row_in result ≡ 0 → ⊥) → Ungrouped grouping.new }
 {
     check_layout(plan, count)?;
     if !join_groups(plan, count, grouping) {
-        *grouping = Grouping::clear();
+        grouping.group = [0u16; GATE_ROOM];
+        grouping.places = [0u16; GATE_ROOM];
         return Err(Row::InTwoGroups);
     }
     Ok(())

@@ -6,7 +6,7 @@ use Rattle.plan_groups.proofs.join_groups.Goals as goal
 pub loop-init : goal.loop-init
 loop-init c = (
   joining_start _ _ _ _ _ c.requires.0 (omega (arith, c.groups_counted-end.ensures)) c.number_gates.ensures c.requires.1.1.0,
-  refl,
+  (refl, refl),
 )
 
 pub join_members-requires : goal.join_members-requires
@@ -23,10 +23,10 @@ loop-preserved c =
     let r = c.if-not-join_members.false in
     let e = c.join_members.ensures in (
       joining_step _ _ _ _ _ _ _ _ _ _ _ c.loop.invariant.0 (omega arith) e.free r c.after-at.ensures (e.groups r) (e.places r),
-      e.order ∙ c.loop.invariant.1,
+      (e.rest.0 ∙ c.loop.invariant.1.0, e.rest.1 ∙ c.loop.invariant.1.1),
     )
 
 pub returns : goal.returns
 returns c =
     let r = joining_end _ _ _ _ _ _ c.loop.invariant.0 (omega arith) in
-    record { once = r.0; groups = λ e. r.1.0; places = λ e. r.1.1; order = c.loop.invariant.1 }
+    record { once = r.0; groups = λ e. r.1.0; places = λ e. r.1.1; rest = c.loop.invariant.1 }

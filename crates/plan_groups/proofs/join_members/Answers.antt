@@ -4,7 +4,7 @@ use Rattle.plan_groups.specs.PutLaws.{putting_start, putting_fails, putting_step
 use Rattle.plan_groups.proofs.join_members.Goals as goal
 
 pub loop-k-init : goal.loop-k-init
-loop-k-init c = (putting_start _ _ _ _ _ _ c.requires c.member-first.ensures, refl)
+loop-k-init c = (putting_start _ _ _ _ _ _ c.requires c.member-first.ensures, (refl, refl))
 
 pub bounds-grouping-i : goal.bounds-grouping-i
 bounds-grouping-i c = walk_byte _ _ _ _ _ c.loop-k.invariant.0.walk (omega arith) (c.index-i.ensures ∙ c.member.ensures)
