@@ -110,6 +110,7 @@ impl Fusion<'_> {
         ensures { Summed self.entry result }
     {
         let mut total = Size::default();
+        // By index, here and in writing: of a loop over `&order[..groups]` the proof did not close, since it has no fact on the array's length behind two references.
         for i in 0..self.grouping.groups {
             let q = GateId(self.grouping.order[i]);
             total = total + self.size_group(q, wires);

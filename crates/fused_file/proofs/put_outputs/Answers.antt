@@ -16,12 +16,18 @@ output_of-w-requires c = let d = c.requires.0 in
     (omega (arith, d.0, l), omega (arith, d.1.few, l), d.1.placed _ l)
 
 pub slice_bounds-put16-count : goal.slice_bounds-put16-count
-slice_bounds-put16-count c = omega (arith, outputs_fits (output_by c.args.rule.now c.args.outputs.now c.args.wiring) _ _ _ _ c.loop-x.invariant c.loop-x-test.true _
-    c.from.ensures)
+slice_bounds-put16-count c = omega (
+  arith,
+  outputs_fits (output_by c.args.rule.now c.args.outputs.now c.args.wiring) _ _ _ _ c.loop-x.invariant c.loop-x-test.true _
+      c.from.ensures,
+)
 
 pub slice_bounds-put16-start : goal.slice_bounds-put16-start
-slice_bounds-put16-start c = let z : 2 * c.from.result ≤ length c.loop-x.out = omega (arith, outputs_fits (output_by c.args.rule.now c.args.outputs.now
-    c.args.wiring) _ _ _ _ c.loop-x.invariant c.loop-x-test.true _ c.from.ensures) in search rules
+slice_bounds-put16-start c = let z : 2 * c.from.result ≤ length c.loop-x.out = omega (
+  arith,
+  outputs_fits (output_by c.args.rule.now c.args.outputs.now
+      c.args.wiring) _ _ _ _ c.loop-x.invariant c.loop-x-test.true _ c.from.ensures,
+) in search rules
 
 pub put16-requires : goal.put16-requires
 put16-requires c = outputs_room (output_by c.args.rule.now c.args.outputs.now c.args.wiring) _ _ _ _ c.loop-x.invariant c.loop-x-test.true _ c.from.ensures

@@ -28,9 +28,11 @@ slice_bounds-put_records-start c = let f = c.args.self in
 
 pub put_records-n-requires : goal.put_records-n-requires
 put_records-n-requires c = let f = c.args.self in
-    let S = stage_of f in
-    ((records_room (variables c.args.rule.now) S.records (outputs_in c.args.rule.now f.circuit.now.outputs f.grouping.now.group S.wires) c.args.out.now c.requires.0
-    _ c.requires.1.1.0 _ c.put_head.ensures).1, (c.requires.1.0, refl))
+    let S = stage_of f in (
+      (records_room (variables c.args.rule.now) S.records (outputs_in c.args.rule.now f.circuit.now.outputs f.grouping.now.group S.wires) c.args.out.now c.requires.0
+          _ c.requires.1.1.0 _ c.put_head.ensures).1,
+      (c.requires.1.0, refl),
+    )
 
 pub overflow_add-n : goal.overflow_add-n
 overflow_add-n c = let f = c.args.self in
@@ -64,7 +66,7 @@ put_outputs-requires c = let f = c.args.self in
     let S = stage_of f in (
       c.requires.1.1.1,
       (ends_room (variables c.args.rule.now) S.records (outputs_in c.args.rule.now f.circuit.now.outputs f.grouping.now.group S.wires) c.args.out.now c.requires.0 _
-      c.requires.1.1.0 _ c.put_head.ensures _ _
+          c.requires.1.1.0 _ c.put_head.ensures _ _
           c.put_records-n.ensures.put.counted c.put_records-n.ensures.put.written
           (outputs_count (output_in c.args.rule.now f.circuit.now.outputs f.grouping.now.group S.wires) (variables c.args.rule.now))).2,
     )

@@ -13,8 +13,11 @@ pub slice_bounds-put_group-count : goal.slice_bounds-put_group-count
 slice_bounds-put_group-count c = omega (arith, (putting_fits _ _ _ _ _ _ _ _ _ _ _ _ _ _ c.loop-i.invariant c.loop-i-test.true _ _ refl refl).0)
 
 pub slice_bounds-put_group-start : goal.slice_bounds-put_group-start
-slice_bounds-put_group-start c = let z : c.loop-i.at ≤ length c.loop-i.out = omega (arith, (putting_fits _ _ _ _ _ _ _ _ _ _ _ _ _ _ c.loop-i.invariant
-    c.loop-i-test.true _ _ refl refl).0) in search rules
+slice_bounds-put_group-start c = let z : c.loop-i.at ≤ length c.loop-i.out = omega (
+  arith,
+  (putting_fits _ _ _ _ _ _ _ _ _ _ _ _ _ _ c.loop-i.invariant
+      c.loop-i-test.true _ _ refl refl).0,
+) in search rules
 
 pub put_group-put-requires : goal.put_group-put-requires
 put_group-put-requires c = (
@@ -27,12 +30,20 @@ overflow_add-at c = let f = putting_fits _ _ _ _ _ _ _ _ _ _ _ _ _ _ c.loop-i.in
     let z : c.loop-i.at + c.put_group-put.result.bytes ≤ length c.args.out.now = omega (arith, c.put_group-put.ensures.put.counted, f.0, f.1) in search rules
 
 pub overflow_add-first : goal.overflow_add-first
-overflow_add-first c = record { fits = omega (arith, (turn_fits _ _ _ _ _ _ _ _ _ c.requires.1.0 _ _ _ c.loop-i-test.true refl refl _ _ _ c.loop-i.invariant.counted
-    c.loop-i.invariant.wired c.put_group-put.ensures.wired).1) }
+overflow_add-first c = record {
+  fits = omega (
+    arith,
+    (turn_fits _ _ _ _ _ _ _ _ _ c.requires.1.0 _ _ _ c.loop-i-test.true refl refl _ _ _ c.loop-i.invariant.counted
+        c.loop-i.invariant.wired c.put_group-put.ensures.wired).1,
+  );
+}
 
 pub overflow_sub-wires : goal.overflow_sub-wires
-overflow_sub-wires c = omega (arith, (turn_fits _ _ _ _ _ _ _ _ _ c.requires.1.0 _ _ _ c.loop-i-test.true refl refl _ _ _ c.loop-i.invariant.counted
-    c.loop-i.invariant.wired c.put_group-put.ensures.wired).0)
+overflow_sub-wires c = omega (
+  arith,
+  (turn_fits _ _ _ _ _ _ _ _ _ c.requires.1.0 _ _ _ c.loop-i-test.true refl refl _ _ _ c.loop-i.invariant.counted
+      c.loop-i.invariant.wired c.put_group-put.ensures.wired).0,
+)
 
 pub bounds-wires-index : goal.bounds-wires-index
 bounds-wires-index c = rw c.index.ensures (c.requires.1.0.inside _ c.loop-i-test.true)
