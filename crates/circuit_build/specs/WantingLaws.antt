@@ -28,10 +28,10 @@ pub listing_start : (s outputs wanted : List ℕ) → variables s ≤ most_varia
 listing_start s outputs wanted f r = record { low = omega arith; few = f; room = r; so_far = omega arith; listed = refl }
 
 -- one variable more: its gate is put down behind those listed, and stays if it is a result
-module _ (s outputs wanted : List ℕ) (x k m : ℕ) (b : Bool) (i : Listing s outputs wanted x k) (l : x < variables s) (e : b ≡ working_at s x) where
-  pub listing_result : b ≡ false → m ≡ 1 → Listing s outputs (set wanted k (get_or outputs x 0)) (x + 1) (k + m)
-  listing_result f h =
-      let n : k + m ≡ suc k = omega arith in
+module _ (s outputs wanted : List ℕ) (x k : ℕ) (b : Bool) (i : Listing s outputs wanted x k) (l : x < variables s) (e : b ≡ working_at s x) where
+  pub listing_result : b ≡ false → Listing s outputs (set wanted k (get_or outputs x 0)) (x + 1) (k + 1)
+  listing_result f =
+      let n : k + 1 ≡ suc k = omega arith in
       let r : k < length wanted = omega (arith, i.room, i.so_far, i.few) in
       record {
         low = omega arith;
@@ -44,15 +44,14 @@ module _ (s outputs wanted : List ℕ) (x k m : ℕ) (b : Bool) (i : Listing s o
             ∙ ap (map (λ y. get_or outputs y 0)) (sym (keep_yes (λ y. not (working_at s y)) x (ap not (sym e ∙ f))));
       }
 
-  pub listing_working : b ≡ true → m ≡ 0 → Listing s outputs (set wanted k (get_or outputs x 0)) (x + 1) (k + m)
-  listing_working t h =
-      let n : k + m ≡ k = omega arith in
+  pub listing_working : b ≡ true → Listing s outputs (set wanted k (get_or outputs x 0)) (x + 1) k
+  listing_working t =
       record {
         low = omega arith;
         few = i.few;
         room = length-set wanted k _ ∙ i.room;
         so_far = omega (arith, i.so_far);
-        listed = rw n (take-set-le k wanted k _ (omega arith)) ∙ i.listed
+        listed = take-set-le k wanted k _ (omega arith) ∙ i.listed
             ∙ ap (map (λ y. get_or outputs y 0)) (sym (keep_no (λ y. not (working_at s y)) x (ap not (sym e ∙ t))));
       }
 

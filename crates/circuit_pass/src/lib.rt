@@ -20,7 +20,7 @@ fn add(sets: &mut [u64; NEED_WORDS], g: GateId, s: Set)
     requires { g.0 < gate_room }
     ensures { sets_in sets.new ≡ add_number g.0 (set_of s) (sets_in sets.old) }
 {
-    let i = g.0 as usize;
+    let i = g.index();
     let old = base_settings::load(sets, i);
     base_settings::store(sets, i, base_settings::union(old, s));
 }
@@ -30,7 +30,7 @@ fn add_whole(sets: &mut [u64; NEED_WORDS], g: GateId)
     requires { g.0 < gate_room }
     ensures { sets_in sets.new ≡ add_number g.0 (whole most_settings) (sets_in sets.old) }
 {
-    let i = g.0 as usize;
+    let i = g.index();
     let old = base_settings::load(sets, i);
     base_settings::store(sets, i, base_settings::with_whole(old));
 }
@@ -40,11 +40,8 @@ fn want_all(wanted: &[u16], sets: &mut [u64; NEED_WORDS])
     requires { Inside gate_room wanted.now }
     ensures { sets_in sets.new ≡ add_numbers wanted.now (whole most_settings) (sets_in sets.old) }
 {
-    let mut x: usize = 0;
-    while x < wanted.len() {
-        let g = GateId(wanted[x]);
-        add_whole(sets, g);
-        x = x + 1;
+    for g in wanted {
+        add_whole(sets, GateId(*g));
     }
 }
 
@@ -65,8 +62,7 @@ fn rank_of(ranks: &[u16; GATE_ROOM], c: GateId) -> u8
     requires { (c.0 < gate_room) × ((0 < get_or ranks.now c.0 0) × (get_or ranks.now c.0 0 ≤ most_conditions)) }
     ensures { result ≡ get_or ranks.now c.0 0 - 1 }
 {
-    let i = c.0 as usize;
-    (ranks[i] - 1) as u8
+    (ranks[c.index()] - 1) as u8
 }
 
 // A choice on c, whose number is t: its set goes to c, the settings that give t the bit 1 to the first value, a, the others to the second, b.
@@ -101,7 +97,7 @@ fn hand(
     requires { Passable quads.now ranks.now count × (g.0 < count) }
     ensures { sets_in sets.new ≡ hand_gate (gates_in quads.now count) g.0 (sets_in sets.old) }
 {
-    let i = g.0 as usize;
+    let i = g.index();
     let code = quads[4 * i];
     if code < circuit::SUM {
         return;
@@ -139,9 +135,7 @@ fn pass(
     ensures passed { sets_in sets.new ≡ pass_gates (gates_in quads.now count) count (sets_in sets.old) }
     ensures settled { sets_in sets.new ≡ hand_gates_from (gates_in quads.now count) (sets_in sets.new) count (sets_in sets.old) }
 {
-    let mut i = count as u16;
-    while 0 < i {
-        i = i - 1;
+    for i in (0..count as u16).rev() {
         hand(quads, count, ranks, GateId(i), sets);
     }
 }
