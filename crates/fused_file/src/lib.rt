@@ -50,12 +50,7 @@ fn put_head(out: &mut [u8], v: u8, count: u16)
     requires { 8 ≤ length out.old }
     ensures { out.new ≡ over (mark written_version ++ (v ∷ bytes_of 2 count)) out.old }
 {
-    out[0] = 0x43;
-    out[1] = 0x49;
-    out[2] = 0x52;
-    out[3] = 0;
-    out[4] = file::WRITTEN_VERSION;
-    out[5] = v;
+    out[..6].copy_from_slice(&[0x43, 0x49, 0x52, 0, file::WRITTEN_VERSION, v]);
     base_words::put16(&mut out[6..], count);
 }
 
@@ -111,6 +106,7 @@ impl Fusion<'_> {
         ensures { Summed self.entry result }
     {
         let mut total = Size::default();
+        // By index, here and in writing: of a loop over `&order[..groups]` the proof did not close, since it has no fact on the array's length behind two references.
         for i in 0..self.grouping.groups {
             let q = GateId(self.grouping.order[i]);
             total = total + self.size_group(q, wires);

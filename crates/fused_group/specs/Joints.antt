@@ -1,7 +1,8 @@
 -- Inner, for document 01, "The fused circuit file": what is written of a joined group in hand, and what its writers ask.
-use Rattle.std.specs.Prelude.{ℕ, Bool, List, [], ◌∷◌}
+use Rattle.std.specs.Prelude.{ℕ, ◌≤◌, Bool, List, [], ◌∷◌}
 use Rattle.base.specs.SetsHeld.{sets_in}
 use Rattle.plan.specs.PlanFile.{group_at}
+use Rattle.file.specs.Limits.{most_wires}
 use Rattle.file.specs.Versions.{written_version}
 use Rattle.file.specs.Records.{Pair, pick}
 use Rattle.file.specs.CircuitFile.{record_bytes, records_bytes}
@@ -72,6 +73,13 @@ module _ (j : Joint) where
 
   abbrev pub FusingIn : Type 0
   FusingIn = Fusing j.circuit.now.quads j.plan.now j.wiring.group.now j.at
+
+  -- the same for one that can be written from wire n on
+  abbrev pub PairedFrom : ℕ → ℕ → Type 0
+  PairedFrom n k = PairedIn k × (n ≤ most_wires)
+
+  abbrev pub FusingFrom : ℕ → Type 0
+  FusingFrom n = FusingIn × (n ≤ most_wires)
 
   abbrev pub JoinWritableIn : Type 0
   JoinWritableIn = JoinWritable j.circuit.now.quads j.plan.now j.circuit.now.conditions j.wiring.group.now j.circuit.now.count j.at

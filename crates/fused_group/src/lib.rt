@@ -12,28 +12,8 @@ ghost use Rattle.fused.specs.Emission.{one_wire};
 ghost use Rattle.fused_gate.specs.Emitted.{wire_by, Written};
 ghost use Rattle.fused_group.specs.Decisions.{has_pick, count_in};
 ghost use Rattle.fused_group.specs.Joined.{argument_at};
-ghost use Rattle.fused_group.specs.Joints.{
-  members,
-  values_for,
-  pairs_for,
-  guard_for,
-  guards_for,
-  pick_for,
-  kept_for,
-  place_for,
-  picks_for,
-  read_for,
-  operation_for,
-  fused_for,
-  records_for,
-  LiesIn,
-  GuardedIn,
-  PairedIn,
-  JoinableIn,
-  FusingIn,
-  JoinWritableIn,
-  DecidedIn,
-};
+ghost use Rattle.fused_group.specs.Joints.{members, values_for, pairs_for, guard_for, guards_for, pick_for, kept_for, place_for, picks_for, read_for, operation_for};
+ghost use Rattle.fused_group.specs.Joints.{fused_for, records_for, LiesIn, GuardedIn, PairedIn, JoinableIn, PairedFrom, FusingFrom, JoinWritableIn, DecidedIn};
 ghost use Rattle.base.specs.SetsHeld.{set_of};
 
 use base::{ConditionList, Set};
@@ -157,7 +137,7 @@ impl Joint<'_> {
 
     // The pairs for argument place k, members rising: the guards are the wires from `first` on.
     fn put_pairs(self, out: &mut [u8], first: WireId, k: usize)
-        requires { (4 * get_or self.plan.now self.at 0 ≤ length out.old) × (PairedIn self k × (first.0 ≤ most_wires)) }
+        requires { (4 * get_or self.plan.now self.at 0 ≤ length out.old) × PairedFrom self first.0 k }
         ensures { out.new ≡ over (wires_bytes (pair_wires (pairs_for self.entry first.0 k))) out.old }
     {
         for i in 0..self.size() as usize {
@@ -168,7 +148,7 @@ impl Joint<'_> {
 
     // The pick for argument place k; gives its bytes.
     fn put_pick(self, out: &mut [u8], first: WireId, k: usize) -> usize
-        requires { (2 + 4 * get_or self.plan.now self.at 0 ≤ length out.old) × (PairedIn self k × (first.0 ≤ most_wires)) }
+        requires { (2 + 4 * get_or self.plan.now self.at 0 ≤ length out.old) × PairedFrom self first.0 k }
         ensures counted { result ≡ 2 + 4 * get_or self.entry.plan.now self.entry.at 0 }
         ensures written { out.new ≡ over (pick_for self.entry first.0 k) out.old }
     {
@@ -227,7 +207,7 @@ impl Joint<'_> {
 
     // The pick for argument place k, or nothing where it has none; gives its bytes.
     fn put_place(self, out: &mut [u8], first: WireId, k: usize, picked: bool) -> usize
-        requires { (length (place_for self first.0 k picked) ≤ length out.old) × (PairedIn self k × (first.0 ≤ most_wires)) }
+        requires { (length (place_for self first.0 k picked) ≤ length out.old) × PairedFrom self first.0 k }
         ensures { Written (place_for self.entry first.0 k picked) result out.old out.new }
     {
         if picked {
@@ -239,7 +219,7 @@ impl Joint<'_> {
 
     // The picks, the first argument place and then the second; gives their bytes.
     fn put_picks(self, out: &mut [u8], first: WireId, picks: Picks) -> usize
-        requires { (length (picks_for self first.0 picks) ≤ length out.old) × (FusingIn self × (first.0 ≤ most_wires)) }
+        requires { (length (picks_for self first.0 picks) ≤ length out.old) × FusingFrom self first.0 }
         ensures { Written (picks_for self.entry first.0 picks) result out.old out.new }
     {
         let n = self.put_place(out, first, 0, picks.first);
@@ -256,7 +236,7 @@ impl Joint<'_> {
 
     // The operation, whose wire stands for every member; the picks follow the guards. Gives its bytes.
     fn put_operation(self, out: &mut [u8], first: WireId, picks: Picks) -> usize
-        requires { (length (operation_for self first.0 picks) ≤ length out.old) × (FusingIn self × (first.0 ≤ most_wires)) }
+        requires { (length (operation_for self first.0 picks) ≤ length out.old) × FusingFrom self first.0 }
         ensures { Written (operation_for self.entry first.0 picks) result out.old out.new }
     {
         let i = self.member(0).index();
@@ -270,7 +250,7 @@ impl Joint<'_> {
 
     // The picks and the operation that reads them; gives their bytes.
     fn put_fused(self, out: &mut [u8], first: WireId, picks: Picks) -> usize
-        requires { (length (fused_for self first.0 picks) ≤ length out.old) × (FusingIn self × (first.0 ≤ most_wires)) }
+        requires { (length (fused_for self first.0 picks) ≤ length out.old) × FusingFrom self first.0 }
         ensures { Written (fused_for self.entry first.0 picks) result out.old out.new }
     {
         let n = self.put_picks(out, first, picks);
