@@ -1,1 +1,3 @@
 pub mod GuardLaws
+pub mod KindLaws
+pub mod PassedLaws

@@ -1,8 +1,7 @@
 -- Document 01, "Refusals by place": what an operation returns.
 use Rattle.std.specs.Prelude.{ℕ, cond, eqb}
 use Rattle.base.specs.declared.Answer.{Answer}
-use Rattle.base.specs.declared.Step.{Step}
-use Rattle.base.specs.declared.Step.TheVariants.{Past, Refused}
+use Rattle.base.specs.Parsing.{Step, Past, Refused}
 
 -- success: number 0, place 0 and the counts
 abbrev pub success : ℕ → ℕ → ℕ → ℕ → ℕ → Answer

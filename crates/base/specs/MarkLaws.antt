@@ -9,7 +9,7 @@ use Rattle.base.specs.Lists.{same}
 use Rattle.base.specs.TestLaws.{split, both, and}
 use Rattle.base.specs.Parsing.{read_mark, step_of, IsRead}
 use Rattle.base.specs.ParsingLaws.{past_read, not_refused}
-use Rattle.base.specs.declared.Step.TheVariants.{Past, Refused}
+use Rattle.base.specs.Parsing.{Past, Refused}
 
 module _ (number : ℕ) (p : List ℕ) where
   mark_to : (m : List ℕ) (at : ℕ) → at + length m ≤ length p → IsRead (read_mark number m p at) → same (take (length m) (drop at p)) m ≡ true

@@ -1,7 +1,10 @@
 -- Document 01, "Refusals by place": reading byte by byte, the first offending byte decides, then the lowest number.
 use Rattle.std.specs.Prelude.{ℕ, ◌+◌, List, [], ◌∷◌, get_or, eqb, Bool, true, false}
-use Rattle.base.specs.declared.Step.{Step}
-use Rattle.base.specs.declared.Step.TheVariants.{Past, Refused}
+
+-- where a reader stands: past what it read, or at a refusal's number and place
+pub data Step : Type 0 where
+  Past : ℕ → Step
+  Refused : ℕ → ℕ → Step
 
 -- the result of a parser: what was read and the place after it, or a refusal's number and place
 pub data Parsed (A : Type 0) : Type 0 where
@@ -9,7 +12,7 @@ pub data Parsed (A : Type 0) : Type 0 where
   refused : ℕ → ℕ → Parsed A
 
 module _ {A : Type 0} where
-  -- the step that the code takes: it keeps the place and not what was read
+  -- where the reader stands then: it keeps the place and not what was read
   abbrev pub step_of : Parsed A → Step
   step_of (parsed a next) = Past next
   step_of (refused number place) = Refused number place

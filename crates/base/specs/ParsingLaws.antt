@@ -4,8 +4,8 @@ use Rattle.std.proofs.Common.{arith, add-one, subst, ◌∙◌, drop_of_length-l
 use Rattle.std.proofs.Math.Path.{ap, subst⁻¹}
 use mathlib.Core.List.{List, [], ◌∷◌, ◌++◌}
 use Rattle.base.specs.Parsing.{Parsed, parsed, refused, step_of, IsRead, unless, ◌>>=◌, read_mark}
-use Rattle.base.specs.declared.Step.{Step}
-use Rattle.base.specs.declared.Step.TheVariants.{Past, Refused}
+use Rattle.base.specs.Parsing.{Step}
+use Rattle.base.specs.Parsing.{Past, Refused}
 
 -- Steps: the code knows the step of a part, and wants that of the whole.
 

@@ -18,13 +18,6 @@ pub struct Answer {
     pub after: usize,
 }
 
-// Where a reader stands: past what it read, or at a refusal's number and place.
-#[derive(Clone, Copy)]
-pub enum Step {
-    Past(usize),
-    Refused(u8, usize),
-}
-
 // The rows of the table of refusals, each with the table's number.
 #[derive(Clone, Copy, PartialEq, Eq)]
 pub enum Row {
@@ -63,17 +56,14 @@ pub enum Row {
 
 // A refusal: its row, and the place that it names.
 #[derive(Clone, Copy, PartialEq, Eq)]
-pub struct Refusal {
-    pub row: Row,
-    pub place: usize,
-}
+pub struct Refusal(pub Row, pub usize);
 
 impl Row {
     // The refusal by this row at a place.
     pub fn at(self, place: usize) -> Refusal
-        ensures { result ≡ record { row = self; place = place } }
+        ensures { result ≡ record { 0 = self; 1 = place } }
     {
-        Refusal { row: self, place }
+        Refusal(self, place)
     }
 }
 
@@ -82,12 +72,12 @@ impl From<Row> for Refusal {
     ghost from_gives = { refused_by_row };
 
     fn from(row: Row) -> Refusal {
-        row.at(0)
+        Refusal(row, 0)
     }
 }
 
 // The counts of a success, those that the operation works out; the others are 0.
-#[derive(Clone, Copy, PartialEq, Eq)]
+#[derive(Clone, Copy, PartialEq, Eq, Default)]
 pub struct Counts {
     pub gates: usize,
     pub wires: usize,
@@ -102,8 +92,8 @@ impl From<Refusal> for Answer {
 
     fn from(refusal: Refusal) -> Answer {
         Answer {
-            number: refusal.row as u8,
-            place: refusal.place,
+            number: refusal.0 as u8,
+            place: refusal.1,
             gates: 0,
             wires: 0,
             bytes: 0,
@@ -140,17 +130,17 @@ pub enum Kind {
     Bit,
 }
 
-// The operations of the table.
+// The operations of the table, each with its code byte.
 #[derive(Clone, Copy, PartialEq, Eq)]
 pub enum Operation {
-    Sum,
-    Difference,
-    Product,
-    LessThan,
-    Equal,
-    And,
-    Or,
-    Not,
+    Sum = 0x20,
+    Difference = 0x21,
+    Product = 0x22,
+    LessThan = 0x23,
+    Equal = 0x24,
+    And = 0x25,
+    Or = 0x26,
+    Not = 0x27,
 }
 
 // What a code byte opens.

@@ -2,47 +2,29 @@
 #![tactic(auto)]
 
 ghost use Rattle.std.specs.Prelude.{◌≡◌, ◌≤◌, length};
-ghost use Rattle.base.specs.Answers.{refusal, answer_of};
+ghost use Rattle.base.specs.Answers.{refusal};
 ghost use Rattle.base.specs.Parsing.{step_of, read_mark};
+ghost use Rattle.base.specs.Refusals.{step_in};
+ghost use Rattle.base.specs.Rows.{number_of};
 
-use base::{Answer, Step};
+use base::{Answer, Refusal, Row};
 
-// A refusal has its number and place, and counts nothing.
-pub fn refused(number: u8, place: usize) -> Answer
-    ensures { result ≡ refusal number place }
+// The answer of a row at a place.
+pub fn refused(row: Row, place: usize) -> Answer
+    ensures { result ≡ refusal (number_of row) place }
 {
-    Answer {
-        number,
-        place,
-        gates: 0,
-        wires: 0,
-        bytes: 0,
-        before: 0,
-        after: 0,
-    }
+    Answer::from(row.at(place))
 }
 
-// The answer of a reader that counts nothing.
-pub fn of_step(step: Step) -> Answer
-    ensures { result ≡ answer_of step }
-{
-    match step {
-        Step::Past(_) => refused(0, 0),
-        Step::Refused(number, place) => refused(number, place),
-    }
-}
-
-// The bytes of `mark` stand at the start of the file, or the number lies on the first that does not.
-pub fn read_mark(s: &[u8], mark: &[u8], number: u8) -> Step
+// The bytes of `mark` stand at the start of the file, or the row lies on the first that does not.
+pub fn read_mark(s: &[u8], mark: &[u8], row: Row) -> Result<usize, Refusal>
     requires { length mark.now ≤ length s.now }
-    ensures { result ≡ step_of (read_mark number mark.now s.now 0) }
+    ensures { step_in result ≡ step_of (read_mark (number_of row) mark.now s.now 0) }
 {
-    let mut at = 0;
-    while at < mark.len() {
+    for at in 0..mark.len() {
         if s[at] != mark[at] {
-            return Step::Refused(number, at);
+            return Err(row.at(at));
         }
-        at += 1;
     }
-    Step::Past(at)
+    Ok(mark.len())
 }

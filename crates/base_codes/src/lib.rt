@@ -20,16 +20,7 @@ pub fn start_kind(b: u8) -> Kind
 pub fn same_kind(a: Kind, b: Kind) -> bool
     ensures { result ≡ same_kind a b }
 {
-    match a {
-        Kind::Word => match b {
-            Kind::Word => true,
-            Kind::Bit => false,
-        },
-        Kind::Bit => match b {
-            Kind::Word => false,
-            Kind::Bit => true,
-        },
-    }
+    a == b
 }
 
 // A code with no arguments.
@@ -156,16 +147,7 @@ fn operation_of(b: u8) -> Operation
 pub fn byte_of(op: Operation) -> u8
     ensures { result ≡ byte_of op }
 {
-    match op {
-        Operation::Sum => 0x20,
-        Operation::Difference => 0x21,
-        Operation::Product => 0x22,
-        Operation::LessThan => 0x23,
-        Operation::Equal => 0x24,
-        Operation::And => 0x25,
-        Operation::Or => 0x26,
-        Operation::Not => 0x27,
-    }
+    op as u8
 }
 
 // The decision over the code bytes, each giving kind, arity and cost.
@@ -201,20 +183,21 @@ pub fn apply(op: Operation, a: u32, b: u32) -> u32
     }
 }
 
+// A test's figure.
 fn bit(test: bool) -> u32
     ensures { result ≡ bit_of test }
 {
-    if test { 1 } else { 0 }
+    test as u32
 }
 
 fn and(a: u32, b: u32) -> u32
     ensures { result ≡ bit_of (eqb a 1 && eqb b 1) }
 {
-    if a == 1 { bit(b == 1) } else { 0 }
+    bit(a == 1 && b == 1)
 }
 
 fn or(a: u32, b: u32) -> u32
     ensures { result ≡ bit_of (eqb a 1 || eqb b 1) }
 {
-    if a == 1 { 1 } else { bit(b == 1) }
+    bit(a == 1 || b == 1)
 }

@@ -252,22 +252,15 @@ pub fn rested(s: Set) -> ConditionList
 {
     let mut at = [0u8; LIST_ROOM];
     let mut on: u8 = 0;
-    let mut k: u8 = 0;
-    let mut t: u8 = 0;
-    while t < SET_CONDITIONS {
+    let mut count: u8 = 0;
+    for t in 0..SET_CONDITIONS {
         if rests_on(s, t) {
-            let i = k as usize;
-            at[i] = t;
-            on = on | power(t);
-            k = k + 1;
+            at[count as usize] = t;
+            on |= power(t);
+            count += 1;
         }
-        t = t + 1;
     }
-    ConditionList {
-        count: k,
-        on: on,
-        at: at,
-    }
+    ConditionList { count, on, at }
 }
 
 // The bits of a table over so many conditions.
@@ -295,13 +288,11 @@ pub fn table(s: Set, r: ConditionList) -> Set
     let n = size(r.count);
     let mut bits = [0u64; SET_WORDS];
     let mut setting: u16 = 0;
-    let mut j: u16 = 0;
-    while j < n {
+    for j in 0..n {
         if has(s, setting as u8) {
             base_bits::put(&mut bits, 0, j);
         }
         setting = next_setting(on, setting);
-        j = j + 1;
     }
     load(&bits, 0)
 }

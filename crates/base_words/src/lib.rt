@@ -5,13 +5,6 @@ ghost use Rattle.std.specs.Prelude.{◌≡◌, ◌+◌, ◌<◌, ◌≤◌, leng
 ghost use Rattle.base.specs.Numbers.{bytes_of, number_at, sum_of, difference_of, product_of};
 ghost use Rattle.base.specs.Buffers.{over};
 
-// A byte as a wider number: the bound is proved here once, so no reader asks for it again.
-fn wide(x: u8) -> u16
-    ensures { (result ≡ x) × (result < 256) }
-{
-    x as u16
-}
-
 // A byte and a 16-bit number as an index, with the bound, for every crate that reads one.
 pub fn wide8(x: u8) -> usize
     ensures { (result ≡ x) × (result < 256) }
@@ -29,7 +22,7 @@ pub fn read16(s: &[u8], at: usize) -> u16
     requires { at + 2 ≤ length s.now }
     ensures { result ≡ number_at 2 s.now at }
 {
-    wide(s[at]) * 256 + wide(s[at + 1])
+    (s[at] as u16) * 256 + (s[at + 1] as u16)
 }
 
 // Each wider number is two of half its width.
@@ -75,13 +68,13 @@ pub fn put64(out: &mut [u8], x: u64)
 pub fn sum(a: u32, b: u32) -> u32
     ensures { result ≡ sum_of a b }
 {
-    std::num::wrapping_add_u32(a, b)
+    a.wrapping_add(b)
 }
 
 pub fn difference(a: u32, b: u32) -> u32
     ensures { result ≡ difference_of a b }
 {
-    std::num::wrapping_sub_u32(a, b)
+    a.wrapping_sub(b)
 }
 
 // A product of two words fits 64 bits; the remainder brings it back to a word.
@@ -96,9 +89,5 @@ pub fn copy32(from: &[u32], to: &mut [u32])
     requires { length from.now ≤ length to.old }
     ensures { to.new ≡ over from.now to.old }
 {
-    let mut i = 0;
-    while i < from.len() {
-        to[i] = from[i];
-        i += 1;
-    }
+    to[..from.len()].copy_from_slice(from);
 }

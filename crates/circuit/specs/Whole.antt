@@ -3,8 +3,8 @@ use Rattle.std.specs.Prelude.{cond, ℕ, List, length, leb}
 use Rattle.base.specs.Answers.{success, refusal}
 use Rattle.base.specs.Parsing.{step_of}
 use Rattle.base.specs.declared.Answer.{Answer}
-use Rattle.base.specs.declared.Step.{Step}
-use Rattle.base.specs.declared.Step.TheVariants.{Past, Refused}
+use Rattle.base.specs.Parsing.{Step}
+use Rattle.base.specs.Parsing.{Past, Refused}
 use Rattle.rule.specs.Rule.{read_rule}
 use Rattle.circuit.specs.Limits.{most_gates, most_conditions}
 use Rattle.circuit.specs.Gates.{Gates, costs, conditions}

@@ -7,7 +7,7 @@ use Rattle.base.specs.Bits.{bit}
 use Rattle.base.specs.BitByteLaws as tables
 use Rattle.base.specs.Answers.{refusal}
 use Rattle.base.specs.Parsing.{step_of, IsRead}
-use Rattle.base.specs.declared.Step.TheVariants.{Refused}
+use Rattle.base.specs.Parsing.{Refused}
 use Rattle.base.specs.Settings.{setting_of, number_of}
 use Rattle.base.specs.Sets.{has, excludes, rests}
 use Rattle.base.specs.Guards.{table}

@@ -8,7 +8,7 @@ use Rattle.base.specs.declared.Kind.{Kind}
 use Rattle.base.specs.declared.Kind.TheVariants as kind
 use Rattle.base.specs.Parsing.{refused, step_of}
 use Rattle.base.specs.ParsingLaws.{read_refused}
-use Rattle.base.specs.declared.Step.TheVariants.{Past, Refused}
+use Rattle.base.specs.Parsing.{Past, Refused}
 use Rattle.rule.specs.Limits.{most_rule_bytes, most_variables, last_kind, deepest, nested}
 use Rattle.rule.specs.Header.{variables, kind_at}
 use Rattle.rule.specs.Tree.{Expr, Statement, assign, skip, branch, Block, end, then}

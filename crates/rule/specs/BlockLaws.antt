@@ -10,8 +10,8 @@ use Rattle.base.specs.declared.Form.{Form}
 use Rattle.base.specs.declared.Form.TheVariants.{Branch}
 use Rattle.base.specs.Parsing.{refused, step_of}
 use Rattle.base.specs.ParsingLaws.{past_then, refused_then, then_parsed, none_left, some_left}
-use Rattle.base.specs.declared.Step.{Step}
-use Rattle.base.specs.declared.Step.TheVariants.{Past, Refused}
+use Rattle.base.specs.Parsing.{Step}
+use Rattle.base.specs.Parsing.{Past, Refused}
 use Rattle.rule.specs.Limits.{deepest}
 use Rattle.rule.specs.Header.{variables, kind_at}
 use Rattle.rule.specs.Tree.{assign, branch, then}

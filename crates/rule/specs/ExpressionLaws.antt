@@ -14,8 +14,8 @@ use Rattle.base.specs.declared.Form.{Form}
 use Rattle.base.specs.declared.Form.TheVariants.{End, Assign, Skip, Branch, Variable, Word, Bit, Apply, Unknown}
 use Rattle.base.specs.Parsing.{Parsed, refused, step_of}
 use Rattle.base.specs.ParsingLaws.{past_then, refused_then, then_parsed, none_left, some_left, Forward, forward_unless, forward_later, forward_then}
-use Rattle.base.specs.declared.Step.{Step}
-use Rattle.base.specs.declared.Step.TheVariants.{Past, Refused}
+use Rattle.base.specs.Parsing.{Step}
+use Rattle.base.specs.Parsing.{Past, Refused}
 use Rattle.rule.specs.Header.{variables, kind_at}
 use Rattle.rule.specs.Tree.{Expr, two}
 use Rattle.rule.specs.Expressions.{read_variable, read_word, read_bit, second_with, arguments_with, operation_with, expr_form, expr_with, read_expr}

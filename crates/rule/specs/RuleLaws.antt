@@ -6,8 +6,8 @@ use Rattle.std.specs.Prelude.{◌≡◌, refl, List, ◌++◌, length, get_or, t
 use borrow.Author.Tests.{le-ltb, lt-ltb, le-leb, lt-leb, ltb-true, leb-true}
 use Rattle.base.specs.Parsing.{Parsed, parsed, refused, step_of, ◌>>=◌, read_mark}
 use Rattle.base.specs.ParsingLaws.{past_then, refused_then, read_past, mark_past, Finds, found, finds_read, finds_map, finds_unless, finds_then, mark_found}
-use Rattle.base.specs.declared.Step.{Step}
-use Rattle.base.specs.declared.Step.TheVariants.{Past, Refused}
+use Rattle.base.specs.Parsing.{Step}
+use Rattle.base.specs.Parsing.{Past, Refused}
 use Rattle.rule.specs.Limits.{most_variables, last_kind, nested}
 use Rattle.rule.specs.Header.{mark, variables, HasKinds, read_count, read_kinds, read_header}
 use Rattle.rule.specs.Blocks.{read_block}

@@ -3,15 +3,15 @@
 
 ghost use Rattle.std.specs.Prelude.{◌≡◌, true, ◌+◌, ◌≤◌, ◌<◌, length};
 ghost use Rattle.base.specs.Answers.{answer_of};
-ghost use Rattle.base.specs.Parsing.{step_of};
-ghost use Rattle.base.specs.declared.Step.TheVariants.{Past};
+ghost use Rattle.base.specs.Parsing.{step_of, Past};
+ghost use Rattle.base.specs.Refusals.{step_in};
 ghost use Rattle.rule.specs.Header.{HasKinds, kind_at, working_at, read_kinds, read_header};
 ghost use Rattle.rule.specs.Expressions.{read_variable, read_word, read_bit, read_expr};
 ghost use Rattle.rule.specs.Blocks.{read_assign, read_statement, read_block};
 ghost use Rattle.rule.specs.Rule.{read_rule};
 ghost use Rattle.rule.specs.Limits.{least_rule_bytes, most_rule_bytes, most_variables};
 
-use base::{Answer, Form, Kind, Step};
+use base::{Answer, Counts, Form, Kind, Refusal, Row};
 
 // The kind of variable x, which the header has.
 pub fn kind_at(s: &[u8], x: u8) -> Kind
@@ -34,61 +34,61 @@ pub fn working_at(s: &[u8], x: u8) -> bool
 }
 
 // 10 variable, its code at `at`.
-fn read_variable(s: &[u8], at: usize, want: Kind, deep: u8) -> Step
+fn read_variable(s: &[u8], at: usize, want: Kind, deep: u8) -> Result<usize, Refusal>
     requires { HasKinds s.now × (at < length s.now) }
-    ensures { result ≡ step_of (read_variable s.now want deep at) }
+    ensures { step_in result ≡ step_of (read_variable s.now want deep at) }
 {
     if deep == 0 {
-        return Step::Refused(8, at);
+        return Err(Refusal(Row::TooDeep, at));
     }
     if s.len() <= at + 1 {
-        return Step::Refused(4, s.len());
+        return Err(Refusal(Row::RuleCut, s.len()));
     }
     let x = s[at + 1];
     if s[5] <= x {
-        return Step::Refused(6, at + 1);
+        return Err(Refusal(Row::NoVariable, at + 1));
     }
-    if !base_codes::same_kind(kind_at(s, x), want) {
-        return Step::Refused(7, at + 1);
+    if kind_at(s, x) != want {
+        return Err(Refusal(Row::WrongKind, at + 1));
     }
-    Step::Past(at + 2)
+    Ok(at + 2)
 }
 
 // 11 and four bytes, its code at `at`.
-fn read_word(s: &[u8], at: usize, want: Kind, deep: u8) -> Step
+fn read_word(s: &[u8], at: usize, want: Kind, deep: u8) -> Result<usize, Refusal>
     requires { at < length s.now }
-    ensures { result ≡ step_of (read_word s.now want deep at) }
+    ensures { step_in result ≡ step_of (read_word s.now want deep at) }
 {
-    if !base_codes::same_kind(Kind::Word, want) {
-        return Step::Refused(7, at);
+    if Kind::Word != want {
+        return Err(Refusal(Row::WrongKind, at));
     }
     if deep == 0 {
-        return Step::Refused(8, at);
+        return Err(Refusal(Row::TooDeep, at));
     }
     if s.len() - at < 5 {
-        return Step::Refused(4, s.len());
+        return Err(Refusal(Row::RuleCut, s.len()));
     }
-    Step::Past(at + 5)
+    Ok(at + 5)
 }
 
 // 12 and 00 or 01, its code at `at`.
-fn read_bit(s: &[u8], at: usize, want: Kind, deep: u8) -> Step
+fn read_bit(s: &[u8], at: usize, want: Kind, deep: u8) -> Result<usize, Refusal>
     requires { at < length s.now }
-    ensures { result ≡ step_of (read_bit s.now want deep at) }
+    ensures { step_in result ≡ step_of (read_bit s.now want deep at) }
 {
-    if !base_codes::same_kind(Kind::Bit, want) {
-        return Step::Refused(7, at);
+    if Kind::Bit != want {
+        return Err(Refusal(Row::WrongKind, at));
     }
     if deep == 0 {
-        return Step::Refused(8, at);
+        return Err(Refusal(Row::TooDeep, at));
     }
     if s.len() <= at + 1 {
-        return Step::Refused(4, s.len());
+        return Err(Refusal(Row::RuleCut, s.len()));
     }
     if 1 < s[at + 1] {
-        return Step::Refused(5, at + 1);
+        return Err(Refusal(Row::UnknownCode, at + 1));
     }
-    Step::Past(at + 2)
+    Ok(at + 2)
 }
 
 // Is a variable of the kind wanted read at `at`? Most arguments are one, and take no further call.
@@ -110,17 +110,17 @@ fn is_variable(s: &[u8], at: usize, want: Kind, deep: u8) -> bool
     if s[5] <= x {
         return false;
     }
-    base_codes::same_kind(kind_at(s, x), want)
+    kind_at(s, x) == want
 }
 
 // An expression of the kind wanted, at most `deep` levels deep. It hands on a copy of the slice: else the compiler moves the slice as
 // one piece, whose two words its callers stored apart, and each call waits for both.
-fn read_expr(s: &[u8], at: usize, want: Kind, deep: u8) -> Step
+fn read_expr(s: &[u8], at: usize, want: Kind, deep: u8) -> Result<usize, Refusal>
     requires { HasKinds s.now }
-    ensures { result ≡ step_of (read_expr deep s.now want at) }
+    ensures { step_in result ≡ step_of (read_expr deep s.now want at) }
 {
     if s.len() <= at {
-        return Step::Refused(4, s.len());
+        return Err(Refusal(Row::RuleCut, s.len()));
     }
     let c = base_codes::code_of(s[at]);
     let form = c.form;
@@ -131,174 +131,154 @@ fn read_expr(s: &[u8], at: usize, want: Kind, deep: u8) -> Step
         Form::Apply(_) => {
             let gives = c.gives;
             let takes = c.takes;
-            if !base_codes::same_kind(gives, want) {
-                return Step::Refused(7, at);
+            if gives != want {
+                return Err(Refusal(Row::WrongKind, at));
             }
             if deep == 0 {
-                return Step::Refused(8, at);
+                return Err(Refusal(Row::TooDeep, at));
             }
             let rest = s;
-            let first = if is_variable(s, at + 1, takes, deep - 1) {
-                Step::Past(at + 3)
+            let next = if is_variable(s, at + 1, takes, deep - 1) {
+                at + 3
             } else {
-                read_expr(rest, at + 1, takes, deep - 1)
+                read_expr(rest, at + 1, takes, deep - 1)?
             };
-            match first {
-                Step::Past(next) => {
-                    if c.arity == 1 {
-                        return Step::Past(next);
-                    }
-                    if is_variable(s, next, takes, deep - 1) {
-                        return Step::Past(next + 2);
-                    }
-                    read_expr(rest, next, takes, deep - 1)
-                }
-                Step::Refused(number, place) => Step::Refused(number, place),
+            if c.arity == 1 {
+                return Ok(next);
             }
+            if is_variable(s, next, takes, deep - 1) {
+                return Ok(next + 2);
+            }
+            read_expr(rest, next, takes, deep - 1)
         }
-        _ => Step::Refused(5, at),
+        _ => Err(Refusal(Row::UnknownCode, at)),
     }
 }
 
 // 01 variable expression, its code at `at`.
-fn read_assign(s: &[u8], at: usize) -> Step
+fn read_assign(s: &[u8], at: usize) -> Result<usize, Refusal>
     requires { HasKinds s.now × (at < length s.now) }
-    ensures { result ≡ step_of (read_assign s.now at) }
+    ensures { step_in result ≡ step_of (read_assign s.now at) }
 {
     if s.len() <= at + 1 {
-        return Step::Refused(4, s.len());
+        return Err(Refusal(Row::RuleCut, s.len()));
     }
     let x = s[at + 1];
     if s[5] <= x {
-        return Step::Refused(6, at + 1);
+        return Err(Refusal(Row::NoVariable, at + 1));
     }
     let want = kind_at(s, x);
     if is_variable(s, at + 2, want, rule::DEEPEST) {
-        return Step::Past(at + 4);
+        return Ok(at + 4);
     }
     read_expr(s, at + 2, want, rule::DEEPEST)
 }
 
 // A statement, its code at `at`. `nest` is how many ifs may still nest.
 #[cycle(read_block_read_statement)]
-fn read_statement(s: &[u8], at: usize, nest: u8) -> Step
+fn read_statement(s: &[u8], at: usize, nest: u8) -> Result<usize, Refusal>
     requires { HasKinds s.now × (at < length s.now) }
-    ensures { result ≡ step_of (read_statement s.now nest at) }
+    ensures { step_in result ≡ step_of (read_statement s.now nest at) }
 {
     let c = base_codes::code_of(s[at]);
     let form = c.form;
     match form {
         Form::Assign => read_assign(s, at),
-        Form::Skip => Step::Past(at + 1),
+        Form::Skip => Ok(at + 1),
         Form::Branch => {
             if nest == 0 {
-                return Step::Refused(8, at);
+                return Err(Refusal(Row::TooDeep, at));
             }
-            match read_expr(s, at + 1, Kind::Bit, rule::DEEPEST) {
-                Step::Past(first) => match read_block(s, first, nest - 1) {
-                    Step::Past(second) => read_block(s, second, nest - 1),
-                    Step::Refused(number, place) => Step::Refused(number, place),
-                },
-                Step::Refused(number, place) => Step::Refused(number, place),
-            }
+            let first = read_expr(s, at + 1, Kind::Bit, rule::DEEPEST)?;
+            let second = read_block(s, first, nest - 1)?;
+            read_block(s, second, nest - 1)
         }
-        _ => Step::Refused(5, at),
+        _ => Err(Refusal(Row::UnknownCode, at)),
     }
 }
 
 // A block: statements closed by 00. A loop over them, so that only nesting takes stack.
 #[cycle(read_block_read_statement)]
-pub fn read_block(s: &[u8], at: usize, nest: u8) -> Step
+pub fn read_block(s: &[u8], at: usize, nest: u8) -> Result<usize, Refusal>
     requires { HasKinds s.now }
-    ensures { result ≡ step_of (read_block s.now nest at) }
+    ensures { step_in result ≡ step_of (read_block s.now nest at) }
 {
     let mut here = at;
     loop {
         if s.len() <= here {
-            return Step::Refused(4, s.len());
+            return Err(Refusal(Row::RuleCut, s.len()));
         }
         if s[here] == 0 {
-            return Step::Past(here + 1);
+            return Ok(here + 1);
         }
-        match read_statement(s, here, nest) {
-            Step::Past(next) => {
-                here = next;
-            }
-            Step::Refused(number, place) => {
-                return Step::Refused(number, place);
-            }
-        }
+        here = read_statement(s, here, nest)?;
     }
 }
 
 // The kind bytes of `count` variables, from `from` on.
-fn read_kinds(s: &[u8], from: usize, count: usize) -> Step
+fn read_kinds(s: &[u8], from: usize, count: usize) -> Result<usize, Refusal>
     requires { (from ≤ length s.now) × (count ≤ most_variables) }
-    ensures { result ≡ step_of (read_kinds count s.now from) }
+    ensures { step_in result ≡ step_of (read_kinds count s.now from) }
 {
-    let mut at = from;
-    let mut left = count;
-    while 0 < left {
+    for at in from..from + count {
         if s.len() <= at {
-            return Step::Refused(4, s.len());
+            return Err(Refusal(Row::RuleCut, s.len()));
         }
         if rule::LAST_KIND < s[at] {
-            return Step::Refused(3, at);
+            return Err(Refusal(Row::RuleHead, at));
         }
-        at += 1;
-        left -= 1;
     }
-    Step::Past(at)
+    Ok(from + count)
 }
 
 // The mark and version, V and the kind bytes.
-fn read_header(s: &[u8]) -> Step
+fn read_header(s: &[u8]) -> Result<usize, Refusal>
     requires { least_rule_bytes ≤ length s.now }
-    ensures { result ≡ step_of (read_header s.now) }
+    ensures { step_in result ≡ step_of (read_header s.now) }
 {
-    match base_answers::read_mark(s, b"RUL\x00\x01", 2) {
-        Step::Past(_) => {
-            let count = s[5];
-            if count == 0 {
-                return Step::Refused(3, 5);
-            }
-            if rule::MOST_VARIABLES < count {
-                return Step::Refused(3, 5);
-            }
-            read_kinds(s, 6, count as usize)
-        }
-        Step::Refused(number, place) => Step::Refused(number, place),
+    base_answers::read_mark(s, b"RUL\x00\x01", Row::RuleMark)?;
+    let count = s[5];
+    if count == 0 {
+        return Err(Refusal(Row::RuleHead, 5));
     }
+    if rule::MOST_VARIABLES < count {
+        return Err(Refusal(Row::RuleHead, 5));
+    }
+    read_kinds(s, 6, count as usize)
 }
 
 // What follows the size: the header, a block, and nothing after it.
-fn read_bytes(s: &[u8]) -> Step
+fn read_bytes(s: &[u8]) -> Result<usize, Refusal>
     requires { (least_rule_bytes ≤ length s.now) × (length s.now ≤ most_rule_bytes) }
-    ensures { result ≡ step_of (read_rule s.now) }
+    ensures { step_in result ≡ step_of (read_rule s.now) }
 {
-    match read_header(s) {
-        Step::Past(body) => match read_block(s, body, rule::NESTED) {
-            Step::Past(end) => {
-                if end < s.len() {
-                    return Step::Refused(9, end);
-                }
-                Step::Past(end)
-            }
-            Step::Refused(number, place) => Step::Refused(number, place),
-        },
-        Step::Refused(number, place) => Step::Refused(number, place),
+    let body = read_header(s)?;
+    let end = read_block(s, body, rule::NESTED)?;
+    if end < s.len() {
+        return Err(Refusal(Row::BytesLeft, end));
     }
+    Ok(end)
 }
 
-// Rows 1 to 9: the rule is taken, or refused by a number and a place.
+// Rows 1 to 9: the place after the rule, or its refusal.
+pub fn read(rule: &[u8]) -> Result<usize, Refusal>
+    ensures { step_in result ≡ step_of (read_rule rule.now) }
+{
+    if rule.len() < rule::LEAST_RULE_BYTES {
+        return Err(Refusal(Row::RuleSize, 0));
+    }
+    if rule::MOST_RULE_BYTES < rule.len() {
+        return Err(Refusal(Row::RuleSize, 0));
+    }
+    read_bytes(rule)
+}
+
+// The same as an answer, which counts nothing.
 pub fn read_rule(rule: &[u8]) -> Answer
     ensures { result ≡ answer_of (step_of (read_rule rule.now)) }
 {
-    if rule.len() < rule::LEAST_RULE_BYTES {
-        return base_answers::refused(1, 0);
+    match read(rule) {
+        Ok(_) => Answer::from(Ok(Counts::default())),
+        Err(refusal) => Answer::from(refusal),
     }
-    if rule::MOST_RULE_BYTES < rule.len() {
-        return base_answers::refused(1, 0);
-    }
-    base_answers::of_step(read_bytes(rule))
 }

@@ -8,14 +8,14 @@ use Rattle.base_settings.proofs.rested.Goals.{then-rests_on, else-rests_on}
 pub loop-t-init : goal.loop-t-init
 loop-t-init c = listing_start set_conditions _
 
-pub bounds-at-i : goal.bounds-at-i
-bounds-at-i c = listing_room _ _ _ _ _ _ c.loop-t.invariant c.loop-t-test.true
+pub bounds-at-count : goal.bounds-at-count
+bounds-at-count c = listing_room _ _ _ _ _ _ c.loop-t.invariant c.loop-t-test.true
 
-pub overflow_cast-i : goal.overflow_cast-i
-overflow_cast-i c = record { fits = omega (arith, bounds-at-i c) }
+pub overflow_cast-at : goal.overflow_cast-at
+overflow_cast-at c = record { fits = omega (arith, bounds-at-count c) }
 
-pub overflow_add-k : goal.overflow_add-k
-overflow_add-k c = let r = listing_room _ _ _ _ _ _ c.loop-t.invariant c.loop-t-test.true in record { fits = omega (arith, r) }
+pub overflow_add-count : goal.overflow_add-count
+overflow_add-count c = let r = listing_room _ _ _ _ _ _ c.loop-t.invariant c.loop-t-test.true in record { fits = omega (arith, r) }
 
 pub loop-t-preserved : goal.loop-t-preserved
 loop-t-preserved c =
@@ -23,8 +23,8 @@ loop-t-preserved c =
     let h = c.loop-t-test.true in
     let e = sym c.rests_on.ensures in
     elim c.if-rests_on.branch [
-      | then-rests_on w ↦ listing_in _ _ _ _ _ _ _ _ _ _ z h (e ∙ w.if-rests_on.true) w.at-is w.power-on.ensures w.on-is w.k-is
-      | else-rests_on w ↦ listing_out _ _ _ _ _ _ _ _ _ z h (e ∙ w.if-rests_on.false) w.at-is w.on-is w.k-is
+      | then-rests_on w ↦ listing_in _ _ _ _ _ _ _ _ _ _ z h (e ∙ w.if-rests_on.true) w.at-is w.power-on.ensures w.on-is w.count-is
+      | else-rests_on w ↦ listing_out _ _ _ _ _ _ _ _ _ z h (e ∙ w.if-rests_on.false) w.at-is w.on-is w.count-is
     ]
 
 pub returns : goal.returns

@@ -1,4 +1,3 @@
-use Prim.Native.Nat.{◌-◌}
 use Rattle.base.specs.SetLimits.{set_conditions}
 use Rattle.base.specs.Sets.{rests_on}
 use Rattle.base.specs.SetsHeld.{set_of}
@@ -6,7 +5,4 @@ use Rattle.base_settings.proofs.Laws.{Listing}
 use Rattle.base_settings.proofs.rested.Given as goal
 
 abbrev pub invariant-loop-t : goal.invariant-loop-t
-invariant-loop-t l = Listing set_conditions (rests_on set_conditions (set_of l.s)) l.at l.on l.k l.t
-
-abbrev pub decreases-loop-t : goal.decreases-loop-t
-decreases-loop-t l = set_conditions - l.t
+invariant-loop-t l = Listing set_conditions (rests_on set_conditions (set_of l.s)) l.at l.on l.count l.t

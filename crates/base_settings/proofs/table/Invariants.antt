@@ -1,4 +1,3 @@
-use Prim.Native.Nat.{◌-◌}
 use Rattle.base.specs.SetLimits.{set_conditions, set_words}
 use Rattle.base.specs.SetsHeld.{set_of}
 use Rattle.base_settings.proofs.Tabling.{Tabling}
@@ -6,6 +5,3 @@ use Rattle.base_settings.proofs.table.Given as goal
 
 abbrev pub invariant-loop-j : goal.invariant-loop-j
 invariant-loop-j l = Tabling set_conditions set_words (set_of l.s) l.on l.n l.bits l.setting l.j
-
-abbrev pub decreases-loop-j : goal.decreases-loop-j
-decreases-loop-j l = l.n - l.j

@@ -6,5 +6,5 @@ use Rattle.base_words.proofs.read16.Goals as goal
 pub returns : goal.returns
 returns c = let s = c.args.s.now in
     let at = c.args.at in
-    rw (c.wide.ensures.0, c.wide-2.ensures.0, ← number_one s at (omega arith), ← number_one s (at + 1) (omega arith))
+    rw (← number_one s at (omega arith), ← number_one s (at + 1) (omega arith))
     (sym (number_split 1 1 s at c.requires))

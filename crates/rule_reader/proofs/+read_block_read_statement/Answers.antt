@@ -9,6 +9,7 @@ use Rattle.rule.specs.Expressions.{read_expr}
 use Rattle.rule.specs.ExpressionLaws.{expr_forward}
 use Rattle.rule.specs.Blocks.{read_block, read_statement}
 use Rattle.rule.specs.FuelLaws.{block_forward, statement_forward}
+use Rattle.base.proofs.PassedLaws.{passed}
 use Rattle.rule_reader.proofs.Arms.{no_statement}
 use Rattle.rule.specs.BlockLaws.{statement_as, branch_deep, branch_refused, branch_first, branch_second, block_short, block_end, block_refused, block_more}
 use borrow.Author.Rules.{rules}
@@ -18,69 +19,50 @@ use Rattle.rule_reader.proofs.+read_block_read_statement.Goals as goal
 pub read_block-loop-here-smaller : goal.read_block-loop-here-smaller
 read_block-loop-here-smaller t c = let a = c.args in
     let l = c.loop-here in
-    omega (
-      arith,
-      forward_past (read_statement a.s.now a.nest l.here) (statement_forward a.s.now a.nest l.here)
-          (sym c.in-Past.is ∙ c.read_statement.ensures),
-    )
+    omega (arith, forward_past (read_statement a.s.now a.nest l.here) (statement_forward a.s.now a.nest l.here) c.in_ok-here.ensures)
 
 pub read_block-loop-here-preserved : goal.read_block-loop-here-preserved
 read_block-loop-here-preserved t c = let a = c.args in
     let l = c.loop-here in
-    let step = sym c.in-Past.is ∙ c.read_statement.ensures in (
+    let step = c.in_ok-here.ensures in (
       omega (arith, forward_past (read_statement a.s.now a.nest l.here) (statement_forward a.s.now a.nest l.here) step),
-      block_more a.s.now a.nest l.here c.if-s-here.false c.if-s-here-eq0.false step
-          ∙ l.invariant.1,
+      block_more a.s.now a.nest l.here c.if-s-here.false c.if-s-here-eq0.false step ∙ l.invariant.1,
     )
 
-pub read_block-returns-in-Refused : goal.read_block-returns-in-Refused
-read_block-returns-in-Refused t c = let a = c.args in
+pub read_block-returns-in_err-here : goal.read_block-returns-in_err-here
+read_block-returns-in_err-here t c = let a = c.args in
     let l = c.loop-here in
-    block_refused a.s.now a.nest l.here c.if-s-here.false c.if-s-here-eq0.false
-    (sym c.in-Refused.is ∙ c.read_statement.ensures) ∙ l.invariant.1
+    passed _ _ c.from_residual.ensures.1
+    (block_refused a.s.now a.nest l.here c.if-s-here.false c.if-s-here-eq0.false c.in_err-here.ensures ∙ l.invariant.1)
 
 pub read_statement-read_block-requires : goal.read_statement-read_block-requires
 read_statement-read_block-requires t c = let a = c.args in
+    omega (arith, forward_past (read_expr deepest a.s.now Bit (a.at + 1)) (expr_forward deepest a.s.now Bit (a.at + 1)) c.in_ok-first-in-Branch.ensures)
+
+pub read_statement-read_block-requires-in-Branch : goal.read_statement-read_block-requires-in-Branch
+read_statement-read_block-requires-in-Branch t c = let a = c.args in
+    let first = c.in_ok-first-in-Branch.first in
     omega (
       arith,
-      forward_past (read_expr deepest a.s.now Bit (a.at + 1)) (expr_forward deepest a.s.now Bit (a.at + 1))
-          (sym c.in-Past.is ∙ c.read_expr.ensures),
+      forward_past (read_expr deepest a.s.now Bit (a.at + 1)) (expr_forward deepest a.s.now Bit (a.at + 1)) c.in_ok-first-in-Branch.ensures,
+      forward_past (read_block a.s.now (a.nest - 1) first) (block_forward a.s.now (a.nest - 1) first) c.in_ok-second-in-Branch.ensures,
     )
 
-pub read_statement-read_block-requires-in-Past-read_block : goal.read_statement-read_block-requires-in-Past-read_block
-read_statement-read_block-requires-in-Past-read_block t c = let a = c.args in
-    let first = c.in-Past.first in
-    omega (
-      arith,
-      forward_past (read_expr deepest a.s.now Bit (a.at + 1)) (expr_forward deepest a.s.now Bit (a.at + 1))
-          (sym c.in-Past.is ∙ c.read_expr.ensures),
-      forward_past (read_block a.s.now (a.nest - 1) first) (block_forward a.s.now (a.nest - 1) first)
-          (sym c.in-Past-read_block.is ∙ c.read_block.ensures),
-    )
+pub read_statement-returns-in_ok-second-in-Branch : goal.read_statement-returns-in_ok-second-in-Branch
+read_statement-returns-in_ok-second-in-Branch t c = let a = c.args in
+    branch_second a.s.now a.nest a.at c.code_of-c.result c.code_of-c.ensures c.in-Branch.is c.if-nest-eq0.false
+    c.in_ok-first-in-Branch.ensures c.in_ok-second-in-Branch.ensures c.read_block-in-Branch.ensures
 
-pub read_statement-returns-in-Past-read_block : goal.read_statement-returns-in-Past-read_block
-read_statement-returns-in-Past-read_block t c = let a = c.args in
-    branch_second a.s.now a.nest a.at c.code_of-c.result
-    c.code_of-c.ensures
-    c.in-Branch.is
-    c.if-nest-eq0.false
-    (sym c.in-Past.is ∙ c.read_expr.ensures)
-    (sym c.in-Past-read_block.is ∙ c.read_block.ensures) c.read_block-in-Past-read_block.ensures
+pub read_statement-returns-in_err-second-in-Branch : goal.read_statement-returns-in_err-second-in-Branch
+read_statement-returns-in_err-second-in-Branch t c = let a = c.args in
+    passed _ _ c.from_residual-in_err-second-in-Branch.ensures.1
+    (branch_first a.s.now a.nest a.at c.code_of-c.result c.code_of-c.ensures c.in-Branch.is c.if-nest-eq0.false
+    c.in_ok-first-in-Branch.ensures c.in_err-second-in-Branch.ensures)
 
-pub read_statement-returns-in-Refused-read_block : goal.read_statement-returns-in-Refused-read_block
-read_statement-returns-in-Refused-read_block t c = let a = c.args in
-    branch_first a.s.now a.nest a.at c.code_of-c.result
-    c.code_of-c.ensures
-    c.in-Branch.is
-    c.if-nest-eq0.false
-    (sym c.in-Past.is ∙ c.read_expr.ensures)
-    (sym c.in-Refused-read_block.is ∙ c.read_block.ensures)
-
-pub read_statement-returns-in-Refused : goal.read_statement-returns-in-Refused
-read_statement-returns-in-Refused t c = let a = c.args in
-    branch_refused a.s.now a.nest a.at c.code_of-c.result
-    c.code_of-c.ensures c.in-Branch.is
-    c.if-nest-eq0.false (sym c.in-Refused.is ∙ c.read_expr.ensures)
+pub read_statement-returns-in_err-first-in-Branch : goal.read_statement-returns-in_err-first-in-Branch
+read_statement-returns-in_err-first-in-Branch t c = let a = c.args in
+    passed _ _ c.from_residual.ensures.1
+    (branch_refused a.s.now a.nest a.at c.code_of-c.result c.code_of-c.ensures c.in-Branch.is c.if-nest-eq0.false c.in_err-first-in-Branch.ensures)
 
 pub read_statement-returns-in_default : goal.read_statement-returns-in_default
 read_statement-returns-in_default t c = let a = c.args in

@@ -3,6 +3,7 @@ use native.Mathlib.Omega.{arith}
 use mathlib.Core.Path.{sym, ap, ◌∙◌}
 use borrow.Author.Tests.{lt-ltb}
 use Rattle.base.specs.ParsingLaws.{some_left}
+use Rattle.base.proofs.KindLaws.{kind_eq}
 use Rattle.base.specs.Parsing.{step_of}
 use Rattle.rule.specs.Expressions.{read_variable}
 use Rattle.rule.specs.ExpressionLaws.{expr_variable}
@@ -37,6 +38,6 @@ returns c e = let a = c.args in
             lt-ltb _ _ b,
             lt-ltb _ _ c.if-s-x.false,
             ← c.kind_at.ensures,
-            sym c.same_kind.ensures ∙ e,
+            kind_eq _ _ c.eq.ensures e,
           )),
     )

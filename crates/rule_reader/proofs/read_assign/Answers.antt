@@ -4,7 +4,7 @@ use mathlib.Core.Path.{ap, ◌∙◌}
 use borrow.Author.Tests.{lt-ltb, le-ltb}
 use Rattle.base.specs.declared.Kind.{Kind}
 use Rattle.base.specs.Parsing.{step_of}
-use Rattle.base.specs.declared.Step.TheVariants.{Past}
+use Rattle.base.specs.Parsing.{Past}
 use Rattle.rule.specs.Limits.{deepest}
 use Rattle.rule.specs.Expressions.{read_expr}
 use Rattle.rule.specs.Blocks.{read_assign}

@@ -1,5 +1,5 @@
 use Rattle.base.specs.ParsingLaws.{none_left, some_left}
-use mathlib.Core.Path.{sym, ◌∙◌}
+use Rattle.base.proofs.KindLaws.{kind_ne, kind_not_ne}
 use borrow.Author.Tests.{lt-ltb, le-ltb}
 use Rattle.rule.specs.Expressions.{read_variable}
 use Rattle.rule_reader.proofs.read_variable.Goals as goal
@@ -16,16 +16,15 @@ pub returns-then-s-x : goal.returns-then-s-x
 unfolding read_variable
 returns-then-s-x c = rw (some_left _ c.if-deep-eq0.false, lt-ltb _ _ c.if-s-at.false, le-ltb _ _ c.if-s-x.true)
 
-pub returns-then-not-same_kind : goal.returns-then-not-same_kind
+pub returns-then-ne : goal.returns-then-ne
 unfolding read_variable
-returns-then-not-same_kind c = rw (
+returns-then-ne c = rw (
   some_left _ c.if-deep-eq0.false,
   lt-ltb _ _
       c.if-s-at.false,
   lt-ltb _ _ c.if-s-x.false,
   ← c.kind_at.ensures,
-  sym
-      c.same_kind.ensures ∙ c.if-not-same_kind.true,
+  kind_ne _ _ c.ne.ensures c.if-ne.true,
 )
 
 pub returns : goal.returns
@@ -36,6 +35,5 @@ returns c = rw (
       c.if-s-at.false,
   lt-ltb _ _ c.if-s-x.false,
   ← c.kind_at.ensures,
-  sym
-      c.same_kind.ensures ∙ c.if-not-same_kind.false,
+  kind_not_ne _ _ c.ne.ensures c.if-ne.false,
 )
