@@ -1,10 +1,11 @@
 // Definitions and laws of the plan file and its check (specs/); the code is in the crates `plan_..`.
 #![tactic(auto)]
 
-ghost use Rattle.std.specs.Prelude.{◌≡◌};
+ghost use Rattle.std.specs.Prelude.{◌≡◌, ◌<◌, get_or};
+ghost use Rattle.circuit.specs.Rooms.{gate_room};
 ghost use Rattle.plan.specs.Ungrouped.{ungrouped, Ungrouped};
 
-use circuit::GATE_ROOM;
+use circuit::{GATE_ROOM, GateId};
 
 // The limits of a plan file, as specs/Limits.antt has them; the first group stands behind the least bytes.
 pub const LEAST_PLAN_BYTES: usize = 9;
@@ -33,5 +34,13 @@ impl Grouping {
             order: [0u16; GATE_ROOM],
             groups: 0,
         }
+    }
+
+    // The group of a gate, by its smallest member.
+    pub fn group_of(&self, g: GateId) -> GateId
+        requires { g.0 < gate_room }
+        ensures { result.0 ≡ get_or self.now.group g.0 0 }
+    {
+        GateId(self.group[g.index()])
     }
 }

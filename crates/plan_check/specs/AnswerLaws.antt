@@ -18,29 +18,31 @@ use Rattle.plan.specs.Rows.{Row, layout_rows, join_rows, order_rows, first_faili
 use Rattle.plan.specs.FailingLaws.{failing_first, failing_second}
 use Rattle.plan.proofs.AcceptedLaws.{answer_rule, answer_row, answer_accepted}
 use Rattle.plan.proofs.SameLaws.{joins_same}
+use Rattle.base.specs.SetsHeld.{sets_in}
+use Rattle.circuit.specs.declared.Circuit.{Circuit}
 use Rattle.plan_check.specs.InHand.{IsBuilt}
 
-module _ (s p : List ℕ) (a : Answer) (quads needs outputs conds : List ℕ) (sh : IsBuilt s a quads needs outputs conds) where
+module _ (s p : List ℕ) (a : Answer) (circuit : Circuit) (sh : IsBuilt s a circuit) where
   -- the rule's refusal is taken over whole
   pub rule_refused : (a.number ≡ 0 → ⊥) → a ≡ plan_answer s p
-  rule_refused h = sh.0 ∙ sym (answer_rule s p (λ z. h (ap (λ (a : Answer). a.number) sh.0 ∙ z)))
+  rule_refused h = sh.answer ∙ sym (answer_rule s p (λ z. h (ap (λ (a : Answer). a.number) sh.answer ∙ z)))
 
   module _ (zero : a.number ≡ 0) where
     pub accepted_rule : (rule_answer s).number ≡ 0
-    accepted_rule = ap (λ (a : Answer). a.number) (sym sh.0) ∙ zero
+    accepted_rule = ap (λ (a : Answer). a.number) (sym sh.answer) ∙ zero
 
-    pub gates_are : a.gates ≡ gate_count s
-    gates_are = ap (λ (a : Answer). a.gates) sh.0 ∙ built_count s accepted_rule
+    pub gates_are : circuit.count ≡ gate_count s
+    gates_are = sh.count ∙ built_count s accepted_rule
 
-    pub gates_room : a.gates ≤ most_gates
+    pub gates_room : circuit.count ≤ most_gates
     gates_room = subst (λ (n : ℕ). n ≤ most_gates) (sym gates_are) (built_room s accepted_rule)
 
     -- the gates in the quads are the rule's
-    pub gates_in_lem : gates_in quads a.gates ≡ gates_of s
-    gates_in_lem = ap (λ (r : List ℕ). gates_in r a.gates) sh.1.0 ∙ ap (gates_in (built_quads s)) gates_are ∙ built_gates s accepted_rule
+    pub gates_in_lem : gates_in circuit.quads circuit.count ≡ gates_of s
+    gates_in_lem = ap (λ (r : List ℕ). gates_in r circuit.count) sh.quads ∙ ap (gates_in (built_quads s)) gates_are ∙ built_gates s accepted_rule
 
-    pub needs_in : (g : ℕ) → get_or needs g 0 ≡ get_or (rule_preconditions s) g 0
-    needs_in g = ap (λ (l : List ℕ). get_or l g 0) sh.1.1.0 ∙ built_need s accepted_rule g
+    pub needs_in : (g : ℕ) → get_or (sets_in circuit.needs) g 0 ≡ get_or (rule_preconditions s) g 0
+    needs_in g = ap (λ (l : List ℕ). get_or l g 0) sh.needs ∙ built_need s accepted_rule g
 
     abbrev layout : List Row
     layout = layout_rows (gate_count s) p
@@ -56,7 +58,7 @@ module _ (s p : List ℕ) (a : Answer) (quads needs outputs conds : List ℕ) (s
     row_refused r e h = ap (λ (k : ℕ). refusal k 0) e ∙ sym (answer_row s p accepted_rule (λ z. h (e ∙ z)))
 
     -- 20 to 26
-    module _ (laid : ℕ) (e : laid ≡ first_failing (layout_rows a.gates p)) where
+    module _ (laid : ℕ) (e : laid ≡ first_failing (layout_rows circuit.count p)) where
       laid_is : laid ≡ first_failing layout
       laid_is = e ∙ ap (λ (n : ℕ). first_failing (layout_rows n p)) gates_are
 
@@ -65,10 +67,10 @@ module _ (s p : List ℕ) (a : Answer) (quads needs outputs conds : List ℕ) (s
       layout_refused h = row_refused laid (laid_is ∙ sym (failing_first layout (joins ++ last) (λ z. h (laid_is ∙ z)))) h
 
       -- 32 and 27 to 29
-      module _ (none : laid ≡ 0) (join : ℕ) (f : join ≡ first_failing (join_rows (gates_in quads a.gates) needs p)) where
+      module _ (none : laid ≡ 0) (join : ℕ) (f : join ≡ first_failing (join_rows (gates_in circuit.quads circuit.count) (sets_in circuit.needs) p)) where
         join_is : join ≡ first_failing joins
         join_is =
-            f ∙ ap (λ (C : Gates). first_failing (join_rows C needs p)) gates_in_lem ∙ joins_same (gates_of s) needs (rule_preconditions s) p needs_in
+            f ∙ ap (λ (C : Gates). first_failing (join_rows C (sets_in circuit.needs) p)) gates_in_lem ∙ joins_same (gates_of s) (sets_in circuit.needs) (rule_preconditions s) p needs_in
 
         later : plan_row s p ≡ first_failing (joins ++ last)
         unfolding plan_row
@@ -87,4 +89,4 @@ module _ (s p : List ℕ) (a : Answer) (quads needs outputs conds : List ℕ) (s
           circle_refused row d h = row_refused row (d ∙ sym only) h
 
           pub plan_taken : placed (gates_of s) (rule_preconditions s) (group_of (groups_in p)) ≡ true → a ≡ plan_answer s p
-          plan_taken h = sh.0 ∙ sym (answer_accepted s p accepted_rule (only ∙ rw h))
+          plan_taken h = sh.answer ∙ sym (answer_accepted s p accepted_rule (only ∙ rw h))

@@ -1,5 +1,5 @@
 -- What the check of a refused plan hands up: the circuit, and no groups. The tables of a plan that is laid out name groups by their smallest members, and tell which are joined.
-use Rattle.std.specs.Prelude.{ℕ, ◌≤◌, ◌<◌, ◌≡◌, refl, List, ◌⊎◌, not, eqb, leb, get_or, replicate}
+use Rattle.std.specs.Prelude.{ℕ, ◌≤◌, ◌<◌, ◌≡◌, refl, List, ◌⊎◌, not, eqb, leb, get_or}
 use Rattle.std.proofs.Common.{arith, sym, ◌∙◌, inl, inr, eq-eqb, ne_eqb, le-leb}
 use Rattle.std.proofs.Math.Path.{ap}
 use Rattle.std.proofs.Math.ListN.{length}
@@ -8,7 +8,13 @@ use Rattle.base.specs.Answers.{refusal}
 use Rattle.base.specs.declared.Answer.{Answer}
 use Rattle.circuit.specs.Limits.{most_gates}
 use Rattle.base.specs.Buffers.{padded}
-use Rattle.circuit_needed.specs.Built.{built_quads, built_needs, built_outputs, built_conditions}
+use Rattle.circuit.specs.declared.Circuit.{Circuit}
+use Rattle.base.specs.Rows.{number_of}
+use Rattle.base.specs.declared.Row.{Row}
+use Rattle.plan.specs.Ungrouped.{Ungrouped}
+use Rattle.plan.specs.declared.Grouping.{Grouping}
+use Rattle.plan_groups.specs.RefusalLaws.{row_some}
+use Rattle.plan_check.specs.InHand.{IsBuilt}
 use Rattle.plan.specs.PlanFile.{groups_in, Apart}
 use Rattle.plan.specs.Groups.{group_of, Named, members}
 use Rattle.plan.specs.Rows.{layout_rows, first_failing, plan_answer}
@@ -28,21 +34,19 @@ use Rattle.plan_check.specs.Handed.{Handed}
 use Rattle.plan_check.specs.Checked.{checked_groups, checked_order, checked_places}
 
 -- a refused plan hands up the circuit, and no groups
-module _ (s p quads needs outputs conds : List ℕ)
-    (b : (quads ≡ built_quads s) × ((needs ≡ built_needs s) × ((outputs ≡ built_outputs s) × (conds ≡ built_conditions s)))) (group places order : List ℕ)
-    (clear : (group ≡ replicate 256 0) × ((places ≡ replicate 256 0) × (order ≡ replicate 256 0))) (groups : ℕ) (zero : groups ≡ 0) where
-  pub refused_handed : (a : Answer) → a ≡ plan_answer s p → (a.number ≡ 0 → ⊥)
-      → (a ≡ plan_answer s p) × Handed s p quads needs outputs conds group places order groups
+module _ (s p : List ℕ) (r : Answer) (circuit : Circuit) (b : IsBuilt s r circuit) (grouping : Grouping) (clear : Ungrouped grouping) (zero : grouping.groups ≡ 0) where
+  pub refused_handed : (a : Answer) → a ≡ plan_answer s p → (a.number ≡ 0 → ⊥) → (a ≡ plan_answer s p) × Handed s p circuit grouping
   unfolding checked_groups checked_order checked_places
   refused_handed a e h =
       let n : (plan_answer s p).number ≡ 0 → ⊥ = λ z. h (ap (λ (b : Answer). b.number) e ∙ z) in
       let none = refused_lists s p n in (
         e,
         record {
-          quads_are = b.0;
-          needs_are = b.1.0;
-          outputs_are = b.1.1.0;
-          conditions_are = b.1.1.1;
+          quads_are = b.quads;
+          needs_are = b.needs;
+          outputs_are = b.outputs;
+          conditions_are = b.conditions;
+          count_is = b.count;
           group_is = clear.0 ∙ ap (padded most_gates) (sym (none _));
           places_are = clear.1.0 ∙ ap (padded most_gates) (sym (none _));
           order_is = clear.1.1 ∙ ap (padded most_gates) (sym (none _));
@@ -51,9 +55,8 @@ module _ (s p quads needs outputs conds : List ℕ)
       )
 
   -- so does one that a row refuses
-  pub row_handed : (n : ℕ) → refusal n 0 ≡ plan_answer s p → (n ≡ 0 → ⊥) → (a : Answer) → a ≡ refusal n 0
-      → (a ≡ plan_answer s p) × Handed s p quads needs outputs conds group places order groups
-  row_handed n e h a q = refused_handed a (q ∙ e) (λ z. h (ap (λ (b : Answer). b.number) (sym q) ∙ z))
+  pub row_handed : (row : Row) → refusal (number_of row) 0 ≡ plan_answer s p → (refusal (number_of row) 0 ≡ plan_answer s p) × Handed s p circuit grouping
+  row_handed row e = refused_handed (refusal (number_of row) 0) e (row_some row)
 
 -- the tables of a plan that is laid out, of n gates
 module _ (n : ℕ) (p : List ℕ) (room : n ≤ most_gates) (none : first_failing (layout_rows n p) ≡ 0) where

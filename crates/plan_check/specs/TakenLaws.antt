@@ -1,6 +1,6 @@
 -- The check of a plan that is laid out: its tables can be ordered; where a circle remains no groups are handed up, else the tables and the order.
-use Rattle.std.specs.Prelude.{ℕ, ◌<◌, ◌≡◌, Bool, true, cond, length, get_or, replicate}
-use Rattle.std.proofs.Common.{sym, ◌∙◌, arith}
+use Rattle.std.specs.Prelude.{ℕ, ◌<◌, ◌≡◌, Bool, true, cond, length, get_or, replicate, Ok, Err}
+use Rattle.std.proofs.Common.{sym, ◌∙◌}
 use Rattle.std.proofs.Math.Path.{ap, subst⁻¹}
 use mathlib.Core.List.{List, map, reverse}
 use Rattle.std.proofs.lemmas.List.{length-reverse}
@@ -16,7 +16,7 @@ use Rattle.circuit_needed.specs.Pass.{rule_preconditions}
 use Rattle.circuit_build.specs.BuiltLaws.{over_zeros}
 use Rattle.circuit_build.specs.BuiltParts.{built_earlier, built_condition}
 use Rattle.plan.specs.PlanFile.{groups_in}
-use Rattle.plan.specs.Groups.{group_of, groups}
+use Rattle.plan.specs.Groups.{group_of}
 use Rattle.plan.specs.Order.{order}
 use Rattle.plan.specs.Rows.{layout_rows, join_rows, first_failing, placed, plan_answer}
 use Rattle.plan.specs.Places.{place_of}
@@ -25,10 +25,15 @@ use Rattle.plan.proofs.CountLaws.{placed_count}
 use Rattle.plan_groups.specs.Tables.{group_table, place_table}
 use Rattle.plan_groups.specs.TableLaws.{group_at_lem}
 use Rattle.plan_waits.specs.Reads.{Orderable}
-use Rattle.plan_order.specs.Row.{order_of, order_row}
+use Rattle.plan_order.specs.Row.{order_of}
 use Rattle.plan_order.specs.AnswerLaws.{answer_placed, order_row_lem}
-use Rattle.plan_order.specs.declared.Order.{Order}
-use Rattle.plan_order.specs.declared.Order.TheVariants.{Placed, Circle}
+use Rattle.base.specs.SetsHeld.{sets_in}
+use Rattle.base.specs.Rows.{number_of, row_in}
+use Rattle.base.specs.declared.Row.{Row}
+use Rattle.circuit.specs.declared.Circuit.{Circuit}
+use Rattle.plan.specs.Ungrouped.{Ungrouped}
+use Rattle.plan.specs.declared.Grouping.{Grouping}
+use Rattle.plan_groups.specs.RefusalLaws.{row_some}
 use Rattle.plan_check.specs.Checked.{if_checked, writing_order, checked_groups, checked_places, checked_order}
 use Rattle.plan_check.specs.Handed.{Handed}
 use Rattle.plan_check.specs.CheckedLaws.{accepted_lists}
@@ -36,89 +41,91 @@ use Rattle.plan_check.specs.InHand.{IsBuilt}
 use Rattle.plan_check.specs.AnswerLaws.{accepted_rule, gates_are, gates_room, gates_in_lem, needs_in, circle_refused, plan_taken}
 use Rattle.plan_check.specs.HandedLaws.{row_handed, table_named, table_many}
 
-module _ (s p : List ℕ) (a : Answer) (quads needs outputs conds : List ℕ) (sh : IsBuilt s a quads needs outputs conds) (zero : a.number ≡ 0)
-    (laid : ℕ) (e : laid ≡ first_failing (layout_rows a.gates p)) (none : laid ≡ 0) (group places : List ℕ)
-    (g : group ≡ group_table a.gates (groups_in p)) (j : places ≡ place_table a.gates p) where
+module _ (s p : List ℕ) (a : Answer) (circuit : Circuit) (sh : IsBuilt s a circuit) (zero : a.number ≡ 0)
+    (laid : ℕ) (e : laid ≡ first_failing (layout_rows circuit.count p)) (none : laid ≡ 0) (grouping : Grouping)
+    (g : grouping.group ≡ group_table circuit.count (groups_in p)) (j : grouping.places ≡ place_table circuit.count p) where
   abbrev n : ℕ
-  n = a.gates
+  n = circuit.count
+
+  abbrev quads : List ℕ
+  quads = circuit.quads
+
+  abbrev needs : List ℕ
+  needs = sets_in circuit.needs
 
   rule : Earlier (gates_of s)
-  rule = built_earlier s (accepted_rule s p a quads needs outputs conds sh zero)
+  rule = built_earlier s (accepted_rule s p a circuit sh zero)
 
   -- what the order of the groups is worked out from
-  pub tables_orderable : Orderable quads a.gates conds group places
+  pub tables_orderable : Orderable circuit grouping
   tables_orderable =
-      let room = gates_room s p a quads needs outputs conds sh zero in
-      let gates = gates_in_lem s p a quads needs outputs conds sh zero in
+      let room = gates_room s p a circuit sh zero in
+      let gates = gates_in_lem s p a circuit sh zero in
       let laid_out : first_failing (layout_rows n p) ≡ 0 = sym e ∙ none in
       record {
         room = room;
         earlier = subst⁻¹ Earlier gates rule;
         listed = λ t l.
-            ap (λ (d : List ℕ). get_or d t 0) sh.1.1.1.1 ∙ built_condition s (accepted_rule s p a quads needs outputs conds sh zero) t ∙ ap (λ (C : Gates). get_or (conditions C) t 0)
+            ap (λ (d : List ℕ). get_or d t 0) sh.conditions ∙ built_condition s (accepted_rule s p a circuit sh zero) t ∙ ap (λ (C : Gates). get_or (conditions C) t 0)
             (sym gates);
         named = λ x l. rw g (table_named n p room laid_out x l);
         many = λ m l. rw (g, j) (table_many n p room laid_out m l);
       }
 
   abbrev tabled : ℕ → ℕ
-  tabled x = get_or group x 0
+  tabled x = get_or grouping.group x 0
 
   as_plan : (x : ℕ) → x < length (gates_of s) → tabled x ≡ group_of (groups_in p) x
-  as_plan x l = ap (λ (t : List ℕ). get_or t x 0) g ∙ group_at_lem n p x (rw (gates_are s p a quads needs outputs conds sh zero) l)
+  as_plan x l = ap (λ (t : List ℕ). get_or t x 0) g ∙ group_at_lem n p x (rw (gates_are s p a circuit sh zero) l)
 
   -- the order that is found is the plan's
   order_is : order (gates_in quads n) needs tabled ≡ order (gates_of s) (rule_preconditions s) (group_of (groups_in p))
   order_is =
-      ap (λ (C : Gates). order C needs tabled) (gates_in_lem s p a quads needs outputs conds sh zero)
-      ∙ order_sets_same (gates_of s) needs (rule_preconditions s) (needs_in s p a quads needs outputs conds sh zero) tabled
+      ap (λ (C : Gates). order C needs tabled) (gates_in_lem s p a circuit sh zero)
+      ∙ order_sets_same (gates_of s) needs (rule_preconditions s) (needs_in s p a circuit sh zero) tabled
       ∙ order_same (gates_of s) rule (rule_preconditions s) tabled (group_of (groups_in p)) as_plan
 
   placed_is : placed (gates_in quads n) needs tabled ≡ placed (gates_of s) (rule_preconditions s) (group_of (groups_in p))
   placed_is =
-      ap (λ (C : Gates). placed C needs tabled) (gates_in_lem s p a quads needs outputs conds sh zero)
-      ∙ placed_sets_same (gates_of s) needs (rule_preconditions s) (needs_in s p a quads needs outputs conds sh zero) tabled
+      ap (λ (C : Gates). placed C needs tabled) (gates_in_lem s p a circuit sh zero)
+      ∙ placed_sets_same (gates_of s) needs (rule_preconditions s) (needs_in s p a circuit sh zero) tabled
       ∙ placed_same (gates_of s) rule (rule_preconditions s) tabled (group_of (groups_in p)) as_plan
 
   module _ (join : ℕ) (f : join ≡ first_failing (join_rows (gates_in quads n) needs p)) (gone : join ≡ 0) where
     -- a circle remains: a refused plan hands up no groups
-    pub circle_handed : (o : Order) → o ≡ Circle → o ≡ order_of (gates_in quads n) needs tabled → (row : ℕ) → row ≡ order_row o
-        → (group' places' found' : List ℕ) → (group' ≡ replicate 256 0) × ((places' ≡ replicate 256 0) × (found' ≡ replicate 256 0))
-        → (b : Answer) (groups : ℕ) → (b ≡ refusal row 0) × (groups ≡ 0) → (b ≡ plan_answer s p) × Handed s p quads needs outputs conds group' places' found' groups
-    circle_handed o i h row w group' places' found' clear b groups q =
-        let x = w ∙ ap order_row h ∙ order_row_lem (gates_in quads n) needs tabled ∙ ap (λ (b : Bool). cond b 0 30) placed_is in
-        let y : row ≡ 30 = w ∙ ap order_row i in
-        let some : row ≡ 0 → ⊥ = λ z. omega arith in
-        row_handed s p quads needs outputs conds sh.1 group' places' found' clear groups q.1 row
-        (circle_refused s p a quads needs outputs conds sh zero laid e none join f gone row x some) some b q.0
+    pub circle_handed : (row : Row) → Err row ≡ order_of (gates_in quads n) needs tabled → (after : Grouping) → Ungrouped after → after.groups ≡ 0
+        → (refusal (number_of row) 0 ≡ plan_answer s p) × Handed s p circuit after
+    circle_handed row h after clear free =
+        let x = ap row_in h ∙ order_row_lem (gates_in quads n) needs tabled ∙ ap (λ (b : Bool). cond b 0 30) placed_is in
+        row_handed s p a circuit sh after clear free row
+        (circle_refused s p a circuit sh zero laid e none join f gone (number_of row) x (row_some row))
 
   -- every group is placed
   module _ (join : ℕ) (f : join ≡ first_failing (join_rows (gates_in quads n) needs p)) (gone : join ≡ 0)
-      (k : ℕ) (h : Placed k ≡ order_of (gates_in quads n) needs tabled)
-      (before found : List ℕ) (clear : before ≡ replicate 256 0) (o : found ≡ over (reverse (order (gates_in quads n) needs tabled)) before) where
+      (k : ℕ) (h : Ok k ≡ order_of (gates_in quads n) needs tabled) (clear : grouping.order ≡ replicate 256 0) where
     all : placed (gates_of s) (rule_preconditions s) (group_of (groups_in p)) ≡ true
     all = sym placed_is ∙ (answer_placed (gates_in quads n) needs tabled k h).0
 
     taken_answer : a ≡ plan_answer s p
-    taken_answer = plan_taken s p a quads needs outputs conds sh zero laid e none join f gone all
+    taken_answer = plan_taken s p a circuit sh zero laid e none join f gone all
 
     accepted : (plan_answer s p).number ≡ 0
     accepted = ap (λ (a : Answer). a.number) (sym taken_answer) ∙ zero
 
-    taken_group : group ≡ checked_groups s p
+    taken_group : grouping.group ≡ checked_groups s p
     unfolding group_table checked_groups
     taken_group =
-        g ∙ ap (λ (m : ℕ). padded most_gates (map (group_of (groups_in p)) (upto m))) (gates_are s p a quads needs outputs conds sh zero) ∙ ap (padded most_gates) (sym (accepted_lists s p accepted _))
+        g ∙ ap (λ (m : ℕ). padded most_gates (map (group_of (groups_in p)) (upto m))) (gates_are s p a circuit sh zero) ∙ ap (padded most_gates) (sym (accepted_lists s p accepted _))
 
-    taken_joined : places ≡ checked_places s p
+    taken_joined : grouping.places ≡ checked_places s p
     unfolding place_table checked_places
     taken_joined =
-        j ∙ ap (λ (m : ℕ). padded most_gates (map (place_of p) (upto m))) (gates_are s p a quads needs outputs conds sh zero) ∙ ap (padded most_gates) (sym (accepted_lists s p accepted _))
+        j ∙ ap (λ (m : ℕ). padded most_gates (map (place_of p) (upto m))) (gates_are s p a circuit sh zero) ∙ ap (padded most_gates) (sym (accepted_lists s p accepted _))
 
-    taken_order : found ≡ checked_order s p
+    taken_order : over (reverse (order (gates_in quads n) needs tabled)) grouping.order ≡ checked_order s p
     unfolding checked_order
     taken_order =
-        o ∙ ap (over (reverse (order (gates_in quads n) needs tabled))) clear ∙ over_zeros (reverse (order (gates_in quads n) needs tabled)) most_gates
+        ap (over (reverse (order (gates_in quads n) needs tabled))) clear ∙ over_zeros (reverse (order (gates_in quads n) needs tabled)) most_gates
         ∙ ap (λ (l : List ℕ). padded most_gates (reverse l)) order_is ∙ ap (padded most_gates) (sym (accepted_lists s p accepted _))
 
     taken_groups : k ≡ length (if_checked s p (writing_order s p))
@@ -128,14 +135,16 @@ module _ (s p : List ℕ) (a : Answer) (quads needs outputs conds : List ℕ) (s
         ∙ sym (length-reverse (order (gates_of s) (rule_preconditions s) (group_of (groups_in p)))) ∙ ap length (sym (accepted_lists s p accepted _))
 
     -- all that is handed up
-    pub taken_handed : (a ≡ plan_answer s p) × Handed s p quads needs outputs conds group places found k
+    pub taken_handed : (a ≡ plan_answer s p)
+        × Handed s p circuit (record grouping { order = over (reverse (order (gates_in quads n) needs tabled)) grouping.order; groups = k })
     taken_handed = (
       taken_answer,
       record {
-        quads_are = sh.1.0;
-        needs_are = sh.1.1.0;
-        outputs_are = sh.1.1.1.0;
-        conditions_are = sh.1.1.1.1;
+        quads_are = sh.quads;
+        needs_are = sh.needs;
+        outputs_are = sh.outputs;
+        conditions_are = sh.conditions;
+        count_is = sh.count;
         group_is = taken_group;
         places_are = taken_joined;
         order_is = taken_order;

@@ -2,213 +2,129 @@
 // order and the members of each fit together. Each row is a pass over the whole file; the groups are known to lie in the file.
 #![tactic(auto)]
 
-ghost use Rattle.std.specs.Prelude.{◌≡◌, ℕ, ◌<◌, ltb};
-ghost use Rattle.base.specs.Codes.{code_of};
+ghost use Rattle.std.specs.Prelude.{◌≡◌, ℕ, ◌<◌, eqb};
+ghost use Rattle.base.specs.Lists.{every};
+ghost use Rattle.base.specs.Rows.{row_in};
+ghost use Rattle.circuit.specs.Gates.{gate_at};
 ghost use Rattle.circuit_needed.specs.Held.{code_at, gate_in, gates_in};
 ghost use Rattle.plan.specs.PlanFile as file;
 ghost use Rattle.plan.specs.Rows as checks;
-ghost use Rattle.plan_groups.specs.Tests.{member_test, members_test, join_test, row_test, operation_code};
+ghost use Rattle.plan_groups.specs.Tests.{operation_code};
 ghost use Rattle.plan_groups.specs.Walks.{ReadableGroup, Readable};
 ghost use Rattle.base.specs.SetsHeld.{sets_in};
 ghost use Rattle.circuit.specs.Rooms.{gate_room};
 
-use circuit::{GateId, NEED_WORDS, QUAD_ROOM};
-
-// The rows, by what they ask: of the groups together, then of each.
-const ORDER: u8 = 32;
-
-const COSTLY: u8 = 27;
-
-const ALIKE: u8 = 28;
-
-const PARTED: u8 = 29;
+use base::Row;
+use circuit::{Circuit, GateId};
 
 // 32: the groups stand in rising order of their smallest member. The numbers of a group rise, so it is the first.
 fn groups_rise(plan: &[u8]) -> bool
     requires { (n : ℕ) × Readable n plan.now }
     ensures { result ≡ checks.groups_rise (file.groups_in plan.now) }
 {
-    let mut left = plan_groups::groups_counted(plan);
-    if left == 0 {
+    let count = plan_groups::groups_counted(plan);
+    if count == 0 {
         return true;
     }
     let mut at = plan::LEAST_PLAN_BYTES;
-    let g = plan_member::member(plan, at, 0);
-    let mut last = g.0 as usize;
-    while 1 < left {
+    let mut last = plan_member::member(plan, at, 0).index();
+    for _ in 1..count {
         at = plan_groups::after(plan, at);
-        let first = plan_member::member(plan, at, 0);
-        let i = first.0 as usize;
-        if i <= last {
+        let first = plan_member::member(plan, at, 0).index();
+        if first <= last {
             return false;
         }
-        last = i;
-        left = left - 1;
+        last = first;
     }
     true
 }
 
-// A costly operation, by a gate's code; a choice is none.
-fn costly(code: u32) -> bool
-    ensures { result ≡ ltb 0 (code_of code).cost }
+fn code_at(circuit: &Circuit, g: GateId) -> u32
+    requires { g.0 < gate_room }
+    ensures { result ≡ code_at circuit.now.quads g.0 }
 {
-    0 < circuit_quads::code_entry(code).cost
+    circuit.quads[4 * g.index()]
+}
+
+// 27 of a gate: a costly operation, by its code; a choice is none.
+fn costly(circuit: &Circuit, g: GateId) -> bool
+    requires { g.0 < gate_room }
+    ensures { result ≡ checks.is_costly (gate_in circuit.now.quads g.0) }
+{
+    0 < circuit_quads::code_entry(code_at(circuit, g)).cost
 }
 
 fn operation_code(code: u32) -> u32
     ensures { result ≡ operation_code code }
 {
-    if code < 0x20 {
-        return 0;
-    }
-    if 0x27 < code {
-        return 0;
-    }
-    code
-}
-
-fn code_at(quads: &[u32; QUAD_ROOM], g: GateId) -> u32
-    requires { g.0 < gate_room }
-    ensures { result ≡ code_at quads.now g.0 }
-{
-    let i = g.0 as usize;
-    quads[4 * i]
-}
-
-// 27 or 28 of a member, by the first member.
-fn member_holds(row: u8, quads: &[u32; QUAD_ROOM], first: GateId, g: GateId) -> bool
-    requires { (first.0 < gate_room) × (g.0 < gate_room) }
-    ensures { result ≡ member_test row (gate_in quads.now first.0) (gate_in quads.now g.0) }
-{
-    let code = code_at(quads, g);
-    if row == COSTLY {
-        costly(code)
+    if (circuit::SUM..=circuit::NOT).contains(&code) {
+        code
     } else {
-        operation_code(code_at(quads, first)) == operation_code(code)
+        0
     }
 }
 
-// 27 or 28 of the group that begins at a place.
-fn members_hold(row: u8, plan: &[u8], at: usize, quads: &[u32; QUAD_ROOM], count: usize) -> bool
-    requires { ReadableGroup count plan.now at }
-    ensures { result ≡ members_test (gates_in quads.now count) row (file.group_at plan.now at) }
+// 28 of a gate: its operation is that of the group's first gate.
+fn alike(circuit: &Circuit, first: GateId, g: GateId) -> bool
+    requires { (first.0 < gate_room) × (g.0 < gate_room) }
+    ensures { result ≡ eqb (checks.operation_byte (gate_in circuit.now.quads first.0)) (checks.operation_byte (gate_in circuit.now.quads g.0)) }
 {
-    let size = plan_groups::size_at(plan, at);
+    operation_code(code_at(circuit, first)) == operation_code(code_at(circuit, g))
+}
+
+// 27 of the group that begins at a place.
+fn all_costly(plan: &[u8], at: usize, circuit: &Circuit) -> bool
+    requires { ReadableGroup circuit.now.count plan.now at }
+    ensures { result ≡ every (λ g. checks.is_costly (gate_at (gates_in circuit.now.quads circuit.now.count) g)) (file.group_at plan.now at) }
+{
+    (0..plan_groups::size_at(plan, at)).all(|k| costly(circuit, plan_member::member(plan, at, k)))
+}
+
+// 28 of the group that begins at a place.
+fn all_alike(plan: &[u8], at: usize, circuit: &Circuit) -> bool
+    requires { ReadableGroup circuit.now.count plan.now at }
+    ensures { result ≡ checks.alike (gates_in circuit.now.quads circuit.now.count) (file.group_at plan.now at) }
+{
     let first = plan_member::member(plan, at, 0);
-    let mut k: usize = 0;
-    while k < size {
-        let g = plan_member::member(plan, at, k);
-        if !member_holds(row, quads, first, g) {
-            return false;
-        }
-        k = k + 1;
-    }
-    true
+    (0..plan_groups::size_at(plan, at)).all(|k| alike(
+        circuit,
+        first,
+        plan_member::member(plan, at, k),
+    ))
 }
 
 // 29 of the group that begins at a place: numbers rise, so a member met later is another one.
-fn members_part(plan: &[u8], at: usize, count: usize, needs: &[u64; NEED_WORDS]) -> bool
-    requires { ReadableGroup count plan.now at }
-    ensures { result ≡ checks.parted (sets_in needs.now) (file.group_at plan.now at) }
+fn all_apart(plan: &[u8], at: usize, circuit: &Circuit) -> bool
+    requires { ReadableGroup circuit.now.count plan.now at }
+    ensures { result ≡ checks.parted (sets_in circuit.now.needs) (file.group_at plan.now at) }
 {
-    let size = plan_groups::size_at(plan, at);
     let mut seen = base_settings::empty();
-    let mut k: usize = 0;
-    while k < size {
-        let g = plan_member::member(plan, at, k);
-        let i = g.0 as usize;
-        let s = base_settings::load(needs, i);
+    for k in 0..plan_groups::size_at(plan, at) {
+        let s = base_settings::load(&circuit.needs, plan_member::member(plan, at, k).index());
         if !base_settings::excludes(seen, s) {
             return false;
         }
         seen = base_settings::union(seen, s);
-        k = k + 1;
     }
     true
 }
 
-// 27, 28 or 29 of the group that begins at a place.
-fn join_holds(
-    row: u8,
-    plan: &[u8],
-    at: usize,
-    quads: &[u32; QUAD_ROOM],
-    count: usize,
-    needs: &[u64; NEED_WORDS],
-) -> bool
-    requires { ReadableGroup count plan.now at }
-    ensures { result ≡ join_test (gates_in quads.now count) (sets_in needs.now) row (file.group_at plan.now at) }
+// Rows 32 and 27 to 29 of a plan that the rows before do not refuse, for the gates of the circuit and their preconditions: the first that refuses it.
+pub fn check_groups(plan: &[u8], circuit: &Circuit) -> Result<(), Row>
+    requires { Readable circuit.now.count plan.now }
+    ensures { row_in result ≡ checks.first_failing (checks.join_rows (gates_in circuit.now.quads circuit.now.count) (sets_in circuit.now.needs) plan.now) }
 {
-    if row == PARTED {
-        members_part(plan, at, count, needs)
-    } else {
-        members_hold(row, plan, at, quads, count)
+    if !groups_rise(plan) {
+        return Err(Row::GroupOrder);
     }
-}
-
-// 27, 28 or 29 of every group.
-fn every_join(
-    row: u8,
-    plan: &[u8],
-    quads: &[u32; QUAD_ROOM],
-    count: usize,
-    needs: &[u64; NEED_WORDS],
-) -> bool
-    requires { Readable count plan.now }
-    ensures { result ≡ checks.every_group (join_test (gates_in quads.now count) (sets_in needs.now) row) (file.groups_in plan.now) }
-{
-    let mut unchecked = plan_groups::groups_counted(plan);
-    let mut at = plan::LEAST_PLAN_BYTES;
-    while 0 < unchecked {
-        if !join_holds(row, plan, at, quads, count, needs) {
-            return false;
-        }
-        at = plan_groups::after(plan, at);
-        unchecked = unchecked - 1;
+    if !plan_groups::every_group(plan, |at| all_costly(plan, at, circuit)) {
+        return Err(Row::NotCostly);
     }
-    true
-}
-
-// 32, 27, 28 or 29 of the plan.
-fn row_holds(
-    row: u8,
-    plan: &[u8],
-    quads: &[u32; QUAD_ROOM],
-    count: usize,
-    needs: &[u64; NEED_WORDS],
-) -> bool
-    requires { Readable count plan.now }
-    ensures { result ≡ row_test (gates_in quads.now count) (sets_in needs.now) row (file.groups_in plan.now) }
-{
-    if row == ORDER {
-        groups_rise(plan)
-    } else {
-        every_join(row, plan, quads, count, needs)
+    if !plan_groups::every_group(plan, |at| all_alike(plan, at, circuit)) {
+        return Err(Row::NotAlike);
     }
-}
-
-// Rows 32 and 27 to 29 of a plan that the rows before do not refuse, for the gates that lie in `quads` and their preconditions: the first that refuses it,
-// or 0.
-pub fn check_groups(
-    plan: &[u8],
-    quads: &[u32; QUAD_ROOM],
-    count: usize,
-    needs: &[u64; NEED_WORDS],
-) -> u8
-    requires { Readable count plan.now }
-    ensures { result ≡ checks.first_failing (checks.join_rows (gates_in quads.now count) (sets_in needs.now) plan.now) }
-{
-    if !row_holds(ORDER, plan, quads, count, needs) {
-        return ORDER;
+    if !plan_groups::every_group(plan, |at| all_apart(plan, at, circuit)) {
+        return Err(Row::NotApart);
     }
-    if !row_holds(COSTLY, plan, quads, count, needs) {
-        return COSTLY;
-    }
-    if !row_holds(ALIKE, plan, quads, count, needs) {
-        return ALIKE;
-    }
-    if !row_holds(PARTED, plan, quads, count, needs) {
-        return PARTED;
-    }
-    0
+    Ok(())
 }

@@ -1,9 +1,8 @@
 -- The rows 27 and 28, told from a gate's code: whether it is costly, and which operation it is.
-use Rattle.std.specs.Prelude.{ℕ, ◌≤◌, ◌<◌, ◌≡◌, refl, List, [], ◌∷◌, Bool, false, ◌&&◌, eqb, leb, ltb}
-use Rattle.std.proofs.Common.{sym, ap, ◌∙◌, eqb-true, eq-eqb, ne_eqb, leb-true, le-leb}
-use Rattle.std.proofs.lemmas.Bool.{eqb-false, lt-leb}
+use Rattle.std.specs.Prelude.{ℕ, ◌≡◌, refl, List, [], ◌∷◌, false, ◌&&◌, eqb, leb, ltb}
+use Rattle.std.proofs.Common.{sym, ap, ◌∙◌, eqb-true, eq-eqb, leb-true, le-leb}
+use Rattle.std.proofs.lemmas.Bool.{eqb-false}
 use Rattle.base.specs.Lists.{every}
-use Rattle.base.specs.MemberLaws.{every_same}
 use Rattle.base.specs.TestLaws.{split, both}
 use Rattle.base.specs.Codes.{code_of}
 use Rattle.base.specs.CodeLaws.{byte_back}
@@ -11,8 +10,8 @@ use Rattle.circuit.specs.Gates.{Gate, Gates, gate_at, cost_of}
 use Rattle.circuit_needed.specs.Held.{choice_code, code_at, gate_in}
 use Rattle.circuit_needed.specs.QuadLaws.{KindIn, chooses, is_word, is_bit_lem, applies, starts, kind_in_lem, choice_in, word_in, bit_in_lem, applied_in, cost_in}
 use Rattle.plan.specs.Groups.{smallest}
-use Rattle.plan.specs.Rows.{is_costly, operation_byte}
-use Rattle.plan_groups.specs.Tests.{member_test, members_test, operation_code}
+use Rattle.plan.specs.Rows.{is_costly, operation_byte, alike}
+use Rattle.plan_groups.specs.Tests.{operation_code}
 
 -- 27: a costly gate is one whose code has a cost above 0 in the table of codes; a choice's code is not in it
 choice_costs : ltb 0 (code_of choice_code).cost ≡ false
@@ -55,38 +54,7 @@ operation_code_lem quads i = go (kind_in_lem quads i)
         (λ t. let r = both (leb 0x20 (code_at quads i)) _ t in absurd (n (leb-true _ _ r.0, leb-true _ _ r.1)))
         (λ t. rw t)
 
-pub operation_low : (code : ℕ) → code < 0x20 → 0 ≡ operation_code code
-unfolding operation_code
-operation_low code h = rw (lt-leb 0x20 code h)
-
-pub operation_high : (code : ℕ) → 0x20 ≤ code → 0x27 < code → 0 ≡ operation_code code
-unfolding operation_code
-operation_high code l h = rw (le-leb 0x20 code l, lt-leb code 0x27 h)
-
-pub operation_is : (code : ℕ) → 0x20 ≤ code → code ≤ 0x27 → code ≡ operation_code code
-unfolding operation_code
-operation_is code l h = rw (le-leb 0x20 code l, le-leb code 0x27 h)
-
--- the tests of a member by its row
-pub member_costly : (row : ℕ) (quads : List ℕ) (first g code : ℕ) (r : Bool) → row ≡ 27 → code ≡ code_at quads g → r ≡ ltb 0 (code_of code).cost → r ≡ member_test row
-    (gate_in quads first) (gate_in quads g)
-unfolding member_test
-member_costly row quads first g code r e c q = q ∙ ap (λ (x : ℕ). ltb 0 (code_of x).cost) c ∙ sym (costly_code quads g) ∙ rw (eq-eqb row 27 e)
-
-pub member_alike : (row : ℕ) (quads : List ℕ) (first g a b c d : ℕ) → (row ≡ 27 → ⊥) → a ≡ code_at quads first → b ≡ code_at quads g → c ≡ operation_code a
-    → d ≡ operation_code b
-    → eqb c d ≡ member_test row (gate_in quads first) (gate_in quads g)
-unfolding member_test
-member_alike row quads first g a b c d e p q u v =
-    rw (ne_eqb row 27 e, operation_code_lem quads first, operation_code_lem quads g, u, v, p, q)
-
--- 27 or 28 of a group is that test of each member by the first
-pub members_test_lem : (C : Gates) (row : ℕ) (G : List ℕ) → members_test C row G ≡ every (λ g. member_test row (gate_at C (smallest G)) (gate_at C g)) G
-unfolding members_test member_test
-members_test_lem C row [] = split (eqb row 27) (λ e. rw e) (λ e. rw e)
-members_test_lem C row (m ∷ l) =
-    split (eqb row 27)
-    (λ e. rw e (ap (λ (b : Bool). is_costly (gate_at C m) && b)
-    (every_same (λ g. is_costly (gate_at C g)) (λ g. member_test row (gate_at C m) (gate_at C g)) l (λ g i. rw e))))
-    (λ e. rw (e, eq-eqb (operation_byte (gate_at C m)) (operation_byte (gate_at C m)) refl)
-    (every_same (λ g. eqb (operation_byte (gate_at C m)) (operation_byte (gate_at C g))) (λ g. member_test row (gate_at C m) (gate_at C g)) l (λ g i. rw e)))
+-- 28 of a group is that test of each member by the first
+pub alike_is : (C : Gates) (G : List ℕ) → alike C G ≡ every (λ g. eqb (operation_byte (gate_at C (smallest G))) (operation_byte (gate_at C g))) G
+alike_is C [] = refl
+alike_is C (m ∷ l) = rw (eq-eqb (operation_byte (gate_at C m)) (operation_byte (gate_at C m)) refl) refl

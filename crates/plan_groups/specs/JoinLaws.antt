@@ -1,5 +1,5 @@
 -- Row 26 with the tables, group by group: no gate is in two groups, and every gate's group and place.
-use Rattle.std.specs.Prelude.{ℕ, zero, suc, ◌-◌, ◌≤◌, ◌<◌, ◌≡◌, refl, List, Bool, true, false, cond, ◌⊎◌, ◌↔◌, eqb, length, get_or, replicate}
+use Rattle.std.specs.Prelude.{ℕ, zero, suc, ◌≤◌, ◌<◌, ◌≡◌, refl, List, Bool, true, false, cond, ◌⊎◌, ◌↔◌, eqb, length, get_or, replicate}
 use Rattle.std.proofs.Common.{sym, ap, ◌∙◌, inl, inr, arith, eqb-true, eq-eqb, ne_eqb}
 use Rattle.std.proofs.lemmas.Bool.{false≢true}
 use Rattle.std.proofs.lemmas.List.{length-replicate}
@@ -122,23 +122,22 @@ module _ (n : ℕ) (p group places groupₙ placesₙ : List ℕ) (left at : ℕ
       let t : elem g (group_at p at) ≡ false = split (elem g (group_at p at)) (λ t. absurd (omega (arith, fits.exist g (elem→∈ g (group_at p at) t)))) (λ t. t) in
       (group_is g ∙ rw t (w.beyond g h).0, joined_is g ∙ rw t (w.beyond g h).1)
 
-pub joining_step : (n : ℕ) (p group places groupₙ placesₙ : List ℕ) (left at next : ℕ) (r : Bool) → JoiningGroups n p group places left at → 0 < left
+pub joining_step : (n : ℕ) (p group places groupₙ placesₙ : List ℕ) (left rest at next : ℕ) (r : Bool) → JoiningGroups n p group places left at → left ≡ suc rest
     → r ≡ every (free places) (group_at p at) → r ≡ true → next ≡ after p at
     → groupₙ ≡ put_all (group_at p at) (smallest (group_at p at)) group → placesₙ ≡ put_all (group_at p at) at places
-    → JoiningGroups n p groupₙ placesₙ (left - 1) next
-joining_step n p group places groupₙ placesₙ zero at next r w h e t q d j = absurd (omega arith)
-joining_step n p group places groupₙ placesₙ (suc left) at next r w h e t q d j =
+    → JoiningGroups n p groupₙ placesₙ rest next
+joining_step n p group places groupₙ placesₙ left rest at next r v h e t q d j =
+    let w : JoiningGroups n p group places (suc rest) at = rw h at v in
     let f : (g : ℕ) → g ∈ group_at p at → get_or places g 0 ≡ 0 = λ g m. eqb-true (get_or places g 0) 0 ((every_right (free places) (group_at p at)).0 (sym e ∙ t) g m) in
-    let z : suc left - 1 ≡ left = omega arith in
-    rw (q, z) (record {
-      ahead = rw z at (ahead_step n p (suc left) at (after p at) w.ahead h refl);
+    rw q (record {
+      ahead = ahead_step n p rest at (after p at) w.ahead refl;
       group_size = ap length d ∙ put_all_length (group_at p at) (smallest (group_at p at)) group ∙ w.group_size;
       joined_size = ap length j ∙ put_all_length (group_at p at) at places ∙ w.joined_size;
-      once = once_step n p group places groupₙ placesₙ left at w f d j;
-      groups = groups_step n p group places groupₙ placesₙ left at w f d j;
-      placing = places_step n p group places groupₙ placesₙ left at w f d j;
-      alone = alone_step n p group places groupₙ placesₙ left at w f d j;
-      beyond = beyond_step n p group places groupₙ placesₙ left at w f d j;
+      once = once_step n p group places groupₙ placesₙ rest at w f d j;
+      groups = groups_step n p group places groupₙ placesₙ rest at w f d j;
+      placing = places_step n p group places groupₙ placesₙ rest at w f d j;
+      alone = alone_step n p group places groupₙ placesₙ rest at w f d j;
+      beyond = beyond_step n p group places groupₙ placesₙ rest at w f d j;
     })
 
 -- no group is left

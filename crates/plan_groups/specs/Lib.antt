@@ -10,4 +10,5 @@ pub mod TableLaws
 pub mod PutLaws
 pub mod RisingLaws
 pub mod JoinLaws
+pub mod RefusalLaws
 pub mod RowLaws

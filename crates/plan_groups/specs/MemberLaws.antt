@@ -1,7 +1,10 @@
 -- A walk over the members of a group: what is left of them, and which they are.
-use Rattle.std.specs.Prelude.{ℕ, suc, ◌+◌, ◌-◌, ◌*◌, ◌≤◌, ◌<◌, ◌≡◌, List, [], ◌∷◌, get_or}
-use Rattle.std.proofs.Common.{ap, ap₂, ◌∙◌, inl, inr, arith}
-use Rattle.base.specs.Lists.{◌∈◌}
+use Rattle.std.specs.Prelude.{ℕ, suc, ◌+◌, ◌-◌, ◌*◌, ◌≤◌, ◌<◌, ◌≡◌, refl, Bool, ◌&&◌, List, [], ◌∷◌, length, get_or}
+use Rattle.std.specs.List.{list_all, range_with_len}
+use Rattle.std.proofs.Common.{sym, ap, ap₂, ◌∙◌, inl, inr, arith, add-zero, zero-add}
+use Rattle.base.specs.Lists.{◌∈◌, every}
+use Rattle.base.specs.MemberLaws.{get_or_in}
+use Rattle.plan.specs.LayoutLaws.{length_numbers}
 use Rattle.plan.specs.PlanFile.{numbers_at, group_at, Rising}
 use Rattle.plan.specs.NumberLaws.{member_at}
 use Rattle.plan.specs.GroupLaws.{rising_first}
@@ -55,3 +58,21 @@ pub walk_above : (n : ℕ) (p : List ℕ) (at k : ℕ) → Walk n p at k → k <
 walk_above n p at k w h g m =
     let r : Rising (get_or (group_at p at) k 0 ∷ members_from p at (k + 1)) = rw (members_step p at k h) at w.rising in
     rising_first (get_or (group_at p at) k 0) (members_from p at (k + 1)) r.0 r.1 g m
+
+-- a test of each member by its number, from member 0 on, is the test of the whole group
+each_placed : (t : ℕ → Bool) (f : ℕ → ℕ) (a : ℕ) (G : List ℕ) → ((i : ℕ) → i < length G → f (a + i) ≡ get_or G i 0)
+    → list_all (λ k. t (f k)) (range_with_len a (length G)) ≡ every t G
+each_placed t f a [] h = refl
+each_placed t f a (g ∷ G) h =
+    let e : f a ≡ g = ap f (sym (add-zero a)) ∙ h 0 (omega arith) in
+    rw e (ap (λ (b : Bool). t g && b) (each_placed t f (a + 1) G (λ i l. let q : a + 1 + i ≡ a + suc i = omega arith in ap f q ∙ h (suc i) (omega arith))))
+
+pub every_placed : (t : ℕ → Bool) (p : List ℕ) (at : ℕ)
+    → list_all (λ k. t (get_or (group_at p at) k 0)) (range_with_len 0 (get_or p at 0)) ≡ every t (group_at p at)
+every_placed t p at =
+    ap (λ (n : ℕ). list_all (λ k. t (get_or (group_at p at) k 0)) (range_with_len 0 n)) (sym (length_numbers (get_or p at 0) p (at + 1)))
+    ∙ each_placed t (λ k. get_or (group_at p at) k 0) 0 (group_at p at) (λ i l. ap (λ (k : ℕ). get_or (group_at p at) k 0) (zero-add i))
+
+-- each member of a readable group is one of the n gates
+pub readable_member : (n : ℕ) (p : List ℕ) (at k : ℕ) → ReadableGroup n p at → k < get_or p at 0 → get_or (group_at p at) k 0 < n
+readable_member n p at k f h = f.exist _ (get_or_in (group_at p at) k (rw (length_numbers (get_or p at 0) p (at + 1)) h))

@@ -1,30 +1,7 @@
--- Inner: the rows 24, 25 and 27 to 29 as tests of one group, and 32 and 27 to 29 as tests of all, by the row's number, as the code runs them.
-use Rattle.std.specs.Prelude.{ℕ, ◌+◌, ◌-◌, ◌*◌, List, [], ◌∷◌, Bool, true, false, cond, ◌&&◌, eqb, leb, ltb, length, get_or, set}
-use Rattle.base.specs.Lists.{every}
+-- Inner: the rows 25, 28 and 29 as the code tests them, number by number.
+use Rattle.std.specs.Prelude.{ℕ, ◌+◌, ◌-◌, ◌*◌, List, [], ◌∷◌, Bool, true, false, cond, ◌&&◌, leb, ltb, get_or, set}
 use Rattle.base.specs.Sets.{union, excludes}
-use Rattle.circuit.specs.Gates.{Gate, Gates, gate_at}
-use Rattle.plan.specs.PlanFile.{Plan, numbers_at}
-use Rattle.plan.specs.Rows.{every_group, rises, groups_rise, is_costly, operation_byte, alike, parted}
-
--- 24 or 25 of a group, for n gates
-unfoldable pub shape_test : ℕ → ℕ → List ℕ → Bool
-shape_test row n G = cond (eqb row 24) (leb 2 (length G)) (rises G && every (λ g. ltb g n) G)
-
--- 27 or 28 of a gate of a group, by the group's first gate
-unfoldable pub member_test : ℕ → Gate → Gate → Bool
-member_test row first gate = cond (eqb row 27) (is_costly gate) (eqb (operation_byte first) (operation_byte gate))
-
--- 27 or 28 of a group
-unfoldable pub members_test : Gates → ℕ → List ℕ → Bool
-members_test C row G = cond (eqb row 27) (every (λ g. is_costly (gate_at C g)) G) (alike C G)
-
--- 27, 28 or 29 of a group
-unfoldable pub join_test : Gates → List ℕ → ℕ → List ℕ → Bool
-join_test C sets row G = cond (eqb row 29) (parted sets G) (members_test C row G)
-
--- 32, 27, 28 or 29 of all groups
-unfoldable pub row_test : Gates → List ℕ → ℕ → Plan → Bool
-row_test C sets row Gs = cond (eqb row 32) (groups_rise Gs) (every_group (join_test C sets row) Gs)
+use Rattle.plan.specs.PlanFile.{numbers_at}
 
 -- the operation's byte by a gate's code, 0 for a code that is none
 unfoldable pub operation_code : ℕ → ℕ

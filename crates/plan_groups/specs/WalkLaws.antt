@@ -1,8 +1,9 @@
 -- The loops over a group's members, for the rows 25, 27, 28 and 29: start, one member more, a member that fails, end.
-use Rattle.std.specs.Prelude.{ℕ, ◌+◌, ◌≤◌, ◌<◌, ◌≡◌, List, ◌∷◌, Bool, true, false, ◌&&◌, ltb, length, get_or}
-use Rattle.std.proofs.Common.{sym, ap, ◌∙◌, arith, le-leb, le-ltb, lt-ltb}
-use Rattle.std.proofs.lemmas.Bool.{lt-leb}
+use Rattle.std.specs.Prelude.{ℕ, ◌+◌, ◌≤◌, ◌<◌, ◌≡◌, List, ◌∷◌, Bool, true, false, refl, ◌&&◌, eqb, leb, ltb, length, get_or}
+use Rattle.std.proofs.Common.{sym, ap, ◌∙◌, arith}
 use Rattle.base.specs.Lists.{every}
+use Rattle.base.specs.MemberLaws.{every_same}
+use Rattle.base.specs.TestLaws.{split, both}
 use Rattle.base.specs.Sets.{union, excludes}
 use Rattle.circuit.specs.Gates.{gate_at}
 use Rattle.circuit_needed.specs.Held.{gate_in, gates_in}
@@ -10,11 +11,11 @@ use Rattle.circuit_needed.specs.HeldLaws.{gates_at}
 use Rattle.plan.specs.PlanFile.{group_at, after}
 use Rattle.plan.specs.Limits.{most_plan_bytes}
 use Rattle.plan.specs.Groups.{smallest}
-use Rattle.plan.specs.Rows.{rises, parted}
-use Rattle.plan_groups.specs.Tests.{member_test, members_test, members_from, rising_from, parted_from}
+use Rattle.plan.specs.Rows.{rises, is_costly, operation_byte, alike, parted}
+use Rattle.plan_groups.specs.Tests.{members_from, rising_from, parted_from}
 use Rattle.plan_groups.specs.Walks.{ReadableGroup}
 use Rattle.plan_groups.specs.MemberLaws.{members_step, members_end, members_all, Walk, walk_start, walk_step, walk_member}
-use Rattle.plan_groups.specs.GateLaws.{members_test_lem}
+use Rattle.plan_groups.specs.GateLaws.{alike_is}
 use Rattle.plan_groups.specs.TestLaws.{rising_right, parted_is}
 
 -- loop invariant, for 25: of n gates, the next number is at least `least`
@@ -30,14 +31,11 @@ module _ (n : ℕ) (p : List ℕ) (at least k g : ℕ) (w : Climbing n p at leas
   next_number : (rises (group_at p at) && every (λ i. ltb i n) (group_at p at)) ≡ rising_from n least (g ∷ members_from p at (k + 1))
   next_number = w.same ∙ ap (rising_from n least) (members_step p at k h) ∙ ap (λ (i : ℕ). rising_from n least (i ∷ members_from p at (k + 1))) (sym q)
 
-  pub climbing_low : g < least → false ≡ (rises (group_at p at) && every (λ i. ltb i n) (group_at p at))
-  climbing_low l = sym (next_number ∙ rw (lt-leb least g l))
+  pub climbing_fails : (leb least g && ltb g n) ≡ false → false ≡ (rises (group_at p at) && every (λ i. ltb i n) (group_at p at))
+  climbing_fails e = sym (next_number ∙ split (leb least g) (λ t. let f : ltb g n ≡ false = rw t at e in rw (t, f)) (λ t. rw t))
 
-  pub climbing_high : least ≤ g → n ≤ g → false ≡ (rises (group_at p at) && every (λ i. ltb i n) (group_at p at))
-  climbing_high l m = sym (next_number ∙ rw (le-leb least g l, le-ltb g n m))
-
-  pub climbing_step : least ≤ g → g < n → Climbing n p at (g + 1) (k + 1)
-  climbing_step l m = record { lies = w.lies; low = omega arith; same = next_number ∙ rw (le-leb least g l, lt-ltb g n m) }
+  pub climbing_step : (leb least g && ltb g n) ≡ true → Climbing n p at (g + 1) (k + 1)
+  climbing_step e = let b = both (leb least g) (ltb g n) e in record { lies = w.lies; low = omega arith; same = next_number ∙ rw (b.0, b.1) }
 
 pub climbing_end : (n : ℕ) (p : List ℕ) (at least k : ℕ) → Climbing n p at least k → get_or p at 0 ≤ k → true ≡
     (rises (group_at p at) && every (λ g. ltb g n) (group_at p at))
@@ -50,44 +48,17 @@ first_smallest n p at g f q = q ∙ sym (ap smallest (sym (members_all p at) ∙
 pub first_member : (n : ℕ) (p : List ℕ) (at g : ℕ) → ReadableGroup n p at → g ≡ get_or (group_at p at) 0 0 → g < n
 first_member n p at g f q = walk_member n p at 0 g (walk_start n p at f) (omega (arith, f.joins)) q
 
--- loop invariant, for 27 and 28: each member's test by the first member
-pub record Holding (quads : List ℕ) (row n : ℕ) (p : List ℕ) (at first k : ℕ) : Type 0 where
-  pub walk : Walk n p at k
-  pub inside : first < n
-  pub same : members_test (gates_in quads n) row (group_at p at) ≡ every (λ g. member_test row (gate_at (gates_in quads n) first) (gate_at (gates_in quads n) g))
-      (members_from p at k)
+-- 27 and 28 of a group, by the numbers of its gates
+module _ (quads : List ℕ) (n : ℕ) (p : List ℕ) (at : ℕ) (f : ReadableGroup n p at) where
+  pub costly_members : every (λ g. is_costly (gate_in quads g)) (group_at p at) ≡ every (λ g. is_costly (gate_at (gates_in quads n) g)) (group_at p at)
+  costly_members = every_same _ _ (group_at p at) (λ g m. rw (gates_at quads n g (f.exist g m)) refl)
 
-pub holding_start : (quads : List ℕ) (row n : ℕ) (p : List ℕ) (at first : ℕ) → ReadableGroup n p at → first ≡ get_or (group_at p at) 0 0 → Holding quads row n p at first 0
-holding_start quads row n p at first f q =
-    record {
-      walk = walk_start n p at f;
-      inside = first_member n p at first f q;
-      same = members_test_lem (gates_in quads n) row (group_at p at)
-          ∙ ap (λ (m : ℕ). every (λ g. member_test row (gate_at (gates_in quads n) m) (gate_at (gates_in quads n) g)) (group_at p at)) (sym (first_smallest n p at first f q))
-          ∙ ap (every (λ g. member_test row (gate_at (gates_in quads n) first) (gate_at (gates_in quads n) g))) (sym (members_all p at));
-    }
-
-module _ (quads : List ℕ) (row n : ℕ) (p : List ℕ) (at first k g : ℕ) (r : Bool) (w : Holding quads row n p at first k) (h : k < get_or p at 0)
-    (q : g ≡ get_or (group_at p at) k 0) (e : r ≡ member_test row (gate_in quads first) (gate_in quads g)) where
-  tested : r ≡ member_test row (gate_at (gates_in quads n) first) (gate_at (gates_in quads n) g)
-  tested = e ∙ sym (rw (gates_at quads n first w.inside, gates_at quads n g (walk_member n p at k g w.walk h q)))
-
-  next_member : members_test (gates_in quads n) row (group_at p at) ≡
-      (r && every (λ i. member_test row (gate_at (gates_in quads n) first) (gate_at (gates_in quads n) i)) (members_from p at (k + 1)))
-  next_member =
-      w.same ∙ ap (every (λ i. member_test row (gate_at (gates_in quads n) first) (gate_at (gates_in quads n) i))) (members_step p at k h)
-      ∙ rw (tested, q)
-
-  pub holding_fails : r ≡ false → false ≡ members_test (gates_in quads n) row (group_at p at)
-  holding_fails f = sym (next_member ∙ rw f)
-
-  pub holding_step : r ≡ true → Holding quads row n p at first (k + 1)
-  holding_step f = record { walk = walk_step n p at k w.walk h; inside = w.inside; same = next_member ∙ rw f }
-
-pub holding_end : (quads : List ℕ) (row n : ℕ) (p : List ℕ) (at first k : ℕ) → Holding quads row n p at first k → get_or p at 0 ≤ k → true ≡ members_test
-    (gates_in quads n) row (group_at p at)
-holding_end quads row n p at first k w h = sym
-    (w.same ∙ ap (every (λ g. member_test row (gate_at (gates_in quads n) first) (gate_at (gates_in quads n) g))) (members_end p at k h))
+  pub alike_members : (first : ℕ) → first ≡ get_or (group_at p at) 0 0
+      → every (λ g. eqb (operation_byte (gate_in quads first)) (operation_byte (gate_in quads g))) (group_at p at) ≡ alike (gates_in quads n) (group_at p at)
+  alike_members first q =
+      every_same _ _ (group_at p at)
+      (λ g m. rw (sym (first_smallest n p at first f q), gates_at quads n first (first_member n p at first f q), gates_at quads n g (f.exist g m)) refl)
+      ∙ sym (alike_is (gates_in quads n) (group_at p at))
 
 -- loop invariant, for 29: the settings seen so far
 pub record Parting (sets : List ℕ) (n : ℕ) (p : List ℕ) (at seen k : ℕ) : Type 0 where

@@ -1,9 +1,18 @@
 -- Inner: what the rows before have established where a pass over the groups stands.
-use Rattle.std.specs.Prelude.{ℕ, ◌≤◌, List, length, get_or}
+use Rattle.std.specs.Prelude.{ℕ, zero, suc, ◌≤◌, ◌≡◌, List, [], ◌∷◌, Bool, length, get_or}
+use Rattle.base.specs.Lists.{◌∈◌}
 use Rattle.circuit.specs.Limits.{most_gates}
 use Rattle.plan.specs.PlanFile.{groups_counted, group_at, after, groups_from, groups_in, EachGroup, Rising, Ends}
 use Rattle.plan.specs.Limits.{least_plan_bytes, most_plan_bytes}
 use Rattle.plan.specs.Accepted.{Exist}
+
+-- the places where n groups begin, from the place at on; and where all groups of a plan do
+abbrev pub begins_from : ℕ → List ℕ → ℕ → List ℕ
+begins_from zero p at = []
+begins_from (suc n) p at = at ∷ begins_from n p (after p at)
+
+unfoldable pub begins : List ℕ → List ℕ
+begins p = begins_from (groups_counted p) p least_plan_bytes
 
 -- what the rows 20 to 25 establish of the plan p for n gates
 pub record Readable (n : ℕ) (p : List ℕ) : Type 0 where
@@ -38,3 +47,7 @@ pub record ReadableGroup (n : ℕ) (p : List ℕ) (at : ℕ) : Type 0 where
   pub joins : 2 ≤ get_or p at 0
   pub rising : Rising (group_at p at)
   pub exist : Exist n (group_at p at)
+
+-- what a test of places answers is what t answers of the groups that begin there
+abbrev pub Tells : (ℕ → Bool → Type 0) → List ℕ → (List ℕ → Bool) → Type 0
+Tells post p t = (at : ℕ) (r : Bool) → at ∈ begins p → post at r → r ≡ t (group_at p at)

@@ -1,5 +1,5 @@
 -- The loop that writes the groups in order: each turn writes the first ready group, a circle leaves one unwritten, and at the end all are.
-use Rattle.std.specs.Prelude.{ℕ, suc, ◌+◌, ◌-◌, ◌≤◌, ◌<◌, ◌≡◌, refl, true, false, cond, ◌⊎◌, eqb, length, get_or, set}
+use Rattle.std.specs.Prelude.{ℕ, suc, ◌+◌, ◌-◌, ◌≤◌, ◌<◌, ◌≡◌, refl, true, false, cond, ◌⊎◌, eqb, length, get_or, set, Option, Some, None}
 use Rattle.std.proofs.Common.{sym, ap, ◌∙◌, true≢false, inl, inr, arith, eq-eqb, ne_eqb}
 use mathlib.Core.List.{List, [], ◌∷◌, reverse, reverse-cons}
 use Rattle.std.proofs.Math.Option.{some}
@@ -19,8 +19,6 @@ use Rattle.plan.specs.OrderLaws.{found, none_left, stays, turn}
 use Rattle.plan.proofs.CountLaws.{once_length, groups_once, groups_most}
 use Rattle.base.specs.BitWords.{bit_in, strike_bit}
 use Rattle.plan_order.specs.Search.{next_ready, as_next, place_of, Holding}
-use Rattle.plan_order.specs.declared.Next.{Next}
-use Rattle.plan_order.specs.declared.Next.TheVariants.{Group, Circle}
 use Rattle.base.specs.BitWordLaws.{strike_words, strike_bit_lem}
 use Rattle.plan_order.specs.HoldLaws.{holding_start, holding_search, holding_struck, SameElse}
 use Rattle.plan_order.specs.SearchLaws.{as_none, as_some}
@@ -55,13 +53,13 @@ module _ (W : ℕ → List ℕ) (group : ℕ → ℕ) (n : ℕ) (waits order₀ 
       }
 
   module _ (order left held : List ℕ) (k first : ℕ) (done : List ℕ) (s : Placing W group n waits order₀ order left held k first done) where
-    first_of : (r : Next) → r ≡ next_ready waits left first n → r ≡ as_next (first_ready W done (groups n group))
+    first_of : (r : Option GateId) → r ≡ next_ready waits left first n → r ≡ as_next (first_ready W done (groups n group))
     first_of r e = e ∙ sym (holding_search waits left held first s.holding n s.below) ∙ next_right W group n waits left done s.tabled
 
     -- the next ready group is one that is not written: there is room for it
-    module _ (p : GateId) (e : Group p ≡ next_ready waits left first n) where
+    module _ (p : GateId) (e : Some p ≡ next_ready waits left first n) where
       ready_group : first_ready W done (groups n group) ≡ some p.0
-      ready_group = as_some (first_ready W done (groups n group)) p (first_of (Group p) e)
+      ready_group = as_some (first_ready W done (groups n group)) p (first_of (Some p) e)
 
       new_group : (p.0 ∈ groups n group) × (elem p.0 done ≡ false)
       new_group = found W done (groups n group) p.0 ready_group
@@ -123,7 +121,7 @@ module _ (W : ℕ → List ℕ) (group : ℕ → ℕ) (n : ℕ) (waits order₀ 
               rw z (turn W done (groups n group) (length (groups n group) - (k + 1)) p.0 ready_group)
 
       -- the search goes on at the lowest that it held up, or behind it
-      pub placing_on : (order' left' held' fresh : List ℕ) (next : ℕ) (r : Next) → r ≡ Group p → Holding waits left held' (place_of r n)
+      pub placing_on : (order' left' held' fresh : List ℕ) (next : ℕ) (r : Option GateId) → r ≡ Some p → Holding waits left held' (place_of r n)
           → next ≤ get_or held' p.0 0 → next ≤ p.0 + 1 → order' ≡ set order k p.0 → left' ≡ strike_bit p.0 left → SameElse p.0 held' fresh
           → Placing W group n waits order₀ order' left' fresh (k + 1) next (p.0 ∷ done)
       placing_on order' left' held' fresh next r x a b c f h w =
@@ -131,10 +129,10 @@ module _ (W : ℕ → List ℕ) (group : ℕ → ℕ) (n : ℕ) (waits order₀ 
           (holding_struck waits left left' held' fresh p.0 next s.tabled.lefts.size placing_room.0 is (rw x at a) b c h w)
 
     -- no group is ready though not all are written: a circle remains
-    pub placing_circle : Circle ≡ next_ready waits left first n → k < length (groups n group)
+    pub placing_circle : None ≡ next_ready waits left first n → k < length (groups n group)
         → (schedule W (groups n group) (length (groups n group)) [] ≡ done) × (all_in (groups n group) done ≡ false)
     placing_circle e l = (
-      s.same ∙ stays W done (groups n group) (length (groups n group) - k) (as_none (first_ready W done (groups n group)) (first_of Circle e)),
+      s.same ∙ stays W done (groups n group) (length (groups n group) - k) (as_none (first_ready W done (groups n group)) (first_of None e)),
       split (all_in (groups n group) done)
           (λ t. absurd (omega (arith, l, s.counted, once_length (groups n group) done (groups_once n group) (all_in_each (groups n group) done t)))) (λ t. t),
     )

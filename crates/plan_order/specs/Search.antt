@@ -1,10 +1,11 @@
 -- Inner: the search for the next ready group over the tables, in the form that the code goes.
-use Rattle.std.specs.Prelude.{ℕ, zero, suc, ◌+◌, ◌-◌, ◌*◌, ◌≤◌, ◌<◌, ◌≡◌, Bool, true, false, cond, List, ltb, length, get_or, set}
-use Rattle.std.proofs.Math.Option.{Option, none, some}
+use Rattle.std.specs.Prelude.{ℕ, zero, suc, ◌+◌, ◌-◌, ◌*◌, ◌≤◌, ◌<◌, ◌≡◌, Bool, true, false, cond, List, ltb, length, get_or, set, Option, Some, None}
+use Rattle.std.proofs.Math.Option as list
 use Rattle.base.specs.Sets.{excludes}
 use Rattle.base.specs.BitWords.{bit_in}
-use Rattle.plan_order.specs.declared.Next.{Next}
-use Rattle.plan_order.specs.declared.Next.TheVariants.{Group, Circle}
+use Rattle.base.specs.Bits.{bit}
+use Rattle.std.specs.Int.Bits.{bit_and}
+use Rattle.circuit.specs.declared.GateId.{GateId}
 use Rattle.circuit.specs.Rooms.{gate_room}
 
 -- p waits for no group that is left: k of its words from w on have none in common with what is left
@@ -12,28 +13,34 @@ unfoldable pub free_from : List ℕ → List ℕ → ℕ → ℕ → ℕ → Boo
 free_from waits left p w zero = true
 free_from waits left p w (suc k) = cond (excludes (get_or waits (4 * p + w) 0) (get_or left w 0)) (free_from waits left p (w + 1) k) false
 
+-- a group that is left and that p waits for, number j of word w; none where p waits for no group that is left
+abbrev pub FirstWait : List ℕ → List ℕ → ℕ → Option GateId → Type 0
+FirstWait waits left p None = free_from waits left p 0 4 ≡ true
+FirstWait waits left p (Some q) = (free_from waits left p 0 4 ≡ false)
+    × ((w : ℕ) × (j : ℕ) × (w < 4) × (j < 64) × (bit (bit_and (get_or waits (4 * p + w) 0) (get_or left w 0)) j ≡ true) × (q.0 ≡ 64 * w + j))
+
 -- p is left, and waits for none that is
 unfoldable pub ready_in : List ℕ → List ℕ → ℕ → Bool
 ready_in waits left p = cond (bit_in 0 left p) (free_from waits left p 0 4) false
 
 -- the first such of the k groups from p on
-unfoldable pub search_from : List ℕ → List ℕ → ℕ → ℕ → Next
-search_from waits left p zero = Circle
-search_from waits left p (suc k) = cond (ready_in waits left p) (Group (record { 0 = p })) (search_from waits left (p + 1) k)
+unfoldable pub search_from : List ℕ → List ℕ → ℕ → ℕ → Option GateId
+search_from waits left p zero = None
+search_from waits left p (suc k) = cond (ready_in waits left p) (Some (record { 0 = p })) (search_from waits left (p + 1) k)
 
 -- the first from `from` on, below count
-unfoldable pub next_ready : List ℕ → List ℕ → ℕ → ℕ → Next
+unfoldable pub next_ready : List ℕ → List ℕ → ℕ → ℕ → Option GateId
 next_ready waits left first count = search_from waits left first (count - first)
 
--- what a search over the list of groups gives, as the code yields it
-abbrev pub as_next : Option ℕ → Next
-as_next none = Circle
-as_next (some p) = Group (record { 0 = p })
+-- what a search over the list of groups gives, as the code returns it
+abbrev pub as_next : list.Option ℕ → Option GateId
+as_next list.none = None
+as_next (list.some p) = Some (record { 0 = p })
 
 -- the place that a search stopped at
-abbrev pub place_of : Next → ℕ → ℕ
-place_of (Group p) n = p.0
-place_of Circle n = n
+abbrev pub place_of : Option GateId → ℕ → ℕ
+place_of (Some p) n = p.0
+place_of None n = n
 
 -- p is noted at q, unless a lower number is
 unfoldable pub lowered : ℕ → ℕ → List ℕ → List ℕ

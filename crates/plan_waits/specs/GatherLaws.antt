@@ -18,6 +18,9 @@ use Rattle.plan.specs.RestLaws.{rests_inside, rests_held}
 use Rattle.plan.specs.ReadsLaws.{waits_read, reads_inside}
 use Rattle.base.specs.BitWords.{HasWords, bit_in, put_each}
 use Rattle.plan_waits.specs.Reads.{arguments_at, Into, Orderable}
+use Rattle.base.specs.SetsHeld.{sets_in}
+use Rattle.circuit.specs.declared.Circuit.{Circuit}
+use Rattle.plan.specs.declared.Grouping.{Grouping}
 use Rattle.plan_waits.specs.Gathering.{Waiting}
 use Rattle.base.specs.BitWordLaws.{clear_words, clear_bit, puts_words, puts_bit, puts_append}
 use Rattle.plan_waits.specs.ReadLaws.{arguments_at_lem, elem_joined, flat_last}
@@ -42,22 +45,41 @@ below_no C sets group i p e =
     ap (λ (r : List ℕ). map group (flat (reads_of C sets (members (length C) group p)) r)) (keep_no (λ x. eqb (group x) p) i (ne_eqb (group i) p e))
 
 -- The table of waits: those on account of the gates below i.
-pub record GatheringWaits (quads : List ℕ) (count : ℕ) (needs conds group places waits : List ℕ) (size i : ℕ) : Type 0 where
-  pub orderable : Orderable quads count conds group places
-  pub below : i ≤ count
-  pub wide : 4 * count ≤ size
+pub record GatheringWaits (circuit : Circuit) (grouping : Grouping) (waits : List ℕ) (size i : ℕ) : Type 0 where
+  pub orderable : Orderable circuit grouping
+  pub below : i ≤ circuit.count
+  pub wide : 4 * circuit.count ≤ size
   pub words : HasWords size waits
-  pub holds : (p q : ℕ) → p < 256 → q < 256 → bit_in (4 * p) waits q ≡ elem q (waits_below (gates_in quads count) needs (λ x. get_or group x 0) i p)
+  pub holds : (p q : ℕ) → p < 256 → q < 256
+      → bit_in (4 * p) waits q ≡ elem q (waits_below (gates_in circuit.quads circuit.count) (sets_in circuit.needs) (λ x. get_or grouping.group x 0) i p)
 
-module _ (quads : List ℕ) (count : ℕ) (needs conds group places : List ℕ) where
+module _ (circuit : Circuit) (grouping : Grouping) where
+  abbrev quads : List ℕ
+  quads = circuit.quads
+
+  abbrev count : ℕ
+  count = circuit.count
+
+  abbrev needs : List ℕ
+  needs = sets_in circuit.needs
+
+  abbrev conds : List ℕ
+  conds = circuit.conditions
+
+  abbrev group : List ℕ
+  group = grouping.group
+
+  abbrev places : List ℕ
+  places = grouping.places
+
   abbrev C : Gates
   C = gates_in quads count
 
   abbrev g : ℕ → ℕ
   g = λ x. get_or group x 0
 
-  pub gathering_start : (waits : List ℕ) → Orderable quads count conds group places → waits ≡ replicate (length waits) 0 → 4 * count ≤ length waits
-      → GatheringWaits quads count needs conds group places waits (length waits) 0
+  pub gathering_start : (waits : List ℕ) → Orderable circuit grouping → waits ≡ replicate (length waits) 0 → 4 * count ≤ length waits
+      → GatheringWaits circuit grouping waits (length waits) 0
   unfolding waits_below
   gathering_start waits o e r =
       record {
@@ -68,7 +90,7 @@ module _ (quads : List ℕ) (count : ℕ) (needs conds group places : List ℕ) 
         holds = λ p q h l. clear_bit (length waits) (4 * p) q waits e;
       }
 
-  module _ (waits : List ℕ) (size i : ℕ) (s : GatheringWaits quads count needs conds group places waits size i) (l : i < count) where
+  module _ (waits : List ℕ) (size i : ℕ) (s : GatheringWaits circuit grouping waits size i) (l : i < count) where
     inside : i < length C
     inside = rw (gates_length quads count) l
 
@@ -96,7 +118,7 @@ module _ (quads : List ℕ) (count : ℕ) (needs conds group places : List ℕ) 
         (omega (arith, s.orderable.room), group_low a h)
 
     step : (new : List ℕ) → new ≡ put_each (4 * g i) (map g (reads_of C needs (members (length C) g (g i)) i)) waits
-        → GatheringWaits quads count needs conds group places new size (i + 1)
+        → GatheringWaits circuit grouping new size (i + 1)
     step new e =
         record {
           orderable = s.orderable;
@@ -140,7 +162,7 @@ module _ (quads : List ℕ) (count : ℕ) (needs conds group places : List ℕ) 
     -- a member of a group of one
     pub gathering_alone : (new : List ℕ) (p : ℕ) → p ≡ get_or group i 0 → get_or places i 0 ≡ 0 → new ≡ put_each (4 * p)
         (map (λ a. get_or group a 0) (arguments_at quads i)) waits
-        → GatheringWaits quads count needs conds group places new size (i + 1)
+        → GatheringWaits circuit grouping new size (i + 1)
     gathering_alone new p e z h = step new (h ∙ rw e (ap (λ (r : List ℕ). put_each (4 * g i) (map g r) waits) reads))
       where
         reads : arguments_at quads i ≡ reads_of C needs (members (length C) g (g i)) i
@@ -150,7 +172,7 @@ module _ (quads : List ℕ) (count : ℕ) (needs conds group places : List ℕ) 
     pub gathering_joined : (mid new : List ℕ) (p n : ℕ) → p ≡ get_or group i 0 → (get_or places i 0 ≡ 0 → ⊥) → n ≡ get_or needs i 0
         → mid ≡ put_each (4 * p) (map (λ a. get_or group a 0) (arguments_at quads i)) waits
         → new ≡ put_each (4 * p) (map (λ a. get_or group a 0) (map (λ t. get_or conds t 0) (rests most_conditions n))) mid
-        → GatheringWaits quads count needs conds group places new size (i + 1)
+        → GatheringWaits circuit grouping new size (i + 1)
     gathering_joined mid new p n e z f h k =
         step new
         (k ∙ rw (h, f, e) (puts_append (4 * g i) (map g (arguments_at quads i)) (map g (map (λ t. get_or conds t 0) (rests most_conditions (get_or needs i 0)))) waits
@@ -160,7 +182,7 @@ module _ (quads : List ℕ) (count : ℕ) (needs conds group places : List ℕ) 
         reads : arguments_at quads i ++ map (λ t. get_or conds t 0) (rests most_conditions (get_or needs i 0)) ≡ reads_of C needs (members (length C) g (g i)) i
         reads = rw (gates_length quads count, s.orderable.many i l, ne_eqb (get_or places i 0) 0 z, ← rests_here, arguments_here)
 
-  pub gathering_end : (waits : List ℕ) (size i : ℕ) → GatheringWaits quads count needs conds group places waits size i → count ≤ i → Waiting C needs g waits
+  pub gathering_end : (waits : List ℕ) (size i : ℕ) → GatheringWaits circuit grouping waits size i → count ≤ i → Waiting C needs g waits
   unfolding waits_below
   gathering_end waits size i s l =
       record {

@@ -13,7 +13,8 @@ ghost use Rattle.base.specs.SetsHeld.{sets_in};
 ghost use Rattle.circuit.specs.Rooms.{gate_room};
 
 use base::ConditionList;
-use circuit::{CONDITION_ROOM, GATE_ROOM, GateId, NEED_WORDS, QUAD_ROOM};
+use circuit::{Circuit, GateId};
+use plan::Grouping;
 
 // A choice has three arguments.
 const CHOICE_ARITY: usize = 3;
@@ -49,17 +50,8 @@ fn arity_of(code: u32) -> usize
     if code == circuit::CHOICE {
         CHOICE_ARITY
     } else {
-        circuit_quads::code_entry(code).arity as usize
+        usize::from(circuit_quads::code_entry(code).arity)
     }
-}
-
-// The group of a gate, by its smallest member.
-fn group_of(group: &[u16; GATE_ROOM], g: GateId) -> GateId
-    requires { g.0 < gate_room }
-    ensures { result.0 ≡ get_or group.now g.0 0 }
-{
-    let i = g.0 as usize;
-    GateId(group[i])
 }
 
 // Group p waits for group q, which may be p itself.
@@ -67,94 +59,68 @@ fn wait_for(waits: &mut [u64], p: GateId, q: GateId)
     requires { (4 * p.0 + 4 ≤ length waits.old) × (q.0 < gate_room) }
     ensures { waits.new ≡ put_bit (4 * p.0) q.0 waits.old }
 {
-    let i = p.0 as usize;
-    put(waits, 4 * i, q);
+    put(waits, 4 * p.index(), q);
 }
 
 // Group p waits for the groups of gate m's arguments, its own too.
-fn wait_arguments(
-    quads: &[u32; QUAD_ROOM],
-    group: &[u16; GATE_ROOM],
-    m: GateId,
-    p: GateId,
-    waits: &mut [u64],
-)
-    requires { (m.0 < gate_room) × ((4 * p.0 + 4 ≤ length waits.old) × Into group.now (arguments_at quads.now m.0)) }
-    ensures { waits.new ≡ put_each (4 * p.0) (map (λ a. get_or group.now a 0) (arguments_at quads.now m.0)) waits.old }
+fn wait_arguments(circuit: &Circuit, grouping: &Grouping, m: GateId, p: GateId, waits: &mut [u64])
+    requires { (m.0 < gate_room) × ((4 * p.0 + 4 ≤ length waits.old) × Into grouping.now.group (arguments_at circuit.now.quads m.0)) }
+    ensures { waits.new ≡ put_each (4 * p.0) (map (λ a. get_or grouping.now.group a 0) (arguments_at circuit.now.quads m.0)) waits.old }
 {
-    let i = m.0 as usize;
-    let n = arity_of(quads[4 * i]);
-    let mut k: usize = 0;
-    while k < n {
-        let a = circuit_quads::argument(quads, 4 * i + 1 + k);
-        wait_for(waits, p, group_of(group, a));
-        k = k + 1;
+    let i = m.index();
+    for k in 0..arity_of(circuit.quads[4 * i]) {
+        let a = circuit_quads::argument(&circuit.quads, 4 * i + 1 + k);
+        wait_for(waits, p, grouping.group_of(a));
     }
 }
 
 // Group p waits for the groups of the conditions that a list has, its own too.
 fn wait_conditions(
-    conditions: &[u16; CONDITION_ROOM],
-    group: &[u16; GATE_ROOM],
+    circuit: &Circuit,
+    grouping: &Grouping,
     list: ConditionList,
     p: GateId,
     waits: &mut [u64],
 )
-    requires { (4 * p.0 + 4 ≤ length waits.old) × (Lists list × Into group.now (map (λ t. get_or conditions.now t 0) (conditions_in list))) }
-    ensures { waits.new ≡ put_each (4 * p.0) (map (λ a. get_or group.now a 0) (map (λ t. get_or conditions.now t 0) (conditions_in list))) waits.old }
+    requires { (4 * p.0 + 4 ≤ length waits.old) × (Lists list × Into grouping.now.group (map (λ t. get_or circuit.now.conditions t 0) (conditions_in list))) }
+    ensures { waits.new ≡ put_each (4 * p.0) (map (λ a. get_or grouping.now.group a 0) (map (λ t. get_or circuit.now.conditions t 0) (conditions_in list))) waits.old }
 {
-    let n = list.count as usize;
-    let mut i: usize = 0;
-    while i < n {
-        let t = list.at[i] as usize;
-        let c = GateId(conditions[t]);
-        wait_for(waits, p, group_of(group, c));
-        i = i + 1;
+    for t in &list.at[..usize::from(list.count)] {
+        let c = GateId(circuit.conditions[usize::from(*t)]);
+        wait_for(waits, p, grouping.group_of(c));
     }
 }
 
 // The waits of every group, in one pass over the gates, from a clear table.
-pub fn find_waits(
-    quads: &[u32; QUAD_ROOM],
-    count: usize,
-    needs: &[u64; NEED_WORDS],
-    conditions: &[u16; CONDITION_ROOM],
-    group: &[u16; GATE_ROOM],
-    places: &[u16; GATE_ROOM],
-    waits: &mut [u64],
-)
-    requires { Orderable quads.now count conditions.now group.now places.now × ((waits.old ≡ replicate (length waits.old) 0) × (4 * count ≤ length waits.old)) }
-    ensures { Waiting (gates_in quads.now count) (sets_in needs.now) (λ x. get_or group.now x 0) waits.new }
+pub fn find_waits(circuit: &Circuit, grouping: &Grouping, waits: &mut [u64])
+    requires { Orderable circuit.now grouping.now × ((waits.old ≡ replicate (length waits.old) 0) × (4 * circuit.now.count ≤ length waits.old)) }
+    ensures { Waiting (gates_in circuit.now.quads circuit.now.count) (sets_in circuit.now.needs) (λ x. get_or grouping.now.group x 0) waits.new }
 {
-    let mut i: usize = 0;
-    while i < count {
+    for i in 0..circuit.count {
         let m = GateId(i as u16);
-        let p = group_of(group, m);
-        wait_arguments(quads, group, m, p, waits);
-        if places[i] != 0 {
+        let p = grouping.group_of(m);
+        wait_arguments(circuit, grouping, m, p, waits);
+        if grouping.places[i] != 0 {
             // A joined member is written behind the conditions that it rests on.
-            let r = base_settings::rested(base_settings::load(needs, i));
-            wait_conditions(conditions, group, r, p, waits);
+            let r = base_settings::rested(base_settings::load(&circuit.needs, i));
+            wait_conditions(circuit, grouping, r, p, waits);
         }
-        i = i + 1;
     }
 }
 
 // Every group is left to write at first, from a clear set; gives how many there are.
-pub fn find_left(group: &[u16; GATE_ROOM], count: usize, left: &mut [u64]) -> usize
+pub fn find_left(grouping: &Grouping, count: usize, left: &mut [u64]) -> usize
     requires { (count ≤ gate_room) × (left.old ≡ replicate 4 0) }
-    ensures counted { result ≡ length (groups count (λ x. get_or group.now x 0)) }
-    ensures left { Left (λ x. get_or group.now x 0) count left.new }
+    ensures counted { result ≡ length (groups count (λ x. get_or grouping.now.group x 0)) }
+    ensures left { Left (λ x. get_or grouping.now.group x 0) count left.new }
 {
     let mut n: usize = 0;
-    let mut i: usize = 0;
-    while i < count {
+    for i in 0..count {
         let p = GateId(i as u16);
-        if group[i] == p.0 {
+        if grouping.group_of(p) == p {
             put(left, 0, p);
             n = n + 1;
         }
-        i = i + 1;
     }
     n
 }

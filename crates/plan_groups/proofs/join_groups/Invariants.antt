@@ -1,8 +1,7 @@
+use Rattle.std.proofs.Common.{◌≡◌, ◌-◌}
 use Rattle.plan_groups.specs.JoinLaws.{JoiningGroups}
 use Rattle.plan_groups.proofs.join_groups.Given as goal
 
-abbrev pub invariant-loop-unjoined : goal.invariant-loop-unjoined
-invariant-loop-unjoined l = JoiningGroups l.count l.plan l.group l.places l.unjoined l.at
-
-abbrev pub decreases-loop-unjoined : goal.decreases-loop-unjoined
-decreases-loop-unjoined l = l.unjoined
+abbrev pub invariant-loop : goal.invariant-loop
+invariant-loop l = JoiningGroups l.count l.plan l.grouping.group l.grouping.places (l.end - l.counter) l.at
+    × ((l.grouping.order ≡ l.initial.grouping.order) × (l.grouping.groups ≡ l.initial.grouping.groups))
