@@ -3,3 +3,4 @@ pub mod Turns
 pub mod TurnLaws
 pub mod LoopLaws
 pub mod OutputLaws
+pub mod Fusions

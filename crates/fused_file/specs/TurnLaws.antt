@@ -3,7 +3,6 @@ use Rattle.std.specs.Prelude.{ℕ, suc, ◌+◌, ◌-◌, ◌≤◌, ◌<◌, �
 use Rattle.std.proofs.Math.Path.{refl}
 use Rattle.std.proofs.Common.{sym, ap, ◌∙◌, append-nil, inl, inr, add-one, arith, length-append, ne_eqb}
 use Rattle.base.specs.TestLaws.{same?}
-use Rattle.base.specs.Buffers.{over}
 use Rattle.circuit.specs.Limits.{most_gates}
 use Rattle.base.specs.Lists.{Inside}
 use Rattle.plan.specs.PlanFile.{group_at}
@@ -12,10 +11,11 @@ use Rattle.file.specs.Versions.{written_version}
 use Rattle.file.specs.Records.{Record, records_cost}
 use Rattle.file.specs.CircuitFile.{record_bytes, records_bytes}
 use Rattle.file.specs.SizeLaws.{size_append, cost_append}
-use Rattle.fused_gate.specs.Emitted.{wire_in, alone_in, Writable}
+use Rattle.fused_gate.specs.Emitted.{wire_in, alone_in, Writable, Written}
 use Rattle.fused_group.specs.Joined.{emit_in, JoinWritable}
 use Rattle.fused_group.specs.EmitLaws.{emit_some}
-use Rattle.fused_size.specs.Sizes.{Measured}
+use Rattle.fused_size.specs.Sizes.{sum_of, Measured}
+use Rattle.fused_size.specs.declared.Size.{Size}
 use Rattle.fused.specs.SizeLimits.{most_record_bytes}
 use Rattle.fused_file.specs.Staged.{Stage, members_of, turn_records, turn, stage, Turnable}
 use Rattle.fused_file.specs.Turns.{Measurable, Puttable, Sum}
@@ -38,21 +38,24 @@ module _ (p quads : List ℕ) (count : ℕ) (needs : List ℕ) (wire : ℕ → �
     pub alone_room : (k : ℕ) → length (records_bytes written_version (emit_in quads count needs wire n (members_of p at q))) ≤ k → length (record_bytes written_version (alone_in quads wire q)) ≤ k
     alone_room k h = rw alone_bytes at h
 
-    pub alone_put : (k : ℕ) (d o : List ℕ) → k ≡ length (record_bytes written_version (alone_in quads wire q)) → o ≡ over (record_bytes written_version (alone_in quads wire q)) d
-        → (k ≡ length (records_bytes written_version (emit_in quads count needs wire n (members_of p at q))))
-        × ((1 ≡ length (emit_in quads count needs wire n (members_of p at q))) × (o ≡ over (records_bytes written_version (emit_in quads count needs wire n (members_of p at q))) d))
-    alone_put k d o x y = (rw alone_bytes x, (rw (members_alone p at q e), rw alone_bytes y))
+    pub alone_put : (k : ℕ) (d o : List ℕ) → Written (record_bytes written_version (alone_in quads wire q)) k d o
+        → Written (records_bytes written_version (emit_in quads count needs wire n (members_of p at q))) k d o
+    alone_put k d o w = rw alone_bytes w
+
+    pub alone_one : 1 ≡ length (emit_in quads count needs wire n (members_of p at q))
+    alone_one = rw (members_alone p at q e)
 
   module _ (e : at ≡ 0 → ⊥) where
     pub joined_room : (k : ℕ) → length (records_bytes written_version (emit_in quads count needs wire n (members_of p at q))) ≤ k → length
         (records_bytes written_version (emit_in quads count needs wire n (group_at p at))) ≤ k
     joined_room k h = rw (members_joined p at q e) at h
 
-    pub joined_put : (k u : ℕ) (d o : List ℕ) → k ≡ length (records_bytes written_version (emit_in quads count needs wire n (group_at p at)))
-        → u ≡ length (emit_in quads count needs wire n (group_at p at)) → o ≡ over (records_bytes written_version (emit_in quads count needs wire n (group_at p at))) d
-        → (k ≡ length (records_bytes written_version (emit_in quads count needs wire n (members_of p at q))))
-        × ((u ≡ length (emit_in quads count needs wire n (members_of p at q))) × (o ≡ over (records_bytes written_version (emit_in quads count needs wire n (members_of p at q))) d))
-    joined_put k u d o x z y = rw (members_joined p at q e) (x, (z, y))
+    pub joined_put : (k : ℕ) (d o : List ℕ) → Written (records_bytes written_version (emit_in quads count needs wire n (group_at p at))) k d o
+        → Written (records_bytes written_version (emit_in quads count needs wire n (members_of p at q))) k d o
+    joined_put k d o w = rw (members_joined p at q e) w
+
+    pub joined_many : (u : ℕ) → u ≡ length (emit_in quads count needs wire n (group_at p at)) → u ≡ length (emit_in quads count needs wire n (members_of p at q))
+    joined_many u z = rw (members_joined p at q e) z
 
 -- The turns.
 
@@ -132,27 +135,27 @@ module _ (p quads : List ℕ) (count : ℕ) (needs group places ord : List ℕ) 
     turn_puttable n e = record { alone = writable; joins = joining; narrow = omega (arith, e, t.wired i (omega (arith, h))) }
 
     -- the sizes that the turn adds, over the wires w
-    module _ (wires bytes cost a b c : ℕ) (w : List ℕ) (s : Sum p quads count needs group places ord i wires bytes cost) (ew : w ≡ (stage p quads count needs group places ord i).wires)
-        (z : Measured quads needs (wire_in group w) (members_of p at (get_or ord i 0)) a b c) where
-      pub sum_wires : a ≡ length (emit_in quads count needs (wire_in group w) wires (members_of p at (get_or ord i 0)))
-      sum_wires = z.wired count wires turn_below
+    module _ (t₀ z₀ : Size) (w : List ℕ) (s : Sum p quads count needs group places ord i t₀) (ew : w ≡ (stage p quads count needs group places ord i).wires)
+        (z : Measured quads needs (wire_in group w) (members_of p at (get_or ord i 0)) z₀) where
+      pub sum_wires : z₀.wires ≡ length (emit_in quads count needs (wire_in group w) t₀.wires (members_of p at (get_or ord i 0)))
+      sum_wires = z.wired count t₀.wires turn_below
 
-      pub turn_sum : Sum p quads count needs group places ord (i + 1) (wires + a) (bytes + b) (cost + c)
+      pub turn_sum : Sum p quads count needs group places ord (i + 1) (sum_of t₀ z₀)
       turn_sum =
           let S : Stage = stage p quads count needs group places ord i in
           let T : List Record = turn_records p quads count needs group places S (get_or ord i 0) in
           let R : (stage p quads count needs group places ord (i + 1)).records ≡ S.records ++ T = ap (λ (v : Stage). v.records) (stage_more i) in
-          let E : emit_in quads count needs (wire_in group w) wires (members_of p at (get_or ord i 0)) ≡ T = turn_is i g at wires w eg ea ew s.wired in
-          let y : b ≡ length (records_bytes written_version T) = z.long count wires turn_below ∙ ap (λ (r : List Record). length (records_bytes written_version r)) E in
-          let v : c ≡ records_cost T = z.costs count wires turn_below ∙ ap (λ (r : List Record). records_cost r) E in
+          let E : emit_in quads count needs (wire_in group w) t₀.wires (members_of p at (get_or ord i 0)) ≡ T = turn_is i g at t₀.wires w eg ea ew s.wired in
+          let y : z₀.bytes ≡ length (records_bytes written_version T) = z.long count t₀.wires turn_below ∙ ap (λ (r : List Record). length (records_bytes written_version r)) E in
+          let v : z₀.cost ≡ records_cost T = z.costs count t₀.wires turn_below ∙ ap (λ (r : List Record). records_cost r) E in
           record {
-            wired = turn_length wires a w s.wired ew sum_wires;
+            wired = turn_length t₀.wires z₀.wires w s.wired ew sum_wires;
             long = rw (R, size_append written_version S.records T) (omega (arith, s.long, y));
             costs = rw (R, cost_append S.records T) (omega (arith, s.costs, v));
           }
 
-      pub turn_small : (1 ≤ wires + a) × (wires + a ≤ most_wires) × (bytes + b ≤ most_record_bytes) × (cost + c ≤ 10240)
+      pub turn_small : (1 ≤ t₀.wires + z₀.wires) × (t₀.wires + z₀.wires ≤ most_wires) × (t₀.bytes + z₀.bytes ≤ most_record_bytes) × (t₀.cost + z₀.cost ≤ 10240)
       turn_small =
           let l : i + 1 ≤ groups = omega (arith, h) in
-          let f = turn_fits wires a w s.wired ew sum_wires in
+          let f = turn_fits t₀.wires z₀.wires w s.wired ew sum_wires in
           (omega (arith, f.0), f.1, omega (arith, turn_sum.long, t.long (i + 1) l), omega (arith, turn_sum.costs, t.costs (i + 1) l))

@@ -1,5 +1,5 @@
 -- Inner: one group in turn, and the whole file, as the code measures and writes them from lent arrays.
-use Rattle.std.specs.Prelude.{ℕ, ◌≤◌, ◌<◌, ◌≡◌, List, map, cond, length, get_or}
+use Rattle.std.specs.Prelude.{Option, Some, None, ℕ, ◌≤◌, ◌<◌, ◌≡◌, List, map, cond, length, get_or}
 use Rattle.base.specs.Lists.{upto}
 use Rattle.file.specs.Versions.{written_version}
 use Rattle.file.specs.Limits.{most_wires}
@@ -8,6 +8,7 @@ use Rattle.file.specs.CircuitFile.{records_bytes, file_bytes, no_wire}
 use Rattle.rule.specs.Header.{variables, working_at}
 use Rattle.fused_gate.specs.Emitted.{wire_in, Grouped, Coded, Writable}
 use Rattle.fused_group.specs.Joined.{Joinable, JoinWritable}
+use Rattle.fused_size.specs.declared.Size.{Size}
 use Rattle.fused_file.specs.Staged.{stage, Turnable}
 use Rattle.circuit.specs.Rooms.{variable_room}
 
@@ -28,11 +29,16 @@ pub record Measures (p quads needs group places ord : List ℕ) (groups : ℕ) :
   pub conds : List ℕ
   pub turnable : Turnable p quads count needs group places conds ord groups
 
--- the records of the first i groups have these wires, bytes and cost
-pub record Sum (p quads : List ℕ) (count : ℕ) (needs group places ord : List ℕ) (i wires bytes cost : ℕ) : Type 0 where
-  pub wired : wires ≡ length (stage p quads count needs group places ord i).records
-  pub long : bytes ≡ length (records_bytes written_version (stage p quads count needs group places ord i).records)
-  pub costs : cost ≡ records_cost (stage p quads count needs group places ord i).records
+-- the records of the first i groups have this size
+pub record Sum (p quads : List ℕ) (count : ℕ) (needs group places ord : List ℕ) (i : ℕ) (s : Size) : Type 0 where
+  pub wired : s.wires ≡ length (stage p quads count needs group places ord i).records
+  pub long : s.bytes ≡ length (records_bytes written_version (stage p quads count needs group places ord i).records)
+  pub costs : s.cost ≡ records_cost (stage p quads count needs group places ord i).records
+
+-- where a group lies in a plan, by the array of places, which has 0 for a group alone
+abbrev pub PlaceOf : Option ℕ → ℕ → Type 0
+PlaceOf None at = at ≡ 0
+PlaceOf (Some k) at = (k ≡ at) × (k ≡ 0 → ⊥)
 
 -- the first v of the 32 outputs can be written: the gates that give them have wires
 pub record OutputsPlaced (outputs : List ℕ) (v : ℕ) (group : List ℕ) : Type 0 where

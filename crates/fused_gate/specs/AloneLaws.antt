@@ -16,17 +16,24 @@ use Rattle.file.specs.SizeLaws.{wires_size, input_size, word_size, bit_size, cho
 use Rattle.fused_gate.specs.Emitted.{alone_in, Grouped, FitsGate, Coded, Writable}
 
 module _ (quads : List ℕ) (g : ℕ) where
-  -- a gate that fits and is none of the others is an operation
-  pub applies_in : Coded quads g → (code_at quads g ≡ choice_code → ⊥) → (code_at quads g ≡ 0x11 → ⊥) → (code_at quads g ≡ 0x12 → ⊥) → 2 ≤ code_at quads g → Applies
-      (code_at quads g)
-  applies_in f n w b l = go (kind_in_lem quads g)
+  -- a bit constant or a starting value
+  abbrev pub Short : Type 0
+  Short = (code_at quads g ≡ 0x12) ⊎ (code_at quads g < 2)
+
+  -- a gate that fits and is none of the others is one of these; k is its code
+  pub short_in : (k : ℕ) → k ≡ code_at quads g → Coded quads g → (k ≡ choice_code → ⊥) → (k ≡ 0x11 → ⊥) → (k < 0x20) ⊎ (0x28 ≤ k) → Short
+  short_in k e f n w o = go (kind_in_lem quads g)
     where
-      go : KindIn quads g → Applies (code_at quads g)
-      go (chooses e) = absurd (n e)
-      go (is_word e) = absurd (w e)
-      go (is_bit_lem e) = absurd (b e)
-      go (applies h) = h
-      go (starts _ e) = let z : FitsGate (code_at quads g) (start (first_at quads g)) = subst (FitsGate (code_at quads g)) e f.fits in absurd (omega (arith, l, z.0))
+      outside : Applies (code_at quads g) → (k < 0x20) ⊎ (0x28 ≤ k) → ⊥
+      outside h (inl l) = omega (arith, e, l, h.0)
+      outside h (inr l) = omega (arith, e, l, h.1)
+
+      go : KindIn quads g → Short
+      go (chooses x) = absurd (n (e ∙ x))
+      go (is_word x) = absurd (w (e ∙ x))
+      go (is_bit_lem x) = inl x
+      go (applies h) = absurd (outside h o)
+      go (starts _ x) = let z : FitsGate (code_at quads g) (start (first_at quads g)) = subst (FitsGate (code_at quads g)) x f.fits in inr (omega (arith, z.0))
 
   -- every code that fits is a byte
   pub coded_byte : Coded quads g → code_at quads g < 256
@@ -40,11 +47,9 @@ module _ (quads : List ℕ) (g : ℕ) where
       go (starts _ e) = let z : FitsGate (code_at quads g) (start (first_at quads g)) = subst (FitsGate (code_at quads g)) e f.fits in omega (arith, z.0)
 
   -- the byte of a bit constant or of a variable
-  pub first_bit : Coded quads g → code_at quads g ≡ 0x12 → first_at quads g < 256
-  first_bit f e = let z : FitsGate (code_at quads g) (bit (first_at quads g)) = subst (FitsGate (code_at quads g)) (bit_in_lem quads g e) f.fits in z
-
-  pub first_start : Coded quads g → code_at quads g ≤ 1 → first_at quads g < 256
-  first_start f h =
+  pub first_short : Coded quads g → Short → first_at quads g < 256
+  first_short f (inl e) = let z : FitsGate (code_at quads g) (bit (first_at quads g)) = subst (FitsGate (code_at quads g)) (bit_in_lem quads g e) f.fits in z
+  first_short f (inr h) =
       let z : FitsGate (code_at quads g) (start (first_at quads g)) = subst (FitsGate (code_at quads g)) (start_in quads g (omega (arith, h))) f.fits in
       z.1
 

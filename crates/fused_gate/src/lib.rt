@@ -6,36 +6,36 @@ ghost use Rattle.std.specs.Prelude.{◌≡◌, ◌∷◌, [], ◌<◌, ◌≤◌
 ghost use Rattle.base.specs.Numbers.{bytes_of};
 ghost use Rattle.base.specs.Buffers.{over};
 ghost use Rattle.circuit_needed.specs.Held.{Applies, code_at};
-ghost use Rattle.file.specs.Versions.{written_version};
-ghost use Rattle.file.specs.CircuitFile.{wires_bytes, record_bytes};
-ghost use Rattle.fused_gate.specs.Emitted.{wire_in, alone_in, Grouped, Writable};
+ghost use Rattle.file.specs.CircuitFile.{wires_bytes};
+ghost use Rattle.fused_gate.specs.Emitted.{wire_by, alone_bytes, Written, Grouped, Writable};
 ghost use Rattle.circuit.specs.Rooms.{quad_room};
 
 use circuit::{GATE_ROOM, GateId, QUAD_ROOM};
 use file::WireId;
 
-// The wire that stands for gate g: that of its group.
-pub fn wire_of(group: &[u16; GATE_ROOM], wires: &[u16; GATE_ROOM], g: GateId) -> WireId
-    requires { Grouped group.now g.0 }
-    ensures { result.0 ≡ wire_in group.now wires.now g.0 }
-{
-    let i = g.0 as usize;
-    let p = base_words::wide16(group[i]);
-    WireId(wires[p])
+// Which wire stands for a gate: each gate's group, and the wire of each group written.
+#[derive(Clone, Copy)]
+pub struct Wiring<'a> {
+    pub group: &'a [u16; GATE_ROOM],
+    pub wires: &'a [u16; GATE_ROOM],
 }
 
-// The wire that stands for the gate whose number stands at a place of the quads.
-pub fn wire_at(
-    quads: &[u32; QUAD_ROOM],
-    at: usize,
-    group: &[u16; GATE_ROOM],
-    wires: &[u16; GATE_ROOM],
-) -> WireId
-    requires { (at < quad_room) × Grouped group.now (get_or quads.now at 0) }
-    ensures { result.0 ≡ wire_in group.now wires.now (get_or quads.now at 0) }
-{
-    let a = circuit_quads::argument(quads, at);
-    wire_of(group, wires, a)
+impl Wiring<'_> {
+    // The wire that stands for gate g: that of its group.
+    pub fn of(self, g: GateId) -> WireId
+        requires { Grouped self.group.now g.0 }
+        ensures { result.0 ≡ wire_by self.entry g.0 }
+    {
+        WireId(self.wires[self.group[g.index()] as usize])
+    }
+
+    // The wire that stands for the gate whose number stands at a place of the quads.
+    pub fn at(self, quads: &[u32; QUAD_ROOM], at: usize) -> WireId
+        requires { (at < quad_room) × Grouped self.group.now (get_or quads.now at 0) }
+        ensures { result.0 ≡ wire_by self.entry (get_or quads.now at 0) }
+    {
+        self.of(circuit_quads::argument(quads, at))
+    }
 }
 
 fn put_byte(out: &mut [u8], x: u8)
@@ -89,62 +89,46 @@ fn put_choice(out: &mut [u8], c: WireId, a: WireId, b: WireId)
 }
 
 // An operation alone: one argument or two, as the table says.
-fn put_applied(
-    out: &mut [u8],
-    quads: &[u32; QUAD_ROOM],
-    group: &[u16; GATE_ROOM],
-    wires: &[u16; GATE_ROOM],
-    g: GateId,
-) -> usize
-    requires { (length (record_bytes written_version (alone_in quads.now (wire_in group.now wires.now) g.0)) ≤ length out.old)
-        × (Writable quads.now group.now g.0 × Applies (code_at quads.now g.0)) }
-    ensures counted { result ≡ length (record_bytes written_version (alone_in quads.now (wire_in group.now wires.now) g.0)) }
-    ensures written { out.new ≡ over (record_bytes written_version (alone_in quads.now (wire_in group.now wires.now) g.0)) out.old }
+fn put_applied(out: &mut [u8], quads: &[u32; QUAD_ROOM], wiring: Wiring, g: GateId) -> usize
+    requires { (length (alone_bytes quads.now (wire_by wiring) g.0) ≤ length out.old) × (Writable quads.now wiring.group.now g.0 × Applies (code_at quads.now g.0)) }
+    ensures { Written (alone_bytes quads.now (wire_by wiring.entry) g.0) result out.old out.new }
 {
-    let i = g.0 as usize;
+    let i = g.index();
     let code = quads[4 * i] as u8;
-    let a = wire_at(quads, 4 * i + 1, group, wires);
+    let a = wiring.at(quads, 4 * i + 1);
     if base_codes::code_of(code).arity == 1 {
         put_unary(out, code, a);
         return 3;
     }
-    let b = wire_at(quads, 4 * i + 2, group, wires);
+    let b = wiring.at(quads, 4 * i + 2);
     put_binary(out, code, a, b);
     5
 }
 
 // The record of gate g, a group alone; gives its bytes.
-pub fn put_alone(
-    out: &mut [u8],
-    quads: &[u32; QUAD_ROOM],
-    group: &[u16; GATE_ROOM],
-    wires: &[u16; GATE_ROOM],
-    g: GateId,
-) -> usize
-    requires { (length (record_bytes written_version (alone_in quads.now (wire_in group.now wires.now) g.0)) ≤ length out.old) × Writable quads.now group.now g.0 }
-    ensures counted { result ≡ length (record_bytes written_version (alone_in quads.now (wire_in group.now wires.now) g.0)) }
-    ensures written { out.new ≡ over (record_bytes written_version (alone_in quads.now (wire_in group.now wires.now) g.0)) out.old }
+pub fn put_alone(out: &mut [u8], quads: &[u32; QUAD_ROOM], wiring: Wiring, g: GateId) -> usize
+    requires { (length (alone_bytes quads.now (wire_by wiring) g.0) ≤ length out.old) × Writable quads.now wiring.group.now g.0 }
+    ensures { Written (alone_bytes quads.now (wire_by wiring.entry) g.0) result out.old out.new }
 {
-    let i = g.0 as usize;
+    let i = g.index();
     let code = quads[4 * i];
-    if code == circuit::CHOICE {
-        let c = wire_at(quads, 4 * i + 1, group, wires);
-        let a = wire_at(quads, 4 * i + 2, group, wires);
-        let b = wire_at(quads, 4 * i + 3, group, wires);
-        put_choice(out, c, a, b);
-        return 7;
+    match code {
+        circuit::CHOICE => {
+            let c = wiring.at(quads, 4 * i + 1);
+            let a = wiring.at(quads, 4 * i + 2);
+            let b = wiring.at(quads, 4 * i + 3);
+            put_choice(out, c, a, b);
+            7
+        }
+        circuit::WORD => {
+            put_word(out, quads[4 * i + 1]);
+            5
+        }
+        circuit::SUM..=circuit::NOT => put_applied(out, quads, wiring, g),
+        // A bit constant or a starting value: its bit or its variable.
+        _ => {
+            put_short(out, code as u8, quads[4 * i + 1] as u8);
+            2
+        }
     }
-    if code == circuit::WORD {
-        put_word(out, quads[4 * i + 1]);
-        return 5;
-    }
-    if code == circuit::BIT {
-        put_short(out, code as u8, quads[4 * i + 1] as u8);
-        return 2;
-    }
-    if code < 2 {
-        put_short(out, code as u8, quads[4 * i + 1] as u8);
-        return 2;
-    }
-    put_applied(out, quads, group, wires, g)
 }

@@ -1,6 +1,7 @@
 -- The loop that compares the members' wires at an argument place with the first one's: start, step, end.
-use Rattle.std.specs.Prelude.{ℕ, suc, ◌+◌, ◌≤◌, ◌<◌, ◌≡◌, true, false, List, [], ◌∷◌, ◌⊎◌, length, get_or}
-use Rattle.std.proofs.Common.{sym, ap, ◌∙◌, inl, inr, arith}
+use Rattle.std.specs.Prelude.{ℕ, suc, ◌+◌, ◌≤◌, ◌<◌, ◌≡◌, true, false, not, eqb, List, [], ◌∷◌, ◌⊎◌, length, get_or}
+use Rattle.std.proofs.Common.{sym, ap, ◌∙◌, inl, inr, eqb-true, arith}
+use Rattle.std.proofs.lemmas.Bool.{eqb-false, not-false, not-true}
 use Rattle.std.proofs.lemmas.List.{length-map}
 use Rattle.base.specs.Lists.{◌∈◌}
 use Rattle.base.specs.MemberLaws.{get_or_in}
@@ -36,28 +37,30 @@ module _ (quads : List ℕ) (wire : ℕ → ℕ) (k : ℕ) (p : List ℕ) (at : 
     pub below : i ≤ get_or p at 0
     pub same : (j : ℕ) → j < i → get_or (values_in quads wire k (group_at p at)) j 0 ≡ common
 
-  pub agreeing_start : (g common : ℕ) → 0 < get_or p at 0 → g ≡ get_or (group_at p at) 0 0 → common ≡ wire (argument_at quads g k) → Agreeing common 1
-  agreeing_start g common h e q =
-      let f = value_at 0 g common h e q in
+  pub agreeing_start : (common : ℕ) → 0 < get_or p at 0 → common ≡ get_or (values_in quads wire k (group_at p at)) 0 0 → Agreeing common 1
+  agreeing_start common h f =
       record { first = f; below = omega (arith, h); same = λ j l. let z : j ≡ 0 = omega (arith, l) in rw z (sym f) }
 
   module _ (common i : ℕ) (l : Agreeing common i) where
-    module _ (g w : ℕ) (h : i < get_or p at 0) (e : g ≡ get_or (group_at p at) i 0) (q : w ≡ wire (argument_at quads g k)) where
-      pub agreeing_step : w ≡ common → Agreeing common (i + 1)
-      agreeing_step s =
+    module _ (w : ℕ) (h : i < get_or p at 0) (q : w ≡ get_or (values_in quads wire k (group_at p at)) i 0) where
+      pub agreeing_step : not (eqb w common) ≡ false → Agreeing common (i + 1)
+      agreeing_step u =
           record {
             first = l.first;
             below = omega (arith, h);
             same = λ j b. go j b (same? j i);
           }
         where
+          s : w ≡ common
+          s = eqb-true w common (not-false (eqb w common) u)
+
           go : (j : ℕ) → j < i + 1 → (j ≡ i) ⊎ (j ≡ i → ⊥) → get_or values j 0 ≡ common
-          go j b (inl z) = rw z (sym (value_at i g w h e q) ∙ s)
+          go j b (inl z) = rw z (sym q ∙ s)
           go j b (inr n) = l.same j (omega (arith, b, n))
 
-      pub agreeing_fails : (w ≡ common → ⊥) → false ≡ one_wire (values_in quads wire k (group_at p at))
-      agreeing_fails n =
-          sym (two_wires values (get_or values i 0) (get_or_in values i (omega (arith, h, many))) (λ z. n (value_at i g w h e q ∙ z ∙ sym l.first)))
+      pub agreeing_fails : not (eqb w common) ≡ true → false ≡ one_wire (values_in quads wire k (group_at p at))
+      agreeing_fails u =
+          sym (two_wires values (get_or values i 0) (get_or_in values i (omega (arith, h, many))) (λ z. eqb-false w common (not-true (eqb w common) u) (q ∙ z ∙ sym l.first)))
 
     pub agreeing_end : 0 < get_or p at 0 → get_or p at 0 ≤ i → true ≡ one_wire (values_in quads wire k (group_at p at))
     agreeing_end some h =

@@ -8,6 +8,7 @@ use Rattle.file.specs.Versions.{written_version}
 use Rattle.file.specs.Records.{Record}
 use Rattle.file.specs.CircuitFile.{records_bytes}
 use Rattle.file.specs.SizeLaws.{bytes_append, size_append}
+use Rattle.fused_gate.specs.Emitted.{Written}
 use Rattle.fused_gate.specs.ByteLaws.{behind}
 
 -- the records A, and behind them B
@@ -35,9 +36,9 @@ module _ (A B : List Record) (d : List ℕ) (room : length (records_bytes writte
       behind_all = omega (arith, counted, more, size, room)
 
       pub behind_put : (ys : List ℕ) → ys ≡ over (records_bytes written_version B) (take (length e - k) (drop k e))
-          → (k + r ≡ length (records_bytes written_version (A ++ B))) × (put_mid k (length e - k) e ys ≡ over (records_bytes written_version (A ++ B)) d)
-      behind_put ys w = (
-        omega (arith, counted, more, size),
-        behind (records_bytes written_version A) (records_bytes written_version B) (records_bytes written_version (A ++ B)) d e ys k counted
-            (bytes_append written_version A B) room written w,
-      )
+          → Written (records_bytes written_version (A ++ B)) (k + r) d (put_mid k (length e - k) e ys)
+      behind_put ys w = record {
+        counted = omega (arith, counted, more, size);
+        written = behind (records_bytes written_version A) (records_bytes written_version B) (records_bytes written_version (A ++ B)) d e ys k counted
+            (bytes_append written_version A B) room written w;
+      }

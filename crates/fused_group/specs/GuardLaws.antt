@@ -15,6 +15,7 @@ use Rattle.file.specs.Records.{Pair, pick, pair_wires}
 use Rattle.file.specs.CircuitFile.{wires_bytes, record_bytes}
 use Rattle.file.specs.SizeLaws.{wires_size, pick_size}
 use Rattle.fused_group.specs.Joined.{guard_in}
+use Rattle.fused_gate.specs.Emitted.{Written}
 use Rattle.fused_gate.specs.ByteLaws.{behind}
 
 -- the wires of conditions have two bytes each
@@ -36,8 +37,8 @@ module _ (conds : List ℕ) (wire : ℕ → ℕ) (s : ℕ) where
       → length (record_bytes written_version (guard_in conds wire s)) ≤ length d → e ≡ over (0x32 ∷ k ∷ []) d
       → ys ≡ over (wires_bytes (map (λ t. wire (get_or conds t 0)) (rests most_conditions s))) (take (length e - 2) (drop 2 e))
       → zs ≡ over (bytes_of (table_bytes written_version) t) (take (length (put_mid 2 (length e - 2) e ys) - n) (drop n (put_mid 2 (length e - 2) e ys)))
-      → (n + table_bytes written_version ≡ length (record_bytes written_version (guard_in conds wire s))) ×
-      (put_mid n (length (put_mid 2 (length e - 2) e ys) - n) (put_mid 2 (length e - 2) e ys) zs ≡ over (record_bytes written_version (guard_in conds wire s)) d)
+      → Written (record_bytes written_version (guard_in conds wire s)) (n + table_bytes written_version) d
+      (put_mid n (length (put_mid 2 (length e - 2) e ys) - n) (put_mid 2 (length e - 2) e ys) zs)
   guard_put k n t d e ys zs kk nn tt room p q r =
       let W : List ℕ = wires_bytes (map (λ t. wire (get_or conds t 0)) (rests most_conditions s)) in
       let ww : length W ≡ 2 * k = rest_wires conds wire (rests most_conditions s) ∙ ap (λ (j : ℕ). 2 * j) (sym kk) in
@@ -48,7 +49,10 @@ module _ (conds : List ℕ) (wire : ℕ → ℕ) (s : ℕ) where
       let j : record_bytes written_version (guard_in conds wire s) ≡ (0x32 ∷ k ∷ W) ++ bytes_of (table_bytes written_version) t =
       ap (λ (i : ℕ). 0x32 ∷ i ∷ (W ++ bytes_of (table_bytes written_version) (table most_conditions s))) m ∙ ap (λ (i : ℕ). 0x32 ∷ k ∷ (W ++ bytes_of (table_bytes written_version) i)) (sym tt) in
       let l : n ≡ suc (suc (length W)) = omega (arith, nn, ww) in
-      (omega (arith, z, nn), behind (0x32 ∷ k ∷ W) (bytes_of (table_bytes written_version) t) (record_bytes written_version (guard_in conds wire s)) d _ zs n l j room a r)
+      record {
+        counted = omega (arith, z, nn);
+        written = behind (0x32 ∷ k ∷ W) (bytes_of (table_bytes written_version) t) (record_bytes written_version (guard_in conds wire s)) d _ zs n l j room a r;
+      }
 
   -- the room for the wires behind the head, and for the table behind them
   pub guard_room : (k : ℕ) (d e : List ℕ) → length (record_bytes written_version (guard_in conds wire s)) ≤ length d → e ≡ over (0x32 ∷ k ∷ []) d

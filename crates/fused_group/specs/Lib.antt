@@ -10,3 +10,4 @@ pub mod JoinLaws
 pub mod JoinedLaws
 pub mod EmitLaws
 pub mod HeldLaws
+pub mod Joints

@@ -6,14 +6,15 @@ use borrow.Rule.Slice.PartMut.{put_mid}
 use Rattle.base.specs.Numbers.{bytes_of}
 use Rattle.base.specs.NumberLaws.{length_bytes}
 use Rattle.base.specs.Buffers.{over}
+use Rattle.circuit.specs.FigureLaws.{map_at}
 use Rattle.circuit.specs.Limits.{most_gates}
 use Rattle.plan.specs.PlanFile.{group_at}
 use Rattle.file.specs.Versions.{written_version}
 use Rattle.file.specs.Records.{pair_wires}
 use Rattle.file.specs.CircuitFile.{wires_bytes, record_bytes, records_bytes}
 use Rattle.file.specs.SizeLaws.{wires_size, pairs_size}
-use Rattle.fused_group.specs.Joined.{guard_in, guards_in, pairs_in, argument_at, Lies, Paired}
-use Rattle.fused_gate.specs.Emitted.{Grouped}
+use Rattle.fused_group.specs.Joined.{guard_in, guards_in, values_in, pairs_in, argument_at, Lies, Paired}
+use Rattle.fused_gate.specs.Emitted.{Grouped, Written}
 use Rattle.base.specs.FillLaws.{pieces, Filling, filling_start, filling_room, filling_fits, filling_length, filling_step, filling_end}
 use Rattle.plan.specs.NumberLaws.{length_group, member_in}
 use Rattle.fused_group.specs.PieceLaws.{wire_pieces, record_pieces, pair_pieces}
@@ -47,12 +48,12 @@ module _ (conds : List ℕ) (wire : ℕ → ℕ) (ts : List ℕ) (k : ℕ) where
     pub rests_room : 2 ≤ length (take (length out - at) (drop at out))
     rests_room = omega (arith, filling_room (rest_piece conds wire ts) out out₀ k at i l h, size)
 
-    pub rests_step : (t w : ℕ) (ys : List ℕ) → t ≡ get_or ts i 0 → w ≡ wire (get_or conds t 0)
-        → ys ≡ over (bytes_of 2 w) (take (length out - at) (drop at out)) → Filling (rest_piece conds wire ts) (put_mid at (length out - at) out ys) out₀ k (at + 2) (i + 1)
+    pub rests_step : (t w next : ℕ) (ys : List ℕ) → next ≡ at + 2 → t ≡ get_or ts i 0 → w ≡ wire (get_or conds t 0)
+        → ys ≡ over (bytes_of 2 w) (take (length out - at) (drop at out)) → Filling (rest_piece conds wire ts) (put_mid at (length out - at) out ys) out₀ k next (i + 1)
     unfolding rest_piece
-    rests_step t w ys e q p =
+    rests_step t w next ys n e q p =
         let v : w ≡ wire (get_or conds (get_or ts i 0) 0) = rw e at q in
-        filling_step (rest_piece conds wire ts) out out₀ k at i l h 2 ys (sym size) (rw v at p)
+        rw n (filling_step (rest_piece conds wire ts) out out₀ k at i l h 2 ys (sym size) (rw v at p))
 
   pub rests_end : (out out₀ : List ℕ) (at i : ℕ) → Filling (rest_piece conds wire ts) out out₀ k at i → k ≤ i → k ≡ length ts
       → out ≡ over (wires_bytes (map (λ t. wire (get_or conds t 0)) ts)) out₀
@@ -109,8 +110,9 @@ module _ (conds : List ℕ) (wire : ℕ → ℕ) (sets p : List ℕ) (place : �
         { filling = filling_step (guard_piece conds wire sets (group_at p place)) out out₀ (get_or p place 0) at i l.filling h k ys (rw e at q) (rw e at r) }
 
   pub guards_end : (out out₀ : List ℕ) (at i : ℕ) → GuardFilling conds wire sets p place out out₀ at i → get_or p place 0 ≤ i
-      → (at ≡ length (records_bytes written_version (guards_in conds wire sets (group_at p place)))) × (out ≡ over (records_bytes written_version (guards_in conds wire sets (group_at p place))) out₀)
-  guards_end out out₀ at i l h = rw whole at (filling_end (guard_piece conds wire sets (group_at p place)) out out₀ (get_or p place 0) at i l.filling h)
+      → Written (records_bytes written_version (guards_in conds wire sets (group_at p place))) at out₀ out
+  guards_end out out₀ at i l h =
+      let r = rw whole at (filling_end (guard_piece conds wire sets (group_at p place)) out out₀ (get_or p place 0) at i l.filling h) in record { counted = r.0; written = r.1 }
 
 -- The pairs of a pick: piece i is the pair of member i.
 
@@ -150,12 +152,13 @@ module _ (quads : List ℕ) (wire : ℕ → ℕ) (n k : ℕ) (p : List ℕ) (pla
     pub pairs_room : 4 ≤ length (take (length out - at) (drop at out))
     pairs_room = omega (arith, filling_room (pair_piece quads wire n k (group_at p place)) out out₀ (get_or p place 0) at i l.filling h, four)
 
-    pub pairs_step : (g w : ℕ) (ys : List ℕ) → g ≡ get_or (group_at p place) i 0 → w ≡ wire (argument_at quads g k)
+    pub pairs_step : (w next : ℕ) (ys : List ℕ) → next ≡ at + 4 → w ≡ get_or (values_in quads wire k (group_at p place)) i 0
         → ys ≡ over (wires_bytes ((n + i) ∷ w ∷ [])) (take (length out - at) (drop at out)) → PairFilling quads wire n k p place (put_mid at (length out - at) out ys) out₀
-        (at + 4) (i + 1)
-    pairs_step g w ys e q r =
-        let v : w ≡ wire (argument_at quads (get_or (group_at p place) i 0) k) = rw e at q in
-        record { filling = filling_step (pair_piece quads wire n k (group_at p place)) out out₀ (get_or p place 0) at i l.filling h 4 ys (sym four) (rw v at r) }
+        next (i + 1)
+    pairs_step w next ys m q r =
+        let v : w ≡ wire (argument_at quads (get_or (group_at p place) i 0) k) =
+        q ∙ map_at (λ m. wire (argument_at quads m k)) (group_at p place) i (omega (arith, h, length_group p place)) in
+        rw m (record { filling = filling_step (pair_piece quads wire n k (group_at p place)) out out₀ (get_or p place 0) at i l.filling h 4 ys (sym four) (rw v at r) })
 
   pub pairs_end : (out out₀ : List ℕ) (at i : ℕ) → PairFilling quads wire n k p place out out₀ at i → get_or p place 0 ≤ i → out ≡ over
       (wires_bytes (pair_wires (pairs_in quads wire n k (group_at p place)))) out₀

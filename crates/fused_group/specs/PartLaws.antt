@@ -11,6 +11,7 @@ use Rattle.file.specs.Versions.{written_version}
 use Rattle.file.specs.Records.{Record, pick}
 use Rattle.file.specs.CircuitFile.{wires_bytes, record_bytes, records_bytes}
 use Rattle.file.specs.SizeLaws.{wires_size, pick_size, size_one}
+use Rattle.fused_gate.specs.Emitted.{Written}
 use Rattle.fused_group.specs.Joined.{guards_in, pairs_in}
 use Rattle.fused_group.specs.Decisions.{has_pick, count_in, kept_in, place_in, read_in, operation_in}
 use Rattle.fused_group.specs.LoopLaws.{pairs_count}
@@ -39,8 +40,8 @@ module _ (size : ℕ) (picks : Picks) (b : Bool) (e : b ≡ has_pick picks) wher
       go false false z = refl
 
 -- nothing is written
-pub none_put : (R : List Record) (d : List ℕ) → R ≡ [] → (0 ≡ length (records_bytes written_version R)) × (d ≡ over (records_bytes written_version R) d)
-none_put R d e = rw e (refl, sym (over_nil d))
+pub none_put : (R : List Record) (d : List ℕ) → R ≡ [] → Written (records_bytes written_version R) 0 d d
+none_put R d e = rw e (record { counted = refl; written = sym (over_nil d) })
 
 -- the guards
 module _ (conds : List ℕ) (wire : ℕ → ℕ) (sets ms : List ℕ) (picks : Picks) (b : Bool) (e : b ≡ has_pick picks) where
@@ -70,12 +71,12 @@ module _ (quads : List ℕ) (wire : ℕ → ℕ) (n k : ℕ) (p : List ℕ) (at 
     place_room room l = omega (arith, long, l)
 
     pub place_put : (r : ℕ) (d o : List ℕ) → r ≡ 2 + 4 * get_or p at 0 → o ≡ over (record_bytes written_version (pick (pairs_in quads wire n k (group_at p at)))) d
-        → (r ≡ length (records_bytes written_version (place_in quads wire n k (group_at p at) picked)))
-        × (o ≡ over (records_bytes written_version (place_in quads wire n k (group_at p at) picked)) d)
-    place_put r d o q w = (
-      q ∙ sym long,
-      w ∙ ap (λ (b : List ℕ). over b d) (rw h (sym (append-nil (record_bytes written_version (pick (pairs_in quads wire n k (group_at p at))))))),
-    )
+        → Written (records_bytes written_version (place_in quads wire n k (group_at p at) picked)) r d o
+    place_put r d o q w =
+        record {
+          counted = q ∙ sym long;
+          written = w ∙ ap (λ (b : List ℕ). over b d) (rw h (sym (append-nil (record_bytes written_version (pick (pairs_in quads wire n k (group_at p at)))))));
+        }
 
 -- the operation: its code and the two wires that it reads
 module _ (quads : List ℕ) (wire : ℕ → ℕ) (n : ℕ) (p : List ℕ) (at : ℕ) (picks : Picks) where
@@ -102,9 +103,6 @@ module _ (quads : List ℕ) (wire : ℕ → ℕ) (n : ℕ) (p : List ℕ) (at : 
   pub operation_put : (g x j y : ℕ) (d o : List ℕ) → Applies (code_at quads (get_or (group_at p at) 0 0)) → g ≡ get_or (group_at p at) 0 0
       → x ≡ read_in quads wire 0 (group_at p at) picks.first (n + get_or p at 0) → j ≡ cond picks.first 1 0
       → y ≡ read_in quads wire 1 (group_at p at) picks.second (n + get_or p at 0 + j) → o ≡ over (code_at quads g ∷ wires_bytes (x ∷ y ∷ [])) d
-      → (5 ≡ length (records_bytes written_version (operation_in quads wire n (group_at p at) picks ∷ [])))
-      × (o ≡ over (records_bytes written_version (operation_in quads wire n (group_at p at) picks ∷ [])) d)
-  operation_put g x j y d o code m ex ej ey w = (
-    sym (operation_long code),
-    w ∙ ap (λ (b : List ℕ). over b d) (rw (m, ex, ey, ej) (sym (operation_bytes code))),
-  )
+      → Written (records_bytes written_version (operation_in quads wire n (group_at p at) picks ∷ [])) 5 d o
+  operation_put g x j y d o code m ex ej ey w =
+      record { counted = sym (operation_long code); written = w ∙ ap (λ (b : List ℕ). over b d) (rw (m, ex, ey, ej) (sym (operation_bytes code))) }

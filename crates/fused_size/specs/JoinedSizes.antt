@@ -17,14 +17,15 @@ use Rattle.file.specs.Records.{Record, pick, records_cost}
 use Rattle.file.specs.CircuitFile.{record_bytes, records_bytes}
 use Rattle.file.specs.SizeLaws.{size_append, cost_none, cost_one, cost_append, cost_ones}
 use Rattle.fused_group.specs.Joined.{emit_in, guard_in, guards_in, pairs_in, Joinable}
-use Rattle.fused_group.specs.Decisions.{Decided, has_pick, count_in, kept_in, place_in, picks_in, operation_in, fused_in, joined_in}
+use Rattle.fused_group.specs.Decisions.{Decided, has_pick, kept_in, place_in, picks_in, operation_in, fused_in, joined_in}
 use Rattle.fused_group.specs.GuardLaws.{guard_size}
 use Rattle.fused_group.specs.LoopLaws.{pairs_count}
 use Rattle.fused_group.specs.PartLaws.{cond_map, place_long, operation_long}
 use Rattle.fused_group.specs.JoinLaws.{two_applies, emit_joined}
 use Rattle.fused_group.specs.JoinedLaws.{fusing, first_member, joined_count}
 use Rattle.fused_group.specs.declared.Picks.{Picks}
-use Rattle.fused_size.specs.Sizes.{rested_by, guards_bytes, GuardsSized, PlaceSized, Measured}
+use Rattle.fused_size.specs.declared.Size.{Size}
+use Rattle.fused_size.specs.Sizes.{one_of, sum_of, Together, rested_by, guards_bytes, GuardsSized, PlaceSized, Measured}
 
 -- The guards.
 
@@ -42,11 +43,12 @@ guards_long conds wire sets (m ∷ ms) =
 -- The decision made: what the guards and each of the two places come to, and the whole group.
 
 module _ (sets p : List ℕ) (at : ℕ) (picks : Picks) (b : Bool) (e : b ≡ has_pick picks) where
-  pub kept_sized : b ≡ true → (k : ℕ) → k ≡ rested_by sets (group_at p at) → GuardsSized sets p at picks ((2 + table_bytes written_version) * get_or p at 0 + 2 * k) (get_or p at 0)
-  kept_sized h k q = rw (sym e ∙ h) (omega (arith, q, length_group p at), refl)
+  pub kept_sized : b ≡ true → (k : ℕ) → k ≡ rested_by sets (group_at p at) → GuardsSized sets p at picks
+      (record { wires = get_or p at 0; bytes = (2 + table_bytes written_version) * get_or p at 0 + 2 * k; cost = get_or p at 0 })
+  kept_sized h k q = rw (sym e ∙ h) (refl, (omega (arith, q, length_group p at), refl))
 
-  pub none_sized : b ≡ false → GuardsSized sets p at picks 0 0
-  none_sized h = rw (sym e ∙ h) (refl, refl)
+  pub none_sized : b ≡ false → GuardsSized sets p at picks (record { wires = 0; bytes = 0; cost = 0 })
+  none_sized h = rw (sym e ∙ h) (refl, (refl, refl))
 
 module _ (quads sets conds : List ℕ) (wire : ℕ → ℕ) (n : ℕ) (p : List ℕ) (at : ℕ) (picks : Picks) where
   joined_long : Applies (code_at quads (get_or (group_at p at) 0 0)) → length (records_bytes written_version (joined_in quads sets conds wire n (group_at p at) picks))
@@ -87,16 +89,22 @@ module _ (quads sets conds : List ℕ) (wire : ℕ → ℕ) (n : ℕ) (p : List 
       )
 
 -- the size of a joined group: what the guards, the two places and the operation come to
-pub joined_sized : (quads sets p group : List ℕ) (wire : ℕ → ℕ) (at g : ℕ) (picks : Picks) (means : Code) (wires a b x y v w : ℕ) → Joinable quads p group at
-    → Decided quads wire (group_at p at) picks → g ≡ get_or (group_at p at) 0 0 → means ≡ code_of (code_at quads g) → wires ≡ count_in (get_or p at 0) picks
-    → GuardsSized sets p at picks a b → PlaceSized (get_or p at 0) picks.first x y → PlaceSized (get_or p at 0) picks.second v w
-    → Measured quads sets wire (group_at p at) wires (a + x + v + 5) (b + y + w + means.cost)
-joined_sized quads sets p group wire at g picks means wires a b x y v w j d gg rr ee (ea, eb) (ex, ey) (ev, ew) =
+pub joined_sized : (quads sets p group : List ℕ) (wire : ℕ → ℕ) (at g : ℕ) (picks : Picks) (means : Code) (k x y : Size) → Joinable quads p group at
+    → Decided quads wire (group_at p at) picks → g ≡ get_or (group_at p at) 0 0 → means ≡ code_of (code_at quads g)
+    → GuardsSized sets p at picks k → PlaceSized (get_or p at 0) picks.first x → PlaceSized (get_or p at 0) picks.second y
+    → Measured quads sets wire (group_at p at) (sum_of (sum_of (sum_of k x) y) (one_of 5 means.cost))
+joined_sized quads sets p group wire at g picks means k x y j d gg rr (kw, (kb, kc)) (xw, (xb, xc)) (yw, (yb, yc)) =
     record {
-      wired = λ count n below. ee ∙ sym (ap (λ (R : List Record). length R) (same count n below) ∙ joined_count quads sets (conditions (gates_in quads count)) wire n p at picks);
-      long = λ count n below. rw (ea, ex, ev) (sym
+      wired = λ count n below. omega (
+        arith,
+        kw,
+        xw,
+        yw,
+        ap (λ (R : List Record). length R) (same count n below) ∙ joined_count quads sets (conditions (gates_in quads count)) wire n p at picks,
+      );
+      long = λ count n below. rw (kb, xb, yb) (sym
           (ap (λ (R : List Record). length (records_bytes written_version R)) (same count n below) ∙ joined_long quads sets (conditions (gates_in quads count)) wire n p at picks code));
-      costs = λ count n below. rw (eb, ey, ew, cost) (sym
+      costs = λ count n below. rw (kc, xc, yc, cost) (sym
           (ap (λ (R : List Record). records_cost R) (same count n below) ∙ joined_cost quads sets (conditions (gates_in quads count)) wire n p at picks));
     }
   where
@@ -132,14 +140,30 @@ none_more : (b : Bool) (k : ℕ) → cond b k 0 ≤ k
 none_more true k = omega arith
 none_more false k = omega arith
 
--- the sums fit
-pub joined_small : (sets p : List ℕ) (at : ℕ) (picks : Picks) (a b x y v w : ℕ) → get_or p at 0 < 256 → GuardsSized sets p at picks a b
-    → PlaceSized (get_or p at 0) picks.first x y → PlaceSized (get_or p at 0) picks.second v w → (a + x + v + 5 < 65536) × (b + y + w < 65536)
-joined_small sets p at picks a b x y v w h (ea, eb) (ex, ey) (ev, ew) =
-    let most : a ≤ guards_bytes sets (group_at p at) = rw ea (none_more (has_pick picks) (guards_bytes sets (group_at p at))) in
-    let one : b ≤ get_or p at 0 = rw eb (none_more (has_pick picks) (get_or p at 0)) in
-    let first : x ≤ 2 + 4 * get_or p at 0 = rw ex (none_more picks.first (2 + 4 * get_or p at 0)) in
-    let second : v ≤ 2 + 4 * get_or p at 0 = rw ev (none_more picks.second (2 + 4 * get_or p at 0)) in
-    let third : y ≤ 2 * get_or p at 0 = rw ey (none_more picks.first (2 * get_or p at 0)) in
-    let fourth : w ≤ 2 * get_or p at 0 = rw ew (none_more picks.second (2 * get_or p at 0)) in
-    (omega (arith, most, rested_few sets p at, length_group p at, first, second, h), omega (arith, one, third, fourth, h))
+-- the parts are small
+abbrev pub Small : Size → Type 0
+Small s = (s.wires < 65536) × ((s.bytes < 65536) × (s.cost < 65536))
+
+pub kept_small : (sets p : List ℕ) (at : ℕ) (picks : Picks) (s : Size) → get_or p at 0 < 256 → GuardsSized sets p at picks s → Small s
+kept_small sets p at picks s h (w, (b, c)) =
+    let most : s.bytes ≤ guards_bytes sets (group_at p at) = rw b (none_more (has_pick picks) (guards_bytes sets (group_at p at))) in
+    let one : s.cost ≤ get_or p at 0 = rw c (none_more (has_pick picks) (get_or p at 0)) in
+    let all : s.wires ≤ get_or p at 0 = rw w (none_more (has_pick picks) (get_or p at 0)) in
+    (omega (arith, all, h), (omega (arith, most, rested_few sets p at, length_group p at, h), omega (arith, one, h)))
+
+pub place_small : (size : ℕ) (picked : Bool) (s : Size) → size < 256 → PlaceSized size picked s → Small s
+place_small size picked s h (w, (b, c)) =
+    let most : s.bytes ≤ 2 + 4 * size = rw b (none_more picked (2 + 4 * size)) in
+    let two : s.cost ≤ 2 * size = rw c (none_more picked (2 * size)) in
+    let one : s.wires ≤ 1 = rw w (none_more picked 1) in
+    (omega (arith, one), (omega (arith, most, h), omega (arith, two, h)))
+
+-- so the sums fit
+pub sums_fit : (k x y o : Size) → Small k → Small x → Small y → Small o → Together k x × (Together (sum_of k x) y × Together (sum_of (sum_of k x) y) o)
+sums_fit k x y o (kw, (kb, kc)) (xw, (xb, xc)) (yw, (yb, yc)) (ow, (ob, oc)) = (
+  (omega (arith, kw, xw), (omega (arith, kb, xb), omega (arith, kc, xc))),
+  (
+    (omega (arith, kw, xw, yw), (omega (arith, kb, xb, yb), omega (arith, kc, xc, yc))),
+    (omega (arith, kw, xw, yw, ow), (omega (arith, kb, xb, yb, ob), omega (arith, kc, xc, yc, oc))),
+  ),
+)

@@ -17,7 +17,7 @@ use Rattle.file.specs.Records.{record_cost}
 use Rattle.file.specs.CircuitFile.{record_bytes}
 use Rattle.file.specs.SizeLaws.{cost_one}
 use Rattle.fused_gate.specs.Emitted.{alone_of, alone_in, FitsGate, Coded}
-use Rattle.fused_size.specs.Sizes.{Measured}
+use Rattle.fused_size.specs.Sizes.{one_of, Measured}
 use Rattle.fused_gate.specs.AloneLaws.{choice_long, word_long, bit_long, start_long, unary_long, binary_long}
 
 cost_same : (code : ℕ) (wire : ℕ → ℕ) (k : Gate) → record_cost (alone_of code wire k) ≡ cost_of k
@@ -29,7 +29,7 @@ cost_same code wire (choice c a b) = refl
 
 module _ (quads : List ℕ) (g : ℕ) where
   alone_sized : (bytes cost : ℕ) → ((wire : ℕ → ℕ) → length (record_bytes written_version (alone_in quads wire g)) ≡ bytes) → cost_of (gate_in quads g) ≡ cost
-      → (sets : List ℕ) (wire : ℕ → ℕ) → Measured quads sets wire (g ∷ []) 1 bytes cost
+      → (sets : List ℕ) (wire : ℕ → ℕ) → Measured quads sets wire (g ∷ []) (one_of bytes cost)
   alone_sized bytes cost long costs sets wire =
       record {
         wired = λ count n below. refl;
@@ -37,10 +37,10 @@ module _ (quads : List ℕ) (g : ℕ) where
         costs = λ count n below. sym (cost_one (alone_in quads wire g) ∙ cost_same (code_at quads g) wire (gate_in quads g) ∙ costs);
       }
 
-  pub choice_sized : code_at quads g ≡ choice_code → (sets : List ℕ) (wire : ℕ → ℕ) → Measured quads sets wire (g ∷ []) 1 7 3
+  pub choice_sized : code_at quads g ≡ choice_code → (sets : List ℕ) (wire : ℕ → ℕ) → Measured quads sets wire (g ∷ []) (one_of 7 3)
   choice_sized e = alone_sized 7 3 (λ wire. choice_long quads g wire e) (ap cost_of (choice_in quads g e))
 
-  pub word_sized : code_at quads g ≡ 0x11 → (sets : List ℕ) (wire : ℕ → ℕ) → Measured quads sets wire (g ∷ []) 1 5 0
+  pub word_sized : code_at quads g ≡ 0x11 → (sets : List ℕ) (wire : ℕ → ℕ) → Measured quads sets wire (g ∷ []) (one_of 5 0)
   word_sized e = alone_sized 5 0 (λ wire. word_long quads g wire e) (ap cost_of (word_in quads g e))
 
   -- what is left: a starting value or a bit constant, or an operation
@@ -77,7 +77,7 @@ module _ (quads : List ℕ) (g : ℕ) where
     code_some : Applies (code_at quads g) → (code.arity ≡ 1) ⊎ (code.arity ≡ 2)
     code_some h = rw (code_is h) (one_or_two (operation_of (code_at quads g)))
 
-    pub short_sized : code.arity ≡ 0 → (sets : List ℕ) (wire : ℕ → ℕ) → Measured quads sets wire (g ∷ []) 1 2 0
+    pub short_sized : code.arity ≡ 0 → (sets : List ℕ) (wire : ℕ → ℕ) → Measured quads sets wire (g ∷ []) (one_of 2 0)
     unfolding Rest
     short_sized z = go rest
       where
@@ -85,7 +85,7 @@ module _ (quads : List ℕ) (g : ℕ) where
         none (inl e) = omega (arith, e, z)
         none (inr e) = omega (arith, e, z)
 
-        go : (code_at quads g ≡ 0x12) ⊎ ((code_at quads g ≤ 1) ⊎ Applies (code_at quads g)) → (sets : List ℕ) (wire : ℕ → ℕ) → Measured quads sets wire (g ∷ []) 1 2 0
+        go : (code_at quads g ≡ 0x12) ⊎ ((code_at quads g ≤ 1) ⊎ Applies (code_at quads g)) → (sets : List ℕ) (wire : ℕ → ℕ) → Measured quads sets wire (g ∷ []) (one_of 2 0)
         go (inl e) = alone_sized 2 0 (λ wire. bit_long quads g wire e) (ap cost_of (bit_in_lem quads g e))
         go (inr (inl h)) = alone_sized 2 0 (λ wire. start_long quads g wire h) (ap cost_of (start_in quads g (omega (arith, h))))
         go (inr (inr h)) = absurd (none (code_some h))
@@ -94,12 +94,12 @@ module _ (quads : List ℕ) (g : ℕ) where
     applied_long h (inl e) wire = unary_long quads g wire h (ap (λ (c : Code). c.arity) (sym is) ∙ e) ∙ rw e
     applied_long h (inr e) wire = binary_long quads g wire h (λ z. let y : code.arity ≡ 1 = ap (λ (c : Code). c.arity) is ∙ z in omega (arith, e, y)) ∙ rw e
 
-    pub applied_sized : (code.arity ≡ 0 → ⊥) → (sets : List ℕ) (wire : ℕ → ℕ) → Measured quads sets wire (g ∷ []) 1 (1 + 2 * code.arity) code.cost
+    pub applied_sized : (code.arity ≡ 0 → ⊥) → (sets : List ℕ) (wire : ℕ → ℕ) → Measured quads sets wire (g ∷ []) (one_of (1 + 2 * code.arity) code.cost)
     unfolding Rest
     applied_sized z = go rest
       where
-        go : (code_at quads g ≡ 0x12) ⊎ ((code_at quads g ≤ 1) ⊎ Applies (code_at quads g)) → (sets : List ℕ) (wire : ℕ → ℕ) → Measured quads sets wire (g ∷ []) 1 (1 + 2 * code.arity)
-            code.cost
+        go : (code_at quads g ≡ 0x12) ⊎ ((code_at quads g ≤ 1) ⊎ Applies (code_at quads g)) → (sets : List ℕ) (wire : ℕ → ℕ) → Measured quads sets wire (g ∷ []) (one_of
+            (1 + 2 * code.arity) code.cost)
         go (inl e) = absurd (z (bit_arity e))
         go (inr (inl h)) = absurd (z (start_arity h))
         go (inr (inr h)) = alone_sized (1 + 2 * code.arity) code.cost (applied_long h (code_some h))

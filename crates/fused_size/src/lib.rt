@@ -2,141 +2,134 @@
 #![tactic(auto)]
 
 ghost use Rattle.std.specs.Prelude.{◌≡◌, List, ◌∷◌, [], ℕ, ◌<◌};
-ghost use Rattle.plan.specs.PlanFile.{group_at};
-ghost use Rattle.fused_size.specs.Sizes.{rested_by, GuardsSized, PlaceSized, Measured};
-ghost use Rattle.fused_gate.specs.Emitted.{wire_in, Coded};
-ghost use Rattle.fused_group.specs.Joined.{Lies, Joinable};
+ghost use Rattle.fused_size.specs.Sizes.{one_of, sum_of, Together, SumOf, rested_by, GuardsSized, PlaceSized, Measured, MeasuredIn};
+ghost use Rattle.fused_gate.specs.Emitted.{Coded};
+ghost use Rattle.fused_group.specs.Joints.{members, LiesIn, JoinableIn};
 ghost use Rattle.base.specs.SetsHeld.{sets_in};
 ghost use Rattle.circuit.specs.Rooms.{gate_room};
 
-use circuit::{GATE_ROOM, GateId, NEED_WORDS, QUAD_ROOM};
-use fused_group::Picks;
+use circuit::{GateId, QUAD_ROOM};
+use fused_group::{Joint, Picks};
+use std::ops::Add;
 
-// What the records of a group come to.
-#[derive(Clone, Copy)]
+// What records come to.
+#[derive(Clone, Copy, Default)]
 pub struct Size {
     pub wires: usize,
     pub bytes: usize,
     pub cost: usize,
 }
 
+impl Size {
+    // One record.
+    fn one(bytes: usize, cost: u8) -> Size
+        ensures { result ≡ one_of bytes cost }
+    {
+        Size {
+            wires: 1,
+            bytes,
+            cost: usize::from(cost),
+        }
+    }
+}
+
+impl Add for Size {
+    type Output = Size;
+
+    ghost can_add = { Together };
+
+    ghost add_gives = { SumOf };
+
+    fn add(self, more: Size) -> Size {
+        Size {
+            wires: self.wires + more.wires,
+            bytes: self.bytes + more.bytes,
+            cost: self.cost + more.cost,
+        }
+    }
+}
+
 // The size of a group alone.
 pub fn size_alone(quads: &[u32; QUAD_ROOM], g: GateId) -> Size
     requires { Coded quads.now g.0 }
-    ensures { (sets : List ℕ) (wire : ℕ → ℕ) → Measured quads.now sets wire (g.0 ∷ []) result.wires result.bytes result.cost }
+    ensures { (sets : List ℕ) (wire : ℕ → ℕ) → Measured quads.now sets wire (g.0 ∷ []) result }
 {
-    let i = g.0 as usize;
-    let code = quads[4 * i];
-    if code == circuit::CHOICE {
-        return Size {
-            wires: 1,
-            bytes: 7,
-            cost: circuit::CHOICE_COST as usize,
-        };
-    }
-    if code == circuit::WORD {
-        return Size {
-            wires: 1,
-            bytes: 5,
-            cost: 0,
-        };
-    }
-    let means = base_codes::code_of(code as u8);
-    if means.arity == 0 {
-        return Size {
-            wires: 1,
-            bytes: 2,
-            cost: 0,
-        };
-    }
-    Size {
-        wires: 1,
-        bytes: 1 + 2 * (means.arity as usize),
-        cost: means.cost as usize,
+    match quads[4 * g.index()] {
+        circuit::CHOICE => Size::one(7, circuit::CHOICE_COST),
+        circuit::WORD => Size::one(5, 0),
+        code => {
+            let means = base_codes::code_of(code as u8);
+            if means.arity == 0 {
+                Size::one(2, 0)
+            } else {
+                Size::one(1 + 2 * usize::from(means.arity), means.cost)
+            }
+        }
     }
 }
 
 // How many wires the guards of a group read.
-fn rested_by(plan: &[u8], at: usize, needs: &[u64; NEED_WORDS]) -> usize
-    requires { Lies plan.now at }
-    ensures { result ≡ rested_by (sets_in needs.now) (group_at plan.now at) }
+fn rested_by(joint: Joint) -> usize
+    requires { LiesIn joint }
+    ensures { result ≡ rested_by (sets_in joint.entry.circuit.now.needs) (members joint.entry) }
 {
-    let size = plan[at] as usize;
     let mut n: usize = 0;
-    let mut i: usize = 0;
-    while i < size {
-        let m = plan_member::member(plan, at, i);
-        let g = m.0 as usize;
-        n = n + (base_settings::rested(base_settings::load(needs, g)).count as usize);
-        i = i + 1;
+    for i in 0..joint.size() as usize {
+        let m = joint.member(i);
+        let s = base_settings::load(&joint.circuit.needs, m.index());
+        n = n + usize::from(base_settings::rested(s).count);
     }
     n
-}
-
-// The bytes and the cost of the guards of a group, or of a pick.
-#[derive(Clone, Copy)]
-struct Part {
-    bytes: usize,
-    cost: usize,
 }
 
 // The bytes of a guard, but for the wires that it reads: two and its table.
 const GUARD_BYTES: usize = 2 + file::WRITTEN_TABLE;
 
 // The guards of a joined group, members rising; nothing where no pick remains: then the conditions are not even counted.
-fn size_kept(plan: &[u8], at: usize, needs: &[u64; NEED_WORDS], picks: Picks) -> Part
-    requires { Lies plan.now at }
-    ensures { GuardsSized (sets_in needs.now) plan.now at picks result.bytes result.cost }
+fn size_kept(joint: Joint, picks: Picks) -> Size
+    requires { LiesIn joint }
+    ensures { GuardsSized (sets_in joint.entry.circuit.now.needs) joint.entry.plan.now joint.entry.at picks result }
 {
-    if fused_group::has_pick(picks) {
-        let size = plan[at] as usize;
-        let n = rested_by(plan, at, needs);
-        return Part {
+    if picks.any() {
+        let size = usize::from(joint.size());
+        let n = rested_by(joint);
+        Size {
+            wires: size,
             bytes: GUARD_BYTES * size + 2 * n,
             cost: size,
-        };
+        }
+    } else {
+        Size::default()
     }
-    Part { bytes: 0, cost: 0 }
 }
 
 // The pick of one argument place, of so many pairs; nothing where the place has none.
-fn size_place(size: usize, picked: bool) -> Part
-    requires { size < gate_room }
-    ensures { PlaceSized size picked result.bytes result.cost }
+fn size_place(size: u8, picked: bool) -> Size
+    ensures { PlaceSized size picked result }
 {
+    let size = usize::from(size);
     if picked {
-        return Part {
+        Size {
+            wires: 1,
             bytes: 2 + 4 * size,
             cost: 2 * size,
-        };
+        }
+    } else {
+        Size::default()
     }
-    Part { bytes: 0, cost: 0 }
 }
 
-// The size of the joined group at the place `at` of the plan: guards, picks, the operation, by the decision which picks it has.
-pub fn size_joined(
-    plan: &[u8],
-    at: usize,
-    quads: &[u32; QUAD_ROOM],
-    needs: &[u64; NEED_WORDS],
-    group: &[u16; GATE_ROOM],
-    wires: &[u16; GATE_ROOM],
-) -> Size
-    requires { Joinable quads.now plan.now group.now at }
-    ensures { Measured quads.now (sets_in needs.now) (wire_in group.now wires.now) (group_at plan.now at) result.wires result.bytes result.cost }
+// The size of a joined group: guards, picks, the operation, by the decision which picks it has.
+pub fn size_joined(joint: Joint) -> Size
+    requires { JoinableIn joint }
+    ensures { MeasuredIn joint.entry result }
 {
-    let picks = fused_group::picks_of(plan, at, quads, group, wires);
-    let records = fused_group::records_in(plan, at, picks);
-    let kept = size_kept(plan, at, needs, picks);
-    let size = plan[at] as usize;
-    let a = size_place(size, picks.first);
-    let b = size_place(size, picks.second);
-    let m = plan_member::member(plan, at, 0);
-    let i = m.0 as usize;
-    let means = base_codes::code_of(quads[4 * i] as u8);
-    Size {
-        wires: base_words::wide16(records),
-        bytes: kept.bytes + a.bytes + b.bytes + 5,
-        cost: kept.cost + a.cost + b.cost + (means.cost as usize),
-    }
+    let picks = joint.picks();
+    let size = joint.size();
+    let kept = size_kept(joint, picks);
+    let first = size_place(size, picks.first);
+    let second = size_place(size, picks.second);
+    let code = joint.circuit.quads[4 * joint.member(0).index()];
+    let operation = Size::one(5, base_codes::code_of(code as u8).cost);
+    kept + first + second + operation
 }

@@ -1,18 +1,14 @@
-use Rattle.fused_file.specs.OutputLaws.{outputs_start, outputs_fits, outputs_room, outputs_step, outputs_end}
-use Rattle.fused_file.specs.Turns.{output_in}
+use Rattle.std.proofs.Common.{◌*◌, ◌≤◌, length, arith, rules}
 use Rattle.base.specs.FillLaws.{filling_same}
-use lib.ListN.{length}
-use Prim.Native.Nat.{◌*◌, ◌≤◌}
-use native.Mathlib.Omega.{arith}
-use borrow.Author.Rules.{rules}
+use Rattle.fused_file.specs.Fusions.{output_by}
+use Rattle.fused_file.specs.OutputLaws.{outputs_start, outputs_fits, outputs_room, outputs_step, outputs_end}
 use Rattle.fused_file.proofs.put_outputs.Goals as goal
 
 pub bounds-rule-5 : goal.bounds-rule-5
 bounds-rule-5 c = omega (arith, c.requires.0.0)
 
 pub loop-x-init : goal.loop-x-init
-loop-x-init c = let a = c.args in
-    outputs_start (output_in a.rule.now a.outputs.now a.group.now a.wires.now) _ _ c.requires.1
+loop-x-init c = outputs_start (output_by c.args.rule.now c.args.outputs.now c.args.wiring) _ _ c.requires.1
 
 pub output_of-w-requires : goal.output_of-w-requires
 output_of-w-requires c = let d = c.requires.0 in
@@ -20,36 +16,28 @@ output_of-w-requires c = let d = c.requires.0 in
     (omega (arith, d.0, l), omega (arith, d.1.few, l), d.1.placed _ l)
 
 pub slice_bounds-put16-count : goal.slice_bounds-put16-count
-slice_bounds-put16-count c = let a = c.args in
-    omega (
-      arith,
-      outputs_fits (output_in a.rule.now a.outputs.now a.group.now a.wires.now) _ _ _ _ c.loop-x.invariant
-          c.loop-x-test.true _ c.wide8.ensures.0,
-    )
+slice_bounds-put16-count c = omega (
+  arith,
+  outputs_fits (output_by c.args.rule.now c.args.outputs.now c.args.wiring) _ _ _ _ c.loop-x.invariant c.loop-x-test.true _
+      c.from.ensures,
+)
 
 pub slice_bounds-put16-start : goal.slice_bounds-put16-start
-slice_bounds-put16-start c = let a = c.args in
-    let z : 2 * c.wide8.result ≤ length c.loop-x.out = omega (
-      arith,
-      outputs_fits (output_in a.rule.now a.outputs.now a.group.now a.wires.now) _ _ _ _ c.loop-x.invariant c.loop-x-test.true _
-          c.wide8.ensures.0,
-    ) in
-    search rules
+slice_bounds-put16-start c = let z : 2 * c.from.result ≤ length c.loop-x.out = omega (
+  arith,
+  outputs_fits (output_by c.args.rule.now c.args.outputs.now
+      c.args.wiring) _ _ _ _ c.loop-x.invariant c.loop-x-test.true _ c.from.ensures,
+) in search rules
 
 pub put16-requires : goal.put16-requires
-put16-requires c = let a = c.args in
-    outputs_room (output_in a.rule.now a.outputs.now a.group.now a.wires.now) _ _ _ _ c.loop-x.invariant
-    c.loop-x-test.true _ c.wide8.ensures.0
+put16-requires c = outputs_room (output_by c.args.rule.now c.args.outputs.now c.args.wiring) _ _ _ _ c.loop-x.invariant c.loop-x-test.true _ c.from.ensures
 
 pub loop-x-preserved : goal.loop-x-preserved
-loop-x-preserved c = let a = c.args in
-    outputs_step (output_in a.rule.now a.outputs.now a.group.now a.wires.now) _ _ _ _ c.loop-x.invariant c.loop-x-test.true _
-    c.wide8.ensures.0 _ _
+loop-x-preserved c = outputs_step (output_by c.args.rule.now c.args.outputs.now c.args.wiring) _ _ _ _ c.loop-x.invariant c.loop-x-test.true _ c.from.ensures _ _
     c.output_of-w.ensures c.put16.ensures
 
 pub shape_of-out : goal.shape_of-out
 shape_of-out c = filling_same _ _ _ _ _ _ c.loop-x.invariant c.loop-x-test.false
 
 pub returns : goal.returns
-returns c = let a = c.args in
-    outputs_end (output_in a.rule.now a.outputs.now a.group.now a.wires.now) _ _ _ _ c.loop-x.invariant c.loop-x-test.false
+returns c = outputs_end (output_by c.args.rule.now c.args.outputs.now c.args.wiring) _ _ _ _ c.loop-x.invariant c.loop-x-test.false

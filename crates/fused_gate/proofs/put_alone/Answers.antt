@@ -1,65 +1,58 @@
-use Rattle.fused_gate.specs.PutLaws.{choice_room, choice_put, word_room, word_put, bit_room, bit_put, start_room, start_put}
-use Rattle.fused_gate.specs.AloneLaws.{choice_placed, first_bit, first_start, applies_in}
-use native.Mathlib.Omega.{arith}
+use Rattle.std.proofs.Common.{◌<◌, ◌≤◌, refl, ◌⊎◌, inl, inr, arith}
+use Rattle.circuit_needed.specs.Held.{code_at}
+use Rattle.fused_gate.specs.PutLaws.{choice_room, choice_put, word_room, word_put, short_room, short_put}
+use Rattle.fused_gate.specs.AloneLaws.{choice_placed, short_in, first_short, coded_byte}
 use Rattle.fused_gate.proofs.put_alone.Goals as goal
+use Rattle.fused_gate.proofs.put_alone.Goals.{in_default-via-then-code-lt32, in_default-via-else-code-lt32+else-code-lt40}
 
-pub wire_at-c-requires : goal.wire_at-c-requires
-wire_at-c-requires c = (omega (arith, c.requires.1.coded.inside), (choice_placed _ _ _ c.requires.1 c.if-code-eq-CHOICE.true).0)
+-- the place of the gate in the quads is its number's
+pub at-c-requires : goal.at-c-requires
+at-c-requires c = rw c.index-i.ensures (omega (arith, c.requires.1.coded.inside), (choice_placed _ _ _ c.requires.1 (rw c.index-i.ensures at c.in-48.is)).0)
 
-pub wire_at-a-requires : goal.wire_at-a-requires
-wire_at-a-requires c = (
-  omega (arith, c.requires.1.coded.inside),
-  (choice_placed _ _ _ c.requires.1
-      c.if-code-eq-CHOICE.true).1.0,
-)
+pub at-a-requires : goal.at-a-requires
+at-a-requires c = rw c.index-i.ensures (omega (arith, c.requires.1.coded.inside), (choice_placed _ _ _ c.requires.1 (rw c.index-i.ensures at c.in-48.is)).1.0)
 
-pub wire_at-b-requires : goal.wire_at-b-requires
-wire_at-b-requires c = (
-  omega (arith, c.requires.1.coded.inside),
-  (choice_placed _ _ _
-      c.requires.1 c.if-code-eq-CHOICE.true).1.1,
-)
+pub at-b-requires : goal.at-b-requires
+at-b-requires c = rw c.index-i.ensures (omega (arith, c.requires.1.coded.inside), (choice_placed _ _ _ c.requires.1 (rw c.index-i.ensures at c.in-48.is)).1.1)
 
 pub put_choice-requires : goal.put_choice-requires
-put_choice-requires c = choice_room _ _ _ _ c.if-code-eq-CHOICE.true c.requires.0
+put_choice-requires c = choice_room _ _ _ _ (rw c.index-i.ensures at c.in-48.is) c.requires.0
 
-pub returns-then-code-eq-CHOICE : goal.returns-then-code-eq-CHOICE
-returns-then-code-eq-CHOICE c = let r = choice_put _ _ _ _ _ _ _ _ c.if-code-eq-CHOICE.true
-    c.wire_at-c.ensures c.wire_at-a.ensures
-    c.wire_at-b.ensures c.put_choice.ensures in record { counted = r.0; written = r.1 }
+pub returns-in-48 : goal.returns-in-48
+returns-in-48 c =
+    choice_put _ _ _ _ _ _ _ _ (rw c.index-i.ensures at c.in-48.is) (rw c.index-i.ensures at c.at-c.ensures) (rw c.index-i.ensures at c.at-a.ensures)
+    (rw c.index-i.ensures at c.at-b.ensures) c.put_choice.ensures
 
 pub put_word-requires : goal.put_word-requires
-put_word-requires c = word_room _ _ _ _ c.if-code-eq-WORD.true c.requires.0
+put_word-requires c = word_room _ _ _ _ (rw c.index-i.ensures at c.in-17.is) c.requires.0
 
-pub returns-then-code-eq-WORD : goal.returns-then-code-eq-WORD
-returns-then-code-eq-WORD c = let r = word_put _ _ _ _ _ c.if-code-eq-WORD.true c.put_word.ensures in record { counted = r.0; written = r.1 }
+pub returns-in-17 : goal.returns-in-17
+returns-in-17 c = word_put _ _ _ _ _ (rw c.index-i.ensures at c.in-17.is) (rw c.index-i.ensures at c.put_word.ensures)
+
+pub overflow_cast-code : goal.overflow_cast-code
+overflow_cast-code c = rw c.index-i.ensures (record { fits = omega (arith, coded_byte _ _ c.requires.1.coded) })
 
 pub overflow_cast-quads : goal.overflow_cast-quads
-overflow_cast-quads c = omega (arith, first_bit _ _ c.requires.1.coded c.if-code-eq-BIT.true)
+overflow_cast-quads c =
+    let d : (code_at c.args.quads.now c.index-i.result < 0x20) ⊎ (0x28 ≤ code_at c.args.quads.now c.index-i.result) =
+    elim c.in_default.branch [ in_default-via-then-code-lt32 w ↦ inl (omega arith) | in_default-via-else-code-lt32+else-code-lt40 w ↦ inr (omega arith) ] in
+    rw c.index-i.ensures (record {
+      fits = omega (
+        arith,
+        first_short _ _ c.requires.1.coded (short_in _ _ _ (rw c.index-i.ensures refl) c.requires.1.coded (λ x.
+            omega (arith, x)) (λ x. omega (arith, x)) d),
+      );
+    })
 
 pub put_short-requires : goal.put_short-requires
-put_short-requires c = bit_room _ _ _ _ c.if-code-eq-BIT.true c.requires.0
+put_short-requires c =
+    let d : (code_at c.args.quads.now c.index-i.result < 0x20) ⊎ (0x28 ≤ code_at c.args.quads.now c.index-i.result) =
+    elim c.in_default.branch [ in_default-via-then-code-lt32 w ↦ inl (omega arith) | in_default-via-else-code-lt32+else-code-lt40 w ↦ inr (omega arith) ] in
+    short_room _ _ _ _ (short_in _ _ _ (rw c.index-i.ensures refl) c.requires.1.coded (λ x. omega (arith, x)) (λ x. omega (arith, x)) d) c.requires.0
 
-pub returns-then-code-eq-BIT : goal.returns-then-code-eq-BIT
-returns-then-code-eq-BIT c = let r = bit_put _ _ _ _ _ c.if-code-eq-BIT.true c.put_short.ensures in record { counted = r.0; written = r.1 }
-
-pub overflow_cast-quads-then-code-lt2 : goal.overflow_cast-quads-then-code-lt2
-overflow_cast-quads-then-code-lt2 c = omega
-    (arith, first_start _ _ c.requires.1.coded (omega (arith, c.if-code-lt2.true)))
-
-pub put_short-requires-then-code-lt2 : goal.put_short-requires-then-code-lt2
-put_short-requires-then-code-lt2 c = start_room _ _ _ _ c.if-code-lt2.true c.requires.0
-
-pub returns-then-code-lt2 : goal.returns-then-code-lt2
-returns-then-code-lt2 c = let r = start_put _ _ _ _ _ c.if-code-lt2.true c.put_short-then-code-lt2.ensures in record { counted = r.0; written = r.1 }
-
-pub put_applied-requires : goal.put_applied-requires
-put_applied-requires c = (
-  c.requires.0,
-  (
-    c.requires.1,
-    applies_in _ _
-        c.requires.1.coded c.if-code-eq-CHOICE.false
-        c.if-code-eq-WORD.false c.if-code-eq-BIT.false c.if-code-lt2.false,
-  ),
-)
+pub returns-in_default : goal.returns-in_default
+returns-in_default c =
+    let d : (code_at c.args.quads.now c.index-i.result < 0x20) ⊎ (0x28 ≤ code_at c.args.quads.now c.index-i.result) =
+    elim c.in_default.branch [ in_default-via-then-code-lt32 w ↦ inl (omega arith) | in_default-via-else-code-lt32+else-code-lt40 w ↦ inr (omega arith) ] in
+    short_put _ _ _ _ _ (short_in _ _ _ (rw c.index-i.ensures refl) c.requires.1.coded (λ x. omega (arith, x)) (λ x. omega (arith, x)) d) (rw c.index-i.ensures at
+    c.put_short.ensures)
