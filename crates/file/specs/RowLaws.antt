@@ -5,6 +5,7 @@ use Rattle.base.specs.Lists.{elem}
 use Rattle.base.specs.MemberLaws.{elem→∈, ∈→elem, same_right}
 use Rattle.base.specs.TestLaws.{both, and, either, or_left, or_right}
 use Rattle.file.specs.Records.{Record, input, word, bit, operation, choice, pick, guard}
+use Rattle.file.specs.declared.Version.TheVariants.{One, Two}
 use Rattle.file.specs.Versions.{Version, one, two, version_of, most_guard_wires}
 use Rattle.file.specs.CircuitFile.{mark}
 use Rattle.file.specs.FileFigures.{version_in, record_at, size_at, place_after, first_record, file_variables, wire_count}
@@ -33,8 +34,8 @@ pub mark_either : (f : List ℕ) → (take 5 f ≡ mark (version_in f)) ↔ ((ta
 mark_either f = (go (version_in f), ⊎_elim (λ e. named one refl e) (λ e. named two refl e))
   where
     go : (ver : Version) → take 5 f ≡ mark ver → (take 5 f ≡ mark one) ⊎ (take 5 f ≡ mark two)
-    go one e = inl e
-    go two e = inr e
+    go One e = inl e
+    go Two e = inr e
 
     named : (ver : Version) → version_of (get_or (mark ver) 4 0) ≡ ver → take 5 f ≡ mark ver → take 5 f ≡ mark (version_in f)
     named ver n e = marked_as_lem ver f n ((same_right (take 5 f) (mark ver)).1 e)
@@ -46,8 +47,8 @@ marked_back : (f : List ℕ) → take 5 f ≡ mark (version_in f) → marked f �
 marked_back f h = go (version_in f) h
   where
     go : (ver : Version) → take 5 f ≡ mark ver → marked f ≡ true
-    go one e = or_left (marked_as one f) (marked_as two f) ((same_right (take 5 f) (mark one)).1 e)
-    go two e = or_right (marked_as one f) (marked_as two f) ((same_right (take 5 f) (mark two)).1 e)
+    go One e = or_left (marked_as one f) (marked_as two f) ((same_right (take 5 f) (mark one)).1 e)
+    go Two e = or_right (marked_as one f) (marked_as two f) ((same_right (take 5 f) (mark two)).1 e)
 
 headed_to : (f : List ℕ) → headed f ≡ true → Headed f
 unfolding headed

@@ -2,21 +2,22 @@
 use Rattle.std.specs.Prelude.{ℕ, ◌*◌, ◌^◌, ◌≤◌, ◌<◌, ◌≡◌, refl}
 use Rattle.std.proofs.Common.{sym, ap, ◌∙◌, arith, pow_mono}
 use Rattle.base.specs.NumberLaws.{bits_bytes}
+use Rattle.file.specs.declared.Version.TheVariants.{One, Two}
 use Rattle.file.specs.Versions.{Version, one, two, version_byte, version_of, most_guard_wires, table_bytes}
 
 -- the byte of a version names it, and is a byte
 pub version_back : (ver : Version) → version_of (version_byte ver) ≡ ver
-version_back one = refl
-version_back two = refl
+version_back One = refl
+version_back Two = refl
 
 pub version_small : (ver : Version) → version_byte ver < 256
-version_small one = omega arith
-version_small two = omega arith
+version_small One = omega arith
+version_small Two = omega arith
 
 -- a table has a bit for each setting of the most wires
 pub table_bits : (ver : Version) → 8 * table_bytes ver ≡ 2 ^ most_guard_wires ver
-table_bits one = refl
-table_bits two = refl
+table_bits One = refl
+table_bits Two = refl
 
 -- so a table of the most wires has its bytes, and no bit is left
 pub table_room : (ver : Version) → 256 ^ table_bytes ver ≡ 2 ^ 2 ^ most_guard_wires ver
@@ -28,9 +29,9 @@ number_bit ver j n h l = let k : 2 ^ n ≤ 2 ^ most_guard_wires ver = pow_mono h
 
 -- how few the wires and the table's bytes are: the first version has the fewest, the second the most
 pub wires_few : (ver : Version) → most_guard_wires ver ≤ most_guard_wires two
-wires_few one = omega arith
-wires_few two = omega arith
+wires_few One = omega arith
+wires_few Two = omega arith
 
 pub table_few : (ver : Version) → (table_bytes one ≤ table_bytes ver) × (table_bytes ver ≤ table_bytes two)
-table_few one = (omega arith, omega arith)
-table_few two = (omega arith, omega arith)
+table_few One = (omega arith, omega arith)
+table_few Two = (omega arith, omega arith)

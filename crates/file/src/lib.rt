@@ -2,6 +2,7 @@
 #![tactic(auto)]
 
 ghost use Rattle.std.specs.Prelude.{◌≡◌};
+ghost use Rattle.file.specs.Versions.{version_of, most_guard_wires, table_bytes};
 
 // The number of a wire of a circuit file: its record's number. A rule's gate number is never taken for one: it has a type of its own.
 #[derive(Clone, Copy, PartialEq, Eq, PartialOrd, Ord)]
@@ -13,6 +14,44 @@ impl WireId {
         ensures { result ≡ self.0 }
     {
         self.0 as usize
+    }
+}
+
+// The versions of a circuit file, each with the last byte of its mark.
+#[derive(Clone, Copy, PartialEq, Eq)]
+pub enum Version {
+    One = 1,
+    Two = 2,
+}
+
+// By its byte in a file; one with any other byte there than these two is refused (row 60).
+impl From<u8> for Version {
+    ghost from_gives = { λ b version. version ≡ version_of b };
+
+    fn from(byte: u8) -> Version {
+        if byte == 1 { Version::One } else { Version::Two }
+    }
+}
+
+impl Version {
+    // The wires of a guard, at most.
+    pub fn most_guard_wires(self) -> usize
+        ensures { result ≡ most_guard_wires self }
+    {
+        match self {
+            Version::One => 6,
+            Version::Two => 8,
+        }
+    }
+
+    // The bytes of its table.
+    pub fn table_bytes(self) -> usize
+        ensures { result ≡ table_bytes self }
+    {
+        match self {
+            Version::One => 8,
+            Version::Two => 32,
+        }
     }
 }
 

@@ -1,6 +1,9 @@
 -- A record's first byte: what the last arm of a decision over it knows; a record that lies in the file has that byte there and, where it is a guard, the file's version byte.
-use Rattle.std.specs.Prelude.{ℕ, ◌+◌, ◌≤◌, ◌<◌, ◌≡◌, List, length, get_or}
+use Rattle.std.specs.Prelude.{ℕ, zero, suc, ◌+◌, ◌≤◌, ◌<◌, ◌≡◌, refl, List, length, get_or}
 use Rattle.std.proofs.Common.{arith}
+use Rattle.base.specs.Codes.{start_code}
+use Rattle.base.specs.declared.Kind.{Kind}
+use Rattle.base.specs.declared.Kind.TheVariants as kind
 use Rattle.file.specs.FileFigures.{version_in, size_at}
 use Rattle.file.specs.FoundForms.{OtherByte, form_guard, size_some}
 use Rattle.file.specs.VersionLaws.{table_few}
@@ -18,6 +21,12 @@ other b r = record {
   no_pick = r.0.1;
   no_guard = r.1;
 }
+
+-- the two codes of an input
+pub input_code : (b : ℕ) → b < 2 → (k : Kind) × (b ≡ start_code k)
+input_code zero h = (kind.Word, refl)
+input_code (suc zero) h = (kind.Bit, refl)
+input_code (suc (suc n)) h = absurd (omega arith)
 
 -- a record that is there has its first byte there
 pub first_inside : (f : List ℕ) (at : ℕ) → at + size_at f at ≤ length f → at < length f

@@ -1,5 +1,5 @@
--- The kind of a record's wire, by its first byte: what the code reads of a table that holds the kinds of earlier wires is that kind, and it reads inside the file and the table.
-use Rattle.std.specs.Prelude.{ℕ, suc, ◌+◌, ◌-◌, ◌≤◌, ◌<◌, ◌≡◌, refl, Bool, true, false, List, ◌∷◌, length, get_or}
+-- The kind of a record's wire, by its first byte: what the code reads of an array that holds the kinds of earlier wires is that kind, and it reads inside the file and the array.
+use Rattle.std.specs.Prelude.{ℕ, suc, ◌+◌, ◌-◌, ◌≤◌, ◌<◌, ◌≡◌, refl, List, ◌∷◌, length, get_or}
 use Rattle.std.proofs.Common.{sym, ap, subst, ◌∙◌, inl, inr, arith}
 use Rattle.base.specs.Numbers.{number_at}
 use Rattle.base.specs.Lists.{Inside}
@@ -13,39 +13,30 @@ use Rattle.file.specs.FilePartLaws.{pairs_length}
 use Rattle.file.specs.FoundForms.{form_input, form_word, form_bit, form_choice, form_pick, form_guard}
 use Rattle.file.specs.Limits.{most_wires}
 use Rattle.file.specs.LaidOut.{Bounded, WholeAt}
-use Rattle.file_parts.specs.HeldKinds.{is_bit, kind_by, held_kind}
-
--- there and back
-pub kind_back : (k : Kind) → kind_by (is_bit k) ≡ k
-kind_back kind.Word = refl
-kind_back kind.Bit = refl
-
-pub bit_back : (b : Bool) → is_bit (kind_by b) ≡ b
-bit_back true = refl
-bit_back false = refl
+use Rattle.file_parts.specs.HeldKinds.{held_kind}
 
 -- what a record's kind is by its first byte, and what the code reads for it
-module _ (f : List ℕ) (at : ℕ) (bits : List Bool) where
+module _ (f : List ℕ) (at : ℕ) (kinds : List Kind) where
   -- the record there is r, whose kind is k
-  kind_as : (r : Record) → record_at f at ≡ r → (b : Bool) → b ≡ is_bit (record_kind (held_kind bits) r) → b ≡ is_bit (record_kind (held_kind bits) (record_at f at))
-  kind_as r e b q = q ∙ ap (λ (s : Record). is_bit (record_kind (held_kind bits) s)) (sym e)
+  kind_as : (r : Record) → record_at f at ≡ r → (k : Kind) → k ≡ record_kind (held_kind kinds) r → k ≡ record_kind (held_kind kinds) (record_at f at)
+  kind_as r e k q = q ∙ ap (record_kind (held_kind kinds)) (sym e)
 
-  pub input_kind : (k : Kind) → get_or f at 0 ≡ start_code k → is_bit k ≡ is_bit (record_kind (held_kind bits) (record_at f at))
-  input_kind k h = kind_as _ (form_input f at k h).0 (is_bit k) refl
+  pub input_kind : (k : Kind) → get_or f at 0 ≡ start_code k → k ≡ record_kind (held_kind kinds) (record_at f at)
+  input_kind k h = kind_as _ (form_input f at k h).0 k refl
 
-  pub word_kind : get_or f at 0 ≡ 0x11 → false ≡ is_bit (record_kind (held_kind bits) (record_at f at))
-  word_kind h = kind_as _ (form_word f at h).0 false refl
+  pub word_kind : get_or f at 0 ≡ 0x11 → kind.Word ≡ record_kind (held_kind kinds) (record_at f at)
+  word_kind h = kind_as _ (form_word f at h).0 kind.Word refl
 
-  pub bit_kind : get_or f at 0 ≡ 0x12 → true ≡ is_bit (record_kind (held_kind bits) (record_at f at))
-  bit_kind h = kind_as _ (form_bit f at h).0 true refl
+  pub bit_kind : get_or f at 0 ≡ 0x12 → kind.Bit ≡ record_kind (held_kind kinds) (record_at f at)
+  bit_kind h = kind_as _ (form_bit f at h).0 kind.Bit refl
 
-  pub guard_kind : get_or f at 0 ≡ 0x32 → true ≡ is_bit (record_kind (held_kind bits) (record_at f at))
-  guard_kind h = kind_as _ (form_guard f at h).0 true refl
+  pub guard_kind : get_or f at 0 ≡ 0x32 → kind.Bit ≡ record_kind (held_kind kinds) (record_at f at)
+  guard_kind h = kind_as _ (form_guard f at h).0 kind.Bit refl
 
-  -- a choice: what the table holds for its first value, the wire w
-  pub choice_kind : get_or f at 0 ≡ 0x30 → (w : ℕ) (b : Bool) → w ≡ number_at 2 f (at + 3) → b ≡ get_or bits w false
-      → b ≡ is_bit (record_kind (held_kind bits) (record_at f at))
-  choice_kind h w b e q = kind_as _ (form_choice f at h).0 b (q ∙ rw e (sym (bit_back _)))
+  -- a choice: what the array holds for its first value, the wire w
+  pub choice_kind : get_or f at 0 ≡ 0x30 → (w : ℕ) (k : Kind) → w ≡ number_at 2 f (at + 3) → k ≡ held_kind kinds w
+      → k ≡ record_kind (held_kind kinds) (record_at f at)
+  choice_kind h w k e q = kind_as _ (form_choice f at h).0 k (q ∙ rw e)
 
   module _ (whole : WholeAt f at) where
     -- a pick has a first pair
@@ -60,10 +51,10 @@ module _ (f : List ℕ) (at : ℕ) (bits : List Bool) where
           let q : at + 2 + 4 ≡ at + 6 = omega arith in
           (form_pick f at h).0 ∙ ap (λ (k : ℕ). pick (pairs_at k f (at + 2))) n ∙ rw (p, q)
 
-      pub pick_kind : (w : ℕ) (b : Bool) → w ≡ number_at 2 f (at + 4) → b ≡ get_or bits w false → b ≡ is_bit (record_kind (held_kind bits) (record_at f at))
-      pick_kind w b e q = kind_as _ is_pick b (q ∙ rw e (sym (bit_back _)))
+      pub pick_kind : (w : ℕ) (k : Kind) → w ≡ number_at 2 f (at + 4) → k ≡ held_kind kinds w → k ≡ record_kind (held_kind kinds) (record_at f at)
+      pick_kind w k e q = kind_as _ is_pick k (q ∙ rw e)
 
-    -- those wires are in the table
+    -- those wires are in the array
     module _ (wires : Inside most_wires (reads (record_at f at))) where
       pub choice_value : get_or f at 0 ≡ 0x30 → (at + 3 + 2 ≤ length f) × (number_at 2 f (at + 3) < most_wires)
       choice_value h =

@@ -1,7 +1,7 @@
 pub mod Wires
 pub mod FormLaws
-pub mod SameLaws
 pub mod StepLaws
-pub mod TableLaws
 pub mod RecordLaws
+pub mod SameLaws
 pub mod LoopLaws
+pub mod TableLaws

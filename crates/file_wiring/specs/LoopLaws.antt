@@ -1,5 +1,5 @@
 -- Row 62 over the whole file, record after record and output after output: what is left decides, one that does not stand ends it, and the table holds the kinds so far.
-use Rattle.std.specs.Prelude.{ℕ, suc, ◌+◌, ◌-◌, ◌*◌, ◌≤◌, ◌<◌, ◌≡◌, refl, List, Bool, true, false, ◌&&◌, cond, length, set}
+use Rattle.std.specs.Prelude.{ℕ, suc, ◌+◌, ◌-◌, ◌*◌, ◌≤◌, ◌<◌, ◌≡◌, refl, Some, None, List, Bool, true, false, ◌&&◌, cond, length, set}
 use Rattle.std.proofs.Math.Path.{sym}
 use Rattle.std.proofs.Common.{ap, subst, ◌∙◌, add-one, arith, length-set}
 use borrow.Author.Tests.{lt-leb, le-leb}
@@ -13,74 +13,45 @@ use Rattle.file.specs.WireKinds.{record_kind, wire_kind}
 use Rattle.file.specs.FileFigures.{wires_at, record_at, size_at, records_from, first_record, file_variables, wire_count, file_records}
 use Rattle.file.specs.FilePartLaws.{wires_length, file_count, record_of, outputs_of_lem}
 use Rattle.file.specs.FileLaws.{place_next}
-use Rattle.file.specs.InverseLaws.{place_is}
 use Rattle.file.specs.Limits.{most_wires}
 use Rattle.file.specs.LaidOut.{record_place, WholeAt, LaidOut}
 use Rattle.file.specs.CircuitRows.{stands, all_stand, output_stands, outputs_stand, standing}
 use Rattle.file.specs.RowLaws.{Headed}
 use Rattle.file.specs.StandLaws.{stands_to}
-use Rattle.file_parts.specs.HeldKinds.{is_bit, held_kind}
+use Rattle.file_parts.specs.HeldKinds.{held_kind}
 use Rattle.file_parts.specs.TableLaws.{HoldsKinds, holds_none, holds_more}
 use Rattle.file_wiring.specs.SameLaws.{stands_same, outputs_same}
 
--- loop invariant, amid the outputs: those that are left decide
-pub record AmidOutputs (f : List ℕ) (k : ℕ → Kind) (n at v x : ℕ) : Type 0 where
-  pub few : x ≤ v
-  pub same : outputs_stand n k 0 (wires_at v f at) ≡ outputs_stand n k x (wires_at (v - x) f (at + 2 * x))
-
-pub outputs_start : (f : List ℕ) (k : ℕ → Kind) (n at v : ℕ) → AmidOutputs f k n at v 0
-outputs_start f k n at v = let e : v - 0 ≡ v = omega arith in let a : at + 2 * 0 ≡ at = omega arith in record { few = omega arith; same = rw (e, a) }
-
-module _ (f : List ℕ) (k : ℕ → Kind) (n at v x : ℕ) (p : AmidOutputs f k n at v x) where
-  pub outputs_done : v ≤ x → true ≡ outputs_stand n k 0 (wires_at v f at)
-  outputs_done h = let e : v - x ≡ 0 = omega arith in sym (p.same ∙ rw e)
-
-  module _ (h : x < v) where
-    next : outputs_stand n k x (wires_at (v - x) f (at + 2 * x))
-        ≡ (output_stands n k x (number_at 2 f (at + 2 * x)) && outputs_stand n k (x + 1) (wires_at (v - (x + 1)) f (at + 2 * (x + 1))))
-    next =
-        let e : v - x ≡ suc (v - (x + 1)) = omega arith in
-        let a : at + 2 * x + 2 ≡ at + 2 * (x + 1) = omega arith in
-        ap (λ (m : ℕ). outputs_stand n k x (wires_at m f (at + 2 * x))) e ∙ rw (a, add-one x)
-
-    pub output_fails : (b : Bool) → b ≡ output_stands n k x (number_at 2 f (at + 2 * x)) → b ≡ false → false ≡ outputs_stand n k 0 (wires_at v f at)
-    output_fails b e z = sym (p.same ∙ next ∙ rw (sym e ∙ z))
-
-    pub output_more : (b : Bool) → b ≡ output_stands n k x (number_at 2 f (at + 2 * x)) → b ≡ true → AmidOutputs f k n at v (x + 1)
-    output_more b e z = record { few = omega arith; same = p.same ∙ next ∙ rw (sym e ∙ z) }
+-- the output of variable x decides together with those after it
+pub outputs_next : (f : List ℕ) (k : ℕ → Kind) (n at v x : ℕ) → x < v → outputs_stand n k x (wires_at (v - x) f (at + 2 * x))
+    ≡ (output_stands n k x (number_at 2 f (at + 2 * x)) && outputs_stand n k (x + 1) (wires_at (v - (x + 1)) f (at + 2 * (x + 1))))
+outputs_next f k n at v x h =
+    let e : v - x ≡ suc (v - (x + 1)) = omega arith in
+    let a : at + 2 * x + 2 ≡ at + 2 * (x + 1) = omega arith in
+    ap (λ (m : ℕ). outputs_stand n k x (wires_at m f (at + 2 * x))) e ∙ rw (a, add-one x)
 
 -- loop invariant, amid the records: those that are left decide, and the table holds the kinds of the wires so far
-pub record AmidRecords (f : List ℕ) (v n : ℕ) (bits : List Bool) (at i : ℕ) : Type 0 where
+pub record AmidRecords (f : List ℕ) (v n : ℕ) (kinds : List Kind) (at i : ℕ) : Type 0 where
   pub count : n ≡ wire_count f
   pub head : Headed f
   pub layout : LaidOut f
-  pub few : i ≤ n
   pub place : at ≡ record_place f i
-  pub room : length bits ≡ most_wires
-  pub holds : HoldsKinds (file_records f) bits i
+  pub room : length kinds ≡ most_wires
+  pub holds : HoldsKinds (file_records f) kinds i
   pub same : all_stand v (wire_kind (file_records f)) 0 (file_records f) ≡ all_stand v (wire_kind (file_records f)) i (records_from (n - i) f at)
 
-pub records_start : (f : List ℕ) (v n : ℕ) (bits : List Bool) → Headed f → LaidOut f → n ≡ wire_count f → length bits ≡ most_wires → AmidRecords f v n bits 8 0
+pub records_start : (f : List ℕ) (v n : ℕ) (kinds : List Kind) → Headed f → LaidOut f → n ≡ wire_count f → length kinds ≡ most_wires → AmidRecords f v n kinds 8 0
 unfolding file_records
-records_start f v n bits h l c r =
+records_start f v n kinds h l c r =
     let e : n - 0 ≡ wire_count f = omega (arith, c) in
-    record { count = c; head = h; layout = l; few = omega arith; place = refl; room = r; holds = holds_none (file_records f) bits; same = rw e }
+    record { count = c; head = h; layout = l; place = refl; room = r; holds = holds_none (file_records f) kinds; same = rw e }
 
-module _ (f : List ℕ) (v n : ℕ) (bits : List Bool) (at i : ℕ) (p : AmidRecords f v n bits at i) where
+module _ (f : List ℕ) (v n : ℕ) (kinds : List Kind) (at i : ℕ) (p : AmidRecords f v n kinds at i) where
   abbrev R : List Record
   R = file_records f
 
   abbrev k : ℕ → Kind
   k = wire_kind (file_records f)
-
-  -- all stand, and the place after them is no 0
-  pub records_done : n ≤ i
-      → (at ≡ cond (all_stand v (wire_kind (file_records f)) 0 (file_records f)) (record_place f n) 0) × (0 < at → HoldsKinds (file_records f) bits n)
-  records_done h =
-      let e : i ≡ n = omega (arith, p.few) in
-      let z : n - i ≡ 0 = omega arith in
-      let t : all_stand v k 0 R ≡ true = p.same ∙ rw z in
-      (rw t (p.place ∙ ap (record_place f) e), λ _. subst (HoldsKinds R bits) e p.holds)
 
   module _ (h : i < n) where
     below : i < wire_count f
@@ -100,15 +71,12 @@ module _ (f : List ℕ) (v n : ℕ) (bits : List Bool) (at i : ℕ) (p : AmidRec
         let e : n - i ≡ suc (n - (i + 1)) = omega arith in
         ap (λ (m : ℕ). all_stand v k i (records_from m f at)) e ∙ rw (add-one i)
 
-    module _ (b : Bool) (e : b ≡ stands v (held_kind bits) i (record_at f at)) where
+    module _ (b : Bool) (e : b ≡ stands v (held_kind kinds) i (record_at f at)) where
       stood : b ≡ stands v k i (record_at f at)
-      stood = e ∙ stands_same (held_kind bits) k v i (record_at f at) p.holds
+      stood = e ∙ stands_same (held_kind kinds) k v i (record_at f at) p.holds
 
-      pub record_fails : b ≡ false
-          → (0 ≡ cond (all_stand v (wire_kind (file_records f)) 0 (file_records f)) (record_place f n) 0) × (0 < 0 → HoldsKinds (file_records f) bits n)
-      record_fails z =
-          let none : all_stand v k 0 R ≡ false = p.same ∙ next_record ∙ rw (sym stood ∙ z) in
-          (rw none, λ l. absurd (omega arith))
+      pub record_fails : b ≡ false → None ≡ cond (all_stand v (wire_kind (file_records f)) 0 (file_records f)) (Some (record_place f n)) None
+      record_fails z = let none : all_stand v k 0 R ≡ false = p.same ∙ next_record ∙ rw (sym stood ∙ z) in rw none
 
       module _ (z : b ≡ true) where
         earlier : ReadsBefore i (record_at f at)
@@ -117,17 +85,16 @@ module _ (f : List ℕ) (v n : ℕ) (bits : List Bool) (at i : ℕ) (p : AmidRec
         pub record_reads : Inside most_wires (reads (record_at f at))
         record_reads w m = omega (arith, earlier w m, record_below)
 
-        pub record_more : (c : Bool) → c ≡ is_bit (record_kind (held_kind bits) (record_at f at)) → (m : ℕ) → m ≡ size_at f at → AmidRecords f v n (set bits i c) (at + m) (i + 1)
+        pub record_more : (c : Kind) → c ≡ record_kind (held_kind kinds) (record_at f at) → (m : ℕ) → m ≡ size_at f at → AmidRecords f v n (set kinds i c) (at + m) (i + 1)
         record_more c q m s = record {
           count = p.count;
           head = p.head;
           layout = p.layout;
-          few = omega arith;
           place = rw (s, p.place, add-one i) (sym (place_next i f first_record));
-          room = length-set bits i c ∙ p.room;
+          room = length-set kinds i c ∙ p.room;
           holds =
-              holds_more R bits i (omega (arith, below, file_count f)) (subst (ReadsBefore i) (sym here) earlier) p.holds c
-              (q ∙ ap (λ (r : Record). is_bit (record_kind (held_kind bits) r)) (sym here)) (omega (arith, record_below, p.room));
+              holds_more R kinds i (omega (arith, below, file_count f)) (subst (ReadsBefore i) (sym here) earlier) p.holds c
+              (q ∙ ap (record_kind (held_kind kinds)) (sym here)) (omega (arith, record_below, p.room));
           same = p.same ∙ next_record ∙ rw (sym stood ∙ z, s);
         }
 
@@ -137,20 +104,20 @@ module _ (f : List ℕ) (v n : ℕ) (e : v ≡ file_variables f) (q : n ≡ wire
   unfolding standing
   few_wires h = rw (lt-leb (file_variables f) (wire_count f) (omega (arith, e, q)))
 
-  module _ (h : v ≤ n) (at : ℕ) (a : at ≡ cond (all_stand v (wire_kind (file_records f)) 0 (file_records f)) (record_place f n) 0) where
-    pub no_record : at ≡ 0 → false ≡ standing f
+  module _ (h : v ≤ n) where
+    pub no_record : None ≡ cond (all_stand v (wire_kind (file_records f)) 0 (file_records f)) (Some (record_place f n)) None → false ≡ standing f
     unfolding standing
     no_record z =
         split (all_stand v (wire_kind (file_records f)) 0 (file_records f))
-        (λ t. let u : 0 ≡ record_place f n = sym z ∙ rw t at a in absurd (omega (arith, u, place_is n f first_record)))
+        (λ t. let u : None ≡ Some (record_place f n) = rw t at z in absurd cc)
         (λ t. rw (← e, t, le-leb v (wire_count f) (omega (arith, q))))
 
-    module _ (some : at ≡ 0 → ⊥) where
+    module _ (at : ℕ) (a : Some at ≡ cond (all_stand v (wire_kind (file_records f)) 0 (file_records f)) (Some (record_place f n)) None) where
       all : all_stand v (wire_kind (file_records f)) 0 (file_records f) ≡ true
-      all = split (all_stand v (wire_kind (file_records f)) 0 (file_records f)) (λ t. t) (λ t. absurd (some (rw t at a)))
+      all = split (all_stand v (wire_kind (file_records f)) 0 (file_records f)) (λ t. t) (λ t. let u : Some at ≡ None = rw t at a in absurd cc)
 
       outputs_there : at ≡ record_place f (wire_count f)
-      outputs_there = rw all at a ∙ ap (record_place f) q
+      outputs_there = let u : Some at ≡ Some (record_place f n) = rw all at a in let z : at ≡ record_place f n = cc in z ∙ ap (record_place f) q
 
       pub outputs_whole : LaidOut f → at + 2 * v ≤ length f
       outputs_whole l = omega (arith, outputs_there, e, l.ended)

@@ -4,7 +4,7 @@ use Rattle.std.proofs.Common.{sym, ap, subst, ◌∙◌, arith, lt-ltb, le-ltb, 
 use Rattle.std.proofs.lemmas.Bool.{lt-leb}
 use Rattle.base.specs.Lists.{every}
 use Rattle.base.specs.Numbers.{number_at}
-use Rattle.base.specs.Codes.{entry_of, operation_of, code_of, start_code}
+use Rattle.base.specs.Codes.{entry_of, operation_of, code_of}
 use Rattle.base.specs.CodeLaws.{code_operation}
 use Rattle.base.specs.declared.Kind.{Kind}
 use Rattle.base.specs.declared.Kind.TheVariants as kind
@@ -18,18 +18,14 @@ use Rattle.file.specs.RecordBounds.{Coded, is_input, is_word, is_bit_lem, is_ope
 use Rattle.file.specs.LaidOut.{Bounded, WholeAt}
 use Rattle.file.specs.Versions.{most_guard_wires, table_bytes}
 use Rattle.file.specs.CircuitRows.{stands}
+use Rattle.file_parts.specs.FirstByteLaws.{input_code}
 use Rattle.file_wiring.specs.Wires.{fits, wires_by}
 use Rattle.file_wiring.specs.FormLaws.{input_stands, word_stands, bit_stands, operation_stands, choice_stands, pick_stands, guard_stands, wires_by_lem, guards_by, values_by}
 
 module _ (f : List ℕ) (at : ℕ) (whole : WholeAt f at) where
   -- what may be read of it
-  start : (b : ℕ) → b < 2 → (k : Kind) × (b ≡ start_code k)
-  start zero h = (kind.Word, refl)
-  start (suc zero) h = (kind.Bit, refl)
-  start (suc (suc n)) h = absurd (omega arith)
-
   pub input_takes : get_or f at 0 < 2 → at + 1 < length f
-  input_takes h = let (k, e) = start (get_or f at 0) h in omega (arith, whole.inside, (form_input f at k e).1)
+  input_takes h = let (k, e) = input_code (get_or f at 0) h in omega (arith, whole.inside, (form_input f at k e).1)
 
   pub choice_takes : get_or f at 0 ≡ 0x30 → at + 7 ≤ length f
   choice_takes h = omega (arith, whole.inside, (form_choice f at h).1)
@@ -56,12 +52,12 @@ module _ (f : List ℕ) (at : ℕ) (whole : WholeAt f at) where
 
     pub input_in : get_or f at 0 < 2 → i < v → (n : ℕ) → n ≡ get_or f (at + 1) 0 → eqb n i ≡ stands v k i (record_at f at)
     input_in h l n e =
-        let (j, q) = start (get_or f at 0) h in
+        let (j, q) = input_code (get_or f at 0) h in
         by _ _ _ (form_input f at j q).0 (input_stands v k i j (get_or f (at + 1) 0)) (rw (lt-ltb i v l, e))
 
     pub input_late : get_or f at 0 < 2 → v ≤ i → false ≡ stands v k i (record_at f at)
     input_late h l =
-        let (j, q) = start (get_or f at 0) h in
+        let (j, q) = input_code (get_or f at 0) h in
         by _ _ _ (form_input f at j q).0 (input_stands v k i j (get_or f (at + 1) 0)) (rw (le-ltb i v l))
 
     -- no other record stands before the inputs

@@ -1,11 +1,9 @@
-use mathlib.Core.Path.{subst, ◌∙◌}
-use Prim.Native.Nat.{ℕ, ◌≤◌, ◌<◌, ◌-◌}
-use lib.ListN.{length}
-use Rattle.file_layout.specs.LayoutLaws.{whole_said, whole_short}
+use Rattle.std.proofs.Common.{sym, ◌∙◌}
+use Rattle.file_layout.specs.LayoutLaws.{none_said, size_said}
 use Rattle.file_layout.proofs.whole_size.Goals as goal
 
-pub returns-then-size-file : goal.returns-then-size-file
-returns-then-size-file c = c.said_size-size.ensures ∙ whole_said _ _ c.requires.1 (subst (λ (n : ℕ). n ≤ length c.args.file.now - c.args.at) c.said_size-size.ensures c.if-size-file.true)
+pub returns-in_err-size : goal.returns-in_err-size
+returns-in_err-size c = c.from_residual.ensures ∙ sym (none_said _ _ (sym c.in_err-size.ensures))
 
-pub returns-else-size-file : goal.returns-else-size-file
-returns-else-size-file c = whole_short _ _ c.requires.1 (subst (λ (n : ℕ). length c.args.file.now - c.args.at < n) c.said_size-size.ensures c.if-size-file.false)
+pub returns : goal.returns
+returns c = c.then_some.ensures ∙ sym (size_said _ _ _ (sym c.in_ok-size.ensures) c.requires.1)
