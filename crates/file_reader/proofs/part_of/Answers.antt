@@ -1,29 +1,22 @@
-use mathlib.Core.Path.{sym, ◌∙◌}
-use native.Mathlib.Omega.{arith}
-use Rattle.file.specs.FormatLaws.{row_passed}
-use Rattle.file.specs.ReadLaws.{part_refused, part_past, part_shown}
+use Rattle.std.proofs.Common.{rules, ◌≡◌, ◌<◌, cond, Some, None, length, take, drop, ℕ, ◌+◌, ◌-◌, ◌*◌, ◌≤◌, ◌/◌, ◌%◌, Bool, true, false, nat_eq, nat_lt, List, [], ◌∷◌, ◌++◌, slice_index_or, slice_set, bit_and, bit_or, Fits, w8, w32, w64, Bor, MutBor}
+use Rattle.base.specs.Inputs.{inputs_row}
+use Rattle.base.specs.Refusals.{answer_in}
+use Rattle.base.specs.Rows.{row_in}
+use Rattle.file.specs.WireKinds.{wire_kind}
+use Rattle.file.specs.FileFigures.{size_at, file_variables, wire_count, file_records}
+use Rattle.file.specs.LaidOut.{record_place}
+use Rattle.file.specs.CircuitRows.{circuit_row}
+use Rattle.file.specs.Answers.{circuit_answer, shown, part_start, part_length, record_part, circuit_run_answer, circuit_run_results}
 use Rattle.file_reader.proofs.part_of.Goals as goal
 
-pub returns-then-circuit_row-ne0 : goal.returns-then-circuit_row-ne0
-returns-then-circuit_row-ne0 c = let r = part_refused _ _ (λ z. c.if-circuit_row-ne0.true (c.circuit_row.ensures ∙ z)) in record { start = r.0; length = r.1.0; bytes = r.1.1 }
+-- src/lib.rt:92:1
+pub returns-clause-start : goal.returns-clause-start
+returns-clause-start c = ?
 
-pub read16-requires : goal.read16-requires
-read16-requires c = (row_passed _ (sym c.circuit_row.ensures ∙ c.if-circuit_row-ne0.false)).head.long
+-- src/lib.rt:92:1
+pub returns-clause-length : goal.returns-clause-length
+returns-clause-length c = ?
 
-pub returns-then-read16-wire : goal.returns-then-read16-wire
-returns-then-read16-wire c = let r = part_past _ _ (sym c.circuit_row.ensures ∙ c.if-circuit_row-ne0.false)
-    (omega (arith, c.if-read16-wire.true, c.read16.ensures)) in record { start = r.0; length = r.1.0; bytes = r.1.1 }
-
-pub record_place-start-requires : goal.record_place-start-requires
-record_place-start-requires c = (sym c.circuit_row.ensures ∙ c.if-circuit_row-ne0.false, omega (arith, c.if-read16-wire.false, c.read16.ensures))
-
-pub record_size-requires : goal.record_size-requires
-record_size-requires c = rw c.record_place-start.ensures
-    ((row_passed _ (sym c.circuit_row.ensures ∙ c.if-circuit_row-ne0.false)).layout.whole
-    c.args.wire.0
-    (omega (arith, c.if-read16-wire.false, c.read16.ensures)))
-
-pub returns : goal.returns
-returns c = let r = part_shown _ _ (sym c.circuit_row.ensures ∙ c.if-circuit_row-ne0.false)
-    (omega (arith, c.if-read16-wire.false, c.read16.ensures)) _ _
-    c.record_place-start.ensures c.record_size.ensures in record { start = r.0; length = r.1.0; bytes = r.1.1 }
+-- src/lib.rt:92:1
+pub returns-clause-bytes : goal.returns-clause-bytes
+returns-clause-bytes c = ?

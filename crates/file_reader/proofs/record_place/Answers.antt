@@ -1,19 +1,22 @@
-use borrow.Author.Rules.{rules}
-use Rattle.file.specs.ReadLaws.{places_start, places_done, place_whole, places_more}
+use Rattle.std.proofs.Common.{rules, ◌≡◌, ◌<◌, cond, Some, None, length, take, drop, ℕ, ◌+◌, ◌-◌, ◌*◌, ◌≤◌, ◌/◌, ◌%◌, Bool, true, false, nat_eq, nat_lt, List, [], ◌∷◌, ◌++◌, slice_index_or, slice_set, bit_and, bit_or, Fits, w8, w32, w64, Bor, MutBor}
+use Rattle.base.specs.Inputs.{inputs_row}
+use Rattle.base.specs.Refusals.{answer_in}
+use Rattle.base.specs.Rows.{row_in}
+use Rattle.file.specs.WireKinds.{wire_kind}
+use Rattle.file.specs.FileFigures.{size_at, file_variables, wire_count, file_records}
+use Rattle.file.specs.LaidOut.{record_place}
+use Rattle.file.specs.CircuitRows.{circuit_row}
+use Rattle.file.specs.Answers.{circuit_answer, shown, part_start, part_length, record_part, circuit_run_answer, circuit_run_results}
 use Rattle.file_reader.proofs.record_place.Goals as goal
 
-pub loop-i-init : goal.loop-i-init
-loop-i-init c = places_start _ _ c.requires.0 c.requires.1
+-- src/lib.rt:61:15
+pub invariant_of-record : goal.invariant_of-record
+invariant_of-record c = ?
 
-pub record_size-at-requires : goal.record_size-at-requires
-record_size-at-requires c = place_whole _ _ _ _ c.loop-i.invariant c.loop-i-test.true
-
+-- src/lib.rt:61:9
 pub overflow_add-at : goal.overflow_add-at
-overflow_add-at c = let h = (place_whole _ _ _ _ c.loop-i.invariant c.loop-i-test.true).inside in
-    search rules
+overflow_add-at c = ?
 
-pub loop-i-preserved : goal.loop-i-preserved
-loop-i-preserved c = places_more _ _ _ _ c.loop-i.invariant c.loop-i-test.true _ c.record_size-at.ensures
-
-pub returns : goal.returns
-returns c = places_done _ _ _ _ c.loop-i.invariant c.loop-i-test.false
+-- src/lib.rt:59:5
+pub loop-preserved : goal.loop-preserved
+loop-preserved c = ?
