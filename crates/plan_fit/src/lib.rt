@@ -9,7 +9,7 @@ ghost use Rattle.circuit.specs.Gates.{gate_at};
 ghost use Rattle.circuit_needed.specs.Held.{code_at, gate_in, gates_in};
 ghost use Rattle.plan.specs.PlanFile as file;
 ghost use Rattle.plan.specs.Rows as checks;
-ghost use Rattle.plan_groups.specs.Tests.{operation_code};
+ghost use Rattle.plan_groups.specs.Tests.{operation_in};
 ghost use Rattle.plan_groups.specs.Walks.{ReadableGroup, Readable};
 ghost use Rattle.base.specs.SetsHeld.{sets_in};
 ghost use Rattle.circuit.specs.Rooms.{gate_room};
@@ -54,14 +54,13 @@ fn costly(circuit: &Circuit, g: GateId) -> bool
     0 < circuit_quads::code_entry(code_at(circuit, g)).cost
 }
 
-fn operation_code(code: u32) -> u32
-    ensures { result ≡ operation_code code }
+// The operation of a gate, by its code; none of a gate that is no operation.
+fn operation_in(code: u32) -> Option<u32>
+    ensures { result ≡ operation_in code }
 {
-    if (circuit::SUM..=circuit::NOT).contains(&code) {
-        code
-    } else {
-        0
-    }
+    (circuit::SUM..=circuit::NOT)
+        .contains(&code)
+        .then_some(code)
 }
 
 // 28 of a gate: its operation is that of the group's first gate.
@@ -69,7 +68,7 @@ fn alike(circuit: &Circuit, first: GateId, g: GateId) -> bool
     requires { (first.0 < gate_room) × (g.0 < gate_room) }
     ensures { result ≡ eqb (checks.operation_byte (gate_in circuit.now.quads first.0)) (checks.operation_byte (gate_in circuit.now.quads g.0)) }
 {
-    operation_code(code_at(circuit, first)) == operation_code(code_at(circuit, g))
+    operation_in(code_at(circuit, first)) == operation_in(code_at(circuit, g))
 }
 
 // 27 of the group that begins at a place.

@@ -1,11 +1,11 @@
 -- Inner: the rows 25, 28 and 29 as the code tests them, number by number.
-use Rattle.std.specs.Prelude.{ℕ, ◌+◌, ◌-◌, ◌*◌, List, [], ◌∷◌, Bool, true, false, cond, ◌&&◌, leb, ltb, get_or, set}
+use Rattle.std.specs.Prelude.{ℕ, ◌+◌, ◌-◌, ◌*◌, List, [], ◌∷◌, Bool, true, false, cond, ◌&&◌, leb, ltb, get_or, set, Option, Some, None}
 use Rattle.base.specs.Sets.{union, excludes}
 use Rattle.plan.specs.PlanFile.{numbers_at}
 
--- the operation's byte by a gate's code, 0 for a code that is none
-unfoldable pub operation_code : ℕ → ℕ
-operation_code code = cond (leb 0x20 code && leb code 0x27) code 0
+-- the operation's byte by a gate's code, none for a code that is no operation's
+unfoldable pub operation_in : ℕ → Option ℕ
+operation_in code = cond (leb 0x20 code && leb code 0x27) (Some code) None
 
 -- the members from number k on of the group that begins at a place
 abbrev pub members_from : List ℕ → ℕ → ℕ → List ℕ
