@@ -2,14 +2,13 @@
 use Rattle.std.specs.Prelude.{ℕ, zero, suc, ◌+◌, ◌-◌, ◌*◌, ◌≤◌, ◌<◌, ◌≡◌, refl, List, [], ◌∷◌, ◌++◌, map, Bool, true, false, length, get_or, take, drop}
 use Rattle.std.proofs.Common.{sym, ap, ◌∙◌, append_assoc, append-nil, arith, length-append}
 use Rattle.std.proofs.lemmas.List.{map-append, length-map}
-use Rattle.std.proofs.lemmas.List.Edits.{sets}
 use borrow.Rule.Slice.PartMut.{put_mid}
 use Rattle.base.specs.Lists.{upto}
 use Rattle.base.specs.ListLaws.{length_from, upto_more}
 use Rattle.base.specs.Numbers.{bytes_of}
 use Rattle.base.specs.NumberLaws.{length_bytes}
 use Rattle.base.specs.Buffers.{over}
-use Rattle.base.specs.BufferLaws.{length_over, room_rest, sets_over}
+use Rattle.base.specs.BufferLaws.{length_over, room_rest}
 use Rattle.file.specs.Versions.{written_version}
 use Rattle.file.specs.Records.{Record}
 use Rattle.file.specs.CircuitFile.{mark, wires_bytes, records_bytes, file_bytes, no_wire}
@@ -81,31 +80,19 @@ outputs_in s outputs group wires = map (output_in s outputs group wires) (upto (
 abbrev pub head_bytes : ℕ → ℕ → List ℕ
 head_bytes v count = mark written_version ++ (v ∷ bytes_of 2 count)
 
--- its first six bytes
-abbrev pub head_stores : List ℕ → ℕ → List ℕ
-head_stores d v = sets d 0 (mark written_version ++ (v ∷ []))
-
 head_long : (v count : ℕ) → length (head_bytes v count) ≡ 8
 head_long v count = omega (arith, length_bytes 2 count)
 
-module _ (d : List ℕ) (v : ℕ) (h : 8 ≤ length d) where
-  stored : head_stores d v ≡ over (mark written_version ++ (v ∷ [])) d
-  stored = sets_over (mark written_version ++ (v ∷ [])) d (omega (arith, h))
+-- its first six bytes b, and the wire count behind them
+module _ (d : List ℕ) (v : ℕ) (h : 8 ≤ length d) (b : List ℕ) (is : b ≡ mark written_version ++ (v ∷ [])) where
+  stored : b ++ drop 6 d ≡ over (mark written_version ++ (v ∷ [])) d
+  unfolding over
+  stored = ap (λ (l : List ℕ). l ++ drop 6 d) is
 
-  pub head_length : length (head_stores d v) ≡ length d
-  head_length = ap (λ (e : List ℕ). length e) stored ∙ length_over (mark written_version ++ (v ∷ [])) d (omega (arith, h))
-
-  pub head_room : 2 ≤ length (take (length (head_stores d v) - 6) (drop 6 (head_stores d v)))
-  head_room = rw (room_rest (head_stores d v) 6) (omega (arith, head_length, h))
-
-  pub head_put : (count : ℕ) (ys : List ℕ) → ys ≡ over (bytes_of 2 count) (take (length (head_stores d v) - 6) (drop 6 (head_stores d v)))
-      → put_mid 6 (length (head_stores d v) - 6) (head_stores d v) ys ≡ over (head_bytes v count) d
+  pub head_put : (count : ℕ) (ys : List ℕ) → ys ≡ over (bytes_of 2 count) (take (length (b ++ drop 6 d) - 6) (drop 6 (b ++ drop 6 d)))
+      → put_mid 6 (length (b ++ drop 6 d) - 6) (b ++ drop 6 d) ys ≡ over (head_bytes v count) d
   head_put count ys r =
-      behind (mark written_version ++ (v ∷ [])) (bytes_of 2 count) (head_bytes v count) d (head_stores d v) ys 6 refl refl (rw (head_long v count) h) stored r
-
-  pub head_same : (count : ℕ) (ys : List ℕ) → ys ≡ over (bytes_of 2 count) (take (length (head_stores d v) - 6) (drop 6 (head_stores d v)))
-      → length (put_mid 6 (length (head_stores d v) - 6) (head_stores d v) ys) ≡ length d
-  head_same count ys r = ap (λ (e : List ℕ). length e) (head_put count ys r) ∙ length_over (head_bytes v count) d (rw (head_long v count) h)
+      behind (mark written_version ++ (v ∷ [])) (bytes_of 2 count) (head_bytes v count) d (b ++ drop 6 d) ys 6 refl refl (rw (head_long v count) h) stored r
 
 -- The file: its head, behind it the records, behind them the outputs.
 

@@ -49,12 +49,7 @@ fn put_head(out: &mut [u8], v: u8, count: u16)
     requires { 8 ≤ length out.old }
     ensures { out.new ≡ over (mark written_version ++ (v ∷ bytes_of 2 count)) out.old }
 {
-    out[0] = 0x43;
-    out[1] = 0x49;
-    out[2] = 0x52;
-    out[3] = 0;
-    out[4] = file::WRITTEN_VERSION;
-    out[5] = v;
+    out[..6].copy_from_slice(&[0x43, 0x49, 0x52, 0, file::WRITTEN_VERSION, v]);
     base_words::put16(&mut out[6..], count);
 }
 

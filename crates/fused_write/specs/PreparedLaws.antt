@@ -1,18 +1,26 @@
 -- Preparing the fused circuit, and writing it from the arrays that were lent: the answer, its counts, and the file are those of the definitions.
-use Rattle.std.specs.Prelude.{ℕ, ◌+◌, ◌*◌, ◌≤◌, ◌<◌, ◌≡◌, List, map, get_or}
+use Rattle.std.specs.Prelude.{Ok, ℕ, ◌+◌, ◌*◌, ◌≤◌, ◌<◌, ◌≡◌, List, map, get_or}
 use Rattle.std.proofs.Common.{arith, sym, ◌∙◌, eq-eqb}
 use Rattle.std.proofs.Math.Path.{ap, ap₂}
 use Rattle.std.proofs.Math.ListN.{length}
 use Rattle.base.specs.Lists.{upto}
 use Rattle.base.specs.Numbers.{Bytes}
-use Rattle.base.specs.Answers.{success}
+use Rattle.base.specs.Answers.{success, refusal}
+use Rattle.base.specs.Refusals.{answer_in}
+use Rattle.base.specs.Rows.{number_of}
+use Rattle.base.specs.SetsHeld.{sets_in}
+use Rattle.base.specs.declared.Counts.{Counts}
+use Rattle.base.specs.declared.Refusal.{Refusal}
 use Rattle.base.specs.declared.Answer.{Answer}
 use Rattle.rule.specs.Header.{variables, HasKinds}
 use Rattle.rule.specs.FirstStatement.{rule_read}
 use Rattle.circuit.specs.PlainCircuit.{gate_count, cost_before}
 use Rattle.circuit.specs.Limits.{most_gates}
 use Rattle.circuit.specs.WholeLaws.{accepted}
+use Rattle.circuit.specs.declared.Circuit.{Circuit}
+use Rattle.circuit_build.specs.RowLaws.{some_row}
 use Rattle.circuit_build.specs.BuiltParts.{built_output_inside, built_outputs_held, built_room, built_variables}
+use Rattle.plan.specs.declared.Grouping.{Grouping}
 use Rattle.plan.specs.Rows.{plan_answer}
 use Rattle.plan.proofs.AcceptedLaws.{answer_accepted, plan_accepted, row_right}
 use Rattle.plan_check.specs.Checked.{writing_order}
@@ -25,6 +33,7 @@ use Rattle.file.specs.CircuitFile.{records_bytes, file_bytes}
 use Rattle.fused.specs.Answers.{fused_counts, fused_answer}
 use Rattle.fused.specs.AnswerLaws.{fused_refused, fused_plan, answer_bytes}
 use Rattle.fused.specs.SizeBounds.{fused_size, wires_bound, bytes_bound}
+use Rattle.fused_size.specs.declared.Size.{Size}
 use Rattle.fused_file.specs.Staged.{stage, Turnable}
 use Rattle.fused_file.specs.Turns.{Sum, OutputsPlaced, output_in, file_in}
 use Rattle.fused_write.specs.ArrayLaws.{rule_taken}
@@ -38,54 +47,79 @@ kinds_there s p taken = (rule_read s (accepted s (rule_taken s p taken)).read).h
 pub rule_long : (s p : List ℕ) → (plan_answer s p).number ≡ 0 → 5 < length s
 rule_long s p taken = omega (arith, kinds_there s p taken)
 
--- what the check answers
-module _ (s p : List ℕ) (a : Answer) (e : a ≡ plan_answer s p) where
-  pub refused_prepared : (a.number ≡ 0 → ⊥) → a ≡ fused_answer s p
-  refused_prepared h = e ∙ sym (fused_refused s p (λ z. h (ap (λ (b : Answer). b.number) e ∙ z)))
+-- a refused plan is a refused circuit
+pub refused_prepared : (s p : List ℕ) (r : Refusal) → refusal (number_of r.0) r.1 ≡ plan_answer s p → refusal (number_of r.0) r.1 ≡ fused_answer s p
+refused_prepared s p r e = e ∙ sym (fused_refused s p (λ z. some_row r.0 (ap (λ (b : Answer). b.number) e ∙ z)))
 
-  module _ (zero : a.number ≡ 0) where
-    pub check_taken : (plan_answer s p).number ≡ 0
-    check_taken = ap (λ (b : Answer). b.number) (sym e) ∙ zero
+-- what the check of an accepted plan counts
+module _ (s p : List ℕ) (c : Counts) (e : answer_in (Ok c) ≡ plan_answer s p) where
+  pub check_taken : (plan_answer s p).number ≡ 0
+  check_taken = ap (λ (b : Answer). b.number) (sym e)
 
-    counted : a ≡ success (gate_count s) 0 0 (cost_before s) 0
-    counted =
-        let r = (plan_accepted s p).0 check_taken in
-        e ∙ answer_accepted s p r.0 ((row_right s p r.0).1 r.1) ∙ (accepted s (rule_taken s p check_taken)).answer
+  counted : answer_in (Ok c) ≡ success (gate_count s) 0 0 (cost_before s) 0
+  counted =
+      let r = (plan_accepted s p).0 check_taken in
+      e ∙ answer_accepted s p r.0 ((row_right s p r.0).1 r.1) ∙ (accepted s (rule_taken s p check_taken)).answer
 
-    pub check_gates : a.gates ≡ gate_count s
-    check_gates = ap (λ (b : Answer). b.gates) counted
+  pub check_gates : c.gates ≡ gate_count s
+  check_gates = ap (λ (b : Answer). b.gates) counted
 
-    pub check_before : a.before ≡ cost_before s
-    check_before = ap (λ (b : Answer). b.before) counted
+  pub check_before : c.before ≡ cost_before s
+  check_before = ap (λ (b : Answer). b.before) counted
 
--- what preparing it answers
-module _ (s p : List ℕ) (a : Answer) (e : a ≡ fused_answer s p) (zero : a.number ≡ 0) where
+-- what preparing it counts
+module _ (s p : List ℕ) (c : Counts) (e : answer_in (Ok c) ≡ fused_answer s p) where
   pub prepared_taken : (plan_answer s p).number ≡ 0
-  prepared_taken = fused_plan s p (ap (λ (b : Answer). b.number) (sym e) ∙ zero)
+  prepared_taken = fused_plan s p (ap (λ (b : Answer). b.number) (sym e))
 
   counts : fused_answer s p ≡ fused_counts s p
   unfolding fused_answer
   counts = rw (eq-eqb _ _ prepared_taken)
 
-  pub prepared_gates : a.gates ≡ gate_count s
-  unfolding fused_counts
-  prepared_gates = ap (λ (b : Answer). b.gates) (e ∙ counts)
-
-  pub prepared_wires : a.wires ≡ length (records_of s p)
+  pub prepared_wires : c.wires ≡ length (records_of s p)
   unfolding fused_counts
   prepared_wires = ap (λ (b : Answer). b.wires) (e ∙ counts)
 
-  pub prepared_few : a.wires ≤ most_wires
+  pub prepared_few : c.wires ≤ most_wires
   prepared_few = omega (arith, prepared_wires, wires_bound s p prepared_taken)
 
-  pub prepared_fits : (room : ℕ) → a.bytes ≤ room → length (fused_file s p) ≤ room
+  pub prepared_fits : (room : ℕ) → c.bytes ≤ room → length (fused_file s p) ≤ room
   prepared_fits room l =
-      let e : a.bytes ≡ length (fused_file s p) = ap (λ (b : Answer). b.bytes) e ∙ answer_bytes s p prepared_taken in
+      let e : c.bytes ≡ length (fused_file s p) = ap (λ (b : Answer). b.bytes) e ∙ answer_bytes s p prepared_taken in
       omega (arith, e, l)
 
 -- the arrays of an accepted plan, as the check fills them
-module _ (s p : List ℕ) (taken : (plan_answer s p).number ≡ 0) (quads needs outputs conds group places ord : List ℕ) (groups : ℕ)
-    (k : Handed s p quads needs outputs conds group places ord groups) (count : ℕ) (gates_are : count ≡ gate_count s) where
+module _ (s p : List ℕ) (taken : (plan_answer s p).number ≡ 0) (circuit : Circuit) (grouping : Grouping) (k : Handed s p circuit grouping) where
+  abbrev quads : List ℕ
+  quads = circuit.quads
+
+  abbrev needs : List ℕ
+  needs = sets_in circuit.needs
+
+  abbrev outputs : List ℕ
+  outputs = circuit.outputs
+
+  abbrev conds : List ℕ
+  conds = circuit.conditions
+
+  abbrev count : ℕ
+  count = circuit.count
+
+  abbrev group : List ℕ
+  group = grouping.group
+
+  abbrev places : List ℕ
+  places = grouping.places
+
+  abbrev ord : List ℕ
+  ord = grouping.order
+
+  abbrev groups : ℕ
+  groups = grouping.groups
+
+  gates_are : count ≡ gate_count s
+  gates_are = k.count_is ∙ ap (λ (a : Answer). a.gates) (accepted s (rule_taken s p taken)).answer
+
   groups_all : groups ≡ length (writing_order s p)
   groups_all = k.groups_are ∙ ap length (accepted_lists s p taken (writing_order s p))
 
@@ -127,18 +161,19 @@ module _ (s p : List ℕ) (taken : (plan_answer s p).number ≡ 0) (quads needs 
       (rw e l, (arrays_turnable b, (w ∙ ap length (sym records_are), (kinds_there s p taken, outputs_placed))))
 
   -- the file's counts, from what is measured
-  module _ (wires bytes cost : ℕ) (m : Sum p quads count needs group places ord groups wires bytes cost) where
-    size_is : 8 + bytes + 2 * variables s ≡ length (fused_file s p)
+  module _ (size : Size) (m : Sum p quads count needs group places ord groups size) where
+    size_is : 8 + size.bytes + 2 * variables s ≡ length (fused_file s p)
     size_is =
-        let e : bytes ≡ length (records_bytes written_version (records_of s p)) = m.long ∙ ap (λ (R : List Record). length (records_bytes written_version R)) records_are in
+        let e : size.bytes ≡ length (records_bytes written_version (records_of s p)) = m.long ∙ ap (λ (R : List Record). length (records_bytes written_version R)) records_are in
         omega (arith, e, fused_size s p taken)
 
-    pub bytes_few : bytes ≤ most_file_bytes
+    pub bytes_few : size.bytes ≤ most_file_bytes
     bytes_few = omega (arith, size_is, bytes_bound s p taken)
 
-    pub counts_are : (before : ℕ) → before ≡ cost_before s → success count wires (8 + bytes + 2 * variables s) before cost ≡ fused_answer s p
+    pub counts_are : (gates before : ℕ) → gates ≡ gate_count s → before ≡ cost_before s
+        → success gates size.wires (8 + size.bytes + 2 * variables s) before size.cost ≡ fused_answer s p
     unfolding fused_answer fused_counts
-    counts_are before e =
-        let z : cost ≡ cost_after s p = m.costs ∙ ap records_cost records_are in
-        let w : wires ≡ length (records_of s p) = m.wired ∙ ap length records_are in
-        rw (eq-eqb _ _ taken, gates_are, w, size_is, e, z)
+    counts_are gates before g e =
+        let z : size.cost ≡ cost_after s p = m.costs ∙ ap records_cost records_are in
+        let w : size.wires ≡ length (records_of s p) = m.wired ∙ ap length records_are in
+        rw (eq-eqb _ _ taken, g, w, size_is, e, z)

@@ -1,10 +1,5 @@
-use mathlib.Core.Path.{refl}
-use Rattle.base.specs.SetsHeldLaws.{sets_clear}
-use Rattle.circuit.specs.Limits.{most_gates}
+use Rattle.std.proofs.Common.{◌∙◌}
 use Rattle.fused_write.proofs.count.Goals as goal
 
-pub prepare-prepared-requires : goal.prepare-prepared-requires
-prepare-prepared-requires c = ((refl, (sets_clear most_gates, (refl, refl))), (refl, (refl, refl)))
-
 pub returns : goal.returns
-returns c = c.prepare-prepared.ensures.answered
+returns c = c.from.ensures ∙ c.prepare.ensures.answered
