@@ -1,48 +1,23 @@
 -- The loop that gives the outputs: no wire (FF FF) gives 0, any other its wire's figure; after all V of them the results begin with the file's figures, and the rest is as before.
 use Rattle.std.specs.Prelude.{ℕ, ◌+◌, ◌*◌, ◌≤◌, ◌<◌, ◌≡◌, cond, ◌⊎◌, eqb, length, set}
 use Rattle.std.proofs.Math.Path.{sym, ap}
-use Rattle.std.proofs.Common.{subst, ◌∙◌, inl, inr, ⊎_elim, add-one, arith, eq-eqb, ne_eqb}
+use Rattle.std.proofs.Common.{subst, ◌∙◌, inl, inr, add-one, arith, eq-eqb}
 use mathlib.Core.List.{List, [], ◌∷◌, ◌++◌, map, map-append}
 use Rattle.std.proofs.Math.Logic.{⊎_map}
 use Rattle.std.proofs.lemmas.List.{length-map}
 use Rattle.base.specs.Lists.{◌∈◌}
 use Rattle.base.specs.Numbers.{number_at}
 use Rattle.base.specs.Buffers.{over}
-use Rattle.base.specs.BufferLaws.{over_nil, over_snoc, length_over}
+use Rattle.base.specs.BufferLaws.{over_snoc}
 use Rattle.base.specs.ListLaws.{map_same}
 use Rattle.file.specs.CircuitFile.{no_wire}
 use Rattle.file.specs.FileFigures.{wires_at, file_variables, wire_count, file_outputs, file_figures}
 use Rattle.file.specs.FilePartLaws.{wires_next, wires_length, wire_of_lem, outputs_of_lem, figures_of_lem}
-use Rattle.file.specs.Limits.{most_wires}
 use Rattle.file.specs.LaidOut.{record_place}
 use Rattle.file.specs.FormatLaws.{Passed}
 use Rattle.file_figures.specs.Working.{held, Output, output_held, figures_of}
 use Rattle.file_figures.specs.WorkingLaws.{figures_length, held_over}
 use Rattle.file_figures.specs.AcceptedLaws.{outputs_there}
-
--- an output: n is its number as the code has it
-module _ (figures : List ℕ) (n w : ℕ) (e : n ≡ w) where
-  pub output_none : n ≡ no_wire → 0 ≡ output_held figures w
-  output_none h = rw (eq-eqb w no_wire (sym e ∙ h))
-
-  module _ (h : n ≡ no_wire → ⊥) where
-    pub output_below : Output w → n < most_wires
-    output_below = ⊎_elim (λ z. absurd (h (e ∙ z))) (λ l. rw e l)
-
-    pub output_held_lem : (g : ℕ) → g ≡ held figures n → g ≡ output_held figures w
-    output_held_lem g q = rw (ne_eqb w no_wire (λ z. h (e ∙ z)), ← e) q
-
--- loop invariant, amid the outputs: the first x are given over the results that were there before
-pub record Giving (f figures before results : List ℕ) (at x : ℕ) : Type 0 where
-  pub few : x ≤ file_variables f
-  pub inside : at + 2 * file_variables f ≤ length f
-  pub outputs : (x : ℕ) → x < file_variables f → Output (number_at 2 f (at + 2 * x))
-  pub room : file_variables f ≤ length before
-  pub same : results ≡ over (map (output_held figures) (wires_at x f at)) before
-
-pub giving_start : (f figures before : List ℕ) (at : ℕ) → at + 2 * file_variables f ≤ length f
-    → ((x : ℕ) → x < file_variables f → Output (number_at 2 f (at + 2 * x))) → file_variables f ≤ length before → Giving f figures before before at 0
-giving_start f figures before at i o r = record { few = omega arith; inside = i; outputs = o; room = r; same = sym (over_nil before) }
 
 -- one output's figure more
 given_more : (f figures : List ℕ) (at x : ℕ)
@@ -52,31 +27,13 @@ given_more f figures at x =
     ∙ ap (map (output_held figures)) (wires_next x f at)
     ∙ map-append (output_held figures) (wires_at x f at) (number_at 2 f (at + 2 * x) ∷ [])
 
-module _ (f figures before results : List ℕ) (at x : ℕ) (p : Giving f figures before results at x) where
-  given_length : length (map (output_held figures) (wires_at x f at)) ≡ x
-  given_length = length-map (wires_at x f at) (output_held figures) ∙ wires_length x f at
-
-  pub giving_length : length results ≡ length before
-  giving_length = ap length p.same ∙ length_over (map (output_held figures) (wires_at x f at)) before (rw given_length (omega (arith, p.few, p.room)))
-
-  pub giving_end : (v : ℕ) → v ≡ file_variables f → v ≤ x → results ≡ over (map (output_held figures) (wires_at (file_variables f) f at)) before
-  giving_end v e h = let z : x ≡ file_variables f = omega (arith, p.few) in p.same ∙ ap (λ (n : ℕ). over (map (output_held figures) (wires_at n f at)) before) z
-
-  module _ (h : x < file_variables f) where
-    pub giving_output : (at + 2 * x + 2 ≤ length f) × Output (number_at 2 f (at + 2 * x))
-    giving_output = (omega (arith, p.inside), p.outputs x h)
-
-    pub giving_more : (g : ℕ) → g ≡ output_held figures (number_at 2 f (at + 2 * x)) → Giving f figures before (set results x g) at (x + 1)
-    giving_more g e = record {
-      few = omega arith;
-      inside = p.inside;
-      outputs = p.outputs;
-      room = p.room;
-      same =
-          ap (λ (l : List ℕ). set l x g) p.same
-          ∙ over_snoc (map (output_held figures) (wires_at x f at)) before x g given_length (omega (arith, p.room))
-          ∙ rw (given_more f figures at x, e);
-    }
+pub giving_more : (f figures before results : List ℕ) (at x g : ℕ) → results ≡ over (map (output_held figures) (wires_at x f at)) before → x < length before
+    → g ≡ output_held figures (number_at 2 f (at + 2 * x)) → set results x g ≡ over (map (output_held figures) (wires_at (x + 1) f at)) before
+giving_more f figures before results at x g p h e =
+    let n : length (map (output_held figures) (wires_at x f at)) ≡ x = length-map (wires_at x f at) (output_held figures) ∙ wires_length x f at in
+    ap (λ (l : List ℕ). set l x g) p
+    ∙ over_snoc (map (output_held figures) (wires_at x f at)) before x g n h
+    ∙ rw (given_more f figures at x, e)
 
 -- the outputs of an accepted file can be given, and the figures given are the file's
 module _ (f inputs : List ℕ) (p : Passed f) (at : ℕ) (e : at ≡ record_place f (wire_count f)) where

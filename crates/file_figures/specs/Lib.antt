@@ -1,7 +1,7 @@
 pub mod Working
-pub mod AcceptedLaws
-pub mod StepLaws
-pub mod OperationLaws
 pub mod RecordLaws
+pub mod OperationLaws
+pub mod StepLaws
+pub mod AcceptedLaws
 pub mod WorkingLaws
 pub mod GivingLaws

@@ -1,22 +1,20 @@
 -- One record, by its first byte: what its figure needs is there, and what the code works out is its figure.
-use Rattle.std.specs.Prelude.{ℕ, ◌+◌, ◌*◌, ◌%◌, ◌≤◌, ◌<◌, ◌≡◌, refl, Bool, List, [], ◌∷◌, length, get_or}
+use Rattle.std.specs.Prelude.{ℕ, ◌+◌, ◌*◌, ◌≤◌, ◌<◌, ◌≡◌, refl, List, [], ◌∷◌, length, get_or}
 use Rattle.std.proofs.Common.{sym, ap, subst, ◌∙◌, arith}
 use Rattle.base.specs.Lists.{Inside}
 use Rattle.base.specs.Numbers.{number_at}
 use Rattle.base.specs.Codes.{code_of}
 use Rattle.base.specs.declared.Kind.{Kind}
-use Rattle.base.specs.declared.Kind.TheVariants as kind
 use Rattle.file.specs.Records.{Record, input, word, bit, operation, choice, pick, guard, pair_wires, reads, record_figure}
 use Rattle.file.specs.Versions.{most_guard_wires, table_bytes}
 use Rattle.file.specs.WireKinds.{record_kind}
-use Rattle.file.specs.WireFigures.{figures_in, sum_figure, pick_sum}
+use Rattle.file.specs.WireFigures.{pick_sum}
 use Rattle.file.specs.FileFigures.{version_in, wires_at, pairs_at, record_at}
 use Rattle.file.specs.FilePartLaws.{wires_length}
 use Rattle.file.specs.FoundForms.{OtherByte, form_input, form_word, form_bit, form_choice, form_pick, form_guard, form_other, operation_byte_lem}
 use Rattle.file.specs.Limits.{most_wires}
 use Rattle.file.specs.LaidOut.{Bounded}
-use Rattle.file_parts.specs.HeldKinds.{is_bit}
-use Rattle.file_parts.specs.HeldLaws.{kind_back}
+use Rattle.file_parts.specs.FirstByteLaws.{input_code}
 use Rattle.file_figures.specs.Working.{held, pick_by, Workable}
 
 -- what the figure of a record needs, by its first byte
@@ -24,11 +22,8 @@ module _ (f : List ℕ) (v at : ℕ) (k : Workable f v most_wires at) where
   wires_as : (r : Record) → record_at f at ≡ r → Inside most_wires (reads r)
   wires_as r e = subst (λ (q : Record). Inside most_wires (reads q)) e k.earlier
 
-  pub input_word_takes : get_or f at 0 ≡ 0x00 → (at + 1 < length f) × (get_or f (at + 1) 0 < v)
-  input_word_takes h = (omega (arith, k.whole.inside, (form_input f at kind.Word h).1), k.inputs kind.Word _ (form_input f at kind.Word h).0)
-
-  pub input_bit_takes : get_or f at 0 ≡ 0x01 → (at + 1 < length f) × (get_or f (at + 1) 0 < v)
-  input_bit_takes h = (omega (arith, k.whole.inside, (form_input f at kind.Bit h).1), k.inputs kind.Bit _ (form_input f at kind.Bit h).0)
+  pub input_takes : get_or f at 0 < 2 → (at + 1 < length f) × (get_or f (at + 1) 0 < v)
+  input_takes h = let (kind, e) = input_code (get_or f at 0) h in (omega (arith, k.whole.inside, (form_input f at kind e).1), k.inputs kind _ (form_input f at kind e).0)
 
   pub word_takes : get_or f at 0 ≡ 0x11 → at + 1 + 4 ≤ length f
   word_takes h = omega (arith, k.whole.inside, (form_word f at h).1)
@@ -61,17 +56,17 @@ module _ (f : List ℕ) (v at : ℕ) (k : Workable f v most_wires at) where
       (b.0, b.1, subst (λ (n : ℕ). at + n ≤ length f) (form_other f at o).1 k.whole.inside, wires_as _ (form_other f at o).0)
 
 -- the figure by its first byte
-pub figure_by : (f inputs figures : List ℕ) (at : ℕ) (told : Bool) (n : ℕ) (r : Record) → record_at f at ≡ r → n ≡ record_figure inputs (pick_by told) (held figures) r
+pub figure_by : (f inputs figures : List ℕ) (at : ℕ) (told : Kind) (n : ℕ) (r : Record) → record_at f at ≡ r → n ≡ record_figure inputs (pick_by told) (held figures) r
     → n ≡ record_figure inputs (pick_by told) (held figures) (record_at f at)
 figure_by f inputs figures at told n r e q = q ∙ ap (record_figure inputs (pick_by told) (held figures)) (sym e)
 
 -- a pick that is told its record's kind gives what it gives by the kinds of the wires
-pub pick_told : (inputs : List ℕ) (k : ℕ → Kind) (W : ℕ → ℕ) (r : Record) → record_figure inputs (pick_by (is_bit (record_kind k r))) W r ≡ record_figure inputs (pick_sum k) W r
+pub pick_told : (inputs : List ℕ) (k : ℕ → Kind) (W : ℕ → ℕ) (r : Record) → record_figure inputs (pick_by (record_kind k r)) W r ≡ record_figure inputs (pick_sum k) W r
 unfolding pick_sum
 pick_told inputs k W (input j x) = refl
 pick_told inputs k W (word n) = refl
 pick_told inputs k W (bit b) = refl
 pick_told inputs k W (operation op l) = refl
 pick_told inputs k W (choice c a b) = refl
-pick_told inputs k W (pick l) = ap (λ (j : Kind). sum_figure W l % figures_in j) (kind_back (record_kind k (pick l)))
+pick_told inputs k W (pick l) = refl
 pick_told inputs k W (guard cs t) = refl

@@ -1,6 +1,6 @@
--- Inner, for document 01, "The fused circuit file": working out figures record by record. The figures of the wires lie in an array, wire w's at w; beside it one that says
--- which wires are bits: document 02, C-11, asks for it where a pick is summed.
-use Rattle.std.specs.Prelude.{ℕ, ◌%◌, ◌≤◌, ◌<◌, ◌≡◌, Bool, cond, ◌⊎◌, List, [], eqb, length, get_or}
+-- Inner, for document 01, "The fused circuit file": working out figures record by record. The figures of the wires lie in an array, wire w's at w; beside it one of
+-- their kinds: document 02, C-11, asks for it where a pick is summed.
+use Rattle.std.specs.Prelude.{ℕ, ◌%◌, ◌<◌, ◌≡◌, cond, ◌⊎◌, List, [], eqb, length, get_or}
 use Rattle.base.specs.Lists.{Inside}
 use Rattle.base.specs.Buffers.{over}
 use Rattle.base.specs.Runs.{run}
@@ -9,11 +9,10 @@ use Rattle.file.specs.Records.{Pair, input, reads, record_figure}
 use Rattle.file.specs.CircuitFile.{no_wire}
 use Rattle.file.specs.WireKinds.{wire_kind}
 use Rattle.file.specs.WireFigures.{figures_in, sum_figure, pick_sum}
-use Rattle.file.specs.FileFigures.{record_at, records_from, first_record, file_variables, wire_count, file_records}
+use Rattle.file.specs.FileFigures.{record_at, records_from, first_record, file_variables, file_records}
 use Rattle.file.specs.Limits.{most_wires}
 use Rattle.file.specs.LaidOut.{record_place, WholeAt}
 use Rattle.file.specs.FormatLaws.{Passed}
-use Rattle.file_parts.specs.HeldKinds.{kind_by}
 use Rattle.file_parts.specs.TableLaws.{HoldsKinds}
 
 -- the figure that an array holds for a wire
@@ -28,9 +27,9 @@ Output w = (w ≡ no_wire) ⊎ (w < most_wires)
 abbrev pub output_held : List ℕ → ℕ → ℕ
 output_held figures w = cond (eqb w no_wire) 0 (held figures w)
 
--- what a pick gives that is told whether its values are bits
-abbrev pub pick_by : Bool → (ℕ → ℕ) → List Pair → ℕ
-pick_by bit W l = sum_figure W l % figures_in (kind_by bit)
+-- what a pick gives that is told the kind of its values
+abbrev pub pick_by : Kind → (ℕ → ℕ) → List Pair → ℕ
+pick_by kind W l = sum_figure W l % figures_in kind
 
 -- the record at a place can be worked out: on v inputs, from the first n wires
 pub record Workable (f : List ℕ) (v n at : ℕ) : Type 0 where
@@ -43,12 +42,11 @@ unfoldable pub figures_of : List ℕ → List ℕ → ℕ → List ℕ
 figures_of f inputs i = run 0 (record_figure inputs (pick_sum (wire_kind (file_records f)))) (records_from i f first_record) []
 
 -- loop invariant, amid the records: the first i are worked out over the figures that were there before, and so are their kinds; the next begins at `at`
-pub record AmidRecords (f inputs before figures : List ℕ) (bits : List Bool) (at i : ℕ) : Type 0 where
+pub record AmidRecords (f inputs before figures : List ℕ) (kinds : List Kind) (at i : ℕ) : Type 0 where
   pub passed : Passed f
   pub given : length inputs ≡ file_variables f
   pub room : length before ≡ most_wires
-  pub few : i ≤ wire_count f
   pub place : at ≡ record_place f i
   pub same : figures ≡ over (figures_of f inputs i) before
-  pub many : length bits ≡ most_wires
-  pub kinds : HoldsKinds (file_records f) bits i
+  pub many : length kinds ≡ most_wires
+  pub holds : HoldsKinds (file_records f) kinds i

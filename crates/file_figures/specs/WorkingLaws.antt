@@ -1,10 +1,11 @@
 -- The loop over the records: before record i the arrays hold the figures and kinds of the wires below i, so that it can be worked out; after the last one the figures of all.
-use Rattle.std.specs.Prelude.{ℕ, suc, ◌+◌, ◌≤◌, ◌<◌, ◌≡◌, refl, Bool, List, [], ◌∷◌, ◌++◌, length, set}
+use Rattle.std.specs.Prelude.{ℕ, suc, ◌+◌, ◌<◌, ◌≡◌, refl, List, [], ◌∷◌, ◌++◌, length, set}
 use Rattle.std.proofs.Common.{sym, ap, subst, ◌∙◌, zero-add, add-one, arith, length-set}
 use Rattle.base.specs.Buffers.{over}
 use Rattle.base.specs.BufferLaws.{over_nil, over_snoc, over_at}
 use Rattle.base.specs.Runs.{run}
 use Rattle.base.specs.RunLaws.{run_length, run_append}
+use Rattle.base.specs.declared.Kind.{Kind}
 use Rattle.file.specs.Records.{Record, record_in, record_figure}
 use Rattle.file.specs.WireKinds.{record_kind, wire_kind}
 use Rattle.file.specs.WireFigures.{pick_sum}
@@ -16,7 +17,7 @@ use Rattle.file.specs.FileLaws.{place_next}
 use Rattle.file.specs.Limits.{most_wires}
 use Rattle.file.specs.LaidOut.{record_place}
 use Rattle.file.specs.FormatLaws.{Passed}
-use Rattle.file_parts.specs.HeldKinds.{is_bit, held_kind}
+use Rattle.file_parts.specs.HeldKinds.{held_kind}
 use Rattle.file_parts.specs.TableLaws.{holds_none, holds_more}
 use Rattle.file_figures.specs.Working.{held, pick_by, Workable, figures_of, AmidRecords}
 use Rattle.file_figures.specs.RecordLaws.{pick_told}
@@ -40,23 +41,22 @@ figures_more f inputs i =
 pub held_over : (a d : List ℕ) (w : ℕ) → w < length a → held (over a d) w ≡ held a w
 held_over a d w h = over_at a d w h
 
-pub amid_start : (f inputs before : List ℕ) (bits : List Bool) → Passed f → length inputs ≡ file_variables f → length before ≡ most_wires → length bits ≡ most_wires
-    → AmidRecords f inputs before before bits 8 0
+pub amid_start : (f inputs before : List ℕ) (kinds : List Kind) → Passed f → length inputs ≡ file_variables f → length before ≡ most_wires → length kinds ≡ most_wires
+    → AmidRecords f inputs before before kinds 8 0
 unfolding figures_of
-amid_start f inputs before bits p e l m = record {
+amid_start f inputs before kinds p e l m = record {
   passed = p;
   given = e;
   room = l;
-  few = omega arith;
   place = refl;
   same = sym (over_nil before);
   many = m;
-  kinds = holds_none (file_records f) bits;
+  holds = holds_none (file_records f) kinds;
 }
 
-module _ (f inputs before figures : List ℕ) (bits : List Bool) (at i : ℕ) (p : AmidRecords f inputs before figures bits at i) where
-  pub amid_end : wire_count f ≤ i → (at ≡ record_place f (wire_count f)) × (figures ≡ over (figures_of f inputs (wire_count f)) before)
-  amid_end h = let e : i ≡ wire_count f = omega (arith, p.few) in (p.place ∙ ap (record_place f) e, p.same ∙ ap (λ (n : ℕ). over (figures_of f inputs n) before) e)
+module _ (f inputs before figures : List ℕ) (kinds : List Kind) (at i : ℕ) (p : AmidRecords f inputs before figures kinds at i) where
+  pub amid_end : i ≡ wire_count f → (at ≡ record_place f (wire_count f)) × (figures ≡ over (figures_of f inputs (wire_count f)) before)
+  amid_end e = (p.place ∙ ap (record_place f) e, p.same ∙ ap (λ (n : ℕ). over (figures_of f inputs n) before) e)
 
   module _ (h : i < wire_count f) where
     here : Workable f (length inputs) i at
@@ -72,34 +72,33 @@ module _ (f inputs before figures : List ℕ) (bits : List Bool) (at i : ℕ) (p
     there : record_at f at ≡ record_in (file_records f) i
     there = ap (record_at f) p.place ∙ sym (record_of f i h)
 
-    kind_here : record_kind (held_kind bits) (record_at f at) ≡ record_kind (wire_kind (file_records f)) (record_at f at)
-    kind_here = kind_same (held_kind bits) (wire_kind (file_records f)) (record_at f at) (λ w m. p.kinds w (here.earlier w m))
+    kind_here : record_kind (held_kind kinds) (record_at f at) ≡ record_kind (wire_kind (file_records f)) (record_at f at)
+    kind_here = kind_same (held_kind kinds) (wire_kind (file_records f)) (record_at f at) (λ w m. p.holds w (here.earlier w m))
 
     -- what is read of the record: its wire's kind, its figure, its size
-    module _ (b : Bool) (g n : ℕ) (k : b ≡ is_bit (record_kind (held_kind bits) (record_at f at)))
+    module _ (b : Kind) (g n : ℕ) (k : b ≡ record_kind (held_kind kinds) (record_at f at))
         (e : g ≡ record_figure inputs (pick_by b) (held figures) (record_at f at)) (s : n ≡ size_at f at) where
       -- the record reads what the run before it gave
       same_figure : g ≡ record_figure inputs (pick_sum (wire_kind (file_records f))) (held (figures_of f inputs i)) (record_at f (record_place f i))
       same_figure =
-          e ∙ ap (λ (c : Bool). record_figure inputs (pick_by c) (held figures) (record_at f at)) (k ∙ ap is_bit kind_here)
+          e ∙ ap (λ (c : Kind). record_figure inputs (pick_by c) (held figures) (record_at f at)) (k ∙ kind_here)
           ∙ pick_told inputs (wire_kind (file_records f)) (held figures) (record_at f at)
           ∙ record_same inputs (pick_sum (wire_kind (file_records f))) (picks_same (wire_kind (file_records f))) (held figures) (held (figures_of f inputs i)) (record_at f at)
           (λ w m. ap (λ (l : List ℕ). held l w) p.same ∙ held_over (figures_of f inputs i) before w (rw (figures_length f inputs i) (here.earlier w m)))
           ∙ ap (λ (q : ℕ). record_figure inputs (pick_sum (wire_kind (file_records f))) (held (figures_of f inputs i)) (record_at f q)) p.place
 
-      pub amid_more : AmidRecords f inputs before (set figures i g) (set bits i b) (at + n) (i + 1)
+      pub amid_more : AmidRecords f inputs before (set figures i g) (set kinds i b) (at + n) (i + 1)
       amid_more = record {
         passed = p.passed;
         given = p.given;
         room = p.room;
-        few = omega arith;
         place = rw (add-one i, place_next i f first_record, s, p.place);
         same =
             ap (λ (l : List ℕ). set l i g) p.same
             ∙ over_snoc (figures_of f inputs i) before i g (figures_length f inputs i) (omega (arith, amid_below, p.room))
             ∙ rw (add-one i, figures_more f inputs i, same_figure);
-        many = length-set bits i b ∙ p.many;
-        kinds =
-            holds_more (file_records f) bits i (rw (file_count f) h) (p.passed.stand.earlier i) p.kinds b
-            (k ∙ ap (λ (r : Record). is_bit (record_kind (held_kind bits) r)) there) (omega (arith, p.many, amid_below));
+        many = length-set kinds i b ∙ p.many;
+        holds =
+            holds_more (file_records f) kinds i (rw (file_count f) h) (p.passed.stand.earlier i) p.holds b
+            (k ∙ ap (record_kind (held_kind kinds)) there) (omega (arith, p.many, amid_below));
       }

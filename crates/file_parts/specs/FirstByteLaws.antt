@@ -9,12 +9,12 @@ use Rattle.file.specs.FoundForms.{OtherByte, form_guard, size_some}
 use Rattle.file.specs.VersionLaws.{table_few}
 
 -- any other byte, as the last arm of a decision over the bytes is told it
-pub other : (b : ℕ) {N : Type 0}
-    → (((((((N × (b ≡ 0x00 → ⊥)) × (b ≡ 0x01 → ⊥)) × (b ≡ 0x11 → ⊥)) × (b ≡ 0x12 → ⊥)) × (b ≡ 0x30 → ⊥)) × (b ≡ 0x31 → ⊥)) × (b ≡ 0x32 → ⊥))
+pub other : (b : ℕ) {N : Type 0} → 2 ≤ b
+    → (((((N × (b ≡ 0x11 → ⊥)) × (b ≡ 0x12 → ⊥)) × (b ≡ 0x30 → ⊥)) × (b ≡ 0x31 → ⊥)) × (b ≡ 0x32 → ⊥))
     → OtherByte b
-other b r = record {
-  no_word = r.0.0.0.0.0.0.1;
-  no_bit = r.0.0.0.0.0.1;
+other b l r = record {
+  no_word = λ e. omega arith;
+  no_bit = λ e. omega arith;
   no_word_constant = r.0.0.0.0.1;
   no_bit_constant = r.0.0.0.1;
   no_choice = r.0.0.1;

@@ -124,17 +124,3 @@ module _ (f : List ℕ) (at : ℕ) (whole : WholeAt f at) where
           let (low, high) = operation_byte_lem (get_or f at 0) whole.known o in
           let c : (code_of (get_or f at 0)).takes ≡ (entry_of (operation_of (get_or f at 0))).takes = ap (λ (x : Code). x.takes) (code_operation (get_or f at 0) low high) in
           by _ _ _ (form_other f at o).0 (operation_stands v k i _ _) (late (rw (wires_by_lem (code_of (get_or f at 0)).arity f (at + 1), ← c) q))
-
--- any other byte, as the last arm of the code's decision is told it
-pub other : (b : ℕ) {N : Type 0} → 2 ≤ b
-    → (((((N × (b ≡ 0x11 → ⊥)) × (b ≡ 0x12 → ⊥)) × (b ≡ 0x30 → ⊥)) × (b ≡ 0x31 → ⊥)) × (b ≡ 0x32 → ⊥))
-    → OtherByte b
-other b l r = record {
-  no_word = λ e. omega arith;
-  no_bit = λ e. omega arith;
-  no_word_constant = r.0.0.0.0.1;
-  no_bit_constant = r.0.0.0.1;
-  no_choice = r.0.0.1;
-  no_pick = r.0.1;
-  no_guard = r.1;
-}

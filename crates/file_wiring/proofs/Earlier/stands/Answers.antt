@@ -1,8 +1,8 @@
 use Rattle.std.proofs.Common.{◌∙◌, le-ltb, arith}
 use Rattle.file_parts.specs.HeldKinds.{held_kind}
-use Rattle.file_parts.specs.FirstByteLaws.{first_inside}
+use Rattle.file_parts.specs.FirstByteLaws.{other, first_inside}
 use Rattle.file_wiring.specs.RecordLaws.{input_takes, choice_takes, pick_takes, guard_takes, operation_takes, input_in, input_late, early}
-use Rattle.file_wiring.specs.RecordLaws.{word_in, bit_in_lem, choice_in, pick_in, guard_in_lem, operation_in_lem, other}
+use Rattle.file_wiring.specs.RecordLaws.{word_in, bit_in_lem, choice_in, pick_in, guard_in_lem, operation_in_lem}
 use Rattle.file_wiring.proofs.Earlier.stands.Goals as goal
 
 pub bounds-self-at : goal.bounds-self-at
