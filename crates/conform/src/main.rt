@@ -6,7 +6,7 @@ ghost use Rattle.std.specs.Prelude.{◌≤◌, ◌<◌};
 ghost use Rattle.circuit.specs.Rooms.{gate_room};
 
 use base::Answer;
-use circuit::{CONDITION_ROOM, NEED_WORDS, QUAD_ROOM, VARIABLE_ROOM};
+use circuit::Circuit;
 use file::WireId;
 use std::fmt;
 use std::io::Read;
@@ -46,7 +46,10 @@ impl fmt::Display for Hex<'_> {
 
 // The seven numbers of an answer.
 fn print_answer(rt: &impl Print, a: Answer) {
-    let _ = print!(rt; "{} {} {} {} {} {} {}", a.number, a.place, a.gates, a.wires, a.bytes, a.before, a.after);
+    let _ = print!(rt;
+        "{} {} {} {} {} {} {}",
+        a.number, a.place, a.gates, a.wires, a.bytes, a.before, a.after
+    );
 }
 
 // All of the buffer is read; none where the stream ends before.
@@ -77,34 +80,30 @@ fn read_inputs<'a>(input: &mut impl Read, inputs: &'a mut [u32; 255]) -> Option<
 }
 
 // A gate: CODE.A.B.C.NEEDS, the highest word of its set first.
-fn print_gate(rt: &impl Print, quads: &[u32; QUAD_ROOM], needs: &[u64; NEED_WORDS], g: usize)
+fn print_gate(rt: &impl Print, circuit: &Circuit, g: usize)
     requires { g < gate_room }
 {
     let [code, a, b, c] = [
-        quads[4 * g],
-        quads[4 * g + 1],
-        quads[4 * g + 2],
-        quads[4 * g + 3],
+        circuit.quads[4 * g],
+        circuit.quads[4 * g + 1],
+        circuit.quads[4 * g + 2],
+        circuit.quads[4 * g + 3],
     ];
-    let s = base_settings::load(needs, g);
-    let _ = print!(rt; " {code:02X}.{a}.{b}.{c}.{:016X}{:016X}{:016X}{:016X}", s.w3, s.w2, s.w1, s.w0);
-}
-
-fn print_gates(rt: &impl Print, quads: &[u32; QUAD_ROOM], needs: &[u64; NEED_WORDS], count: usize) {
-    let _ = print!(rt; " |");
-    for g in 0..count.min(circuit::GATE_ROOM) {
-        print_gate(rt, quads, needs, g);
-    }
+    let s = base_settings::load(&circuit.needs, g);
+    let _ = print!(rt;
+        " {code:02X}.{a}.{b}.{c}.{:016X}{:016X}{:016X}{:016X}",
+        s.w3, s.w2, s.w1, s.w0
+    );
 }
 
 fn circuit_line(rt: &impl Print, rule: &[u8]) {
-    let mut quads = [0u32; QUAD_ROOM];
-    let mut needs = [0u64; NEED_WORDS];
-    let mut outputs = [0u16; VARIABLE_ROOM];
-    let mut conditions = [0u16; CONDITION_ROOM];
-    let a = circuit_build::build(rule, &mut quads, &mut needs, &mut outputs, &mut conditions);
-    print_answer(rt, a);
-    print_gates(rt, &quads, &needs, a.gates);
+    let mut circuit = Circuit::clear();
+    let built = circuit_build::build(rule, &mut circuit);
+    print_answer(rt, Answer::from(built));
+    let _ = print!(rt; " |");
+    for g in 0..circuit.count.min(circuit::GATE_ROOM) {
+        print_gate(rt, &circuit, g);
+    }
 }
 
 fn print_words(rt: &impl Print, words: &[u32]) {
@@ -160,7 +159,11 @@ fn work(rt: &impl Print, case: Case) -> Option<()>
         2 => run_line(rt, room, |results| run_direct::run(first, inputs, results)),
         3 => print_answer(rt, plan_check::check_plan(first, second)),
         4 => write_line(rt, room, first, second),
-        5 => run_line(rt, room, |results| run_fused::run(first, second, inputs, results)),
+        5 => run_line(
+            rt,
+            room,
+            |results| run_fused::run(first, second, inputs, results),
+        ),
         6 => circuit_line(rt, first),
         7 => print_answer(rt, file_reader::read(first)),
         8 => record_line(rt, first, WireId(case.number)),

@@ -14,7 +14,7 @@ ghost use Rattle.demands.specs.Table.{AnsweredBy, AnsweredAfter, RuleAnswered, p
 ghost use Rattle.demands.specs.Promises.{RunWritten, FileWritten, AcceptedExactly, FileReadsEarlier, FileGives, FusedAsDirect, OwnAsDirect, OneArray};
 
 use base::Answer;
-use circuit::{CONDITION_ROOM, NEED_WORDS, QUAD_ROOM, VARIABLE_ROOM};
+use circuit::{Circuit, NEED_WORDS, QUAD_ROOM};
 use file::WireId;
 use file_reader::Part;
 
@@ -56,24 +56,13 @@ pub extern "C" fn linnet_show_plain(rule: &[u8]) -> Shown
     ensures table { RuleAnswered rule.now result.answer }
     ensures once { OneArray (built_needs rule.now) }
 {
-    let mut shown = Shown {
-        answer: base_answers::refused(0, 0),
-        rows: [0u32; QUAD_ROOM],
-        needs: [0u64; NEED_WORDS],
-    };
-    // One call cannot be lent two fields of a struct to fill: one of the two is copied in.
-    let mut needs = [0u64; NEED_WORDS];
-    let mut outputs = [0u16; VARIABLE_ROOM];
-    let mut conditions = [0u16; CONDITION_ROOM];
-    shown.answer = circuit_build::build(
-        rule,
-        &mut shown.rows,
-        &mut needs,
-        &mut outputs,
-        &mut conditions,
-    );
-    shown.needs = needs;
-    shown
+    let mut circuit = Circuit::clear();
+    let built = circuit_build::build(rule, &mut circuit);
+    Shown {
+        answer: Answer::from(built),
+        rows: circuit.quads,
+        needs: circuit.needs,
+    }
 }
 
 // Operation 03: checks a plan for a rule.
@@ -132,13 +121,13 @@ pub extern "C" fn linnet_record(file: &[u8], wire: usize) -> Part
     ensures bytes { take result.length (drop result.start file.now) ≡ record_part file.now wire }
 {
     // Here a number of C's becomes a wire's or none: one of more than two bytes is no wire.
-    if 65535 < wire {
-        return Part {
+    match u16::try_from(wire) {
+        Ok(wire) => file_reader::part_of(file, WireId(wire)),
+        Err(_) => Part {
             start: 0,
             length: 0,
-        };
+        },
     }
-    file_reader::part_of(file, WireId(wire as u16))
 }
 
 // Operation 09: runs a circuit file on inputs.

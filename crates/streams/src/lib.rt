@@ -26,6 +26,8 @@ pub fn read_full<R: Read>(input: &mut R, buf: &mut [u8]) -> usize
 pub fn fail(rt: &impl Eprint, what: &str, why: Error) {
     let text = InlineText::<256>::of(why);
     let all = text.as_str();
-    let words = all.split_once(" (os error ").map_or(all, |(words, _)| words);
+    let words = all
+        .split_once(" (os error ")
+        .map_or(all, |(words, _)| words);
     let _ = eprintln!(rt; "{what}: {words}");
 }

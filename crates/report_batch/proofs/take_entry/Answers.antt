@@ -24,10 +24,10 @@ returns-clause-done c =
     let line = length_line_of c.answer_entry-answer.result (omega arith, (omega arith, tt)) (omega arith, (omega arith, (omega arith, (omega arith, tt)))) in
     let (whole, e) = some_whole _ _ _ c.in-Some.ensures.sizes in
     entry_does _ _ _ _ _ _ _ c.requires.0.1 whole (ap (λ (p : ℕ × ℕ). p.0 + p.1) e) c.answer_entry-answer.ensures _ _ c.add.ensures
-        (omega (arith, c.requires.1, line)) (c.write_line-printed.ensures.counted, c.write_line-printed.ensures.written)
+    (omega (arith, c.requires.1, line)) (c.write_line-printed.ensures.counted, c.write_line-printed.ensures.written)
 
 pub returns-clause-kept : goal.returns-clause-kept
 returns-clause-kept c =
     let (whole, e) = some_whole _ _ _ c.in-Some.ensures.sizes in
     entry_kept _ _ _ _ _ _ c.write_line-printed.result c.requires.0.1 whole (ap (λ (p : ℕ × ℕ). p.0 + p.1) e) c.answer_entry-answer.ensures c.requires.0.0
-        c.add.ensures c.in-Some.ensures.small
+    c.add.ensures c.in-Some.ensures.small
