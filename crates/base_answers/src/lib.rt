@@ -1,13 +1,15 @@
-// How an operation answers, and how a reader of bytes goes on.
+// How an operation answers, and how a reader of bytes goes on; what is refused of inputs.
 #![tactic(auto)]
 
-ghost use Rattle.std.specs.Prelude.{◌≡◌, ◌≤◌, length};
+ghost use Rattle.std.specs.Prelude.{◌≡◌, ℕ, ◌≤◌, ◌<◌, length};
 ghost use Rattle.base.specs.Answers.{refusal};
 ghost use Rattle.base.specs.Parsing.{step_of, read_mark};
 ghost use Rattle.base.specs.Refusals.{step_in};
-ghost use Rattle.base.specs.Rows.{number_of};
+ghost use Rattle.base.specs.Rows.{number_of, row_in};
+ghost use Rattle.base.specs.Inputs.{inputs_row};
+ghost use Rattle.base.specs.declared.Kind.{Kind};
 
-use base::{Answer, Refusal, Row};
+use base::{Answer, Kind, Refusal, Row};
 
 // The answer of a row at a place.
 pub fn refused(row: Row, place: usize) -> Answer
@@ -27,4 +29,30 @@ pub fn read_mark(s: &[u8], mark: &[u8], row: Row) -> Result<usize, Refusal>
         }
     }
     Ok(mark.len())
+}
+
+// Rows 40 to 42 of the inputs of `count` variables, the lowest first: `kind_of` tells each one's kind, and there is place for `room` results.
+pub fn inputs_refusal<F: Fn(u8) -> Kind>(
+    count: u8,
+    kind_of: F,
+    inputs: &[u32],
+    room: usize,
+) -> Result<(), Row>
+    ghost kinds: { ℕ → Kind }
+    requires asked { (x : ℕ) → x < count → F.pre kind_of x }
+    requires told { (x : ℕ) (k : Kind) → x < count → F.post kind_of x k → k ≡ kinds x }
+    ensures { row_in result ≡ inputs_row count kinds inputs.now room }
+{
+    if inputs.len() != count as usize {
+        return Err(Row::InputCount);
+    }
+    for x in 0..count {
+        if 1 < inputs[x as usize] && kind_of(x) == Kind::Bit {
+            return Err(Row::InputBit);
+        }
+    }
+    if room < count as usize {
+        return Err(Row::ResultRoom);
+    }
+    Ok(())
 }

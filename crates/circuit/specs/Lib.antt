@@ -18,3 +18,4 @@ pub mod Whole
 pub mod WholeLaws
 pub mod WholeExamples
 pub mod Clear
+pub mod OpenedLaws

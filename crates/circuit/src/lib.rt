@@ -38,7 +38,7 @@ pub const CHOICE_COST: u8 = 3;
 pub const NEED_WORDS: usize = base::SET_WORDS * GATE_ROOM;
 
 // The codes of constants, of the first and the last operation and of choices in the quads of gates (specs/Quads.antt); an operation has its byte,
-// a starting value its kind. The last operation, not, is the one that has one argument.
+// a starting value its kind. The last operation, not, is the one that has one argument. They are numbers and no enum, since C sees the quads.
 pub const WORD: u32 = 0x11;
 
 pub const BIT: u32 = 0x12;

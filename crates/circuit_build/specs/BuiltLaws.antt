@@ -43,14 +43,23 @@ pub accepted_builds : (s : List ℕ) → (rule_answer s).number ≡ 0 → (l : L
 unfolding if_accepted
 accepted_builds s h l = rw (eq-eqb (rule_answer s).number 0 h)
 
--- so arrays that are clear are what is built of a refused one
-pub built_nothing : (s : List ℕ) (a : Answer) (quads needs outputs conds : List ℕ) → a ≡ rule_answer s → (a.number ≡ 0 → ⊥)
-    → (quads ≡ replicate 1024 0) × ((needs ≡ replicate 256 0) × ((outputs ≡ replicate 32 0) × (conds ≡ replicate most_conditions 0)))
-    → (a ≡ rule_answer s) × ((quads ≡ built_quads s) × ((needs ≡ built_needs s) × ((outputs ≡ built_outputs s) × (conds ≡ built_conditions s))))
-unfolding built_conditions built_needs built_outputs built_quads
-built_nothing s a quads needs outputs conds e h r =
-    let n = refused_shows s (λ z. h (ap (λ (b : Answer). b.number) e ∙ z)) in
-    (e, (r.0 ∙ rw n, (r.1.0 ∙ rw n, (r.1.1.0 ∙ rw n, r.1.1.1 ∙ rw n))))
+-- what is built of a refused one is clear
+module _ (s : List ℕ) (h : (rule_answer s).number ≡ 0 → ⊥) where
+  pub no_quads : built_quads s ≡ replicate 1024 0
+  unfolding built_quads
+  no_quads = rw (refused_shows s h)
+
+  pub no_needs : built_needs s ≡ replicate 256 0
+  unfolding built_needs
+  no_needs = rw (refused_shows s h)
+
+  pub no_outputs : built_outputs s ≡ replicate 32 0
+  unfolding built_outputs
+  no_outputs = rw (refused_shows s h)
+
+  pub no_conditions : built_conditions s ≡ replicate most_conditions 0
+  unfolding built_conditions
+  no_conditions = rw (refused_shows s h)
 
 drop_same : (z k n : ℕ) → drop k (replicate n z) ≡ replicate (n - k) z
 drop_same z zero n = let e : n ≡ n - 0 = omega arith in ap (λ (m : ℕ). replicate m z) e

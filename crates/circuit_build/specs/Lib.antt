@@ -1,3 +1,4 @@
+pub mod RowLaws
 pub mod Making
 pub mod WantingLaws
 pub mod MakingLaws

@@ -4,9 +4,12 @@ use Rattle.std.proofs.Common.{arith, sym, ap, ◌∙◌, take_at, le-leb, leb-tr
 use Rattle.std.proofs.Math.Path.{subst⁻¹}
 use Rattle.std.proofs.lemmas.Bool.{lt-leb}
 use Rattle.base.specs.TestLaws.{split}
-use Rattle.base.specs.Answers.{success, refusal, answer_of}
-use Rattle.base.specs.ParsingLaws.{is_read}
-use Rattle.base.specs.Parsing.{IsRead, step_of}
+use Rattle.base.specs.Answers.{success, refusal}
+use Rattle.base.specs.ParsingLaws.{is_read, past_read, read_refused}
+use Rattle.base.specs.Rows.{number_of}
+use Rattle.base.specs.declared.Refusal.{Refusal}
+use Rattle.circuit_build.specs.RowLaws.{some_row}
+use Rattle.base.specs.Parsing.{IsRead, Past, Refused, step_of}
 use Rattle.base.specs.declared.Answer.{Answer}
 use Rattle.rule.specs.Rule.{read_rule}
 use Rattle.circuit.specs.Limits.{most_gates, most_conditions}
@@ -22,7 +25,7 @@ use Rattle.circuit_needed.specs.HeldLaws.{gates_length}
 use Rattle.circuit_needed.specs.HeldQuads.{rule_held}
 use Rattle.circuit_needed.specs.MarkSteps.{conditions_numbered}
 use Rattle.circuit.specs.Whole.{whole_within, rule_answer}
-use Rattle.circuit.specs.WholeLaws.{whole_gates, whole_conditions, whole_success, answer_read, answer_whole, accepted}
+use Rattle.circuit.specs.WholeLaws.{whole_gates, whole_conditions, whole_success, answer_bytes, answer_whole, accepted}
 use Rattle.circuit_build.specs.Making.{whole_in, MadeWhole}
 
 -- row 10, by the count alone
@@ -82,10 +85,10 @@ module _ (s quads present : List ℕ) (count : ℕ) (read : IsRead (read_rule s)
       whole_over quads count size over ∙ sym (whole_gates most_gates most_conditions (gates_of s) size many))
 
 -- what the code has of a rule that it read and made, once it is looked at whole
-module _ (s : List ℕ) (a : Answer) (e : a ≡ answer_of (step_of (read_rule s))) (zero : a.number ≡ 0)
-    (quads present : List ℕ) (count : ℕ) (made : RuleMade s quads present count) (b : Answer) (w : b ≡ whole_in quads count (length s)) where
+module _ (s : List ℕ) (read : IsRead (read_rule s)) (quads present : List ℕ) (count : ℕ) (made : RuleMade s quads present count)
+    (b : Answer) (w : b ≡ whole_in quads count (length s)) where
   pub whole_answer : b ≡ rule_answer s
-  whole_answer = let read = answer_read s a e zero in w ∙ made_whole s quads present count read made (length s) ∙ sym (answer_whole s read)
+  whole_answer = w ∙ made_whole s quads present count read made (length s) ∙ sym (answer_whole s read)
 
   -- taken, it is within the limit of gates
   pub whole_few : b.number ≡ 0 → count ≤ most_gates
@@ -93,11 +96,32 @@ module _ (s : List ℕ) (a : Answer) (e : a ≡ answer_of (step_of (read_rule s)
       let few = (accepted s (ap (λ (x : Answer). x.number) (sym whole_answer) ∙ h)).gates in
       rw (made.counted few) few
 
+  -- and its answer counts its gates
+  pub whole_count : b.number ≡ 0 → count ≡ (rule_answer s).gates
+  whole_count h =
+      let a = accepted s (ap (λ (x : Answer). x.number) (sym whole_answer) ∙ h) in
+      made.counted a.gates ∙ ap (λ (x : Answer). x.gates) (sym a.answer)
+
   pub whole_ready : b.number ≡ 0 → (marks ranks : List ℕ) → (count ≤ most_gates → Marked (gates_in quads count) marks) → NumberedBelow marks ranks count
       → MadeWhole s quads present ranks count
   whole_ready h marks ranks m n =
       record {
         accepted = accepted s (ap (λ (x : Answer). x.number) (sym whole_answer) ∙ h);
         made = made;
-        placed = λ l. conditions_numbered quads marks ranks count (l, made_earlier s quads present count (answer_read s a e zero) made l) (m l) n;
+        placed = λ l. conditions_numbered quads marks ranks count (l, made_earlier s quads present count read made l) (m l) n;
       }
+
+-- a refusal that is the rule's answer
+module _ (s : List ℕ) (r : Refusal) (e : refusal (number_of r.0) r.1 ≡ rule_answer s) where
+  pub refused_row : (rule_answer s).number ≡ 0 → ⊥
+  refused_row h = some_row r.0 (ap (λ (a : Answer). a.number) e ∙ h)
+
+  pub refused_count : 0 ≡ (rule_answer s).gates
+  refused_count = ap (λ (a : Answer). a.gates) e
+
+-- what reading takes was read, and what it refuses is answered so
+pub read_taken : (s : List ℕ) {n : ℕ} → Past n ≡ step_of (read_rule s) → IsRead (read_rule s)
+read_taken s h = past_read (read_rule s) h
+
+pub read_answer : (s : List ℕ) (r : Refusal) → Refused (number_of r.0) r.1 ≡ step_of (read_rule s) → refusal (number_of r.0) r.1 ≡ rule_answer s
+read_answer s r h = sym (answer_bytes s (read_refused (read_rule s) h))

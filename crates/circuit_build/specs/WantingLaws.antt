@@ -1,16 +1,12 @@
 -- The loop that lists the gates that a rule wants: at variable x, k gates are listed.
-use Rattle.std.specs.Prelude.{ℕ, suc, ◌+◌, ◌-◌, ◌≤◌, ◌<◌, ◌≡◌, refl, List, [], ◌∷◌, ◌++◌, map, Bool, true, false, not, length, get_or, set, take, replicate}
-use Rattle.std.proofs.Math.Nat.{sub-zero}
+use Rattle.std.specs.Prelude.{ℕ, suc, ◌+◌, ◌≤◌, ◌<◌, ◌≡◌, refl, List, [], ◌∷◌, ◌++◌, map, Bool, true, false, not, length, get_or, set, take}
 use Rattle.std.proofs.Common.{arith, sym, ap, ◌∙◌, length-set, take-suc-set}
 use Rattle.std.proofs.lemmas.List.{map-append, take-set-le}
-use Rattle.base.specs.Lists.{Inside, keep, upto}
+use Rattle.base.specs.Lists.{keep, upto}
 use Rattle.base.specs.ListLaws.{keep_yes, keep_no}
 use Rattle.rule.specs.Limits.{most_variables}
 use Rattle.rule.specs.Header.{variables, working_at}
-use Rattle.circuit.specs.Limits.{most_conditions}
-use Rattle.circuit.specs.Gates.{Gates}
 use Rattle.circuit_needed.specs.Needed.{wanted_among}
-use Rattle.circuit_needed.specs.Pass.{precondition_sets}
 
 -- those of the first x variables
 abbrev pub wanted_below : List ℕ → List ℕ → ℕ → List ℕ
@@ -28,10 +24,10 @@ pub listing_start : (s outputs wanted : List ℕ) → variables s ≤ most_varia
 listing_start s outputs wanted f r = record { low = omega arith; few = f; room = r; so_far = omega arith; listed = refl }
 
 -- one variable more: its gate is put down behind those listed, and stays if it is a result
-module _ (s outputs wanted : List ℕ) (x k m : ℕ) (b : Bool) (i : Listing s outputs wanted x k) (l : x < variables s) (e : b ≡ working_at s x) where
-  pub listing_result : b ≡ false → m ≡ 1 → Listing s outputs (set wanted k (get_or outputs x 0)) (x + 1) (k + m)
-  listing_result f h =
-      let n : k + m ≡ suc k = omega arith in
+module _ (s outputs wanted : List ℕ) (x k : ℕ) (b : Bool) (i : Listing s outputs wanted x k) (l : x < variables s) (e : b ≡ working_at s x) where
+  pub listing_result : b ≡ false → Listing s outputs (set wanted k (get_or outputs x 0)) (x + 1) (k + 1)
+  listing_result f =
+      let n : k + 1 ≡ suc k = omega arith in
       let r : k < length wanted = omega (arith, i.room, i.so_far, i.few) in
       record {
         low = omega arith;
@@ -44,31 +40,16 @@ module _ (s outputs wanted : List ℕ) (x k m : ℕ) (b : Bool) (i : Listing s o
             ∙ ap (map (λ y. get_or outputs y 0)) (sym (keep_yes (λ y. not (working_at s y)) x (ap not (sym e ∙ f))));
       }
 
-  pub listing_working : b ≡ true → m ≡ 0 → Listing s outputs (set wanted k (get_or outputs x 0)) (x + 1) (k + m)
-  listing_working t h =
-      let n : k + m ≡ k = omega arith in
+  pub listing_working : b ≡ true → Listing s outputs (set wanted k (get_or outputs x 0)) (x + 1) k
+  listing_working t =
       record {
         low = omega arith;
         few = i.few;
         room = length-set wanted k _ ∙ i.room;
         so_far = omega (arith, i.so_far);
-        listed = rw n (take-set-le k wanted k _ (omega arith)) ∙ i.listed
+        listed = take-set-le k wanted k _ (omega arith) ∙ i.listed
             ∙ ap (map (λ y. get_or outputs y 0)) (sym (keep_no (λ y. not (working_at s y)) x (ap not (sym e ∙ t))));
       }
 
-pub listing_end : (s outputs wanted : List ℕ) (x k : ℕ) → Listing s outputs wanted x k → variables s ≤ x
-    → (take k wanted ≡ wanted_among s outputs) × (k ≤ length wanted)
-listing_end s outputs wanted x k i l =
-    let e : x ≡ variables s = omega (arith, i.low) in
-    (i.listed ∙ ap (wanted_below s outputs) e, omega (arith, i.few, i.low, i.so_far, i.room))
-
--- what is listed, lent as a part from 0 on
-part : (s outputs wanted : List ℕ) (k : ℕ) → take k wanted ≡ wanted_among s outputs → take (k - 0) wanted ≡ wanted_among s outputs
-part s outputs wanted k e = rw sub-zero e
-
-pub part_inside : (s outputs wanted : List ℕ) (k n : ℕ) → take k wanted ≡ wanted_among s outputs → Inside n (wanted_among s outputs) → Inside n (take (k - 0) wanted)
-part_inside s outputs wanted k n e i = rw (part s outputs wanted k e) i
-
-pub part_needs : (s outputs wanted needs : List ℕ) (C : Gates) (k n : ℕ) → take k wanted ≡ wanted_among s outputs
-    → needs ≡ precondition_sets most_conditions C (take (k - 0) wanted) ++ replicate n 0 → needs ≡ precondition_sets most_conditions C (wanted_among s outputs) ++ replicate n 0
-part_needs s outputs wanted needs C k n e q = q ∙ ap (λ (l : List ℕ). precondition_sets most_conditions C l ++ replicate n 0) (part s outputs wanted k e)
+pub listing_end : (s outputs wanted : List ℕ) (x k : ℕ) → Listing s outputs wanted x k → variables s ≤ x → take k wanted ≡ wanted_among s outputs
+listing_end s outputs wanted x k i l = let e : x ≡ variables s = omega (arith, i.low) in i.listed ∙ ap (wanted_below s outputs) e

@@ -16,45 +16,47 @@ ghost use Rattle.circuit.specs.Whole.{rule_answer};
 ghost use Rattle.circuit_needed.specs.Built.{built_quads, built_needs, built_outputs, built_conditions};
 ghost use Rattle.circuit_build.specs.Making.{whole_in};
 ghost use Rattle.base.specs.SetsHeld.{sets_in};
-ghost use Rattle.circuit.specs.Rooms.{gate_room, quad_room, variable_room, condition_room};
+ghost use Rattle.base.specs.Refusals.{answer_in};
+ghost use Rattle.circuit.specs.Clear.{Clear};
+ghost use Rattle.circuit.specs.Rooms.{gate_room, variable_room};
 
-use base::Answer;
-use circuit::{CONDITION_ROOM, GATE_ROOM, NEED_WORDS, QUAD_ROOM, VARIABLE_ROOM};
+use base::{Answer, Counts, Refusal, Row};
+use circuit::{Circuit, GATE_ROOM, NEED_WORDS, QUAD_ROOM, VARIABLE_ROOM};
 
-// Rows 10 and 11, and the counts, of the gates that lie in `quads`; the conditions are marked in `ranks`, which are lent clear.
-fn whole(size: usize, quads: &[u32; QUAD_ROOM], count: u16, ranks: &mut [u16; GATE_ROOM]) -> Answer
+// Rows 10 and 11, or the counts, of the gates that lie in `quads`; the conditions are marked in `ranks`, which are lent clear.
+fn whole(
+    size: usize,
+    quads: &[u32; QUAD_ROOM],
+    count: u16,
+    ranks: &mut [u16; GATE_ROOM],
+) -> Result<Counts, Refusal>
     requires { (count ≤ gate_room → Earlier (gates_in quads.now count)) × (ranks.old ≡ replicate gate_room 0) }
-    ensures { (result ≡ whole_in quads.now count size) × (count ≤ gate_room → Marked (gates_in quads.now count) ranks.new) }
+    ensures { (answer_in result ≡ whole_in quads.now count size) × (count ≤ gate_room → Marked (gates_in quads.now count) ranks.new) }
 {
     if circuit::MOST_GATES < count {
-        return base_answers::refused(10, size);
+        return Err(Refusal(Row::ManyGates, size));
     }
     let n = count as usize;
     let found = circuit_survey::survey(quads, n, ranks);
     if circuit::MOST_CONDITIONS < found.conditions as usize {
-        return base_answers::refused(11, size);
+        return Err(Refusal(Row::ManyConditions, size));
     }
-    Answer {
-        number: 0,
-        place: 0,
+    Ok(Counts {
         gates: n,
         wires: 0,
         bytes: 0,
         before: found.cost,
         after: 0,
-    }
+    })
 }
 
-// Reads a rule: its refusal by rows 1 to 11, or its gates and their cost.
-pub fn read_rule(rule: &[u8]) -> Answer
-    ensures { result ≡ rule_answer rule.now }
+// Reads a rule: its gates and their cost, or its refusal by rows 1 to 11.
+pub fn read(rule: &[u8]) -> Result<Counts, Refusal>
+    ensures { answer_in result ≡ rule_answer rule.now }
 {
     // A copy is handed on: so the compiler takes the rule's place and length in two registers, not through memory.
     let rest = rule;
-    let a = rule_reader::read_rule(rest);
-    if a.number != 0 {
-        return a;
-    }
+    rule_reader::read(rest)?;
     let mut quads = [0u32; QUAD_ROOM];
     let mut present = [0u16; VARIABLE_ROOM];
     let mut ranks = [0u16; GATE_ROOM];
@@ -62,83 +64,81 @@ pub fn read_rule(rule: &[u8]) -> Answer
     whole(rule.len(), &quads, count, &mut ranks)
 }
 
-// The gates that are wanted from the start, out of every variable's last gate: those of the result variables, at the start of `wanted`. Gives how many they are.
-fn list_wanted(
+// The same in the seven numbers.
+pub fn read_rule(rule: &[u8]) -> Answer
+    ensures { result ≡ rule_answer rule.now }
+{
+    Answer::from(read(rule))
+}
+
+// The gates that are wanted from the start, out of every variable's last gate: those of the result variables, put down in `wanted`, which is lent for them.
+fn list_wanted<'a>(
     rule: &[u8],
     outputs: &[u16; VARIABLE_ROOM],
-    wanted: &mut [u16; VARIABLE_ROOM],
-) -> usize
+    wanted: &'a mut [u16; VARIABLE_ROOM],
+) -> &'a [u16]
     requires { (HasKinds rule.now × (variables rule.now ≤ most_variables)) × (length wanted.old ≡ variable_room) }
-    ensures listed { take result wanted.new ≡ wanted_among rule.now outputs.now }
-    ensures within { result ≤ length wanted.new }
+    ensures { result.now ≡ wanted_among rule.now outputs.now }
 {
-    let v = rule[5];
     let mut k: usize = 0;
-    let mut x: u8 = 0;
-    while x < v {
+    for x in 0..rule[5] {
         // Each is put down, and stays if its variable is a result.
         wanted[k] = outputs[x as usize];
-        let more: usize = if rule_reader::working_at(rule, x) {
-            0
-        } else {
-            1
-        };
-        k = k + more;
-        x = x + 1;
+        if !rule_reader::working_at(rule, x) {
+            k += 1;
+        }
     }
-    k
+    &wanted[..k]
 }
 
 // Every gate's precondition, from what the rule wants of its outputs, in sets that are lent clear.
-fn rule_needs(
-    rule: &[u8],
-    quads: &[u32; QUAD_ROOM],
-    count: usize,
-    ranks: &[u16; GATE_ROOM],
-    outputs: &[u16; VARIABLE_ROOM],
-    needs: &mut [u64; NEED_WORDS],
-)
-    requires { ((HasKinds rule.now × (variables rule.now ≤ most_variables)) × (Passable quads.now ranks.now count × Inside count (wanted_among rule.now outputs.now)))
-        × (sets_in needs.old ≡ replicate gate_room 0) }
-    ensures { sets_in needs.new ≡ precondition_sets most_conditions (gates_in quads.now count) (wanted_among rule.now outputs.now)
-        ++ replicate (gate_room - count) 0 }
+fn rule_needs(rule: &[u8], ranks: &[u16; GATE_ROOM], circuit: &mut Circuit)
+    requires { ((HasKinds rule.now × (variables rule.now ≤ most_variables))
+        × (Passable circuit.old.quads ranks.now circuit.old.count × Inside circuit.old.count (wanted_among rule.now circuit.old.outputs)))
+        × (sets_in circuit.old.needs ≡ replicate gate_room 0) }
+    ensures needs { sets_in circuit.new.needs ≡ precondition_sets most_conditions (gates_in circuit.old.quads circuit.old.count) (wanted_among rule.now circuit.old.outputs)
+        ++ replicate (gate_room - circuit.old.count) 0 }
+    ensures rest { circuit.new ≡ record circuit.old { needs = circuit.new.needs } }
 {
-    let mut wanted = [0u16; VARIABLE_ROOM];
-    let k = list_wanted(rule, outputs, &mut wanted);
-    circuit_pass::find_needed(quads, count, ranks, &wanted[0..k], needs);
+    let mut room = [0u16; VARIABLE_ROOM];
+    let wanted = list_wanted(rule, &circuit.outputs, &mut room);
+    circuit_pass::find_needed(
+        &circuit.quads,
+        circuit.count,
+        ranks,
+        wanted,
+        &mut circuit.needs,
+    );
 }
 
-// Builds the plain circuit of a rule into arrays that are lent clear: four numbers a gate, each gate's precondition, every variable's last gate,
-// and each condition's gate; zeros after them. A refused rule leaves them clear.
-pub fn build(
-    rule: &[u8],
-    quads: &mut [u32; QUAD_ROOM],
-    needs: &mut [u64; NEED_WORDS],
-    outputs: &mut [u16; VARIABLE_ROOM],
-    conditions: &mut [u16; CONDITION_ROOM],
-) -> Answer
-    requires { (quads.old ≡ replicate quad_room 0) × ((sets_in needs.old ≡ replicate gate_room 0) × ((outputs.old ≡ replicate variable_room 0) × (conditions.old ≡ replicate condition_room 0))) }
-    ensures answer { result ≡ rule_answer rule.now }
-    ensures quads { quads.new ≡ built_quads rule.now }
-    ensures needs { sets_in needs.new ≡ built_needs rule.now }
-    ensures outputs { outputs.new ≡ built_outputs rule.now }
-    ensures conditions { conditions.new ≡ built_conditions rule.now }
+// Builds the plain circuit of a rule into memory that is lent clear: four numbers a gate, each gate's precondition, every variable's last gate,
+// and each condition's gate; zeros after them. A refused rule leaves it clear.
+pub fn build(rule: &[u8], circuit: &mut Circuit) -> Result<Counts, Refusal>
+    requires { Clear circuit.old }
+    ensures answer { answer_in result ≡ rule_answer rule.now }
+    ensures quads { circuit.new.quads ≡ built_quads rule.now }
+    ensures needs { sets_in circuit.new.needs ≡ built_needs rule.now }
+    ensures outputs { circuit.new.outputs ≡ built_outputs rule.now }
+    ensures conditions { circuit.new.conditions ≡ built_conditions rule.now }
+    ensures count { circuit.new.count ≡ (rule_answer rule.now).gates }
 {
-    let a = rule_reader::read_rule(rule);
-    if a.number != 0 {
-        return a;
-    }
+    circuit.count = 0;
+    rule_reader::read(rule)?;
     let mut ranks = [0u16; GATE_ROOM];
-    let count = circuit_plain::make_rule(rule, quads, outputs);
-    let answer = whole(rule.len(), quads, count, &mut ranks);
-    if answer.number != 0 {
-        *quads = [0u32; QUAD_ROOM];
-        *outputs = [0u16; VARIABLE_ROOM];
-        return answer;
+    let made = circuit_plain::make_rule(rule, &mut circuit.quads, &mut circuit.outputs);
+    match whole(rule.len(), &circuit.quads, made, &mut ranks) {
+        Ok(counts) => {
+            let n = made as usize;
+            circuit.count = n;
+            circuit_survey::number_marked(n, &mut ranks);
+            rule_needs(rule, &ranks, circuit);
+            circuit_survey::condition_gates(&ranks, n, &mut circuit.conditions);
+            Ok(counts)
+        }
+        Err(refusal) => {
+            circuit.quads = [0u32; QUAD_ROOM];
+            circuit.outputs = [0u16; VARIABLE_ROOM];
+            Err(refusal)
+        }
     }
-    let n = count as usize;
-    circuit_survey::number_marked(n, &mut ranks);
-    rule_needs(rule, quads, n, &ranks, outputs, needs);
-    circuit_survey::condition_gates(&ranks, n, conditions);
-    answer
 }

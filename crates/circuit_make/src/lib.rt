@@ -12,7 +12,8 @@ ghost use Rattle.circuit.specs.Rooms.{variable_room};
 use base::Operation;
 use circuit::{GateId, QUAD_ROOM, VARIABLE_ROOM};
 
-// One gate more, by its four numbers; the count then.
+// One gate more, by its four numbers; the count then. The quads and their count go side by side and are no struct: the quads are lent where a
+// `Circuit` or a caller's frame has them, and the count is handed on in a register; a struct that owned both would be copied whole into the `Circuit`.
 pub fn push(quads: &mut [u32; QUAD_ROOM], count: u16, code: u32, a: u32, b: u32, c: u32) -> u16
     ensures { Pushed (code ∷ a ∷ b ∷ c ∷ []) quads.old count quads.new result }
 {
@@ -38,11 +39,7 @@ pub fn byte_of(op: Operation) -> u32
 fn turned(op: Operation, a: GateId, b: GateId) -> bool
     ensures { result ≡ turned op a.0 b.0 }
 {
-    if base_codes::commutes(op) {
-        b.0 < a.0
-    } else {
-        false
-    }
+    base_codes::commutes(op) && b.0 < a.0
 }
 
 // The gate of an operation whose two arguments, as written, are the gates a and b.
@@ -55,12 +52,15 @@ pub fn apply_gate(
 ) -> u16
     ensures { Applied (apply_gate op a.0 b.0) quads.old count quads.new result }
 {
-    let byte = byte_of(op);
-    if turned(op, a, b) {
-        push(quads, count, byte, b.0 as u32, a.0 as u32, 0)
-    } else {
-        push(quads, count, byte, a.0 as u32, b.0 as u32, 0)
-    }
+    let (first, second) = if turned(op, a, b) { (b, a) } else { (a, b) };
+    push(
+        quads,
+        count,
+        byte_of(op),
+        first.0 as u32,
+        second.0 as u32,
+        0,
+    )
 }
 
 // Is variable x in the set?
@@ -92,8 +92,7 @@ fn choose(
         first.0 as u32,
         second.0 as u32,
     );
-    let i = x as usize;
-    present[i] = count;
+    present[x as usize] = count;
     more
 }
 
@@ -112,15 +111,12 @@ pub fn make_choices(
     ensures { Chosen condition.0 first.now second.now assigned v quads.old present.old count result quads.new present.new }
 {
     let mut n = count;
-    let mut x: u8 = 0;
-    while x < v {
+    for x in 0..v {
         if among(assigned, x) {
-            let i = x as usize;
-            let yes = GateId(first[i]);
-            let no = GateId(second[i]);
+            let yes = GateId(first[x as usize]);
+            let no = GateId(second[x as usize]);
             n = choose(condition, yes, no, x, present, quads, n);
         }
-        x = x + 1;
     }
     n
 }

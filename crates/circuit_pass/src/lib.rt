@@ -20,7 +20,7 @@ fn add(sets: &mut [u64; NEED_WORDS], g: GateId, s: Set)
     requires { g.0 < gate_room }
     ensures { sets_in sets.new ≡ add_number g.0 (set_of s) (sets_in sets.old) }
 {
-    let i = g.0 as usize;
+    let i = g.index();
     let old = base_settings::load(sets, i);
     base_settings::store(sets, i, base_settings::union(old, s));
 }
@@ -30,7 +30,7 @@ fn add_whole(sets: &mut [u64; NEED_WORDS], g: GateId)
     requires { g.0 < gate_room }
     ensures { sets_in sets.new ≡ add_number g.0 (whole most_settings) (sets_in sets.old) }
 {
-    let i = g.0 as usize;
+    let i = g.index();
     let old = base_settings::load(sets, i);
     base_settings::store(sets, i, base_settings::with_whole(old));
 }
@@ -40,11 +40,8 @@ fn want_all(wanted: &[u16], sets: &mut [u64; NEED_WORDS])
     requires { Inside gate_room wanted.now }
     ensures { sets_in sets.new ≡ add_numbers wanted.now (whole most_settings) (sets_in sets.old) }
 {
-    let mut x: usize = 0;
-    while x < wanted.len() {
-        let g = GateId(wanted[x]);
-        add_whole(sets, g);
-        x = x + 1;
+    for g in wanted {
+        add_whole(sets, GateId(*g));
     }
 }
 
@@ -65,8 +62,7 @@ fn rank_of(ranks: &[u16; GATE_ROOM], c: GateId) -> u8
     requires { (c.0 < gate_room) × ((0 < get_or ranks.now c.0 0) × (get_or ranks.now c.0 0 ≤ most_conditions)) }
     ensures { result ≡ get_or ranks.now c.0 0 - 1 }
 {
-    let i = c.0 as usize;
-    (ranks[i] - 1) as u8
+    (ranks[c.index()] - 1) as u8
 }
 
 // A choice on c, whose number is t: its set goes to c, the settings that give t the bit 1 to the first value, a, the others to the second, b.
@@ -89,60 +85,57 @@ fn hand_choice(
     add(sets, b, parts.without);
 }
 
-// Gate g hands its set on to what it asks for; its quad is read once. A starting value or a constant asks for nothing, and its set is not read.
-// A number of the quad is a gate's only where the code says so: not has one argument, every other operation two, a choice three.
-fn hand(
-    quads: &[u32; QUAD_ROOM],
+// The gates that the pass goes over: their quads, how many they are, and the number of each condition.
+#[derive(Clone, Copy)]
+struct Gates<'a> {
+    quads: &'a [u32; QUAD_ROOM],
+    ranks: &'a [u16; GATE_ROOM],
     count: usize,
-    ranks: &[u16; GATE_ROOM],
-    g: GateId,
-    sets: &mut [u64; NEED_WORDS],
-)
-    requires { Passable quads.now ranks.now count × (g.0 < count) }
-    ensures { sets_in sets.new ≡ hand_gate (gates_in quads.now count) g.0 (sets_in sets.old) }
-{
-    let i = g.0 as usize;
-    let code = quads[4 * i];
-    if code < circuit::SUM {
-        return;
-    }
-    let s = base_settings::load(sets, i);
-    let x = quads[4 * i + 1];
-    let y = quads[4 * i + 2];
-    if code < circuit::NOT {
-        hand_to(sets, GateId(x as u16), s);
-        hand_to(sets, GateId(y as u16), s);
-    } else if code == circuit::NOT {
-        hand_to(sets, GateId(x as u16), s);
-    } else if code == circuit::CHOICE {
-        let z = quads[4 * i + 3];
-        hand_choice(
-            sets,
-            ranks,
-            GateId(x as u16),
-            GateId(y as u16),
-            GateId(z as u16),
-            s,
-        );
-    }
+    ghost passable: { Passable quads.now ranks.now count },
 }
 
-// Document 02, C-14: one backward pass over one list of sets that is changed in place. Each gate has its turn once, from the last to the first;
-// its set is final by then, so the set that it hands on is the one that it has at the end.
-fn pass(
-    quads: &[u32; QUAD_ROOM],
-    count: usize,
-    ranks: &[u16; GATE_ROOM],
-    sets: &mut [u64; NEED_WORDS],
-)
-    requires { Passable quads.now ranks.now count }
-    ensures passed { sets_in sets.new ≡ pass_gates (gates_in quads.now count) count (sets_in sets.old) }
-    ensures settled { sets_in sets.new ≡ hand_gates_from (gates_in quads.now count) (sets_in sets.new) count (sets_in sets.old) }
-{
-    let mut i = count as u16;
-    while 0 < i {
-        i = i - 1;
-        hand(quads, count, ranks, GateId(i), sets);
+impl<'a> Gates<'a> {
+    // Gate g hands its set on to what it asks for; its quad is read once. A starting value or a constant asks for nothing, and its set is not read.
+    // A number of the quad is a gate's only where the code says so: not has one argument, every other operation two, a choice three.
+    fn hand(&self, g: GateId, sets: &mut [u64; NEED_WORDS])
+        requires { g.0 < self.now.count }
+        ensures { sets_in sets.new ≡ hand_gate (gates_in self.now.quads.now self.now.count) g.0 (sets_in sets.old) }
+    {
+        let i = g.index();
+        let code = self.quads[4 * i];
+        if code < circuit::SUM {
+            return;
+        }
+        let s = base_settings::load(sets, i);
+        let x = self.quads[4 * i + 1];
+        let y = self.quads[4 * i + 2];
+        if code < circuit::NOT {
+            hand_to(sets, GateId(x as u16), s);
+            hand_to(sets, GateId(y as u16), s);
+        } else if code == circuit::NOT {
+            hand_to(sets, GateId(x as u16), s);
+        } else if code == circuit::CHOICE {
+            let z = self.quads[4 * i + 3];
+            hand_choice(
+                sets,
+                self.ranks,
+                GateId(x as u16),
+                GateId(y as u16),
+                GateId(z as u16),
+                s,
+            );
+        }
+    }
+
+    // Document 02, C-14: one backward pass over one list of sets that is changed in place. Each gate has its turn once, from the last to the first;
+    // its set is final by then, so the set that it hands on is the one that it has at the end.
+    fn pass(&self, sets: &mut [u64; NEED_WORDS])
+        ensures passed { sets_in sets.new ≡ pass_gates (gates_in self.now.quads.now self.now.count) self.now.count (sets_in sets.old) }
+        ensures settled { sets_in sets.new ≡ hand_gates_from (gates_in self.now.quads.now self.now.count) (sets_in sets.new) self.now.count (sets_in sets.old) }
+    {
+        for i in (0..self.count as u16).rev() {
+            self.hand(GateId(i), sets);
+        }
     }
 }
 
@@ -157,6 +150,11 @@ pub fn find_needed(
     requires { (Passable quads.now ranks.now count × Inside count wanted.now) × (sets_in sets.old ≡ replicate gate_room 0) }
     ensures { sets_in sets.new ≡ precondition_sets most_conditions (gates_in quads.now count) wanted.now ++ replicate (gate_room - count) 0 }
 {
+    let gates = Gates {
+        quads,
+        ranks,
+        count,
+    };
     want_all(wanted, sets);
-    pass(quads, count, ranks, sets);
+    gates.pass(sets);
 }

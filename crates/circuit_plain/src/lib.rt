@@ -9,7 +9,6 @@ ghost use Rattle.rule.specs.Expressions.{read_expr};
 ghost use Rattle.rule.specs.Blocks.{read_assign, branch_with, read_statement, read_block};
 ghost use Rattle.rule.specs.Rule.{read_rule};
 ghost use Rattle.circuit.specs.PlainCircuit.{assigns_in, assigns, make_statement, make_block, starts};
-ghost use Rattle.base.specs.Codes.{start_code};
 ghost use Rattle.circuit_make.specs.RuleMade.{RuleMade};
 ghost use Rattle.circuit_make.specs.Holding.{Held, ExprMade, Done};
 ghost use Rattle.circuit.specs.Rooms.{quad_room, variable_room};
@@ -33,16 +32,6 @@ struct MadePart {
     pub next: usize,
     pub count: u32,
     pub assigned: u32,
-}
-
-// The code of a starting value.
-fn start_code(kind: Kind) -> u32
-    ensures { result ≡ start_code kind }
-{
-    match kind {
-        Kind::Word => 0,
-        Kind::Bit => 1,
-    }
 }
 
 // 10 variable, its code at `at`: it makes no gate and stands for its present one.
@@ -73,8 +62,7 @@ fn make_expr(
     ensures { ExprMade s.now (read_expr deep s.now want at) present.now quads.old count result.next result.gate.0 result.count quads.new }
 {
     let c = base_codes::code_of(s[at]);
-    let form = c.form;
-    match form {
+    match c.form {
         Form::Variable => make_variable(s, at, present, count),
         Form::Word => {
             let n = base_words::read32(s, at + 1);
@@ -117,11 +105,7 @@ fn make_expr(
                 }
             }
         }
-        Form::End => nothing(at, count),
-        Form::Assign => nothing(at, count),
-        Form::Skip => nothing(at, count),
-        Form::Branch => nothing(at, count),
-        Form::Unknown => nothing(at, count),
+        _ => nothing(at, count),
     }
 }
 
@@ -167,15 +151,11 @@ fn make_starts(s: &[u8], present: &mut [u16; VARIABLE_ROOM], quads: &mut [u32; Q
     requires { Headed s.now (6 + variables s.now) × ((quads.old ≡ replicate quad_room 0) × (present.old ≡ replicate variable_room 0)) }
     ensures { Held s.now (starts (variables s.now)) quads.new present.new result }
 {
-    let v = s[5];
     let mut n: u16 = 0;
-    let mut x: u8 = 0;
-    while x < v {
-        let code = start_code(rule_reader::kind_at(s, x));
+    for x in 0..s[5] {
+        let code = rule_reader::kind_at(s, x) as u32;
         n = circuit_make::push(quads, n, code, x as u32, 0, 0);
-        let i = x as usize;
-        present[i] = x as u16;
-        x = x + 1;
+        present[x as usize] = x as u16;
     }
     n
 }
@@ -203,8 +183,7 @@ fn make_assign(
         quads,
         count,
     );
-    let i = x as usize;
-    present[i] = value.gate.0;
+    present[x as usize] = value.gate.0;
     MadePart {
         next: value.next,
         count: value.count as u32,
@@ -277,17 +256,11 @@ fn make_statement(
     ensures small { result.count < 65536 }
 {
     let c = base_codes::code_of(s[at]);
-    let form = c.form;
-    match form {
+    match c.form {
         Form::Assign => make_assign(s, at, present, quads, count),
         Form::Skip => passed(at + 1, count),
         Form::Branch => make_branch(s, at, nest, present, quads, count),
-        Form::End => passed(at, count),
-        Form::Variable => passed(at, count),
-        Form::Word => passed(at, count),
-        Form::Bit => passed(at, count),
-        Form::Apply(_) => passed(at, count),
-        Form::Unknown => passed(at, count),
+        _ => passed(at, count),
     }
 }
 
@@ -320,7 +293,7 @@ fn make_block(
         let x = make_statement(s, here, nest, present, quads, n);
         here = x.next;
         n = x.count as u16;
-        assigned = assigned | x.assigned;
+        assigned |= x.assigned;
     }
 }
 

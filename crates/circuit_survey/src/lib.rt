@@ -43,8 +43,7 @@ fn listed_cost(costs: &[u8; 64], code: u32) -> usize
     ensures { result ≡ code_cost code }
 {
     if code < 64 {
-        let at = code as usize;
-        base_words::wide8(costs[at])
+        costs[code as usize] as usize
     } else {
         0
     }
@@ -67,22 +66,17 @@ pub fn survey(quads: &[u32; QUAD_ROOM], count: usize, ranks: &mut [u16; GATE_ROO
     let table = cost_table();
     let mut conditions: u16 = 0;
     let mut cost: usize = 0;
-    let mut i: usize = 0;
-    while i < count {
+    for i in 0..count {
         let code = quads[4 * i];
         if code == circuit::CHOICE {
             let c = circuit_quads::argument(quads, 4 * i + 1);
-            let at = c.0 as usize;
-            conditions = conditions + (1 - ranks[at]);
+            let at = c.index();
+            conditions += 1 - ranks[at];
             ranks[at] = 1;
         }
-        cost = cost + listed_cost(&table, code);
-        i = i + 1;
+        cost += listed_cost(&table, code);
     }
-    Surveyed {
-        conditions: conditions,
-        cost: cost,
-    }
+    Surveyed { conditions, cost }
 }
 
 // Numbers the marked gates from 1, rising.
@@ -91,13 +85,11 @@ pub fn number_marked(count: usize, ranks: &mut [u16; GATE_ROOM])
     ensures { NumberedBelow ranks.old ranks.new count }
 {
     let mut t: u16 = 0;
-    let mut g: usize = 0;
-    while g < count {
+    for g in 0..count {
         if ranks[g] != 0 {
-            t = t + 1;
+            t += 1;
             ranks[g] = t;
         }
-        g = g + 1;
     }
 }
 
@@ -107,12 +99,10 @@ pub fn condition_gates(ranks: &[u16; GATE_ROOM], count: usize, gates: &mut [u16;
     ensures { gates.new ≡ over (marked_in ranks.now count) (replicate condition_room 0) }
 {
     let mut t: usize = 0;
-    let mut g: usize = 0;
-    while g < count {
+    for g in 0..count {
         if ranks[g] != 0 {
             gates[t] = g as u16;
-            t = t + 1;
+            t += 1;
         }
-        g = g + 1;
     }
 }

@@ -5,6 +5,8 @@ ghost use Rattle.std.specs.Prelude.{◌≡◌, ◌≤◌, map, length, get_or};
 ghost use Rattle.base.specs.Lists.{upto};
 ghost use Rattle.base.specs.Buffers.{over};
 ghost use Rattle.base.specs.Parsing.{IsRead};
+ghost use Rattle.base.specs.Rows.{row_in};
+ghost use Rattle.base.specs.Refusals.{answer_in};
 ghost use Rattle.rule.specs.Limits.{most_variables};
 ghost use Rattle.rule.specs.Header.{variables, HasKinds};
 ghost use Rattle.rule.specs.Rule.{read_rule};
@@ -13,7 +15,7 @@ ghost use Rattle.circuit.specs.Whole.{rule_answer};
 ghost use Rattle.run.specs.Inputs.{input_row};
 ghost use Rattle.run.specs.Direct.{run_answer, run_results};
 
-use base::{Answer, Kind};
+use base::{Answer, Counts, Refusal, Row};
 use circuit::VARIABLE_ROOM;
 
 // What a run writes of the figures at its end, into the first V results: 0 for a working variable.
@@ -21,18 +23,14 @@ fn write_results(rule: &[u8], figures: &[u32; VARIABLE_ROOM], results: &mut [u32
     requires { HasKinds rule.now × (variables rule.now ≤ most_variables) × (variables rule.now ≤ length results.old) }
     ensures { results.new ≡ over (map (λ x. written_for rule.now x (get_or figures.now x 0)) (upto (variables rule.now))) results.old }
 {
-    let v = rule[5];
-    let mut x: u8 = 0;
-    while x < v {
-        let i = base_words::wide8(x);
+    for x in 0..rule[5] {
+        let i = x as usize;
         let figure = figures[i];
-        let written = if rule_reader::working_at(rule, x) {
+        results[i] = if rule_reader::working_at(rule, x) {
             0
         } else {
             figure
         };
-        results[i] = written;
-        x = x + 1;
     }
 }
 
@@ -50,43 +48,29 @@ fn run_checked(rule: &[u8], inputs: &[u32], results: &mut [u32])
     write_results(rule, &figures, results);
 }
 
-// Rows 40 to 42 of the inputs, the lowest first; 0 when none of them applies. `room` is how many results there is place for.
-pub fn inputs_refusal(rule: &[u8], inputs: &[u32], room: usize) -> u8
+// Rows 40 to 42 of the inputs of a rule, the lowest first. `room` is how many results there is place for.
+pub fn inputs_refusal(rule: &[u8], inputs: &[u32], room: usize) -> Result<(), Row>
     requires { HasKinds rule.now }
-    ensures { result ≡ input_row rule.now inputs.now room }
+    ensures { row_in result ≡ input_row rule.now inputs.now room }
 {
-    let count = rule[5];
-    if inputs.len() != count as usize {
-        return 40;
-    }
-    let mut x: u8 = 0;
-    while x < count {
-        if 1 < inputs[x as usize] {
-            if base_codes::same_kind(rule_reader::kind_at(rule, x), Kind::Bit) {
-                return 41;
-            }
-        }
-        x += 1;
-    }
-    if room < count as usize {
-        return 42;
-    }
-    0
+    base_answers::inputs_refusal(rule[5], |x| rule_reader::kind_at(rule, x), inputs, room)
 }
 
-// A direct run of a rule on its inputs: the answer, and in the first V results every variable's figure at its end, 0 for a working one. A refusal writes nothing.
+// A direct run of a rule on its inputs: into the first V results go every variable's figure at its end, 0 for a working one. A refusal writes nothing.
+fn try_run(rule: &[u8], inputs: &[u32], results: &mut [u32]) -> Result<Counts, Refusal>
+    ensures answer { answer_in result ≡ run_answer (rule_answer rule.now) rule.now inputs.now (length results.old) }
+    ensures results { results.new ≡ run_results (rule_answer rule.now) rule.now inputs.now results.old }
+{
+    let counts = circuit_build::read(rule)?;
+    inputs_refusal(rule, inputs, results.len())?;
+    run_checked(rule, inputs, results);
+    Ok(counts)
+}
+
+// The same in the seven numbers.
 pub fn run(rule: &[u8], inputs: &[u32], results: &mut [u32]) -> Answer
     ensures answer { result ≡ run_answer (rule_answer rule.now) rule.now inputs.now (length results.old) }
     ensures results { results.new ≡ run_results (rule_answer rule.now) rule.now inputs.now results.old }
 {
-    let a = circuit_build::read_rule(rule);
-    if a.number != 0 {
-        return a;
-    }
-    let row = inputs_refusal(rule, inputs, results.len());
-    if row != 0 {
-        return base_answers::refused(row, 0);
-    }
-    run_checked(rule, inputs, results);
-    a
+    Answer::from(try_run(rule, inputs, results))
 }

@@ -9,7 +9,7 @@ ghost use Rattle.circuit.specs.Running.{run_statement, run_block};
 ghost use Rattle.run_walk.specs.Walking.{VariablesFit, WorkedOut, Ran, Passed};
 ghost use Rattle.circuit.specs.Rooms.{variable_room};
 
-use base::{Form, Kind, Step};
+use base::{Form, Kind};
 use circuit::VARIABLE_ROOM;
 
 // An expression's figure, and the place after the expression.
@@ -38,8 +38,7 @@ fn run_expr(s: &[u8], at: usize, want: Kind, deep: u8, figures: &[u32; VARIABLE_
     ensures { WorkedOut figures.now (read_expr deep s.now want at) result }
 {
     let c = base_codes::code_of(s[at]);
-    let form = c.form;
-    match form {
+    match c.form {
         Form::Variable => run_variable(s, at, figures),
         Form::Word => Value {
             figure: base_words::read32(s, at + 1),
@@ -65,23 +64,8 @@ fn run_expr(s: &[u8], at: usize, want: Kind, deep: u8, figures: &[u32; VARIABLE_
                 }
             }
         }
-        Form::End => Value {
-            figure: 0,
-            next: at,
-        },
-        Form::Assign => Value {
-            figure: 0,
-            next: at,
-        },
-        Form::Skip => Value {
-            figure: 0,
-            next: at,
-        },
-        Form::Branch => Value {
-            figure: 0,
-            next: at,
-        },
-        Form::Unknown => Value {
+        // No code of an expression: reading took none such.
+        _ => Value {
             figure: 0,
             next: at,
         },
@@ -117,10 +101,7 @@ fn pass_block(s: &[u8], at: usize, nest: u8) -> usize
     requires { VariablesFit s.now × IsRead (read_block s.now nest at) }
     ensures { Passed (read_block s.now nest at) result }
 {
-    match rule_reader::read_block(s, at, nest) {
-        Step::Past(next) => next,
-        Step::Refused(_, _) => at,
-    }
+    rule_reader::read_block(s, at, nest).unwrap()
 }
 
 // The statement at `at`. An if works out its bit once, and only the block that the bit names runs.
@@ -130,8 +111,7 @@ fn run_statement(s: &[u8], at: usize, nest: u8, figures: &mut [u32; VARIABLE_ROO
     ensures { Ran run_statement (read_statement s.now nest at) figures.old result figures.new }
 {
     let c = base_codes::code_of(s[at]);
-    let form = c.form;
-    match form {
+    match c.form {
         Form::Assign => run_assign(s, at, figures),
         Form::Skip => at + 1,
         Form::Branch => {
@@ -144,12 +124,7 @@ fn run_statement(s: &[u8], at: usize, nest: u8, figures: &mut [u32; VARIABLE_ROO
                 run_block(s, second, nest - 1, figures)
             }
         }
-        Form::End => at,
-        Form::Variable => at,
-        Form::Word => at,
-        Form::Bit => at,
-        Form::Apply(_) => at,
-        Form::Unknown => at,
+        _ => at,
     }
 }
 

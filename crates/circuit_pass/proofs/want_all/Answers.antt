@@ -2,14 +2,14 @@ use mathlib.Core.Path.{refl}
 use Rattle.circuit_needed.specs.PassingLaws.{wanting_start, wanting_inside, wanting_step, wanting_end}
 use Rattle.circuit_pass.proofs.want_all.Goals as goal
 
-pub loop-x-init : goal.loop-x-init
-loop-x-init c = wanting_start _ _ c.requires
+pub loop-g-init : goal.loop-g-init
+loop-g-init c = wanting_start _ _ c.requires
 
 pub add_whole-requires : goal.add_whole-requires
-add_whole-requires c = wanting_inside _ _ _ _ _ c.loop-x.invariant c.loop-x-test.true refl
+add_whole-requires c = wanting_inside _ _ _ _ _ c.loop-g.invariant c.loop-g-test.true refl
 
-pub loop-x-preserved : goal.loop-x-preserved
-loop-x-preserved c = wanting_step _ _ _ _ _ _ c.loop-x.invariant c.loop-x-test.true refl c.add_whole.ensures
+pub loop-g-preserved : goal.loop-g-preserved
+loop-g-preserved c = wanting_step _ _ _ _ _ _ c.loop-g.invariant c.loop-g-test.true refl c.add_whole.ensures
 
 pub returns : goal.returns
-returns c = wanting_end _ _ _ _ c.loop-x.invariant c.loop-x-test.false
+returns c = wanting_end _ _ _ _ c.loop-g.invariant c.loop-g-test.false

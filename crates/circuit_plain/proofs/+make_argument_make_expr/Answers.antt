@@ -1,10 +1,10 @@
 use mathlib.Core.Path.{sym, ap, ◌∙◌}
 use native.Mathlib.Omega.{arith}
 use Prim.Native.Nat.{◌+◌}
-use Rattle.base.specs.declared.Form.TheVariants.{End, Assign, Skip, Branch, Unknown}
+use Rattle.circuit.specs.OpenedLaws.{expr_opens}
 use Rattle.base.specs.Parsing.{parsed}
 use Rattle.rule.specs.Tree.{word}
-use Rattle.rule.specs.FirstByte.{expr_inside, byte_variable, as_variable, as_word, as_bit, expr_taken}
+use Rattle.rule.specs.FirstByte.{expr_inside, byte_variable, as_variable, as_word, as_bit}
 use Rattle.circuit_make.specs.ExprLaws.{level, first_taken, second_taken, made_variable, made_word, made_bit, made_one, made_two}
 use borrow.Author.Rules.{rules}
 use Prim.Native.Nat.{ℕ}
@@ -97,17 +97,6 @@ make_expr-overflow_sub-deep t c = level _ _ _ _ c.requires.1 _ c.code_of-c.ensur
 pub make_expr-overflow_sub-deep-else-c-eq1 : goal.make_expr-overflow_sub-deep-else-c-eq1
 make_expr-overflow_sub-deep-else-c-eq1 t c = level _ _ _ _ c.requires.1 _ c.code_of-c.ensures _ c.in-Apply.is
 
-pub make_expr-returns-in-End : goal.make_expr-returns-in-End
-make_expr-returns-in-End t c = absurd (expr_taken _ _ _ _ c.requires.1 _ c.code_of-c.ensures End c.in-End.is)
-
-pub make_expr-returns-in-Assign : goal.make_expr-returns-in-Assign
-make_expr-returns-in-Assign t c = absurd (expr_taken _ _ _ _ c.requires.1 _ c.code_of-c.ensures Assign c.in-Assign.is)
-
-pub make_expr-returns-in-Skip : goal.make_expr-returns-in-Skip
-make_expr-returns-in-Skip t c = absurd (expr_taken _ _ _ _ c.requires.1 _ c.code_of-c.ensures Skip c.in-Skip.is)
-
-pub make_expr-returns-in-Branch : goal.make_expr-returns-in-Branch
-make_expr-returns-in-Branch t c = absurd (expr_taken _ _ _ _ c.requires.1 _ c.code_of-c.ensures Branch c.in-Branch.is)
-
-pub make_expr-returns-in-Unknown : goal.make_expr-returns-in-Unknown
-make_expr-returns-in-Unknown t c = absurd (expr_taken _ _ _ _ c.requires.1 _ c.code_of-c.ensures Unknown c.in-Unknown.is)
+pub make_expr-returns-in_default : goal.make_expr-returns-in_default
+make_expr-returns-in_default t c = absurd
+    (expr_opens _ _ _ _ c.requires.1 _ c.code_of-c.ensures c.in_default.not-Variable c.in_default.not-Word c.in_default.not-Bit c.in_default.not-Apply)

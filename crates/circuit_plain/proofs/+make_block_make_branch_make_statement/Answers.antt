@@ -13,6 +13,7 @@ use Rattle.rule.specs.FirstStatement.{block_inside}
 use Rattle.circuit_make.specs.StatementLaws.{done_as, branch_level, test_taken, first_taken, second_taken, made_branch, statement_read_as, made_skip}
 use Rattle.circuit_make.specs.BlockLaws.{walked_none, rest_taken, statement_taken, walked_all, walked_more}
 use borrow.Author.Rules.{rules}
+use Rattle.circuit.specs.OpenedLaws.{statement_opens}
 use Rattle.circuit_plain.proofs.+make_block_make_branch_make_statement.Goals as goal
 
 pub make_block-loop-here-preserved : goal.make_block-loop-here-preserved
@@ -110,20 +111,6 @@ pub make_statement-returns-in-Branch : goal.make_statement-returns-in-Branch
 make_statement-returns-in-Branch t c =
     record { made = done_as _ _ _ _ _ (statement_as _ _ _ _ form.Branch c.code_of-c.ensures c.in-Branch.is) c.make_branch.ensures.made; small = c.make_branch.ensures.small }
 
-pub make_statement-returns-in-End : goal.make_statement-returns-in-End
-make_statement-returns-in-End t c = absurd (statement_read_as _ _ _ _ c.code_of-c.ensures c.requires.1.1 form.End c.in-End.is)
-
-pub make_statement-returns-in-Variable : goal.make_statement-returns-in-Variable
-make_statement-returns-in-Variable t c = absurd (statement_read_as _ _ _ _ c.code_of-c.ensures c.requires.1.1 form.Variable c.in-Variable.is)
-
-pub make_statement-returns-in-Word : goal.make_statement-returns-in-Word
-make_statement-returns-in-Word t c = absurd (statement_read_as _ _ _ _ c.code_of-c.ensures c.requires.1.1 form.Word c.in-Word.is)
-
-pub make_statement-returns-in-Bit : goal.make_statement-returns-in-Bit
-make_statement-returns-in-Bit t c = absurd (statement_read_as _ _ _ _ c.code_of-c.ensures c.requires.1.1 form.Bit c.in-Bit.is)
-
-pub make_statement-returns-in-Apply : goal.make_statement-returns-in-Apply
-make_statement-returns-in-Apply t c = absurd (statement_read_as _ _ _ _ c.code_of-c.ensures c.requires.1.1 (form.Apply c.in-Apply.field-0) c.in-Apply.is)
-
-pub make_statement-returns-in-Unknown : goal.make_statement-returns-in-Unknown
-make_statement-returns-in-Unknown t c = absurd (statement_read_as _ _ _ _ c.code_of-c.ensures c.requires.1.1 form.Unknown c.in-Unknown.is)
+pub make_statement-returns-in_default : goal.make_statement-returns-in_default
+make_statement-returns-in_default t c = absurd
+    (statement_opens _ _ _ c.requires.1.1 _ c.code_of-c.ensures c.in_default.not-Assign c.in_default.not-Skip c.in_default.not-Branch)

@@ -35,18 +35,18 @@ make_argument-value-requires c = let a = c.args in
           c.kind_at.ensures r.value,
     )
 
-pub overflow_cast-i : goal.overflow_cast-i
-overflow_cast-i c = let a = c.args in
+pub overflow_cast-present : goal.overflow_cast-present
+overflow_cast-present c = let a = c.args in
     let r = assign_read a.s.now a.at c.requires.1 in
     omega (arith, r.range, c.requires.0.few)
 
-pub offset_bounds-present-i : goal.offset_bounds-present-i
-offset_bounds-present-i c = let a = c.args in
+pub offset_bounds-present-x : goal.offset_bounds-present-x
+offset_bounds-present-x c = let a = c.args in
     let r = assign_read a.s.now a.at c.requires.1 in
     omega (arith, r.range, c.requires.0.few)
 
-pub bounds-present-i : goal.bounds-present-i
-bounds-present-i c = let a = c.args in
+pub bounds-present-x : goal.bounds-present-x
+bounds-present-x c = let a = c.args in
     let r = assign_read a.s.now a.at c.requires.1 in
     omega (arith, r.range, c.requires.0.few)
 

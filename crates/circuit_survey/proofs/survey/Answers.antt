@@ -19,12 +19,13 @@ offset_bounds-ranks-at c = record {
     arith,
     survey_inside _ _ _ _ _ _ c.loop-i.invariant c.loop-i-test.true _
         c.if-code-eq-CHOICE.true c.argument-c.ensures,
+    c.index-at.ensures,
   );
 }
 
 pub bounds-ranks-at : goal.bounds-ranks-at
-bounds-ranks-at c = survey_inside _ _ _ _ _ _ c.loop-i.invariant c.loop-i-test.true _ c.if-code-eq-CHOICE.true
-    c.argument-c.ensures
+bounds-ranks-at c = rw c.index-at.ensures (survey_inside _ _ _ _ _ _ c.loop-i.invariant c.loop-i-test.true _ c.if-code-eq-CHOICE.true
+    c.argument-c.ensures)
 
 pub overflow_sub-conditions : goal.overflow_sub-conditions
 overflow_sub-conditions c = survey_bit _ _ _ _ _ _ c.loop-i.invariant c.loop-i-test.true _
@@ -38,15 +39,13 @@ offset_bounds-ranks-at-then-code-eq-CHOICE c = record {
     arith,
     survey_inside _ _ _ _ _ _ c.loop-i.invariant c.loop-i-test.true _
         c.if-code-eq-CHOICE.true c.argument-c.ensures,
+    c.index-at.ensures,
   );
 }
 
 pub bounds-ranks-at-then-code-eq-CHOICE : goal.bounds-ranks-at-then-code-eq-CHOICE
-bounds-ranks-at-then-code-eq-CHOICE c = survey_inside _ _ _ _ _ _ c.loop-i.invariant c.loop-i-test.true _
-    c.if-code-eq-CHOICE.true c.argument-c.ensures
-
-pub listed_cost-cost-requires : goal.listed_cost-cost-requires
-listed_cost-cost-requires c = c.cost_table-table.ensures
+bounds-ranks-at-then-code-eq-CHOICE c = rw c.index-at.ensures (survey_inside _ _ _ _ _ _ c.loop-i.invariant c.loop-i-test.true _
+    c.if-code-eq-CHOICE.true c.argument-c.ensures)
 
 pub overflow_add-cost : goal.overflow_add-cost
 overflow_add-cost c = record { fits = omega (arith, survey_room _ _ _ _ _ _ c.loop-i.invariant c.loop-i-test.true _ c.listed_cost-cost.ensures) }
@@ -56,7 +55,7 @@ loop-i-preserved c = let l = c.loop-i in
     let t = c.loop-i-test.true in
     elim c.if-code-eq-CHOICE.branch [
       | then-code-eq-CHOICE w ↦ survey_choice _ _ _ _ _ _ l.invariant t _ _ _ _ w.if-code-eq-CHOICE.true
-          w.argument-c.ensures w.ranks-is w.conditions-is c.listed_cost-cost.ensures
+          w.argument-c.ensures (rw w.index-at.ensures at w.ranks-is) (rw w.index-at.ensures at w.conditions-is) c.listed_cost-cost.ensures
       | else-code-eq-CHOICE w ↦ survey_other _ _ _ _ _ _ l.invariant t _ _ _ w.if-code-eq-CHOICE.false w.ranks-is w.conditions-is c.listed_cost-cost.ensures
     ]
 

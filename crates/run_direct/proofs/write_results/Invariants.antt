@@ -1,10 +1,5 @@
-use Prim.Native.Nat.{◌-◌}
-use Rattle.rule.specs.Header.{variables}
 use Rattle.run_direct.specs.WritingLaws.{Writing}
 use Rattle.run_direct.proofs.write_results.Given as goal
 
 abbrev pub invariant-loop-x : goal.invariant-loop-x
 invariant-loop-x l = Writing l.rule l.figures l.initial.results l.results l.x
-
-abbrev pub decreases-loop-x : goal.decreases-loop-x
-decreases-loop-x l = variables l.rule - l.x

@@ -1,8 +1,8 @@
 use native.Mathlib.Omega.{arith}
 use mathlib.Core.Path.{refl}
-use Rattle.base.specs.declared.Form.TheVariants.{End, Assign, Skip, Branch, Unknown}
+use Rattle.circuit.specs.OpenedLaws.{expr_opens}
 use Rattle.base.specs.CodeLaws.{code_variable}
-use Rattle.rule.specs.FirstByte.{expr_inside, byte_variable, as_variable, as_word, as_bit, expr_taken}
+use Rattle.rule.specs.FirstByte.{expr_inside, byte_variable, as_variable, as_word, as_bit}
 use Rattle.run_walk.specs.ExprLaws.{variable_out, word_out, bit_out, level, first_taken, one_out, second_taken, two_out}
 use borrow.Author.Rules.{rules}
 use Rattle.run_walk.proofs.+run_argument_run_expr.Goals as goal
@@ -95,17 +95,6 @@ run_expr-overflow_add-result-in-Bit-2 t c = omega (arith, (as_bit _ _ _ _ c.requ
 pub run_expr-overflow_add-at-in-Apply : goal.run_expr-overflow_add-at-in-Apply
 run_expr-overflow_add-at-in-Apply t c = omega (arith, expr_inside _ _ _ _ c.requires.1)
 
-pub run_expr-returns-in-End : goal.run_expr-returns-in-End
-run_expr-returns-in-End t c = absurd (expr_taken _ _ _ _ c.requires.1 _ c.code_of-c.ensures End c.in-End.is)
-
-pub run_expr-returns-in-Assign : goal.run_expr-returns-in-Assign
-run_expr-returns-in-Assign t c = absurd (expr_taken _ _ _ _ c.requires.1 _ c.code_of-c.ensures Assign c.in-Assign.is)
-
-pub run_expr-returns-in-Skip : goal.run_expr-returns-in-Skip
-run_expr-returns-in-Skip t c = absurd (expr_taken _ _ _ _ c.requires.1 _ c.code_of-c.ensures Skip c.in-Skip.is)
-
-pub run_expr-returns-in-Branch : goal.run_expr-returns-in-Branch
-run_expr-returns-in-Branch t c = absurd (expr_taken _ _ _ _ c.requires.1 _ c.code_of-c.ensures Branch c.in-Branch.is)
-
-pub run_expr-returns-in-Unknown : goal.run_expr-returns-in-Unknown
-run_expr-returns-in-Unknown t c = absurd (expr_taken _ _ _ _ c.requires.1 _ c.code_of-c.ensures Unknown c.in-Unknown.is)
+pub run_expr-returns-in_default : goal.run_expr-returns-in_default
+run_expr-returns-in_default t c = absurd
+    (expr_opens _ _ _ _ c.requires.1 _ c.code_of-c.ensures c.in_default.not-Variable c.in_default.not-Word c.in_default.not-Bit c.in_default.not-Apply)

@@ -3,6 +3,7 @@ use Rattle.base.specs.declared.Form.TheVariants as form
 use Rattle.base.specs.ParsingLaws.{forward_read}
 use Rattle.rule.specs.ExpressionLaws.{expr_forward}
 use Rattle.rule.specs.FuelLaws.{block_forward, statement_forward}
+use Rattle.circuit.specs.OpenedLaws.{statement_opens}
 use Rattle.run_walk.specs.BlockLaws.{statement_taken, statement_ran, skip_ran, branch_level, test_taken, first_taken, second_taken}
 use Rattle.run_walk.specs.BlockLaws.{branch_yes, branch_no, amid_start, amid_inside, amid_end, amid_taken, amid_more}
 use borrow.Author.Rules.{rules}
@@ -86,23 +87,9 @@ run_statement-overflow_sub-nest-else-test-eq1 t c = branch_level _ _ _ (statemen
 pub run_statement-overflow_sub-nest-else-test-eq1-2 : goal.run_statement-overflow_sub-nest-else-test-eq1-2
 run_statement-overflow_sub-nest-else-test-eq1-2 t c = branch_level _ _ _ (statement_taken _ _ _ c.requires.2 _ c.code_of-c.ensures form.Branch c.in-Branch.is)
 
-pub run_statement-returns-in-End : goal.run_statement-returns-in-End
-run_statement-returns-in-End t c = absurd (statement_taken _ _ _ c.requires.2 _ c.code_of-c.ensures form.End c.in-End.is)
-
-pub run_statement-returns-in-Variable : goal.run_statement-returns-in-Variable
-run_statement-returns-in-Variable t c = absurd (statement_taken _ _ _ c.requires.2 _ c.code_of-c.ensures form.Variable c.in-Variable.is)
-
-pub run_statement-returns-in-Word : goal.run_statement-returns-in-Word
-run_statement-returns-in-Word t c = absurd (statement_taken _ _ _ c.requires.2 _ c.code_of-c.ensures form.Word c.in-Word.is)
-
-pub run_statement-returns-in-Bit : goal.run_statement-returns-in-Bit
-run_statement-returns-in-Bit t c = absurd (statement_taken _ _ _ c.requires.2 _ c.code_of-c.ensures form.Bit c.in-Bit.is)
-
-pub run_statement-returns-in-Apply : goal.run_statement-returns-in-Apply
-run_statement-returns-in-Apply t c = absurd (statement_taken _ _ _ c.requires.2 _ c.code_of-c.ensures (form.Apply c.in-Apply.field-0) c.in-Apply.is)
-
-pub run_statement-returns-in-Unknown : goal.run_statement-returns-in-Unknown
-run_statement-returns-in-Unknown t c = absurd (statement_taken _ _ _ c.requires.2 _ c.code_of-c.ensures form.Unknown c.in-Unknown.is)
+pub run_statement-returns-in_default : goal.run_statement-returns-in_default
+run_statement-returns-in_default t c = absurd
+    (statement_opens _ _ _ c.requires.2 _ c.code_of-c.ensures c.in_default.not-Assign c.in_default.not-Skip c.in_default.not-Branch)
 
 pub run_block-run_statement-here-requires : goal.run_block-run_statement-here-requires
 run_block-run_statement-here-requires t c =

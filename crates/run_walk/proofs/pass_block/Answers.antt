@@ -1,13 +1,22 @@
-use mathlib.Core.Path.{sym, ◌∙◌}
+use Rattle.std.proofs.Common.{◌≡◌, ℕ, Result, Ok, Err, refl, sym, ap, ◌∙◌}
+use Rattle.std.specs.Result.{IsOk}
+use Rattle.base.specs.declared.Refusal.{Refusal}
+use Rattle.base.specs.Parsing.{Parsed, step_of, IsRead}
 use Rattle.base.specs.ParsingLaws.{read_past, not_refused}
+use Rattle.base.specs.Refusals.{step_in}
+use Rattle.rule.specs.Tree.{Block}
 use Rattle.rule.specs.Blocks.{read_block}
 use Rattle.run_walk.proofs.pass_block.Goals as goal
 
-pub returns-in-Past : goal.returns-in-Past
-returns-in-Past c = let a = c.args in
-    let r = read_past (read_block a.s.now a.nest a.at) (sym c.in-Past.is ∙ c.read_block.ensures) in
-    record { what = r.0; read = r.1 }
+-- what was read is no refusal
+taken : (m : Parsed Block) (r : Result ℕ Refusal) → IsRead m → step_in r ≡ step_of m → IsOk r
+taken m (Ok n) h e = refl
+taken m (Err x) h e = absurd (not_refused m h e)
 
-pub returns-in-Refused : goal.returns-in-Refused
-returns-in-Refused c = let a = c.args in
-    absurd (not_refused (read_block a.s.now a.nest a.at) c.requires.1 (sym c.in-Refused.is ∙ c.read_block.ensures))
+pub unwrap-requires : goal.unwrap-requires
+unwrap-requires c = taken _ _ c.requires.1 c.read_block.ensures
+
+pub returns : goal.returns
+returns c = let a = c.args in
+    let r = read_past (read_block a.s.now a.nest a.at) (ap step_in (sym c.unwrap.ensures) ∙ c.read_block.ensures) in
+    record { what = r.0; read = r.1 }

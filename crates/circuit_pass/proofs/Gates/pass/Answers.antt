@@ -1,12 +1,12 @@
 use native.Mathlib.Omega.{arith}
 use Rattle.circuit_needed.specs.PassingLaws.{walking_start, walking_final, walking_step, walking_end}
-use Rattle.circuit_pass.proofs.pass.Goals as goal
+use Rattle.circuit_pass.proofs.Gates.pass.Goals as goal
 
 pub loop-i-init : goal.loop-i-init
-loop-i-init c = walking_start _ _ _ _ c.requires
+loop-i-init c = walking_start _ _ _ _ c.args.self.now.passable
 
 pub hand-requires : goal.hand-requires
-hand-requires c = (c.loop-i.invariant.passable, omega (arith, c.loop-i.invariant.low, c.loop-i-test.true))
+hand-requires c = omega (arith, c.loop-i.invariant.low, c.loop-i-test.true)
 
 -- the gate in turn hands on the set that it ends with, since that set is final
 pub loop-i-preserved : goal.loop-i-preserved
