@@ -88,7 +88,7 @@ fn find(file: &[u8], wire: WireId) -> Option<Part>
     })
 }
 
-// That part, 0 and 0 where there is none.
+// That part, as C is handed it: 0 and 0 where there is none.
 pub fn part_of(file: &[u8], wire: WireId) -> Part
     ensures start { result.start ≡ part_start file.now wire.0 }
     ensures length { result.length ≡ part_length file.now wire.0 }
