@@ -29,7 +29,11 @@ impl From<u8> for Version {
     ghost from_gives = { λ b version. version ≡ version_of b };
 
     fn from(byte: u8) -> Version {
-        if byte == 1 { Version::One } else { Version::Two }
+        if byte == Version::One as u8 {
+            Version::One
+        } else {
+            Version::Two
+        }
     }
 }
 
@@ -68,6 +72,6 @@ pub const MOST_FILE_VARIABLES: u8 = 32;
 pub const MOST_WIRES: usize = 640;
 
 // The version byte of a file that is written, and the bytes of a guard's table there.
-pub const WRITTEN_VERSION: u8 = 2;
+pub const WRITTEN_VERSION: u8 = Version::Two as u8;
 
 pub const WRITTEN_TABLE: usize = 32;

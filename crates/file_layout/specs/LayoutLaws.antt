@@ -19,7 +19,7 @@ use Rattle.file.specs.Records.{Record}
 use Rattle.file.specs.Versions.{most_guard_wires, table_bytes}
 use Rattle.file.specs.FileFigures.{version_in, record_at, size_at, first_record, wire_count}
 use Rattle.file.specs.FilePartLaws.{wires_length, pairs_length}
-use Rattle.file.specs.RecordBounds.{Coded, operation_code_lem, known_coded}
+use Rattle.file.specs.RecordBounds.{Coded, is_input, is_word, is_bit_lem, is_operation, is_choice, is_pick, is_guard, operation_code_lem, known_coded}
 use Rattle.file.specs.FoundForms.{form_input, form_word, form_bit, form_operation, form_choice, form_pick, form_guard}
 use Rattle.file.specs.LaidOut.{record_codes}
 use Rattle.file.specs.CircuitRows.{bounded, whole_at, laid_from, laid}
@@ -74,12 +74,21 @@ module _ (f : List ℕ) (at : ℕ) where
       go (suc (suc (suc (suc (suc (suc (suc n))))))) e k = absurd (omega arith)
 
   -- by any other byte none
-  pub said_unknown : (Coded (get_or f at 0) → ⊥) → said_size f at ≡ None
+  pub said_unknown : 2 ≤ get_or f at 0 → (get_or f at 0 ≡ 0x11 → ⊥) → (get_or f at 0 ≡ 0x12 → ⊥) → (0x20 ≤ get_or f at 0 → 0x28 ≤ get_or f at 0)
+      → (get_or f at 0 ≡ 0x30 → ⊥) → (get_or f at 0 ≡ 0x31 → ⊥) → (get_or f at 0 ≡ 0x32 → ⊥) → said_size f at ≡ None
   unfolding said_size
-  said_unknown h =
-      split (elem (get_or f at 0) record_codes)
-      (λ t. absurd (h (known_coded (get_or f at 0) (elem→∈ (get_or f at 0) record_codes t))))
-      (λ t. rw t)
+  said_unknown input word constant operation choice pick guard =
+      split (elem (get_or f at 0) record_codes) (λ t. absurd (go (known_coded (get_or f at 0) (elem→∈ (get_or f at 0) record_codes t)))) (λ t. rw t)
+    where
+      go : Coded (get_or f at 0) → ⊥
+      go (is_input kind.Word e) = omega arith
+      go (is_input kind.Bit e) = omega arith
+      go (is_word e) = word e
+      go (is_bit_lem e) = constant e
+      go (is_operation op e) = let (_, l, h) = operation_code_lem op in omega (arith, l, h)
+      go (is_choice e) = choice e
+      go (is_pick e) = pick e
+      go (is_guard e) = guard e
 
   -- a record is whole where the bytes that it says it has are there
   pub none_said : said_size f at ≡ None → cond (whole_at f at) (Some (size_at f at)) None ≡ None

@@ -13,7 +13,7 @@ fn marked(file: &[u8]) -> bool
     requires { first_record ≤ length file.now }
     ensures { result ≡ marked file.now }
 {
-    file.starts_with(b"CIR\0") && (file[4] == 0x01 || file[4] == 0x02)
+    file.starts_with(b"CIR\0") && (file[4] == Version::One as u8 || file[4] == Version::Two as u8)
 }
 
 // Row 60: does none of it apply to the file?

@@ -88,7 +88,7 @@ fn find(file: &[u8], wire: WireId) -> Option<Part>
     })
 }
 
-// That part, 0 and 0 where there is none.
+// That part, as C is handed it: 0 and 0 where there is none.
 pub fn part_of(file: &[u8], wire: WireId) -> Part
     ensures start { result.start ≡ part_start file.now wire.0 }
     ensures length { result.length ≡ part_length file.now wire.0 }
@@ -104,28 +104,25 @@ pub fn part_of(file: &[u8], wire: WireId) -> Part
 pub fn record<'a>(file: &'a [u8], wire: WireId) -> &'a [u8]
     ensures { result.now ≡ record_part file.now wire.0 }
 {
-    let p = part_of(file, wire);
-    &file[p.start..p.start + p.length]
+    let Part { start, length } = part_of(file, wire);
+    let end = start + length;
+    &file[start..end]
 }
 
-// Rows 40 to 42 of the inputs of a file that is read, the lowest first. The first V records are its inputs, two bytes each.
+// The kind of variable x of a file that is read: the first V records are its inputs, two bytes each.
+fn kind_at(file: &[u8], x: u8) -> Kind
+    requires { (circuit_row file.now ≡ 0) × (x < file_variables file.now) }
+    ensures { result ≡ wire_kind (file_records file.now) x }
+{
+    base_codes::start_kind(file[file::FIRST_RECORD + 2 * usize::from(x)])
+}
+
+// Rows 40 to 42 of the inputs of a file that is read, the lowest first.
 fn inputs_refusal(file: &[u8], inputs: &[u32], room: usize) -> Result<(), Row>
     requires { circuit_row file.now ≡ 0 }
     ensures { row_in result ≡ inputs_row (file_variables file.now) (wire_kind (file_records file.now)) inputs.now room }
 {
-    let v = usize::from(file[5]);
-    if inputs.len() != v {
-        return Err(Row::InputCount);
-    }
-    for (x, input) in inputs.iter().enumerate() {
-        if 1 < *input && base_codes::start_kind(file[8 + 2 * x]) == Kind::Bit {
-            return Err(Row::InputBit);
-        }
-    }
-    if room < v {
-        return Err(Row::ResultRoom);
-    }
-    Ok(())
+    base_answers::inputs_refusal(file[5], |x| kind_at(file, x), inputs, room)
 }
 
 // Runs a circuit file; a refusal writes nothing.

@@ -1,7 +1,5 @@
 use Rattle.std.proofs.Common.{sym, ◌∙◌, arith, get_or}
-use Rattle.base.specs.declared.Kind.TheVariants as kind
 use Rattle.base.specs.declared.Operation.TheVariants.{Not}
-use Rattle.file.specs.RecordBounds.{Coded, is_input, is_word, is_bit_lem, is_operation, is_choice, is_pick, is_guard, operation_code_lem}
 use Rattle.file_parts.specs.FirstByteLaws.{input_code}
 use Rattle.file_layout.specs.LayoutLaws.{said_input, said_word, said_bit, said_operation, said_two, said_choice, said_pick, said_guard, said_unknown}
 use Rattle.file_layout.proofs.said_size.Goals as goal
@@ -33,27 +31,7 @@ returns-in-50 c = c.then_some-in-50.ensures ∙ rw (c.most_guard_wires.ensures, 
 
 -- what is left opens no record
 pub returns-in_default : goal.returns-in_default
-returns-in_default c = sym (said_unknown _ _ go)
-  where
-    go : Coded (get_or c.args.file.now c.args.at 0) → ⊥
-    go (is_input kind.Word e) = omega arith
-    go (is_input kind.Bit e) = omega arith
-    go (is_word e) = grind arith
-    go (is_bit_lem e) = omega arith
-    go (is_operation op e) = let (_, l, h) = operation_code_lem op in grind arith
-    go (is_choice e) = omega arith
-    go (is_pick e) = omega arith
-    go (is_guard e) = omega arith
+returns-in_default c = sym (said_unknown _ _ (omega arith) (λ e. grind arith) (λ e. omega arith) (λ h. grind arith) (λ e. omega arith) (λ e. omega arith) (λ e. omega arith))
 
 pub returns-in_default-2 : goal.returns-in_default-2
-returns-in_default-2 c = sym (said_unknown _ _ go)
-  where
-    go : Coded (get_or c.args.file.now c.args.at 0) → ⊥
-    go (is_input kind.Word e) = omega arith
-    go (is_input kind.Bit e) = omega arith
-    go (is_word e) = grind arith
-    go (is_bit_lem e) = omega arith
-    go (is_operation op e) = let (_, l, h) = operation_code_lem op in grind arith
-    go (is_choice e) = omega arith
-    go (is_pick e) = omega arith
-    go (is_guard e) = omega arith
+returns-in_default-2 c = sym (said_unknown _ _ (omega arith) (λ e. grind arith) (λ e. omega arith) (λ h. grind arith) (λ e. omega arith) (λ e. omega arith) (λ e. omega arith))

@@ -1,22 +1,18 @@
-use Rattle.std.proofs.Common.{rules, ◌≡◌, ◌<◌, cond, Some, None, length, take, drop, ℕ, ◌+◌, ◌-◌, ◌*◌, ◌≤◌, ◌/◌, ◌%◌, Bool, true, false, nat_eq, nat_lt, List, [], ◌∷◌, ◌++◌, slice_index_or, slice_set, bit_and, bit_or, Fits, w8, w32, w64, Bor, MutBor}
-use Rattle.base.specs.Inputs.{inputs_row}
-use Rattle.base.specs.Refusals.{answer_in}
-use Rattle.base.specs.Rows.{row_in}
-use Rattle.file.specs.WireKinds.{wire_kind}
-use Rattle.file.specs.FileFigures.{size_at, file_variables, wire_count, file_records}
-use Rattle.file.specs.LaidOut.{record_place}
-use Rattle.file.specs.CircuitRows.{circuit_row}
-use Rattle.file.specs.Answers.{circuit_answer, shown, part_start, part_length, record_part, circuit_run_answer, circuit_run_results}
+use Rattle.std.proofs.Common.{ℕ, sym, ap, ◌∙◌}
+use Rattle.base.proofs.PassedLaws.{passed_at_0}
+use Rattle.base.specs.Answers.{refusal}
+use Rattle.file.specs.FormatLaws.{row_passed}
+use Rattle.file.specs.ReadLaws.{refused_answer, taken_answer}
+use Rattle.file.specs.RefusalLaws.{some_row}
 use Rattle.file_reader.proofs.count.Goals as goal
 
--- src/lib.rt:38:5
 pub returns-in_err-check : goal.returns-in_err-check
-returns-in_err-check c = ?
+returns-in_err-check c = let row = c.in_err-check.ensures in
+    passed_at_0 _ _ c.from_residual.ensures.1 (ap (λ (k : ℕ). refusal k 0) row ∙ sym (refused_answer _ (λ z. some_row _ (row ∙ z))))
 
--- src/lib.rt:40:28
 pub read16-requires : goal.read16-requires
-read16-requires c = ?
+read16-requires c = (row_passed _ (sym c.in_ok-check.ensures)).head.long
 
--- src/lib.rt:35:1
 pub returns : goal.returns
-returns c = ?
+returns c = let none = c.default.ensures in
+    rw (none.0, none.1.1.1.0, none.1.1.1.1, c.from.ensures, c.read16.ensures) (sym (taken_answer _ (sym c.in_ok-check.ensures)))

@@ -1,18 +1,12 @@
-use Rattle.std.proofs.Common.{rules, ◌≡◌, ◌<◌, cond, Some, None, length, take, drop, ℕ, ◌+◌, ◌-◌, ◌*◌, ◌≤◌, ◌/◌, ◌%◌, Bool, true, false, nat_eq, nat_lt, List, [], ◌∷◌, ◌++◌, slice_index_or, slice_set, bit_and, bit_or, Fits, w8, w32, w64, Bor, MutBor}
-use Rattle.base.specs.Inputs.{inputs_row}
-use Rattle.base.specs.Refusals.{answer_in}
-use Rattle.base.specs.Rows.{row_in}
-use Rattle.file.specs.WireKinds.{wire_kind}
-use Rattle.file.specs.FileFigures.{size_at, file_variables, wire_count, file_records}
-use Rattle.file.specs.LaidOut.{record_place}
-use Rattle.file.specs.CircuitRows.{circuit_row}
-use Rattle.file.specs.Answers.{circuit_answer, shown, part_start, part_length, record_part, circuit_run_answer, circuit_run_results}
+use Rattle.std.proofs.Common.{sym, ◌∙◌, arith}
+use Rattle.file.specs.FormatLaws.{row_passed}
+use Rattle.file.specs.RefusalLaws.{row_ok}
+use Rattle.file.specs.RowLaws.{whole_right}
 use Rattle.file_reader.proofs.find.Goals as goal
 
--- src/lib.rt:80:32
 pub read16-requires : goal.read16-requires
-read16-requires c = ?
+read16-requires c = (row_passed _ (sym c.check.ensures ∙ row_ok _ (sym c.if-is_err.ensures.value))).head.long
 
--- src/lib.rt:87:17
 pub invariant_of-record : goal.invariant_of-record
-invariant_of-record c = ?
+invariant_of-record c = let p = row_passed _ (sym c.check.ensures ∙ row_ok _ (sym c.if-is_err.ensures.value)) in
+    record { whole = (whole_right _ _).1 (rw c.record_place-start.ensures (p.layout.whole c.args.wire.0 (omega arith))) }

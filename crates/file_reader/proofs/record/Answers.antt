@@ -1,18 +1,12 @@
-use Rattle.std.proofs.Common.{rules, ◌≡◌, ◌<◌, cond, Some, None, length, take, drop, ℕ, ◌+◌, ◌-◌, ◌*◌, ◌≤◌, ◌/◌, ◌%◌, Bool, true, false, nat_eq, nat_lt, List, [], ◌∷◌, ◌++◌, slice_index_or, slice_set, bit_and, bit_or, Fits, w8, w32, w64, Bor, MutBor}
-use Rattle.base.specs.Inputs.{inputs_row}
-use Rattle.base.specs.Refusals.{answer_in}
-use Rattle.base.specs.Rows.{row_in}
-use Rattle.file.specs.WireKinds.{wire_kind}
-use Rattle.file.specs.FileFigures.{size_at, file_variables, wire_count, file_records}
-use Rattle.file.specs.LaidOut.{record_place}
-use Rattle.file.specs.CircuitRows.{circuit_row}
-use Rattle.file.specs.Answers.{circuit_answer, shown, part_start, part_length, record_part, circuit_run_answer, circuit_run_results}
+use Rattle.std.proofs.Common.{rules, ◌+◌, ◌≤◌, length, arith}
+use Rattle.file.specs.ReadLaws.{part_inside}
 use Rattle.file_reader.proofs.record.Goals as goal
 
--- src/lib.rt:108:20
-pub overflow_add-result : goal.overflow_add-result
-overflow_add-result c = ?
+pub overflow_add-end : goal.overflow_add-end
+overflow_add-end c = let p = c.part_of-start in
+    let h : p.result.start + p.result.length ≤ length c.args.file.now =
+    omega (arith, part_inside c.args.file.now c.args.wire.0, p.ensures.start, p.ensures.length) in
+    search rules
 
--- src/lib.rt:108:5
 pub slice_bounds-result-end : goal.slice_bounds-result-end
-slice_bounds-result-end c = ?
+slice_bounds-result-end c = omega (arith, part_inside c.args.file.now c.args.wire.0, c.part_of-start.ensures.start, c.part_of-start.ensures.length)

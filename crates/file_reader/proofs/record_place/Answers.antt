@@ -1,22 +1,17 @@
-use Rattle.std.proofs.Common.{rules, ◌≡◌, ◌<◌, cond, Some, None, length, take, drop, ℕ, ◌+◌, ◌-◌, ◌*◌, ◌≤◌, ◌/◌, ◌%◌, Bool, true, false, nat_eq, nat_lt, List, [], ◌∷◌, ◌++◌, slice_index_or, slice_set, bit_and, bit_or, Fits, w8, w32, w64, Bor, MutBor}
-use Rattle.base.specs.Inputs.{inputs_row}
-use Rattle.base.specs.Refusals.{answer_in}
-use Rattle.base.specs.Rows.{row_in}
-use Rattle.file.specs.WireKinds.{wire_kind}
-use Rattle.file.specs.FileFigures.{size_at, file_variables, wire_count, file_records}
-use Rattle.file.specs.LaidOut.{record_place}
-use Rattle.file.specs.CircuitRows.{circuit_row}
-use Rattle.file.specs.Answers.{circuit_answer, shown, part_start, part_length, record_part, circuit_run_answer, circuit_run_results}
+use Rattle.std.proofs.Common.{rules, add-one, sym, arith}
+use Rattle.file.specs.FileFigures.{first_record}
+use Rattle.file.specs.FileLaws.{place_next}
+use Rattle.file.specs.FormatLaws.{row_passed}
+use Rattle.file.specs.LaidOut.{WholeAt}
+use Rattle.file.specs.RowLaws.{whole_right}
 use Rattle.file_reader.proofs.record_place.Goals as goal
 
--- src/lib.rt:61:15
 pub invariant_of-record : goal.invariant_of-record
-invariant_of-record c = ?
+invariant_of-record c = record { whole = (whole_right _ _).1 (rw c.loop.invariant ((row_passed _ c.requires.0).layout.whole c.loop.counter (omega (arith, c.requires.1)))) }
 
--- src/lib.rt:61:9
 pub overflow_add-at : goal.overflow_add-at
-overflow_add-at c = ?
+overflow_add-at c = let whole : WholeAt c.args.file.now c.loop.at = rw c.loop.invariant ((row_passed _ c.requires.0).layout.whole c.loop.counter (omega (arith, c.requires.1))) in
+    let h = whole.inside in search rules
 
--- src/lib.rt:59:5
 pub loop-preserved : goal.loop-preserved
-loop-preserved c = ?
+loop-preserved c = rw (c.size-at.ensures, c.loop.invariant, add-one) (sym (place_next c.loop.counter c.args.file.now first_record))
