@@ -176,7 +176,8 @@ pub const SET_WORDS: usize = 4;
 // The places of a list of conditions.
 pub const LIST_ROOM: usize = SET_CONDITIONS as usize;
 
-// A set in hand: setting j is bit j % 64 of the word j / 64.
+// A set in hand: setting j is bit j % 64 of the word j / 64. Four words by name: an array would be no shorter, since each operation takes all four, and a
+// word chosen by a number would keep the set in memory.
 #[derive(Clone, Copy)]
 pub struct Set {
     pub w0: u64,
@@ -185,7 +186,7 @@ pub struct Set {
     pub w3: u64,
 }
 
-// Conditions, rising: so many of them, zeros after them; in the number `on` the bit of each is 1.
+// Conditions, rising: so many of them, zeros after them, in fixed memory; in the number `on` the bit of each is 1.
 #[derive(Clone, Copy)]
 pub struct ConditionList {
     pub count: u8,

@@ -1,22 +1,14 @@
-// How an operation answers, and how a reader of bytes goes on; what is refused of inputs.
+// How a reader of bytes goes on, and what is refused of inputs.
 #![tactic(auto)]
 
 ghost use Rattle.std.specs.Prelude.{◌≡◌, ℕ, ◌≤◌, ◌<◌, length};
-ghost use Rattle.base.specs.Answers.{refusal};
 ghost use Rattle.base.specs.Parsing.{step_of, read_mark};
 ghost use Rattle.base.specs.Refusals.{step_in};
 ghost use Rattle.base.specs.Rows.{number_of, row_in};
 ghost use Rattle.base.specs.Inputs.{inputs_row};
 ghost use Rattle.base.specs.declared.Kind.{Kind};
 
-use base::{Answer, Kind, Refusal, Row};
-
-// The answer of a row at a place.
-pub fn refused(row: Row, place: usize) -> Answer
-    ensures { result ≡ refusal (number_of row) place }
-{
-    Answer::from(row.at(place))
-}
+use base::{Kind, Refusal, Row};
 
 // The bytes of `mark` stand at the start of the file, or the row lies on the first that does not.
 pub fn read_mark(s: &[u8], mark: &[u8], row: Row) -> Result<usize, Refusal>

@@ -3,7 +3,7 @@
 
 ghost use Rattle.std.specs.Prelude.{◌≡◌, ◌&&◌, ◌||◌, ◌≤◌, eqb};
 ghost use Rattle.base.specs.Results.{bit_of, result_of};
-ghost use Rattle.base.specs.Codes.{start_kind, same_kind, plain, entry_of, commutes, operation_of, byte_of, code_of};
+ghost use Rattle.base.specs.Codes.{start_kind, plain, entry_of, commutes, operation_of, byte_of, code_of};
 
 use base::{Code, Form, Kind, Operation};
 
@@ -15,12 +15,6 @@ pub fn start_kind(b: u8) -> Kind
     ensures { result ≡ start_kind b }
 {
     if b == 1 { Kind::Bit } else { Kind::Word }
-}
-
-pub fn same_kind(a: Kind, b: Kind) -> bool
-    ensures { result ≡ same_kind a b }
-{
-    a == b
 }
 
 // A code with no arguments.

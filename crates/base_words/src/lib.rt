@@ -5,19 +5,7 @@ ghost use Rattle.std.specs.Prelude.{◌≡◌, ◌+◌, ◌<◌, ◌≤◌, leng
 ghost use Rattle.base.specs.Numbers.{bytes_of, number_at, sum_of, difference_of, product_of};
 ghost use Rattle.base.specs.Buffers.{over};
 
-// A byte and a 16-bit number as an index, with the bound, for every crate that reads one.
-pub fn wide8(x: u8) -> usize
-    ensures { (result ≡ x) × (result < 256) }
-{
-    x as usize
-}
-
-pub fn wide16(x: u16) -> usize
-    ensures { (result ≡ x) × (result < 65536) }
-{
-    x as usize
-}
-
+// Three widths, each two of half its width, and no one function over the width: it would give a u64, which every caller would cast back.
 pub fn read16(s: &[u8], at: usize) -> u16
     requires { at + 2 ≤ length s.now }
     ensures { result ≡ number_at 2 s.now at }
@@ -25,7 +13,6 @@ pub fn read16(s: &[u8], at: usize) -> u16
     (s[at] as u16) * 256 + (s[at + 1] as u16)
 }
 
-// Each wider number is two of half its width.
 pub fn read32(s: &[u8], at: usize) -> u32
     requires { at + 4 ≤ length s.now }
     ensures { result ≡ number_at 4 s.now at }
