@@ -6,7 +6,6 @@ use Rattle.base.specs.Parsing.{parsed}
 use Rattle.rule.specs.Tree.{word}
 use Rattle.rule.specs.FirstByte.{expr_inside, byte_variable, as_variable, as_word, as_bit}
 use Rattle.circuit_make.specs.ExprLaws.{level, first_taken, second_taken, made_variable, made_word, made_bit, made_one, made_two}
-use borrow.Author.Rules.{rules}
 use Prim.Native.Nat.{ℕ}
 use Rattle.circuit_plain.proofs.+make_argument_make_expr.Goals as goal
 
@@ -55,12 +54,6 @@ pub make_argument-returns-then-s-at-eq-VARIABLE : goal.make_argument-returns-the
 make_argument-returns-then-s-at-eq-VARIABLE t c = let v = byte_variable _ _ _ _ c.requires.1 c.if-s-at-eq-VARIABLE.true in
     rw c.make_variable.ensures (made_variable _ _ _ _ _ _ _ v.is)
 
-pub make_argument-make_expr-requires : goal.make_argument-make_expr-requires
-make_argument-make_expr-requires t c = (search rules, c.requires)
-
-pub make_argument-returns : goal.make_argument-returns
-make_argument-returns t c = c.make_expr.ensures
-
 pub make_expr-bounds-s-at : goal.make_expr-bounds-s-at
 make_expr-bounds-s-at t c = expr_inside _ _ _ _ c.requires.1
 
@@ -81,9 +74,6 @@ make_expr-overflow_add-n t c = omega (arith, (as_bit _ _ _ _ c.requires.1 _ c.co
 
 pub make_expr-bounds-s-at-in-Bit : goal.make_expr-bounds-s-at-in-Bit
 make_expr-bounds-s-at-in-Bit t c = (as_bit _ _ _ _ c.requires.1 _ c.code_of-c.ensures c.in-Bit.is).inside
-
-pub make_expr-overflow_cast-n : goal.make_expr-overflow_cast-n
-make_expr-overflow_cast-n t c = let v = as_bit _ _ _ _ c.requires.1 _ c.code_of-c.ensures c.in-Bit.is in omega (arith, v.low, v.inside, c.type_inv.s (c.args.at + 1))
 
 pub make_expr-overflow_add-result-in-Bit : goal.make_expr-overflow_add-result-in-Bit
 make_expr-overflow_add-result-in-Bit t c = omega (arith, (as_bit _ _ _ _ c.requires.1 _ c.code_of-c.ensures c.in-Bit.is).inside)

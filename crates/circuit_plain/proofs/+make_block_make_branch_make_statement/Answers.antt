@@ -11,7 +11,7 @@ use Rattle.rule.specs.FuelLaws.{block_forward, statement_forward}
 use Rattle.rule.specs.BlockLaws.{statement_as}
 use Rattle.rule.specs.FirstStatement.{block_inside}
 use Rattle.circuit_make.specs.StatementLaws.{done_as, branch_level, test_taken, first_taken, second_taken, made_branch, statement_read_as, made_skip}
-use Rattle.circuit_make.specs.BlockLaws.{walked_none, rest_taken, statement_taken, walked_all, walked_more}
+use Rattle.circuit_make.specs.BlockLaws.{rest_taken, statement_taken, walked_all, walked_more}
 use borrow.Author.Rules.{rules}
 use Rattle.circuit.specs.OpenedLaws.{statement_opens}
 use Rattle.circuit_plain.proofs.+make_block_make_branch_make_statement.Goals as goal
@@ -44,17 +44,11 @@ make_branch-returns t c = record {
   small = search rules;
 }
 
-pub make_block-loop-here-init : goal.make_block-loop-here-init
-make_block-loop-here-init t c = (walked_none _ _ _ _ _ _ c.requires.1, search rules)
-
 pub make_block-bounds-s-here : goal.make_block-bounds-s-here
 make_block-bounds-s-here t c = block_inside _ _ _ (rest_taken _ _ _ _ _ _ _ _ _ _ _ c.loop-here.invariant.0)
 
 pub make_block-overflow_add-result : goal.make_block-overflow_add-result
 make_block-overflow_add-result t c = omega (arith, block_inside _ _ _ (rest_taken _ _ _ _ _ _ _ _ _ _ _ c.loop-here.invariant.0))
-
-pub make_block-overflow_cast-result : goal.make_block-overflow_cast-result
-make_block-overflow_cast-result t c = record { fits = omega (arith, c.loop-here.invariant.1) }
 
 pub make_block-returns-then-s-here-eq0 : goal.make_block-returns-then-s-here-eq0
 make_block-returns-then-s-here-eq0 t c = record { made = walked_all _ _ _ _ _ _ _ _ _ _ _ c.loop-here.invariant.0 c.if-s-here-eq0.true; small = c.loop-here.invariant.1 }
@@ -64,9 +58,6 @@ make_block-make_statement-x-requires t c = (
   omega (arith, c.loop-here.invariant.0.onward, block_inside _ _ _ (rest_taken _ _ _ _ _ _ _ _ _ _ _ c.loop-here.invariant.0)),
   (c.requires.0, (block_inside _ _ _ (rest_taken _ _ _ _ _ _ _ _ _ _ _ c.loop-here.invariant.0), statement_taken _ _ _ _ _ _ _ _ _ _ _ c.loop-here.invariant.0 c.if-s-here-eq0.false)),
 )
-
-pub make_block-overflow_cast-n : goal.make_block-overflow_cast-n
-make_block-overflow_cast-n t c = record { fits = omega (arith, c.make_statement-x.ensures.small) }
 
 pub make_block-loop-here-smaller : goal.make_block-loop-here-smaller
 make_block-loop-here-smaller t c =
@@ -80,18 +71,6 @@ make_branch-overflow_sub-nest t c = branch_level _ _ _ c.requires.1.1
 
 pub make_branch-overflow_sub-nest-2 : goal.make_branch-overflow_sub-nest-2
 make_branch-overflow_sub-nest-2 t c = branch_level _ _ _ c.requires.1.1
-
-pub make_branch-overflow_cast-x : goal.make_branch-overflow_cast-x
-make_branch-overflow_cast-x t c = record { fits = omega (arith, c.make_block-x.ensures.small) }
-
-pub make_branch-bounds-s-5 : goal.make_branch-bounds-s-5
-make_branch-bounds-s-5 t c = omega (arith, c.requires.0.kinds)
-
-pub make_branch-overflow_cast-y : goal.make_branch-overflow_cast-y
-make_branch-overflow_cast-y t c = record { fits = omega (arith, c.make_block-y.ensures.small) }
-
-pub make_branch-make_choices-more-requires : goal.make_branch-make_choices-more-requires
-make_branch-make_choices-more-requires t c = c.requires.0.few
 
 pub make_statement-make_assign-requires : goal.make_statement-make_assign-requires
 make_statement-make_assign-requires t c = (c.requires.0, statement_read_as _ _ _ _ c.code_of-c.ensures c.requires.1.1 form.Assign c.in-Assign.is)

@@ -35,16 +35,6 @@ make_argument-value-requires c = let a = c.args in
           c.kind_at.ensures r.value,
     )
 
-pub overflow_cast-present : goal.overflow_cast-present
-overflow_cast-present c = let a = c.args in
-    let r = assign_read a.s.now a.at c.requires.1 in
-    omega (arith, r.range, c.requires.0.few)
-
-pub offset_bounds-present-x : goal.offset_bounds-present-x
-offset_bounds-present-x c = let a = c.args in
-    let r = assign_read a.s.now a.at c.requires.1 in
-    omega (arith, r.range, c.requires.0.few)
-
 pub bounds-present-x : goal.bounds-present-x
 bounds-present-x c = let a = c.args in
     let r = assign_read a.s.now a.at c.requires.1 in

@@ -10,28 +10,15 @@ bounds-s-5 c = let a = c.args in
     let r = rule_read a.s.now c.requires.0 in
     omega (arith, r.header.kinds)
 
-pub overflow_cast-v : goal.overflow_cast-v
-overflow_cast-v c = let a = c.args in
-    let r = rule_read a.s.now c.requires.0 in
-    omega (arith, r.header.few)
-
 pub make_starts-count-requires : goal.make_starts-count-requires
 make_starts-count-requires c = let a = c.args in
     let r = rule_read a.s.now c.requires.0 in
     (r.header, c.requires.1)
 
-pub overflow_add-v : goal.overflow_add-v
-overflow_add-v c = let a = c.args in
-    let r = rule_read a.s.now c.requires.0 in
-    omega (arith, r.header.few)
-
 pub make_block-made-requires : goal.make_block-made-requires
 make_block-made-requires c = let a = c.args in
     let r = rule_read a.s.now c.requires.0 in
     (r.header, subst IsRead r.block c.requires.0)
-
-pub overflow_cast-result : goal.overflow_cast-result
-overflow_cast-result c = record { fits = omega (arith, c.make_block-made.ensures.small) }
 
 pub returns : goal.returns
 returns c = let a = c.args in

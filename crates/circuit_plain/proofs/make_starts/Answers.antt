@@ -4,7 +4,7 @@ use Rattle.base.specs.declared.Kind.{Kind}
 use Rattle.base.specs.declared.Kind.TheVariants as kind
 use Rattle.base.specs.contracts.Kind.{the_type}
 use Rattle.base.specs.Codes.{start_code}
-use Rattle.circuit_make.specs.ChoiceLaws.{started_none, started_more, started_all}
+use Rattle.circuit_make.specs.ChoiceLaws.{started_none, started_more}
 use Rattle.circuit_plain.proofs.make_starts.Goals as goal
 
 -- a kind's number is the code of a starting value
@@ -22,7 +22,3 @@ loop-x-preserved c = let l = c.loop-x in (
   started_more c.args.s.now l.quads l.present l.x l.n _ c.push-n.result _ l.invariant.1 (omega (arith, l.invariant.0, c.loop-x-test.true)) c.requires.0.few
       (rw c.kind_at-code.ensures (code_is _)) c.push-n.ensures,
 )
-
-pub returns : goal.returns
-returns c = let l = c.loop-x in
-    started_all c.args.s.now l.quads l.present l.x l.n l.invariant.1 (omega (arith, l.invariant.0, c.loop-x-test.false))
