@@ -51,5 +51,8 @@ module _ (s outputs wanted : List ℕ) (x k : ℕ) (b : Bool) (i : Listing s out
             ∙ ap (map (λ y. get_or outputs y 0)) (sym (keep_no (λ y. not (working_at s y)) x (ap not (sym e ∙ t))));
       }
 
-pub listing_end : (s outputs wanted : List ℕ) (x k : ℕ) → Listing s outputs wanted x k → variables s ≤ x → take k wanted ≡ wanted_among s outputs
-listing_end s outputs wanted x k i l = let e : x ≡ variables s = omega (arith, i.low) in i.listed ∙ ap (wanted_below s outputs) e
+pub listing_end : (s outputs wanted : List ℕ) (x k : ℕ) → Listing s outputs wanted x k → variables s ≤ x
+    → (take k wanted ≡ wanted_among s outputs) × (k ≤ length wanted)
+listing_end s outputs wanted x k i l =
+    let e : x ≡ variables s = omega (arith, i.low) in
+    (i.listed ∙ ap (wanted_below s outputs) e, omega (arith, i.few, i.low, i.so_far, i.room))

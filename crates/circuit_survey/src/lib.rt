@@ -24,6 +24,7 @@ fn cost_of(code: u32) -> u8
 }
 
 // The same of all codes below 40, in hexadecimal, to be looked up, since the tests take longer in a walk over mixed gates; the codes not named cost nothing.
+// Each of the few that do is asked for by name, so that the compiler works the table out; a loop over the codes would ask at each walk.
 fn cost_table() -> [u8; 64]
     ensures { result ≡ cost_table }
 {

@@ -3,21 +3,6 @@ use Rattle.circuit_build.specs.WantingLaws.{listing_start, listing_working, list
 use Rattle.circuit_build.proofs.list_wanted.Goals as goal
 use Rattle.circuit_build.proofs.list_wanted.Goals.{then-not-working_at, else-not-working_at}
 
-pub loop-x-init : goal.loop-x-init
-loop-x-init c = listing_start _ _ _ c.args.rule.few c.requires
-
-pub bounds-outputs-x : goal.bounds-outputs-x
-bounds-outputs-x c = omega (arith, c.loop-x.invariant.few, c.loop-x-test.true)
-
-pub bounds-wanted-k : goal.bounds-wanted-k
-bounds-wanted-k c = let i = c.loop-x.invariant in omega (arith, i.few, i.so_far, c.loop-x-test.true)
-
-pub working_at-requires : goal.working_at-requires
-working_at-requires c = omega arith
-
-pub overflow_add-k : goal.overflow_add-k
-overflow_add-k c = let i = c.loop-x.invariant in record { fits = omega (arith, i.few, i.so_far, c.loop-x-test.true) }
-
 pub loop-x-preserved : goal.loop-x-preserved
 loop-x-preserved c = let i = c.loop-x.invariant in
     let l = rw c.variables-x-end.ensures at c.loop-x-test.true in
@@ -26,6 +11,3 @@ loop-x-preserved c = let i = c.loop-x.invariant in
       | then-not-working_at w ↦ rw w.k-is (listing_result _ _ _ _ _ _ i l e w.if-not-working_at.true)
       | else-not-working_at w ↦ rw w.k-is (listing_working _ _ _ _ _ _ i l e w.if-not-working_at.false)
     ]
-
-pub returns : goal.returns
-returns c = listing_end _ _ _ _ _ c.loop-x.invariant (rw c.variables-x-end.ensures at c.loop-x-test.false)

@@ -3,6 +3,3 @@ use Rattle.circuit_build.proofs.rule_needs.Goals as goal
 
 pub find_needed-requires : goal.find_needed-requires
 find_needed-requires c = ((c.requires.0.0, rw c.list_wanted-wanted.ensures c.requires.0.1), c.requires.1)
-
-pub returns : goal.returns
-returns c = record { needs = rw c.list_wanted-wanted.ensures at c.find_needed.ensures; rest = refl }

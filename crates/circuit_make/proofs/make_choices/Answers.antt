@@ -1,11 +1,7 @@
 use mathlib.Core.Path.{sym, ◌∙◌}
-use Rattle.circuit_make.specs.ChoiceLaws.{chosen_none, chosen_not, chosen_one, chosen_all}
+use Rattle.circuit_make.specs.ChoiceLaws.{chosen_not, chosen_one, chosen_all}
 use Rattle.circuit_make.proofs.make_choices.Goals as goal
 use Rattle.circuit_make.proofs.make_choices.Goals.{then-among, else-among}
-
-pub loop-x-init : goal.loop-x-init
-loop-x-init c = let a = c.args in
-    chosen_none a.condition.0 a.first.now a.second.now a.assigned a.v a.quads.now a.present.now a.count
 
 pub loop-x-preserved : goal.loop-x-preserved
 loop-x-preserved c =

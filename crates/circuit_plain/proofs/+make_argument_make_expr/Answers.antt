@@ -51,12 +51,6 @@ pub make_argument-returns-then-s-at-eq-VARIABLE : goal.make_argument-returns-the
 make_argument-returns-then-s-at-eq-VARIABLE t c = let v = byte_variable _ _ _ _ c.requires c.if-s-at-eq-VARIABLE.true in
     rw c.make_variable.ensures (made_variable _ _ _ _ _ _ _ v.is)
 
-pub make_argument-make_expr-requires : goal.make_argument-make_expr-requires
-make_argument-make_expr-requires t c = (search rules, c.requires)
-
-pub make_argument-returns : goal.make_argument-returns
-make_argument-returns t c = c.make_expr.ensures
-
 pub make_expr-bounds-s-at : goal.make_expr-bounds-s-at
 make_expr-bounds-s-at t c = expr_inside _ _ _ _ c.requires
 
@@ -77,9 +71,6 @@ make_expr-overflow_add-n t c = omega (arith, (as_bit _ _ _ _ c.requires _ c.code
 
 pub make_expr-bounds-s-at-in-Bit : goal.make_expr-bounds-s-at-in-Bit
 make_expr-bounds-s-at-in-Bit t c = (as_bit _ _ _ _ c.requires _ c.code_of-c.ensures c.in-Bit.is).inside
-
-pub make_expr-overflow_cast-n : goal.make_expr-overflow_cast-n
-make_expr-overflow_cast-n t c = let v = as_bit _ _ _ _ c.requires _ c.code_of-c.ensures c.in-Bit.is in omega (arith, v.low)
 
 pub make_expr-overflow_add-result-in-Bit : goal.make_expr-overflow_add-result-in-Bit
 make_expr-overflow_add-result-in-Bit t c = omega (arith, (as_bit _ _ _ _ c.requires _ c.code_of-c.ensures c.in-Bit.is).inside)

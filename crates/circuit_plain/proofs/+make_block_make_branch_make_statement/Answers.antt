@@ -44,17 +44,11 @@ make_branch-returns t c = record {
   small = search rules;
 }
 
-pub make_block-loop-here-init : goal.make_block-loop-here-init
-make_block-loop-here-init t c = (walked_none _ _ _ _ _ _ c.requires, search rules)
-
 pub make_block-bounds-s-here : goal.make_block-bounds-s-here
 make_block-bounds-s-here t c = block_inside _ _ _ (rest_taken _ _ _ _ _ _ _ _ _ _ _ c.loop-here.invariant.0)
 
 pub make_block-overflow_add-result : goal.make_block-overflow_add-result
 make_block-overflow_add-result t c = omega (arith, block_inside _ _ _ (rest_taken _ _ _ _ _ _ _ _ _ _ _ c.loop-here.invariant.0))
-
-pub make_block-overflow_cast-result : goal.make_block-overflow_cast-result
-make_block-overflow_cast-result t c = record { fits = omega (arith, c.loop-here.invariant.1) }
 
 pub make_block-returns-then-s-here-eq0 : goal.make_block-returns-then-s-here-eq0
 make_block-returns-then-s-here-eq0 t c = record { made = walked_all _ _ _ _ _ _ _ _ _ _ _ c.loop-here.invariant.0 c.if-s-here-eq0.true; small = c.loop-here.invariant.1 }
@@ -64,9 +58,6 @@ make_block-make_statement-x-requires t c = (
   omega (arith, c.loop-here.invariant.0.onward, block_inside _ _ _ (rest_taken _ _ _ _ _ _ _ _ _ _ _ c.loop-here.invariant.0)),
   ((block_inside _ _ _ (rest_taken _ _ _ _ _ _ _ _ _ _ _ c.loop-here.invariant.0), statement_taken _ _ _ _ _ _ _ _ _ _ _ c.loop-here.invariant.0 c.if-s-here-eq0.false)),
 )
-
-pub make_block-overflow_cast-n : goal.make_block-overflow_cast-n
-make_block-overflow_cast-n t c = record { fits = omega (arith, c.make_statement-x.ensures.small) }
 
 pub make_block-loop-here-smaller : goal.make_block-loop-here-smaller
 make_block-loop-here-smaller t c =
@@ -80,15 +71,6 @@ make_branch-overflow_sub-nest t c = branch_level _ _ _ c.requires.1
 
 pub make_branch-overflow_sub-nest-2 : goal.make_branch-overflow_sub-nest-2
 make_branch-overflow_sub-nest-2 t c = branch_level _ _ _ c.requires.1
-
-pub make_branch-overflow_cast-x : goal.make_branch-overflow_cast-x
-make_branch-overflow_cast-x t c = record { fits = omega (arith, c.make_block-x.ensures.small) }
-
-pub make_branch-overflow_cast-y : goal.make_branch-overflow_cast-y
-make_branch-overflow_cast-y t c = record { fits = omega (arith, c.make_block-y.ensures.small) }
-
-pub make_branch-make_choices-more-requires : goal.make_branch-make_choices-more-requires
-make_branch-make_choices-more-requires t c = rw c.variables.ensures c.args.rule.few
 
 pub make_statement-make_assign-requires : goal.make_statement-make_assign-requires
 make_statement-make_assign-requires t c = (statement_read_as _ _ _ _ c.code_of-c.ensures c.requires.1 form.Assign c.in-Assign.is)

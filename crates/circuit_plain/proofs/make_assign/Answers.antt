@@ -32,16 +32,6 @@ make_argument-value-requires c = let a = c.args in
     let r = assign_read a.rule.bytes.now a.at c.requires in
     subst⁻¹ (λ (k : Kind). IsRead (read_expr deepest a.rule.bytes.now k (a.at + 2))) c.kind_at.ensures r.value
 
-pub overflow_cast-present : goal.overflow_cast-present
-overflow_cast-present c = let a = c.args in
-    let r = assign_read a.rule.bytes.now a.at c.requires in
-    omega (arith, r.range, c.args.rule.few)
-
-pub offset_bounds-present-x : goal.offset_bounds-present-x
-offset_bounds-present-x c = let a = c.args in
-    let r = assign_read a.rule.bytes.now a.at c.requires in
-    omega (arith, r.range, c.args.rule.few)
-
 pub bounds-present-x : goal.bounds-present-x
 bounds-present-x c = let a = c.args in
     let r = assign_read a.rule.bytes.now a.at c.requires in

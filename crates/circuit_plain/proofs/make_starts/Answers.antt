@@ -22,7 +22,3 @@ loop-x-preserved c = let l = c.loop-x in (
   started_more c.args.rule.bytes.now l.quads l.present l.x l.n _ c.push-n.result _ l.invariant.1 (omega (arith, l.invariant.0, c.loop-x-test.true)) c.args.rule.few
       (rw c.kind_at-code.ensures (code_is _)) c.push-n.ensures,
 )
-
-pub returns : goal.returns
-returns c = let l = c.loop-x in
-    started_all c.args.rule.bytes.now l.quads l.present l.x l.n l.invariant.1 (omega (arith, l.invariant.0, c.loop-x-test.false))

@@ -7,16 +7,6 @@ use Rattle.run_direct.proofs.write_results.Goals.{then-working_at, else-working_
 pub loop-x-init : goal.loop-x-init
 loop-x-init c = writing_start _ _ _ c.args.rule.kinds c.args.rule.few c.requires
 
-pub bounds-figures-i : goal.bounds-figures-i
-bounds-figures-i c = omega (arith, c.loop-x.invariant.few, c.loop-x-test.true)
-
-pub working_at-requires : goal.working_at-requires
-working_at-requires c = omega arith
-
-pub bounds-results-i : goal.bounds-results-i
-bounds-results-i c = let i = c.loop-x.invariant in
-    omega (arith, i.room, c.loop-x-test.true, writing_length _ _ _ _ _ i)
-
 pub loop-x-preserved : goal.loop-x-preserved
 loop-x-preserved c = let i = c.loop-x.invariant in
     let l = rw c.variables-x-end.ensures at c.loop-x-test.true in
@@ -25,9 +15,3 @@ loop-x-preserved c = let i = c.loop-x.invariant in
       | then-working_at w ↦ writing_working _ _ _ _ _ i l _ _ refl _ e w.if-working_at.true w.results-is
       | else-working_at w ↦ writing_result _ _ _ _ _ i l _ _ refl _ e w.if-working_at.false w.results-is
     ]
-
-pub shape_of-results : goal.shape_of-results
-shape_of-results c = writing_length _ _ _ _ _ c.loop-x.invariant
-
-pub returns : goal.returns
-returns c = writing_end _ _ _ _ _ c.loop-x.invariant (rw c.variables-x-end.ensures at c.loop-x-test.false)
