@@ -29,7 +29,7 @@ pub fn headed(file: &[u8]) -> bool
         && usize::from(base_words::read16(file, 6)) <= file::MOST_WIRES
 }
 
-// The byte at a place; 0 past the end, where no record is whole.
+// The byte at a place, as the definitions read it (`get_or`): 0 past the end, where no record is whole.
 fn byte_at(file: &[u8], at: usize) -> u8
     ensures { result ≡ get_or file.now at 0 }
 {
