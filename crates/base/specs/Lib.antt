@@ -51,3 +51,4 @@ pub mod InputLaws
 pub mod FillLaws
 pub mod Rows
 pub mod Refusals
+pub mod RowLaws

@@ -1,4 +1,3 @@
-pub mod RowLaws
 pub mod Making
 pub mod WantingLaws
 pub mod MakingLaws

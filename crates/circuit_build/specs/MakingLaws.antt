@@ -8,7 +8,7 @@ use Rattle.base.specs.Answers.{success, refusal}
 use Rattle.base.specs.ParsingLaws.{is_read, past_read, read_refused}
 use Rattle.base.specs.Rows.{number_of}
 use Rattle.base.specs.declared.Refusal.{Refusal}
-use Rattle.circuit_build.specs.RowLaws.{some_row}
+use Rattle.base.specs.RowLaws.{some_row}
 use Rattle.base.specs.Parsing.{IsRead, Past, Refused, step_of}
 use Rattle.base.specs.declared.Answer.{Answer}
 use Rattle.rule.specs.Rule.{read_rule}

@@ -18,7 +18,7 @@ use Rattle.circuit.specs.PlainCircuit.{gate_count, cost_before}
 use Rattle.circuit.specs.Limits.{most_gates}
 use Rattle.circuit.specs.WholeLaws.{accepted}
 use Rattle.circuit.specs.declared.Circuit.{Circuit}
-use Rattle.circuit_build.specs.RowLaws.{some_row}
+use Rattle.base.specs.RowLaws.{some_row}
 use Rattle.circuit_build.specs.BuiltParts.{built_output_inside, built_outputs_held, built_room, built_variables}
 use Rattle.plan.specs.declared.Grouping.{Grouping}
 use Rattle.plan.specs.Rows.{plan_answer}

@@ -13,7 +13,7 @@ use Rattle.base.specs.declared.Answer.{Answer}
 use Rattle.base.specs.declared.Counts.{Counts}
 use Rattle.base.specs.declared.Refusal.{Refusal}
 use Rattle.base.specs.declared.Row.{Row}
-use Rattle.fused_write.specs.WriteLaws.{some_row}
+use Rattle.base.specs.RowLaws.{some_row}
 use Rattle.rule.specs.Header.{variables, HasKinds}
 use Rattle.rule.specs.Limits.{most_variables}
 use Rattle.rule.specs.FirstStatement.{rule_read}

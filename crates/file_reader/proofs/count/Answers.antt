@@ -3,7 +3,7 @@ use Rattle.base.proofs.PassedLaws.{passed_at_0}
 use Rattle.base.specs.Answers.{refusal}
 use Rattle.file.specs.FormatLaws.{row_passed}
 use Rattle.file.specs.ReadLaws.{refused_answer, taken_answer}
-use Rattle.file.specs.RefusalLaws.{some_row}
+use Rattle.base.specs.RowLaws.{some_row}
 use Rattle.file_reader.proofs.count.Goals as goal
 
 pub returns-in_err-check : goal.returns-in_err-check

@@ -1,6 +1,6 @@
 use Rattle.std.proofs.Common.{sym, ◌∙◌, arith}
 use Rattle.file.specs.FormatLaws.{row_passed}
-use Rattle.file.specs.RefusalLaws.{row_ok}
+use Rattle.base.specs.RowLaws.{row_ok}
 use Rattle.file.specs.RowLaws.{whole_right}
 use Rattle.file_reader.proofs.find.Goals as goal
 

@@ -5,7 +5,8 @@ use Rattle.base.specs.InputLaws.{inputs_count, inputs_room}
 use Rattle.base.specs.declared.Answer.{Answer}
 use Rattle.file.specs.Answers.{circuit_answer}
 use Rattle.file.specs.ReadLaws.{answer_number}
-use Rattle.file.specs.RefusalLaws.{file_inputs_row, some_row}
+use Rattle.base.specs.RowLaws.{some_row}
+use Rattle.file.specs.RefusalLaws.{file_inputs_row}
 use Rattle.file.specs.RunLaws.{file_answer, inputs_answer, run_answer_lem, run_results_lem, refused_results}
 use Rattle.file_reader.proofs.try_run.Goals as goal
 

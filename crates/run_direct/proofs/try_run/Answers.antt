@@ -7,7 +7,7 @@ use Rattle.rule.specs.FirstStatement.{rule_read}
 use Rattle.circuit.specs.Whole.{rule_answer}
 use Rattle.circuit.specs.WholeLaws.{accepted}
 use Rattle.circuit_build.specs.MakingLaws.{refused_row}
-use Rattle.circuit_build.specs.RowLaws.{some_row}
+use Rattle.base.specs.RowLaws.{some_row}
 use Rattle.run.specs.InputLaws.{inputs_count, inputs_room}
 use Rattle.run.specs.DirectLaws.{rule_answer_lem, rule_results, inputs_answer, inputs_results, run_answer_lem, run_results_lem}
 use Rattle.run_direct.proofs.try_run.Goals as goal

@@ -1,9 +1,10 @@
 -- A refusal as the code returns it is none of a success: no row has the number 0.
-use Rattle.std.specs.Prelude.{◌≡◌}
+use Rattle.std.specs.Prelude.{◌≡◌, refl, Result, Ok, Err, true, false}
+use Rattle.std.specs.Result.{is_err}
 use Rattle.std.proofs.Common.{arith}
 use Rattle.base.specs.declared.Row.{Row}
 use Rattle.base.specs.declared.Row.TheVariants as row
-use Rattle.base.specs.Rows.{number_of}
+use Rattle.base.specs.Rows.{number_of, row_in}
 
 pub some_row : (r : Row) → number_of r ≡ 0 → ⊥
 some_row row.RuleSize h = omega arith
@@ -37,3 +38,13 @@ some_row row.CircuitHead h = omega arith
 some_row row.CircuitRecords h = omega arith
 some_row row.CircuitWires h = omega arith
 some_row row.Batch h = omega arith
+
+-- a result that is an error, and one that is none
+module _ {A : Type 0} where
+  pub row_err : (r : Result A Row) → is_err r ≡ true → row_in r ≡ 0 → ⊥
+  row_err (Ok a) e z = cc
+  row_err (Err x) e z = some_row x z
+
+  pub row_ok : (r : Result A Row) → is_err r ≡ false → row_in r ≡ 0
+  row_ok (Ok a) e = refl
+  row_ok (Err x) e = absurd cc
