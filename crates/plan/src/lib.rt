@@ -12,8 +12,8 @@ pub const LEAST_PLAN_BYTES: usize = 9;
 
 pub const MOST_PLAN_BYTES: usize = 1024;
 
-// The groups of a checked plan in fixed memory: each gate's group, the place in the plan of each gate's group (0 for a group alone), and the groups in the
-// order of writing, with how many they are; zeros after them.
+// The groups of a checked plan in fixed memory: each gate's group, the place in the plan of each gate's group (0 for a group alone: a place stays a number, as
+// the definition place_of has it, which says what the check hands up), and the groups in the order of writing, with how many they are; zeros after them.
 #[derive(Clone, Copy)]
 pub struct Grouping {
     pub group: [u16; GATE_ROOM],

@@ -47,7 +47,7 @@ fn code_at(circuit: &Circuit, g: GateId) -> u32
 }
 
 // 27 of a gate: a costly operation, by its code; a choice is none.
-fn costly(circuit: &Circuit, g: GateId) -> bool
+fn costly_gate(circuit: &Circuit, g: GateId) -> bool
     requires { g.0 < gate_room }
     ensures { result ≡ checks.is_costly (gate_in circuit.now.quads g.0) }
 {
@@ -76,7 +76,10 @@ fn all_costly(plan: &[u8], at: usize, circuit: &Circuit) -> bool
     requires { ReadableGroup circuit.now.count plan.now at }
     ensures { result ≡ every (λ g. checks.is_costly (gate_at (gates_in circuit.now.quads circuit.now.count) g)) (file.group_at plan.now at) }
 {
-    (0..plan_groups::size_at(plan, at)).all(|k| costly(circuit, plan_member::member(plan, at, k)))
+    (0..plan_groups::size_at(plan, at)).all(|k| costly_gate(
+        circuit,
+        plan_member::member(plan, at, k),
+    ))
 }
 
 // 28 of the group that begins at a place.

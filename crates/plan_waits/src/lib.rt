@@ -19,6 +19,8 @@ use plan::Grouping;
 // A choice has three arguments.
 const CHOICE_ARITY: usize = 3;
 
+// These three ask `base_bits` by the number of a group: a GateId, so that no other number comes into a set of groups. Without them each caller unwraps it.
+
 // Is group q in the set from word `base` on?
 pub fn has(words: &[u64], base: usize, q: GateId) -> bool
     requires { (base + 4 ≤ length words.now) × (q.0 < gate_room) }

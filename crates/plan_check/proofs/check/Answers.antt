@@ -73,7 +73,8 @@ returns-in-Ok c =
     let b = is_built _ _ c.build.new.circuit e.answer e.quads e.needs e.outputs e.conditions e.count in
     let g = c.in_ok-group_gates.ensures in
     let o = c.in-Ok.ensures in
-    let r = taken_handed _ _ _ _ b refl _ g.number refl c.group_gates.new.grouping (g.groups refl) (g.places refl) _ c.in_default.ensures refl c.in-Ok.groups o.answer (g.rest.0 ∙ c.requires.1.1.1) in
+    let r = taken_handed _ _ _ _ b refl _ g.number refl c.group_gates.new.grouping (g.groups refl) (g.places refl) _ c.in_default.ensures refl
+    c.in-Ok.groups o.answer (g.rest.0 ∙ c.requires.1.1.1) in
     record { answer = r.0; handed = rw o.written r.1 }
 
 pub returns-in-Err-order_groups : goal.returns-in-Err-order_groups

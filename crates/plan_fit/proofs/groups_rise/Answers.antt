@@ -21,11 +21,13 @@ pub after-at-requires : goal.after-at-requires
 after-at-requires c = lie_inside _ _ _ c.loop.invariant.1.ahead.lie (omega arith)
 
 pub member-requires-in-loop : goal.member-requires-in-loop
-member-requires-in-loop c = let f : ReadableGroup _ _ _ = rising_fits _ _ _ (c.groups_counted-count.result - (c.loop.counter + 1)) _ _ c.loop.invariant.1 (omega arith) _ c.after-at.ensures in omega (arith, f.lies, f.joins)
+member-requires-in-loop c =
+    let f : ReadableGroup _ _ _ = rising_fits _ _ _ (c.groups_counted-count.result - (c.loop.counter + 1)) _ _ c.loop.invariant.1 (omega arith) _ c.after-at.ensures in
+    omega (arith, f.lies, f.joins)
 
 pub returns-then-first-last : goal.returns-then-first-last
-returns-then-first-last c = rising_fails _ _ _ (c.groups_counted-count.result - (c.loop.counter + 1)) _ _ c.loop.invariant.1 (omega arith) _ _ c.after-at.ensures (c.index-first.ensures ∙ c.member-in-loop.ensures)
-    c.if-first-last.true
+returns-then-first-last c = rising_fails _ _ _ (c.groups_counted-count.result - (c.loop.counter + 1)) _ _ c.loop.invariant.1 (omega arith) _ _ c.after-at.ensures
+    (c.index-first.ensures ∙ c.member-in-loop.ensures) c.if-first-last.true
 
 pub loop-preserved : goal.loop-preserved
 loop-preserved c = (

@@ -42,4 +42,5 @@ loop-t-preserved c =
 
 pub returns : goal.returns
 returns c = putting_end _ _ _ _ _ _ c.loop-t.invariant
-    (rw (length-map (conditions_in c.args.list) (λ t. get_or c.args.circuit.now.conditions t 0), ← c.requires.1.0.counted) (omega (arith, c.from.ensures, c.loop-t-test.false, c.requires.1.0.few, c.requires.1.0.listed)))
+    (rw (length-map (conditions_in c.args.list) (λ t. get_or c.args.circuit.now.conditions t 0), ← c.requires.1.0.counted)
+    (omega (arith, c.from.ensures, c.loop-t-test.false, c.requires.1.0.few, c.requires.1.0.listed)))
