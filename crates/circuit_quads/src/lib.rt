@@ -20,9 +20,5 @@ pub fn argument(quads: &[u32; QUAD_ROOM], at: usize) -> GateId
 pub fn code_entry(code: u32) -> Code
     ensures { result ≡ code_of code }
 {
-    if code < 256 {
-        base_codes::code_of(code as u8)
-    } else {
-        base_codes::code_of(0xFF)
-    }
+    base_codes::code_of(u8::try_from(code).unwrap_or(0xFF))
 }
