@@ -21,7 +21,8 @@ use fused_group::Joint;
 use fused_size::Size;
 use plan::Grouping;
 
-// The output of variable x of a rule: the wire of its last gate, no wire for a working one.
+// The output of variable x of a rule, as the file has it: the wire of its last gate, and for a working one the number that the file's form sets aside for no
+// wire (document 02, C-13; `no_wire` in `output_in`), so no Option.
 fn output_of(rule: &[u8], x: u8, outputs: &[u16; VARIABLE_ROOM], wiring: Wiring) -> WireId
     requires { (6 + x < length rule.now) × (x < variable_room) × Grouped wiring.group.now (get_or outputs.now x 0) }
     ensures { result.0 ≡ output_by rule.now outputs.now wiring.entry x }
