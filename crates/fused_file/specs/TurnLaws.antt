@@ -1,7 +1,7 @@
 -- A turn: what the code finds in the arrays at turn i, and what the turn adds to the stage.
 use Rattle.std.specs.Prelude.{ℕ, suc, ◌+◌, ◌-◌, ◌≤◌, ◌<◌, ◌≡◌, List, [], ◌∷◌, ◌++◌, ◌⊎◌, length, get_or, set, replicate}
 use Rattle.std.proofs.Math.Path.{refl}
-use Rattle.std.proofs.Common.{sym, ap, ◌∙◌, append-nil, inl, inr, add-one, arith, length-append, ne_eqb}
+use Rattle.std.proofs.Common.{sym, ap, ◌∙◌, inl, inr, add-one, arith, length-append, ne_eqb}
 use Rattle.base.specs.TestLaws.{same?}
 use Rattle.circuit.specs.Limits.{most_gates}
 use Rattle.base.specs.Lists.{Inside}
@@ -9,9 +9,9 @@ use Rattle.plan.specs.PlanFile.{group_at}
 use Rattle.plan.specs.NumberLaws.{length_group}
 use Rattle.file.specs.Versions.{written_version}
 use Rattle.file.specs.Records.{Record, records_cost}
-use Rattle.file.specs.CircuitFile.{record_bytes, records_bytes}
+use Rattle.file.specs.CircuitFile.{records_bytes}
 use Rattle.file.specs.SizeLaws.{size_append, cost_append}
-use Rattle.fused_gate.specs.Emitted.{wire_in, alone_in, Writable, Written}
+use Rattle.fused_gate.specs.Emitted.{wire_in, Writable}
 use Rattle.fused_group.specs.Joined.{emit_in, JoinWritable}
 use Rattle.fused_group.specs.EmitLaws.{emit_some}
 use Rattle.fused_size.specs.Sizes.{sum_of, Measured}
@@ -28,34 +28,10 @@ members_alone p at q e = rw e
 pub members_joined : (p : List ℕ) (at q : ℕ) → (at ≡ 0 → ⊥) → members_of p at q ≡ group_at p at
 members_joined p at q n = rw (ne_eqb at 0 n)
 
--- The bytes of a group, alone or joined.
-
-module _ (p quads : List ℕ) (count : ℕ) (needs : List ℕ) (wire : ℕ → ℕ) (at q n : ℕ) where
-  module _ (e : at ≡ 0) where
-    alone_bytes : records_bytes written_version (emit_in quads count needs wire n (members_of p at q)) ≡ record_bytes written_version (alone_in quads wire q)
-    alone_bytes = rw (members_alone p at q e) (append-nil (record_bytes written_version (alone_in quads wire q)))
-
-    pub alone_room : (k : ℕ) → length (records_bytes written_version (emit_in quads count needs wire n (members_of p at q))) ≤ k → length (record_bytes written_version (alone_in quads wire q)) ≤ k
-    alone_room k h = rw alone_bytes at h
-
-    pub alone_put : (k : ℕ) (d o : List ℕ) → Written (record_bytes written_version (alone_in quads wire q)) k d o
-        → Written (records_bytes written_version (emit_in quads count needs wire n (members_of p at q))) k d o
-    alone_put k d o w = rw alone_bytes w
-
-    pub alone_one : 1 ≡ length (emit_in quads count needs wire n (members_of p at q))
-    alone_one = rw (members_alone p at q e)
-
-  module _ (e : at ≡ 0 → ⊥) where
-    pub joined_room : (k : ℕ) → length (records_bytes written_version (emit_in quads count needs wire n (members_of p at q))) ≤ k → length
-        (records_bytes written_version (emit_in quads count needs wire n (group_at p at))) ≤ k
-    joined_room k h = rw (members_joined p at q e) at h
-
-    pub joined_put : (k : ℕ) (d o : List ℕ) → Written (records_bytes written_version (emit_in quads count needs wire n (group_at p at))) k d o
-        → Written (records_bytes written_version (emit_in quads count needs wire n (members_of p at q))) k d o
-    joined_put k d o w = rw (members_joined p at q e) w
-
-    pub joined_many : (u : ℕ) → u ≡ length (emit_in quads count needs wire n (group_at p at)) → u ≡ length (emit_in quads count needs wire n (members_of p at q))
-    joined_many u z = rw (members_joined p at q e) z
+-- as many records as a joined group has
+pub joined_many : (p quads : List ℕ) (count : ℕ) (needs : List ℕ) (wire : ℕ → ℕ) (at q n : ℕ) → (at ≡ 0 → ⊥) → (u : ℕ)
+    → u ≡ length (emit_in quads count needs wire n (group_at p at)) → u ≡ length (emit_in quads count needs wire n (members_of p at q))
+joined_many p quads count needs wire at q n e u z = rw (members_joined p at q e) z
 
 -- The turns.
 

@@ -22,7 +22,8 @@ use fused_size::Size;
 use plan::Grouping;
 use rule::Rule;
 
-// The output of variable x of a rule: the wire of its last gate, no wire for a working one.
+// The output of variable x of a rule, as the file has it: the wire of its last gate, and for a working one the number that the file's form sets aside for no
+// wire (document 02, C-13; `no_wire` in `output_in`), so no Option.
 fn output_of(rule: Rule, x: u8, outputs: &[u16; VARIABLE_ROOM], wiring: Wiring) -> WireId
     requires { (x < variables rule.bytes.now) × Grouped wiring.group.now (get_or outputs.now x 0) }
     ensures { result.0 ≡ output_by rule.entry.bytes.now outputs.now wiring.entry x }

@@ -47,9 +47,6 @@ module _ (sets p : List ℕ) (at : ℕ) (picks : Picks) (b : Bool) (e : b ≡ ha
       (record { wires = get_or p at 0; bytes = (2 + table_bytes written_version) * get_or p at 0 + 2 * k; cost = get_or p at 0 })
   kept_sized h k q = rw (sym e ∙ h) (refl, (omega (arith, q, length_group p at), refl))
 
-  pub none_sized : b ≡ false → GuardsSized sets p at picks (record { wires = 0; bytes = 0; cost = 0 })
-  none_sized h = rw (sym e ∙ h) (refl, (refl, refl))
-
 module _ (quads sets conds : List ℕ) (wire : ℕ → ℕ) (n : ℕ) (p : List ℕ) (at : ℕ) (picks : Picks) where
   joined_long : Applies (code_at quads (get_or (group_at p at) 0 0)) → length (records_bytes written_version (joined_in quads sets conds wire n (group_at p at) picks))
       ≡ cond (has_pick picks) (guards_bytes sets (group_at p at)) 0 + cond picks.first (2 + 4 * get_or p at 0) 0 + cond picks.second (2 + 4 * get_or p at 0) 0 + 5

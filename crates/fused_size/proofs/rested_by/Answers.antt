@@ -17,8 +17,11 @@ pub member-m-requires : goal.member-m-requires
 member-m-requires c = (c.requires, (omega (arith, c.loop-i-test.true, c.size-i-end.ensures)))
 
 pub load-s-requires : goal.load-s-requires
-load-s-requires c = rw c.index.ensures (omega (arith, member_inside _ _ _ _ c.requires c.member-m.ensures (omega (arith, c.loop-i-test.true, c.size-i-end.ensures)),
-    c.well_formed))
+load-s-requires c = rw c.index.ensures (omega (
+  arith,
+  member_inside _ _ _ _ c.requires c.member-m.ensures (omega (arith, c.loop-i-test.true, c.size-i-end.ensures)),
+  c.well_formed,
+))
 
 pub overflow_add-n : goal.overflow_add-n
 overflow_add-n c = record {

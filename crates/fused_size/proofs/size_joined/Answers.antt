@@ -13,8 +13,11 @@ overflow_cast-code c = record { fits = omega (arith, (joined_first _ _ _ _ _ c.r
 
 pub add-requires : goal.add-requires
 add-requires c = let j = c.args.joint in
-    let s = sums_fit _ _ _ (one_of 5 c.code_of.result.cost) (kept_small (sets_in j.circuit.now.needs) j.plan.now j.at c.picks-picks.result _ (omega (arith,
-    c.size-size.ensures, c.size-size.type_inv)) c.size_kept-kept.ensures)
+    let s = sums_fit _ _ _ (one_of 5 c.code_of.result.cost) (kept_small (sets_in j.circuit.now.needs) j.plan.now j.at c.picks-picks.result _ (omega (
+      arith,
+      c.size-size.ensures,
+      c.size-size.type_inv,
+    )) c.size_kept-kept.ensures)
     (place_small _ _ _ (omega (arith, c.size-size.ensures, c.size-size.type_inv)) c.size_place-first.ensures)
     (place_small _ _ _ (omega (arith, c.size-size.ensures, c.size-size.type_inv)) c.size_place-second.ensures)
     (let o : c.code_of.result.cost < 65536 = search rules in (omega arith, (omega arith, omega (arith, o)))) in
@@ -22,8 +25,11 @@ add-requires c = let j = c.args.joint in
 
 pub add-requires-2 : goal.add-requires-2
 add-requires-2 c = let j = c.args.joint in
-    let s = sums_fit _ _ _ (one_of 5 c.code_of.result.cost) (kept_small (sets_in j.circuit.now.needs) j.plan.now j.at c.picks-picks.result _ (omega (arith,
-    c.size-size.ensures, c.size-size.type_inv)) c.size_kept-kept.ensures)
+    let s = sums_fit _ _ _ (one_of 5 c.code_of.result.cost) (kept_small (sets_in j.circuit.now.needs) j.plan.now j.at c.picks-picks.result _ (omega (
+      arith,
+      c.size-size.ensures,
+      c.size-size.type_inv,
+    )) c.size_kept-kept.ensures)
     (place_small _ _ _ (omega (arith, c.size-size.ensures, c.size-size.type_inv)) c.size_place-first.ensures)
     (place_small _ _ _ (omega (arith, c.size-size.ensures, c.size-size.type_inv)) c.size_place-second.ensures)
     (let o : c.code_of.result.cost < 65536 = search rules in (omega arith, (omega arith, omega (arith, o)))) in
@@ -31,8 +37,11 @@ add-requires-2 c = let j = c.args.joint in
 
 pub add-requires-3 : goal.add-requires-3
 add-requires-3 c = let j = c.args.joint in
-    let s = sums_fit _ _ _ (one_of 5 c.code_of.result.cost) (kept_small (sets_in j.circuit.now.needs) j.plan.now j.at c.picks-picks.result _ (omega (arith,
-    c.size-size.ensures, c.size-size.type_inv)) c.size_kept-kept.ensures)
+    let s = sums_fit _ _ _ (one_of 5 c.code_of.result.cost) (kept_small (sets_in j.circuit.now.needs) j.plan.now j.at c.picks-picks.result _ (omega (
+      arith,
+      c.size-size.ensures,
+      c.size-size.type_inv,
+    )) c.size_kept-kept.ensures)
     (place_small _ _ _ (omega (arith, c.size-size.ensures, c.size-size.type_inv)) c.size_place-first.ensures)
     (place_small _ _ _ (omega (arith, c.size-size.ensures, c.size-size.type_inv)) c.size_place-second.ensures)
     (let o : c.code_of.result.cost < 65536 = search rules in (omega arith, (omega arith, omega (arith, o)))) in
