@@ -1,13 +1,10 @@
 use native.Mathlib.Omega.{arith}
-use Rattle.circuit_needed.specs.GatherLaws.{gathering_start, gathering_fits, gathering_one, gathering_none, gathering_end}
+use Rattle.circuit_needed.specs.GatherLaws.{gathering_start, gathering_fits, gathering_one, gathering_none}
 use Rattle.circuit_survey.proofs.condition_gates.Goals as goal
 use Rattle.circuit_survey.proofs.condition_gates.Goals.{then-ranks-g-ne0, else-ranks-g-ne0}
 
 pub loop-g-init : goal.loop-g-init
 loop-g-init c = gathering_start _ _ _ c.requires
-
-pub overflow_cast-gates : goal.overflow_cast-gates
-overflow_cast-gates c = let i = c.loop-g.invariant in record { fits = omega (arith, i.room, c.loop-g-test.true) }
 
 pub bounds-gates-t : goal.bounds-gates-t
 bounds-gates-t c = gathering_fits _ _ _ _ _ c.loop-g.invariant c.loop-g-test.true c.if-ranks-g-ne0.true
@@ -29,6 +26,3 @@ loop-g-preserved c = let i = c.loop-g.invariant in
       | then-ranks-g-ne0 w ↦ gathering_one _ _ _ _ _ _ _ i l w.if-ranks-g-ne0.true w.gates-is w.t-is
       | else-ranks-g-ne0 w ↦ gathering_none _ _ _ _ _ _ _ i l w.if-ranks-g-ne0.false w.gates-is w.t-is
     ]
-
-pub returns : goal.returns
-returns c = gathering_end _ _ _ _ _ c.loop-g.invariant c.loop-g-test.false

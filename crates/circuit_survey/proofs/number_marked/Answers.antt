@@ -1,5 +1,5 @@
 use native.Mathlib.Omega.{arith}
-use Rattle.circuit_needed.specs.RankLaws.{numbering_start, numbering_fits, numbering_one, numbering_none, numbering_end}
+use Rattle.circuit_needed.specs.RankLaws.{numbering_start, numbering_fits, numbering_one, numbering_none}
 use Rattle.circuit_survey.proofs.number_marked.Goals as goal
 use Rattle.circuit_survey.proofs.number_marked.Goals.{then-ranks-g-ne0, else-ranks-g-ne0}
 
@@ -16,6 +16,3 @@ loop-g-preserved c = let l = c.loop-g in
       | then-ranks-g-ne0 w ↦ numbering_one _ _ _ _ _ _ _ l.invariant t w.if-ranks-g-ne0.true w.ranks-is w.t-is
       | else-ranks-g-ne0 w ↦ numbering_none _ _ _ _ _ _ _ l.invariant t w.if-ranks-g-ne0.false w.ranks-is w.t-is
     ]
-
-pub returns : goal.returns
-returns c = numbering_end _ _ _ _ _ c.loop-g.invariant c.loop-g-test.false

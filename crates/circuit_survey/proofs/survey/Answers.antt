@@ -13,16 +13,6 @@ argument-c-requires c = (
   survey_inside _ _ _ _ _ _ c.loop-i.invariant c.loop-i-test.true _ c.if-code-eq-CHOICE.true refl,
 )
 
-pub offset_bounds-ranks-at : goal.offset_bounds-ranks-at
-offset_bounds-ranks-at c = record {
-  fits = omega (
-    arith,
-    survey_inside _ _ _ _ _ _ c.loop-i.invariant c.loop-i-test.true _
-        c.if-code-eq-CHOICE.true c.argument-c.ensures,
-    c.index-at.ensures,
-  );
-}
-
 pub bounds-ranks-at : goal.bounds-ranks-at
 bounds-ranks-at c = rw c.index-at.ensures (survey_inside _ _ _ _ _ _ c.loop-i.invariant c.loop-i-test.true _ c.if-code-eq-CHOICE.true
     c.argument-c.ensures)
@@ -32,16 +22,6 @@ overflow_sub-conditions c = survey_bit _ _ _ _ _ _ c.loop-i.invariant c.loop-i-t
 
 pub overflow_add-conditions : goal.overflow_add-conditions
 overflow_add-conditions c = record { fits = omega (arith, survey_few _ _ _ _ _ _ c.loop-i.invariant c.loop-i-test.true) }
-
-pub offset_bounds-ranks-at-then-code-eq-CHOICE : goal.offset_bounds-ranks-at-then-code-eq-CHOICE
-offset_bounds-ranks-at-then-code-eq-CHOICE c = record {
-  fits = omega (
-    arith,
-    survey_inside _ _ _ _ _ _ c.loop-i.invariant c.loop-i-test.true _
-        c.if-code-eq-CHOICE.true c.argument-c.ensures,
-    c.index-at.ensures,
-  );
-}
 
 pub bounds-ranks-at-then-code-eq-CHOICE : goal.bounds-ranks-at-then-code-eq-CHOICE
 bounds-ranks-at-then-code-eq-CHOICE c = rw c.index-at.ensures (survey_inside _ _ _ _ _ _ c.loop-i.invariant c.loop-i-test.true _

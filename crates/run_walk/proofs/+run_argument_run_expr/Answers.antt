@@ -4,7 +4,6 @@ use Rattle.circuit.specs.OpenedLaws.{expr_opens}
 use Rattle.base.specs.CodeLaws.{code_variable}
 use Rattle.rule.specs.FirstByte.{expr_inside, byte_variable, as_variable, as_word, as_bit}
 use Rattle.run_walk.specs.ExprLaws.{variable_out, word_out, bit_out, level, first_taken, one_out, second_taken, two_out}
-use borrow.Author.Rules.{rules}
 use Rattle.run_walk.proofs.+run_argument_run_expr.Goals as goal
 
 pub run_expr-overflow_sub-deep : goal.run_expr-overflow_sub-deep
@@ -59,12 +58,6 @@ run_argument-run_variable-requires t c = let v = byte_variable _ _ _ _ c.require
 pub run_argument-returns-then-s-at-eq-VARIABLE : goal.run_argument-returns-then-s-at-eq-VARIABLE
 run_argument-returns-then-s-at-eq-VARIABLE t c = rw c.run_variable.ensures (variable_out _ _ _ _ _ c.requires.1 _ refl (code_variable _ c.if-s-at-eq-VARIABLE.true))
 
-pub run_argument-run_expr-requires : goal.run_argument-run_expr-requires
-run_argument-run_expr-requires t c = (search rules, c.requires)
-
-pub run_argument-returns : goal.run_argument-returns
-run_argument-returns t c = c.run_expr.ensures
-
 pub run_expr-bounds-s-at : goal.run_expr-bounds-s-at
 run_expr-bounds-s-at t c = expr_inside _ _ _ _ c.requires.1
 
@@ -85,9 +78,6 @@ run_expr-overflow_add-result-in-Bit t c = omega (arith, expr_inside _ _ _ _ c.re
 
 pub run_expr-bounds-s-at-in-Bit : goal.run_expr-bounds-s-at-in-Bit
 run_expr-bounds-s-at-in-Bit t c = (as_bit _ _ _ _ c.requires.1 _ c.code_of-c.ensures c.in-Bit.is).inside
-
-pub run_expr-overflow_cast-result : goal.run_expr-overflow_cast-result
-run_expr-overflow_cast-result t c = omega (arith, (as_bit _ _ _ _ c.requires.1 _ c.code_of-c.ensures c.in-Bit.is).low)
 
 pub run_expr-overflow_add-result-in-Bit-2 : goal.run_expr-overflow_add-result-in-Bit-2
 run_expr-overflow_add-result-in-Bit-2 t c = omega (arith, (as_bit _ _ _ _ c.requires.1 _ c.code_of-c.ensures c.in-Bit.is).inside)

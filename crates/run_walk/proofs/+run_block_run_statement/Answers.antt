@@ -5,8 +5,7 @@ use Rattle.rule.specs.ExpressionLaws.{expr_forward}
 use Rattle.rule.specs.FuelLaws.{block_forward, statement_forward}
 use Rattle.circuit.specs.OpenedLaws.{statement_opens}
 use Rattle.run_walk.specs.BlockLaws.{statement_taken, statement_ran, skip_ran, branch_level, test_taken, first_taken, second_taken}
-use Rattle.run_walk.specs.BlockLaws.{branch_yes, branch_no, amid_start, amid_inside, amid_end, amid_taken, amid_more}
-use borrow.Author.Rules.{rules}
+use Rattle.run_walk.specs.BlockLaws.{branch_yes, branch_no, amid_inside, amid_end, amid_taken, amid_more}
 use Rattle.run_walk.proofs.+run_block_run_statement.Goals as goal
 
 pub run_block-loop-here-smaller : goal.run_block-loop-here-smaller
@@ -56,9 +55,6 @@ pub run_statement-returns-else-test-eq1 : goal.run_statement-returns-else-test-e
 run_statement-returns-else-test-eq1 t c = statement_ran _ _ _ c.requires.2 _ c.code_of-c.ensures form.Branch c.in-Branch.is
     (branch_no _ _ _ (statement_taken _ _ _ c.requires.2 _ c.code_of-c.ensures form.Branch c.in-Branch.is) _ _ c.run_expr-test.ensures c.if-test-eq1.false
     c.pass_block-second.ensures c.run_block.ensures)
-
-pub run_block-loop-here-init : goal.run_block-loop-here-init
-run_block-loop-here-init t c = (search rules, amid_start _ _ _ _ c.requires.1)
 
 pub run_block-bounds-s-here : goal.run_block-bounds-s-here
 run_block-bounds-s-here t c = amid_inside _ _ _ _ _ _ c.loop-here.invariant.1

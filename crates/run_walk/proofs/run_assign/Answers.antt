@@ -19,12 +19,6 @@ pub run_argument-value-requires : goal.run_argument-value-requires
 run_argument-value-requires c = let a = c.args in
     (c.requires.0, assign_taken a.s.now a.at c.requires.1 c.kind_at-want.result c.kind_at-want.ensures)
 
-pub overflow_cast-figures : goal.overflow_cast-figures
-overflow_cast-figures c = let a = c.args in omega (arith, (assign_read a.s.now a.at c.requires.1).range, c.requires.0.1)
-
-pub offset_bounds-figures-x : goal.offset_bounds-figures-x
-offset_bounds-figures-x c = let a = c.args in omega (arith, (assign_read a.s.now a.at c.requires.1).range, c.requires.0.1)
-
 pub bounds-figures-x : goal.bounds-figures-x
 bounds-figures-x c = let a = c.args in
     omega (arith, (assign_read a.s.now a.at c.requires.1).range, c.requires.0.1)

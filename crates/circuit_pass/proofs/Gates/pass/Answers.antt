@@ -5,9 +5,6 @@ use Rattle.circuit_pass.proofs.Gates.pass.Goals as goal
 pub loop-i-init : goal.loop-i-init
 loop-i-init c = walking_start _ _ _ _ c.args.self.now.passable
 
-pub hand-requires : goal.hand-requires
-hand-requires c = omega (arith, c.loop-i.invariant.low, c.loop-i-test.true)
-
 -- the gate in turn hands on the set that it ends with, since that set is final
 pub loop-i-preserved : goal.loop-i-preserved
 loop-i-preserved c = let w = c.loop-i.invariant in
