@@ -10,11 +10,16 @@ use Rattle.base.specs.Rows.{number_of}
 use Rattle.base.specs.declared.Answer.{Answer}
 use Rattle.base.specs.declared.Counts.{Counts}
 use Rattle.base.specs.declared.Refusal.{Refusal}
-use Rattle.circuit_build.specs.RowLaws.{some_row}
+use Rattle.base.specs.declared.Row.{Row}
+use Rattle.circuit_build.specs.RowLaws as build
 use Rattle.plan.specs.Rows.{plan_answer}
 use Rattle.fused.specs.FusedCircuit.{fused_file}
 use Rattle.fused.specs.Answers.{fused_answer, write_answer, written_over}
 use Rattle.fused.specs.AnswerLaws.{fused_refused, fused_taken, fused_plan, answer_bytes, write_refused, write_short, write_taken}
+
+-- no row has the number 0
+pub some_row : (row : Row) → number_of row ≡ 0 → ⊥
+some_row row h = build.some_row row h
 
 -- d: the buffer
 module _ (s p d : List ℕ) where
