@@ -1,9 +1,6 @@
-use Prim.Native.Nat.{◌-◌}
-use Rattle.file.specs.RefusalLaws.{AmidInputs}
+use Rattle.file.specs.WireKinds.{wire_kind}
+use Rattle.file.specs.FileFigures.{file_records}
 use Rattle.file_reader.proofs.inputs_refusal.Given as goal
 
-abbrev pub invariant-loop-x : goal.invariant-loop-x
-invariant-loop-x l = AmidInputs l.file l.inputs l.v l.x
-
-abbrev pub decreases-loop-x : goal.decreases-loop-x
-decreases-loop-x l = l.v - l.x
+abbrev pub ghost-inputs_refusal : goal.ghost-inputs_refusal
+ghost-inputs_refusal a = wire_kind (file_records a.kind_of.0.now)

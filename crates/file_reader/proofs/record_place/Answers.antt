@@ -1,19 +1,17 @@
-use borrow.Author.Rules.{rules}
-use Rattle.file.specs.ReadLaws.{places_start, places_done, place_whole, places_more}
+use Rattle.std.proofs.Common.{rules, add-one, sym, arith}
+use Rattle.file.specs.FileFigures.{first_record}
+use Rattle.file.specs.FileLaws.{place_next}
+use Rattle.file.specs.FormatLaws.{row_passed}
+use Rattle.file.specs.LaidOut.{WholeAt}
+use Rattle.file.specs.RowLaws.{whole_right}
 use Rattle.file_reader.proofs.record_place.Goals as goal
 
-pub loop-i-init : goal.loop-i-init
-loop-i-init c = places_start _ _ c.requires.0 c.requires.1
-
-pub record_size-at-requires : goal.record_size-at-requires
-record_size-at-requires c = place_whole _ _ _ _ c.loop-i.invariant c.loop-i-test.true
+pub invariant_of-record : goal.invariant_of-record
+invariant_of-record c = record { whole = (whole_right _ _).1 (rw c.loop.invariant ((row_passed _ c.requires.0).layout.whole c.loop.counter (omega (arith, c.requires.1)))) }
 
 pub overflow_add-at : goal.overflow_add-at
-overflow_add-at c = let h = (place_whole _ _ _ _ c.loop-i.invariant c.loop-i-test.true).inside in
-    search rules
+overflow_add-at c = let whole : WholeAt c.args.file.now c.loop.at = rw c.loop.invariant ((row_passed _ c.requires.0).layout.whole c.loop.counter (omega (arith, c.requires.1))) in
+    let h = whole.inside in search rules
 
-pub loop-i-preserved : goal.loop-i-preserved
-loop-i-preserved c = places_more _ _ _ _ c.loop-i.invariant c.loop-i-test.true _ c.record_size-at.ensures
-
-pub returns : goal.returns
-returns c = places_done _ _ _ _ c.loop-i.invariant c.loop-i-test.false
+pub loop-preserved : goal.loop-preserved
+loop-preserved c = rw (c.size-at.ensures, c.loop.invariant, add-one) (sym (place_next c.loop.counter c.args.file.now first_record))

@@ -1,9 +1,6 @@
-use Prim.Native.Nat.{◌-◌}
-use Rattle.file.specs.ReadLaws.{AmidPlaces}
+use Rattle.std.proofs.Common.{◌≡◌}
+use Rattle.file.specs.LaidOut.{record_place}
 use Rattle.file_reader.proofs.record_place.Given as goal
 
-abbrev pub invariant-loop-i : goal.invariant-loop-i
-invariant-loop-i l = AmidPlaces l.file l.wire.0 l.at l.i
-
-abbrev pub decreases-loop-i : goal.decreases-loop-i
-decreases-loop-i l = l.wire.0 - l.i
+abbrev pub invariant-loop : goal.invariant-loop
+invariant-loop l = l.at ≡ record_place l.file l.counter

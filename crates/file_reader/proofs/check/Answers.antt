@@ -1,6 +1,6 @@
 use mathlib.Core.Path.{sym, ◌∙◌}
 use Rattle.file.specs.ReadLaws.{head_long, head_passed, rows}
-use Rattle.file_reader.proofs.circuit_row.Goals as goal
+use Rattle.file_reader.proofs.check.Goals as goal
 
 pub returns-then-not-headed : goal.returns-then-not-headed
 returns-then-not-headed c = search rows
