@@ -3,31 +3,24 @@
 // the implementation in compare/ printed, which was not written from this code.
 #![tactic(auto)]
 
-ghost use Rattle.std.specs.Prelude.{◌+◌, ◌≤◌, length};
+ghost use Rattle.std.specs.Prelude.{◌+◌, ◌≤◌};
 
 use report::Progress;
+use report_batch::Window;
 use std::io::Read;
-
-const WINDOW: usize = 262144;
 
 const LARGEST: usize = 65536;
 
-// Reads a piece behind the bytes at hand. Answers how many there are then; none are kept where the report has stopped, whatever comes.
-fn read_piece(
-    input: &mut impl Read,
-    window: &mut [u8],
-    to: usize,
-    piece: usize,
-    progress: Progress,
-) -> usize
-    requires { to + piece ≤ length window.old }
-    ensures { result ≤ length window.old }
+// Reads a piece behind the bytes at hand; none are kept where the report has stopped, whatever comes.
+fn read_piece(input: &mut impl Read, window: &mut Window, piece: usize, progress: Progress)
+    requires { window.old.len + piece ≤ 262144 }
 {
-    let n = streams::read_full(input, &mut window[to..to + piece]);
+    let n = streams::read_full(input, &mut window.bytes[window.len..window.len + piece]);
     if report_batch::has_stopped(progress) {
-        return 0;
+        window.len = 0;
+    } else {
+        window.len += n;
     }
-    to + n
 }
 
 fn finish(rt: &impl Print, progress: Progress) {
@@ -39,24 +32,22 @@ fn finish(rt: &impl Print, progress: Progress) {
 
 // The report of a batch of so many bytes, which come in pieces of `size`.
 fn case(rt: &impl Print, input: &mut impl Read, size: usize, bytes: usize) {
-    let mut window = [0u8; WINDOW];
+    let mut window = Window::new();
     let mut out = [0u8; 65536];
     let mut progress = Progress::Head;
-    let mut to: usize = 0;
     let mut left = bytes;
     loop {
-        let taken = report_batch::take_entries(progress, &window[..to], &mut out);
+        let taken = report_batch::take_entries(progress, window.held(), &mut out);
         progress = taken.progress;
-        let bytes = taken.bytes;
         let _ = rt.write_all(&out[..taken.printed]);
-        if bytes != 0 {
-            to = report_batch::drop_front(&mut window, to, bytes);
+        if taken.bytes != 0 {
+            window.drop_front(taken.bytes);
         } else {
-            let piece = size.min(left).min(WINDOW - to);
+            let piece = size.min(left).min(report_batch::WINDOW - window.len);
             if piece == 0 {
                 break;
             }
-            to = read_piece(input, &mut window, to, piece, progress);
+            read_piece(input, &mut window, piece, progress);
             left -= piece;
         }
     }

@@ -1,16 +1,14 @@
 // Reads a batch on standard input and prints its report: a line for each entry, then the total, or `refused 75`. Writes no circuit.
 #![tactic(auto)]
 
-ghost use Rattle.std.specs.Prelude.{◌≤◌, ◌<◌, ◌≡◌, length, IfOk};
+ghost use Rattle.std.specs.Prelude.{◌≡◌, ◌+◌, ◌<◌, IfOk};
 ghost use Rattle.report.specs.Bounds.{Within};
 
 use report::Progress;
+use report_batch::Window;
 use std::io;
 use std::io::{Eprint, IsTerminal, Read};
 use std::rt::Clock;
-
-// The bytes at hand. The longest entry has 131,074, and fewer are at hand when more is read, so there is always room.
-const WINDOW: usize = 262144;
 
 // What is printed at once: hundreds of lines.
 const OUT: usize = 65536;
@@ -107,14 +105,15 @@ fn print<R: Print + Eprint>(rt: &R, watch: Option<Watch>, text: &[u8]) -> Result
     })
 }
 
-// Reads behind the bytes at hand, and answers how many there are then: as many as before at the end of the input, an error where it cannot be
-// read. There is room, or a full window would be taken for the end.
-fn read_behind(input: &mut impl Read, window: &mut [u8], to: usize) -> io::Result<usize>
-    requires { (to < length window.old) × (length window.old ≡ 262144) }
-    ensures { IfOk result (λ n. (to ≤ n) × (n ≤ 262144)) }
+// Reads behind the bytes at hand, and answers how many it read: none at the end of the input, an error where it cannot be read. There is room, or a
+// full window would be taken for the end.
+fn read_behind(input: &mut impl Read, window: &mut Window) -> io::Result<usize>
+    requires { window.old.len < 262144 }
+    ensures { IfOk result (λ n. window.new.len ≡ window.old.len + n) }
 {
-    let got = input.read(&mut window[to..])?;
-    Ok(to + got)
+    let read = input.read(&mut window.bytes[window.len..])?;
+    window.len += read;
+    Ok(read)
 }
 
 // The last line, once nothing more is to be read.
@@ -130,24 +129,23 @@ fn finish<R: Print + Eprint>(
 
 // Prints what is whole of the bytes at hand; reads on where nothing is.
 fn report(rt: &HostRuntime) -> Result<(), Failed> {
-    let mut window = [0u8; WINDOW];
+    let mut window = Window::new();
     let mut out = [0u8; OUT];
     let mut progress = Progress::Head;
-    let mut to: usize = 0;
     let mut watch = begin(rt);
     let mut input = rt.stdin();
     loop {
-        let taken = report_batch::take_entries(progress, &window[..to], &mut out);
+        let taken = report_batch::take_entries(progress, window.held(), &mut out);
         progress = taken.progress;
-        let bytes = taken.bytes;
         print(rt, watch, &out[..taken.printed])?;
-        if bytes != 0 {
-            to = report_batch::drop_front(&mut window, to, bytes);
+        if taken.bytes != 0 {
+            window.drop_front(taken.bytes);
         } else if report_batch::has_stopped(progress) {
             break;
         } else {
-            let reached = match read_behind(&mut input, &mut window, to) {
-                Ok(reached) => reached,
+            match read_behind(&mut input, &mut window) {
+                Ok(0) => break,
+                Ok(_) => watch = tell(rt, watch, progress),
                 Err(why) => {
                     wipe(rt, watch);
                     return Err(Failed {
@@ -155,12 +153,7 @@ fn report(rt: &HostRuntime) -> Result<(), Failed> {
                         why,
                     });
                 }
-            };
-            if reached == to {
-                break;
             }
-            to = reached;
-            watch = tell(rt, watch, progress);
         }
     }
     finish(rt, watch, progress)

@@ -19,6 +19,44 @@ use report::{Progress, Sums, Taken};
 // The bytes of a batch before its first entry.
 const HEAD: usize = 7;
 
+// The bytes of a window. The longest entry has 131,074, so one that holds no whole entry has room.
+pub const WINDOW: usize = 262144;
+
+// The bytes at hand of a batch that comes in pieces: the first `len` of a window.
+#[derive(Clone, Copy)]
+pub struct Window {
+    pub bytes: [u8; WINDOW],
+    pub len: usize,
+    ghost within: { len ≤ 262144 },
+}
+
+impl Window {
+    pub fn new() -> Window
+        ensures { result.len ≡ 0 }
+    {
+        Window {
+            bytes: [0u8; WINDOW],
+            len: 0,
+        }
+    }
+
+    pub fn held(&self) -> &[u8]
+        ensures held { result.now ≡ take self.now.len self.now.bytes }
+        ensures length { length result.now ≡ self.now.len }
+    {
+        &self.bytes[..self.len]
+    }
+
+    // Takes the first bytes off those at hand: the others move to the start.
+    pub fn drop_front(&mut self, bytes: usize)
+        requires { bytes ≤ self.old.len }
+        ensures left { self.new.len ≡ self.old.len - bytes }
+        ensures held { self.new.bytes ≡ over (take (self.old.len - bytes) (drop bytes self.old.bytes)) self.old.bytes }
+    {
+        self.len = drop_front(&mut self.bytes, self.len, bytes);
+    }
+}
+
 // A step that prints nothing.
 fn quiet(progress: Progress, bytes: usize) -> Taken
     ensures { result ≡ took progress bytes }
