@@ -3,8 +3,6 @@ use Rattle.std.specs.Prelude.{ℕ, zero, suc, ◌+◌, ◌-◌, ◌*◌, ◌≤�
 use Rattle.std.proofs.Math.Option as list
 use Rattle.base.specs.Sets.{excludes}
 use Rattle.base.specs.BitWords.{bit_in}
-use Rattle.base.specs.Bits.{bit}
-use Rattle.std.specs.Int.Bits.{bit_and}
 use Rattle.circuit.specs.declared.GateId.{GateId}
 use Rattle.circuit.specs.Rooms.{gate_room}
 
@@ -12,12 +10,6 @@ use Rattle.circuit.specs.Rooms.{gate_room}
 unfoldable pub free_from : List ℕ → List ℕ → ℕ → ℕ → ℕ → Bool
 free_from waits left p w zero = true
 free_from waits left p w (suc k) = cond (excludes (get_or waits (4 * p + w) 0) (get_or left w 0)) (free_from waits left p (w + 1) k) false
-
--- a group that is left and that p waits for, number j of word w; none where p waits for no group that is left
-abbrev pub FirstWait : List ℕ → List ℕ → ℕ → Option GateId → Type 0
-FirstWait waits left p None = free_from waits left p 0 4 ≡ true
-FirstWait waits left p (Some q) = (free_from waits left p 0 4 ≡ false)
-    × ((w : ℕ) × (j : ℕ) × (w < 4) × (j < 64) × (bit (bit_and (get_or waits (4 * p + w) 0) (get_or left w 0)) j ≡ true) × (q.0 ≡ 64 * w + j))
 
 -- p is left, and waits for none that is
 unfoldable pub ready_in : List ℕ → List ℕ → ℕ → Bool
@@ -32,7 +24,7 @@ search_from waits left p (suc k) = cond (ready_in waits left p) (Some (record { 
 unfoldable pub next_ready : List ℕ → List ℕ → ℕ → ℕ → Option GateId
 next_ready waits left first count = search_from waits left first (count - first)
 
--- what a search over the list of groups gives, as the code returns it
+-- what a search over the list of groups gives, as the code yields it
 abbrev pub as_next : list.Option ℕ → Option GateId
 as_next list.none = None
 as_next (list.some p) = Some (record { 0 = p })

@@ -10,7 +10,7 @@ use borrow.Author.Tests.{eq-eqb, ne_eqb}
 use Rattle.base.specs.Bits.{bit}
 use Rattle.circuit.specs.declared.GateId.{GateId}
 use Rattle.base.specs.BitWords.{bit_in}
-use Rattle.plan_order.specs.Search.{FirstWait, free_from, ready_in, search_from, next_ready, as_next, lowered, Holding}
+use Rattle.plan_order.specs.Search.{free_from, ready_in, search_from, next_ready, as_next, lowered, Holding}
 use Rattle.plan_order.specs.HoldLaws.{holding_pass, holding_more}
 
 less : (n p : ℕ) → p < n → n - p ≡ suc (n - (p + 1))
@@ -25,34 +25,13 @@ pub record Searching (waits left : List ℕ) (first count : ℕ) (held : List �
   pub below : p ≤ count
   pub here : next_ready waits left first count ≡ search_from waits left p (count - p)
 
--- p waits for none that is left as far as its words below w say
-pub record Testing (waits left : List ℕ) (p w : ℕ) : Type 0 where
+-- p is left, and waits for none that is left as far as its words below w say
+pub record TestingWords (waits left : List ℕ) (first count : ℕ) (held : List ℕ) (p w : ℕ) : Type 0 where
+  pub search : Searching waits left first count held p
+  pub inside : p < count
+  pub is_left : bit_in 0 left p ≡ true
   pub below : w ≤ 4
   pub tested : free_from waits left p 0 4 ≡ free_from waits left p w (4 - w)
-
-module _ (waits left : List ℕ) (p : ℕ) where
-  pub testing_start : Testing waits left p 0
-  testing_start = record { below = omega arith; tested = refl }
-
-  pub testing_next : (w : ℕ) → Testing waits left p w → w < 4 → bit_and (get_or waits (4 * p + w) 0) (get_or left w 0) ≡ 0 → Testing waits left p (w + 1)
-  unfolding free_from
-  testing_next w t l e =
-      record { below = omega arith; tested = t.tested ∙ rw (less 4 w l, eq-eqb (bit_and (get_or waits (4 * p + w) 0) (get_or left w 0)) 0 e) }
-
-  -- a group left that p waits for
-  pub testing_held : (w j : ℕ) (q : GateId) → Testing waits left p w → w < 4 → (bit_and (get_or waits (4 * p + w) 0) (get_or left w 0) ≡ 0 → ⊥)
-      → (j < 64) × (bit (bit_and (get_or waits (4 * p + w) 0) (get_or left w 0)) j ≡ true) → q.0 ≡ 64 * w + j → FirstWait waits left p (Some q)
-  testing_held w j q t l e x f = (t.tested ∙ waiting, (w, j, l, x.0, x.1, f))
-    where
-      waiting : free_from waits left p w (4 - w) ≡ false
-      waiting = unfold free_from in rw (less 4 w l, ne_eqb (bit_and (get_or waits (4 * p + w) 0) (get_or left w 0)) 0 e)
-
-  -- no word has one
-  pub testing_end : (w : ℕ) → Testing waits left p w → 4 ≤ w → FirstWait waits left p None
-  testing_end w t l = t.tested ∙ free
-    where
-      free : free_from waits left p w (4 - w) ≡ true
-      free = unfold free_from in let e : 4 - w ≡ 0 = omega arith in rw e
 
 module _ (waits left : List ℕ) (first count : ℕ) where
   pub searching_start : (held : List ℕ) → count ≤ 256 → 4 * count ≤ length waits → length left ≡ 4 → first ≤ count → Holding waits left held first
@@ -73,17 +52,39 @@ module _ (waits left : List ℕ) (first count : ℕ) where
   searching_past held new p s l e f = step held new p s l (rw e) (rw f (holding_pass waits left held p s.holding e))
 
   -- past a group that waits
-  pub searching_held : (held new : List ℕ) (p : ℕ) (q : GateId) → Searching waits left first count held p → p < count → bit_in 0 left p ≡ true
-      → FirstWait waits left p (Some q) → new ≡ lowered q.0 p held → Searching waits left first count new (p + 1)
+  pub searching_held : (held new : List ℕ) (p w j : ℕ) → TestingWords waits left first count held p w → w < 4
+      → (bit_and (get_or waits (4 * p + w) 0) (get_or left w 0) ≡ 0 → ⊥) → (j < 64) × (bit (bit_and (get_or waits (4 * p + w) 0) (get_or left w 0)) j ≡ true)
+      → new ≡ lowered (64 * w + j) p held → Searching waits left first count new (p + 1)
   unfolding ready_in
-  searching_held held new p q s l i (f, (w, j, m, n, b, e)) h = step held new p s l (rw (i, f)) (rw (h, e) (holding_more waits left held p s.holding w j m n b))
+  searching_held held new p w j t l e x f =
+      step held new p t.search t.inside (rw t.is_left (t.tested ∙ waiting)) (rw f (holding_more waits left held p t.search.holding w j l x.0 x.1))
+    where
+      waiting : free_from waits left p w (4 - w) ≡ false
+      waiting = unfold free_from in rw (less 4 w l, ne_eqb (bit_and (get_or waits (4 * p + w) 0) (get_or left w 0)) 0 e)
 
   module _ (held : List ℕ) where
+    pub testing_start : (p : ℕ) → Searching waits left first count held p → p < count → bit_in 0 left p ≡ true → TestingWords waits left first count held p 0
+    testing_start p s l e = record { search = s; inside = l; is_left = e; below = omega arith; tested = refl }
+
+    pub testing_next : (p w : ℕ) → TestingWords waits left first count held p w → w < 4 → bit_and (get_or waits (4 * p + w) 0) (get_or left w 0) ≡ 0
+        → TestingWords waits left first count held p (w + 1)
+    unfolding free_from
+    testing_next p w t l e =
+        record {
+          search = t.search;
+          inside = t.inside;
+          is_left = t.is_left;
+          below = omega arith;
+          tested = t.tested ∙ rw (less 4 w l, eq-eqb (bit_and (get_or waits (4 * p + w) 0) (get_or left w 0)) 0 e);
+        }
+
     -- a group left that waits for none that is
-    pub searching_ready : (p : ℕ) → Searching waits left first count held p → p < count → bit_in 0 left p ≡ true → FirstWait waits left p None
-        → Some (record { 0 = p }) ≡ next_ready waits left first count
+    pub testing_end : (p w : ℕ) → TestingWords waits left first count held p w → 4 ≤ w → Some (record { 0 = p }) ≡ next_ready waits left first count
     unfolding search_from ready_in
-    searching_ready p s l i f = sym (s.here ∙ rw (less count p l, i, f))
+    testing_end p w t l = sym (t.search.here ∙ rw (less count p t.inside, t.is_left, t.tested ∙ free))
+      where
+        free : free_from waits left p w (4 - w) ≡ true
+        free = unfold free_from in let e : 4 - w ≡ 0 = omega arith in rw e
 
     pub searching_end : (p : ℕ) → Searching waits left first count held p → count ≤ p
         → (None ≡ next_ready waits left first count) × Holding waits left held count
@@ -93,7 +94,7 @@ module _ (waits left : List ℕ) (first count : ℕ) where
         let f : count ≡ p = omega (arith, s.below) in
         (sym (s.here ∙ rw e), rw f s.holding)
 
--- what the code returns, back in the list's terms
+-- what the code yields, back in the list's terms
 pub as_none : (o : list.Option ℕ) → None ≡ as_next o → o ≡ list.none
 as_none list.none e = refl
 as_none (list.some p) e = absurd cc

@@ -9,7 +9,7 @@ ghost use Rattle.circuit_needed.specs.Held.{gates_in};
 ghost use Rattle.plan.specs.Order as plan;
 ghost use Rattle.plan_waits.specs.Reads.{Orderable};
 ghost use Rattle.plan_order.specs.Row.{order_of};
-ghost use Rattle.plan_order.specs.Search.{FirstWait, next_ready, place_of, lowered, Holding};
+ghost use Rattle.plan_order.specs.Search.{next_ready, place_of, lowered, Holding};
 ghost use Rattle.base.specs.SetsHeld.{sets_in};
 ghost use Rattle.circuit.specs.Rooms.{gate_room};
 
@@ -49,22 +49,9 @@ fn hold(watch: &mut [u8; GATE_ROOM], q: GateId, p: GateId)
     }
 }
 
-// A group that is left and that group p waits for: the highest in the first word that has one.
-fn first_wait(waits: &[u64], left: &[u64], p: GateId) -> Option<GateId>
-    requires { (4 * p.0 + 4 ≤ length waits.now) × (length left.now ≡ 4) }
-    ensures { FirstWait waits.now left.now p.0 result }
-{
-    for w in 0..base::SET_WORDS {
-        let both = waits[4 * p.index() + w] & left[w];
-        if both != 0 {
-            return Some(GateId((64 * w + highest(both)) as u16));
-        }
-    }
-    None
-}
-
 // The first group from `from` on that is left and waits for none that is left; none where a circle remains. Each group left that is passed by on the
-// way waits for one that is left, and is noted in `watch` there: it need not be asked again before that one is struck.
+// way waits for one that is left, and is noted in `watch` there: it need not be asked again before that one is struck. Two loops, the inner one over the
+// waits and labelled, that yield by break: the form that document 01 names for this search.
 fn next_ready(
     waits: &[u64],
     left: &[u64],
@@ -76,16 +63,28 @@ fn next_ready(
     ensures next { result ≡ next_ready waits.now left.now from.0 count }
     ensures held { Holding waits.now left.now watch.new (place_of result count) }
 {
-    for i in from.index()..count {
-        let p = GateId(i as u16);
-        if plan_waits::has(left, 0, p) {
-            match first_wait(waits, left, p) {
-                Some(q) => hold(watch, q, p),
-                None => return Some(p),
+    let mut p = from.index();
+    'search: loop {
+        if p >= count {
+            break 'search None;
+        }
+        if plan_waits::has(left, 0, GateId(p as u16)) {
+            let mut w: usize = 0;
+            'waits: loop {
+                if w >= base::SET_WORDS {
+                    break 'search Some(GateId(p as u16));
+                }
+                let both = waits[4 * p + w] & left[w];
+                if both != 0 {
+                    let q = 64 * w + highest(both);
+                    hold(watch, GateId(q as u16), GateId(p as u16));
+                    break 'waits;
+                }
+                w += 1;
             }
         }
+        p += 1;
     }
-    None
 }
 
 // The groups in the order of writing: again and again the next ready group. No group below `from` is ready; the lowest that was held up by the
