@@ -12,7 +12,7 @@ ghost use Rattle.circuit.specs.Rooms.{variable_room};
 use base::{Form, Kind};
 use circuit::VARIABLE_ROOM;
 
-// An expression's figure, and the place after the expression.
+// An expression's figure, and the place after the expression; no pair, since both are numbers and the names tell them apart.
 #[derive(Clone, Copy)]
 struct Value {
     pub figure: u32,
