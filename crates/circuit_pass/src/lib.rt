@@ -139,7 +139,8 @@ impl<'a> Gates<'a> {
     }
 }
 
-// Every gate's precondition, for the gates that are wanted from the start, in sets that are lent clear.
+// Every gate's precondition, for the gates that are wanted from the start, in sets that are lent clear. It takes arrays side by side, as C lends them
+// to `linnet_pass`.
 pub fn find_needed(
     quads: &[u32; QUAD_ROOM],
     count: usize,

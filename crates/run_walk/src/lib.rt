@@ -13,7 +13,7 @@ use base::{Form, Kind};
 use circuit::VARIABLE_ROOM;
 use rule::Rule;
 
-// An expression's figure, and the place after the expression.
+// An expression's figure, and the place after the expression; no pair, since both are numbers and the names tell them apart.
 #[derive(Clone, Copy)]
 struct Value {
     pub figure: u32,
