@@ -154,6 +154,7 @@ fn work(rt: &impl Print, case: Case) -> Option<()>
         inputs,
         ..
     } = case;
+    // The stream's numbers, matched once: an enum with its TryFrom would name each twice more.
     match case.operation {
         1 => print_answer(rt, circuit_build::read_rule(first)),
         2 => run_line(rt, room, |results| run_direct::run(first, inputs, results)),

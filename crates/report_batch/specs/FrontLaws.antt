@@ -1,6 +1,6 @@
 -- The law for moving some bytes to the start.
 use Rattle.std.specs.Prelude.{List, ◌≡◌, ℕ, ◌+◌, ◌-◌, ◌≤◌, ◌++◌, length, take, drop}
-use Rattle.std.proofs.Common.{sym, ap, ◌∙◌, arith, length-drop, length-take-le}
+use Rattle.std.proofs.Common.{ap, arith, length-drop, length-take-le}
 use Rattle.std.specs.List.{copy_within}
 use Rattle.base.specs.Buffers.{over}
 

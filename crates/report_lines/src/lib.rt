@@ -118,7 +118,8 @@ fn put_total(sums: Sums, out: &mut [u8]) -> usize
     n + k + 1
 }
 
-// All of the text or nothing: a buffer that is shorter than it is not touched.
+// All of the text or nothing: a buffer that is shorter than it is not touched. The 0 then is what `put_count` says, in the clauses of the three below.
+// A line is not made by `write!`: what std promises of a text speaks of Ok alone, or lets it be cut, so the bytes have no clause to be proved by.
 fn put_whole(text: &[u8], out: &mut [u8]) -> usize
     ensures counted { result ≡ put_count text.now out.old }
     ensures written { out.new ≡ put_over text.now out.old }

@@ -11,6 +11,7 @@ use std::io::{Eprint, Error, Read};
 pub fn read_full<R: Read>(input: &mut R, buf: &mut [u8]) -> usize
     ensures { IsPrefixLen result buf.new }
 {
+    // No range to go over: a step goes on by as many bytes as a read gave.
     let mut done: usize = 0;
     while done < buf.len() {
         match input.read(&mut buf[done..]) {

@@ -4,7 +4,6 @@ use Prim.Native.Nat.{ℕ}
 use native.Mathlib.Omega.{arith}
 use borrow.Author.Rules.{rules}
 use borrow.Author.Tests.{le-leb, lt-leb}
-use Rattle.report.specs.declared.Sums.{Sums}
 use Rattle.report.specs.declared.Taken.{Taken}
 use Rattle.report.specs.declared.Progress.TheVariants.{Head, Entries}
 use Rattle.report.specs.Batch.{head_bytes, no_sums}
