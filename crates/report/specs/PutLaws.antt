@@ -1,13 +1,26 @@
--- Inner, for the writers: what a lent buffer holds after a number, some numbers, a line.
-use Rattle.std.specs.Prelude.{◌≡◌, refl, List, [], ◌∷◌, ◌++◌, ℕ, ◌+◌, ◌-◌, ◌≤◌, ◌<◌, length, set, take, drop, get_or}
+-- Inner, for the writers: what a lent buffer holds after a digit, a number, some numbers, a line.
+use Rattle.std.specs.Prelude.{◌≡◌, refl, List, [], ◌∷◌, ◌++◌, ℕ, ◌+◌, ◌-◌, ◌/◌, ◌%◌, ◌≤◌, ◌<◌, length, set, take, drop, get_or}
 use Rattle.std.proofs.Common.{sym, ap, ◌∙◌, append_assoc, append-nil, add-one, arith, length-append, length-set, take-append-drop, take-suc, take_all}
 use borrow.Rule.Slice.PartMut.{put_mid}
 use Rattle.base.specs.Lists.{flat}
 use Rattle.base.specs.ListLaws.{front}
 use Rattle.base.specs.Buffers.{over}
 use Rattle.base.specs.BufferLaws.{over_nil, length_over, take_over, sets_over, over_snoc, over_rest, room_rest}
-use Rattle.report.specs.Line.{decimal, spaced, line, put_over, put_count}
+use Rattle.report.specs.Line.{digit, decimal, spaced, line, put_over, put_count}
+use Rattle.report.specs.DecimalLaws.{decimal_one, decimal_more, length_more}
 use Rattle.report.specs.LineLaws.{length_spaced, put_fits}
+
+-- one digit, and one more
+pub put_one : (n : ℕ) (d : List ℕ) → n < 10 → length (decimal n) ≤ length d → (1 ≡ length (decimal n)) × (set d 0 (48 + n) ≡ over (decimal n) d)
+put_one n d h room = rw (decimal_one n h) (refl, sets_over (digit n ∷ []) d (rw (decimal_one n h) at room))
+
+pub put_more : (n k : ℕ) (d e : List ℕ) → 10 ≤ n → length (decimal n) ≤ length d → k ≡ length (decimal (n / 10)) → e ≡ over (decimal (n / 10)) d
+    → (k + 1 ≡ length (decimal n)) × (set e k (48 + n % 10) ≡ over (decimal n) d)
+put_more n k d e h room q p =
+    let l = length_more n h in (
+      omega arith,
+      rw (p, decimal_more n h) (over_snoc (decimal (n / 10)) d k (digit (n % 10)) (sym q) (omega arith)),
+    )
 
 -- the digits find room behind the space
 pub behind_room : (n : ℕ) (d : List ℕ) → length (spaced n) ≤ length d → length (decimal n) ≤ length (take (length (set d 0 32) - 1) (drop 1 (set d 0 32)))

@@ -25,13 +25,19 @@ fn copy(text: &[u8], out: &mut [u8]) -> usize
     n
 }
 
+// The digits of n, the highest first: those of n / 10 and then the last. At most 20 calls deep.
 fn put_decimal(n: usize, out: &mut [u8]) -> usize
     requires { length (decimal n) ≤ length out.old }
     ensures counted { result ≡ length (decimal n) }
     ensures written { out.new ≡ over (decimal n) out.old }
 {
-    let mut digits = itoa::Buffer::new();
-    copy(digits.format(n).as_bytes(), out)
+    if n < 10 {
+        out[0] = 48 + (n as u8);
+        return 1;
+    }
+    let at = put_decimal(n / 10, out);
+    out[at] = 48 + ((n % 10) as u8);
+    at + 1
 }
 
 fn put_spaced(n: usize, out: &mut [u8]) -> usize
