@@ -1,44 +1,44 @@
 -- Document 01, "Refusals by place", with document 02's C-11, C-15 and C-16: the rows of the table by name, and their numbers.
 use Rattle.std.specs.Prelude.{ℕ, Result, Ok, Err}
 use Rattle.base.specs.declared.Row.{Row}
-use Rattle.base.specs.declared.Row.TheVariants.{RuleSize, RuleMark, RuleHead, RuleCut, UnknownCode, NoVariable, WrongKind, TooDeep, BytesLeft, ManyGates, ManyConditions, PlanSize, PlanMark, GateCount, PlanEnd, GroupSize, GroupNumbers, InTwoGroups, NotCostly, NotAlike, NotApart, Circle, GroupOrder, InputCount, InputBit, ResultRoom, FileRoom, CircuitHead, CircuitRecords, CircuitWires, Batch}
+use Rattle.base.specs.declared.Row.TheVariants as row
 
 -- the number of a row
 abbrev pub number_of : Row → ℕ
-number_of RuleSize = 1
-number_of RuleMark = 2
-number_of RuleHead = 3
-number_of RuleCut = 4
-number_of UnknownCode = 5
-number_of NoVariable = 6
-number_of WrongKind = 7
-number_of TooDeep = 8
-number_of BytesLeft = 9
-number_of ManyGates = 10
-number_of ManyConditions = 11
-number_of PlanSize = 20
-number_of PlanMark = 21
-number_of GateCount = 22
-number_of PlanEnd = 23
-number_of GroupSize = 24
-number_of GroupNumbers = 25
-number_of InTwoGroups = 26
-number_of NotCostly = 27
-number_of NotAlike = 28
-number_of NotApart = 29
-number_of Circle = 30
-number_of GroupOrder = 32
-number_of InputCount = 40
-number_of InputBit = 41
-number_of ResultRoom = 42
-number_of FileRoom = 50
-number_of CircuitHead = 60
-number_of CircuitRecords = 61
-number_of CircuitWires = 62
-number_of Batch = 75
+number_of row.RuleSize = 1
+number_of row.RuleMark = 2
+number_of row.RuleHead = 3
+number_of row.RuleCut = 4
+number_of row.UnknownCode = 5
+number_of row.NoVariable = 6
+number_of row.WrongKind = 7
+number_of row.TooDeep = 8
+number_of row.BytesLeft = 9
+number_of row.ManyGates = 10
+number_of row.ManyConditions = 11
+number_of row.PlanSize = 20
+number_of row.PlanMark = 21
+number_of row.GateCount = 22
+number_of row.PlanEnd = 23
+number_of row.GroupSize = 24
+number_of row.GroupNumbers = 25
+number_of row.InTwoGroups = 26
+number_of row.NotCostly = 27
+number_of row.NotAlike = 28
+number_of row.NotApart = 29
+number_of row.Circle = 30
+number_of row.GroupOrder = 32
+number_of row.InputCount = 40
+number_of row.InputBit = 41
+number_of row.ResultRoom = 42
+number_of row.FileRoom = 50
+number_of row.CircuitHead = 60
+number_of row.CircuitRecords = 61
+number_of row.CircuitWires = 62
+number_of row.Batch = 75
 
 module _ {A : Type 0} where
   -- the row that refuses, by its number; 0 where none does
   abbrev pub row_in : Result A Row → ℕ
   row_in (Ok a) = 0
-  row_in (Err row) = number_of row
+  row_in (Err r) = number_of r

@@ -1,4 +1,4 @@
--- Document 01, "Refusals by place", row 30: what ordering the groups gives.
+-- Inner, for row 30 of document 01: what ordering the groups answers.
 use Rattle.std.specs.Prelude.{ℕ, cond, List, length, Result, Ok, Err}
 use Rattle.base.specs.declared.Row.{Row}
 use Rattle.base.specs.declared.Row.TheVariants.{Circle}

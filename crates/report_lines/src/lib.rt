@@ -25,7 +25,8 @@ fn copy(text: &[u8], out: &mut [u8]) -> usize
     n
 }
 
-// The digits of n, the highest first: those of n / 10 and then the last. At most 20 calls deep.
+// The digits of n, the highest first: those of n / 10 and then the last. At most 20 calls deep. By hand, since std's formatting promises its text only where
+// it answers Ok, and a crate that writes digits would be one more to trust.
 fn put_decimal(n: usize, out: &mut [u8]) -> usize
     requires { length (decimal n) ≤ length out.old }
     ensures counted { result ≡ length (decimal n) }

@@ -28,7 +28,8 @@ pub put16-requires : goal.put16-requires
 put16-requires c = outputs_room (output_by c.args.rule.bytes.now c.args.outputs.now c.args.wiring) _ _ _ _ c.loop-x.invariant (rw c.variables-x-end.ensures at c.loop-x-test.true) _ c.from.ensures
 
 pub loop-x-preserved : goal.loop-x-preserved
-loop-x-preserved c = outputs_step (output_by c.args.rule.bytes.now c.args.outputs.now c.args.wiring) _ _ _ _ c.loop-x.invariant (rw c.variables-x-end.ensures at c.loop-x-test.true) _ c.from.ensures _ _
+loop-x-preserved c = outputs_step (output_by c.args.rule.bytes.now c.args.outputs.now c.args.wiring) _ _ _ _ c.loop-x.invariant
+    (rw c.variables-x-end.ensures at c.loop-x-test.true) _ c.from.ensures _ _
     c.output_of-w.ensures c.put16.ensures
 
 pub shape_of-out : goal.shape_of-out

@@ -18,11 +18,13 @@ slice_bounds-put_less-start c = omega (
 )
 
 pub put_less-k-requires : goal.put_less-k-requires
-put_less-k-requires c = total_room c.args.sums.accepted c.args.sums.refused c.args.sums.before c.args.sums.after c.args.out.now _ _ c.requires c.put_front-n.ensures.counted c.put_front-n.ensures.written
+put_less-k-requires c = total_room c.args.sums.accepted c.args.sums.refused c.args.sums.before c.args.sums.after
+    c.args.out.now _ _ c.requires c.put_front-n.ensures.counted c.put_front-n.ensures.written
 
 -- the end of the line is a number of 64 bits, since the buffer's length is
 pub overflow_add-out : goal.overflow_add-out
-overflow_add-out c = record { fits = omega (arith, length_total c.args.sums.accepted c.args.sums.refused c.args.sums.before c.args.sums.after, c.put_front-n.ensures.counted, c.put_less-k.ensures.counted) }
+overflow_add-out c = let e = length_total c.args.sums.accepted c.args.sums.refused c.args.sums.before c.args.sums.after in
+    record { fits = omega (arith, e, c.put_front-n.ensures.counted, c.put_less-k.ensures.counted) }
 
 pub bounds-out-n : goal.bounds-out-n
 bounds-out-n c = omega (
@@ -32,10 +34,12 @@ bounds-out-n c = omega (
 )
 
 pub overflow_add-result : goal.overflow_add-result
-overflow_add-result c = record { fits = omega (arith, length_total c.args.sums.accepted c.args.sums.refused c.args.sums.before c.args.sums.after, c.put_front-n.ensures.counted, c.put_less-k.ensures.counted) }
+overflow_add-result c = let e = length_total c.args.sums.accepted c.args.sums.refused c.args.sums.before c.args.sums.after in
+    record { fits = omega (arith, e, c.put_front-n.ensures.counted, c.put_less-k.ensures.counted) }
 
 pub overflow_add-result-2 : goal.overflow_add-result-2
-overflow_add-result-2 c = record { fits = omega (arith, length_total c.args.sums.accepted c.args.sums.refused c.args.sums.before c.args.sums.after, c.put_front-n.ensures.counted, c.put_less-k.ensures.counted) }
+overflow_add-result-2 c = let e = length_total c.args.sums.accepted c.args.sums.refused c.args.sums.before c.args.sums.after in
+    record { fits = omega (arith, e, c.put_front-n.ensures.counted, c.put_less-k.ensures.counted) }
 
 pub returns : goal.returns
 returns c = let r = total_put c.args.sums.accepted c.args.sums.refused c.args.sums.before c.args.sums.after c.args.out.now _ _ c.requires c.put_front-n.ensures.counted c.put_front-n.ensures.written
