@@ -10,7 +10,7 @@ use base::{Code, Form, Kind, Operation};
 // The code of a variable, for readers that test for it before they ask for the whole code.
 pub const VARIABLE: u8 = 0x10;
 
-// The kind that the code of an input names, in a circuit file.
+// The kind that the code of an input names, in a circuit file. No From: any byte but 01 is a word's here, and elsewhere it is none.
 pub fn start_kind(b: u8) -> Kind
     ensures { result ≡ start_kind b }
 {
@@ -120,7 +120,7 @@ pub fn commutes(op: Operation) -> bool
     }
 }
 
-// The operation of a byte of the operation range.
+// The operation of a byte of the operation range. No TryFrom: it is a part of the one decision over the code bytes below, which has asked for the range.
 fn operation_of(b: u8) -> Operation
     requires { (0x20 ≤ b) × (b ≤ 0x27) }
     ensures { result ≡ operation_of b }

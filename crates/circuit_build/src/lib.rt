@@ -22,7 +22,8 @@ use base::{Answer, Counts, Refusal, Row};
 use circuit::{Circuit, GATE_ROOM, NEED_WORDS, QUAD_ROOM, VARIABLE_ROOM};
 use rule::Rule;
 
-// Rows 10 and 11, or the counts, of the gates that lie in `quads`; the conditions are marked in `ranks`, which are lent clear.
+// Rows 10 and 11, or the counts, of the gates that lie in `quads`; the conditions are marked in `ranks`, which are lent clear. No `Circuit`: a rule
+// that is only read has none.
 fn whole(
     size: usize,
     quads: &[u32; QUAD_ROOM],

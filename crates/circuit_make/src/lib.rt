@@ -63,7 +63,7 @@ pub fn apply_gate(
     )
 }
 
-// Is variable x in the set?
+// Is variable x in the set? The set is a word's bits, put together by `|` alone: a type for it would be no plainer.
 fn among(assigned: u32, x: u8) -> bool
     requires { x < variable_room }
     ensures { result ≡ has assigned x }

@@ -57,7 +57,7 @@ fn cuts(rt: &impl Print, label: &str, rule: &[u8]) {
     }
 }
 
-// What the file has, as far as buf has room for it.
+// What the file has, as far as buf has room for it; a read that fails is the end here, and in `fuse` it is no file.
 fn read_file<'a>(files: &impl Files, path: &str, buf: &'a mut [u8]) -> &'a [u8] {
     let Ok(mut file) = fs::open(files, path) else {
         return &buf[..0];

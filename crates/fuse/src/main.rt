@@ -39,7 +39,8 @@ fn read_open<'a>(file: &mut impl Read, buf: &'a mut [u8]) -> &'a [u8] {
     &buf[..n]
 }
 
-// What the file has, as far as buf has room for it; a file that cannot be read has nothing.
+// What the file has, as far as buf has room for it; a file that cannot be read has nothing. `conform_rules` has one that takes a cut read as it is: a
+// common one would ask which.
 fn read_file<'a>(files: &impl Files, path: &str, buf: &'a mut [u8]) -> &'a [u8] {
     match fs::open(files, path) {
         Ok(mut file) => read_open(&mut file, buf),
@@ -119,6 +120,7 @@ fn fuse_rule(rule: &[u8], plan: &[u8], file: &mut [u8], line: &mut [u8]) -> Fuse
     ensures printed { line.new ≡ over (line_of (write_answer rule.now plan.now (length file.old))) line.old }
     ensures within { IfSome result.file (λ n. n ≤ length file.new) × (result.line ≤ length line.new) }
 {
+    // The answer is C's struct of seven numbers; from here on an Option says it.
     let answer = fused_write::write(rule, plan, file);
     let n = report_lines::write_line(answer, line);
     Fused {

@@ -132,6 +132,7 @@ fn add(sums: Sums, answer: Answer) -> Sums
     requires { Sized 1 sums × Costs answer }
     ensures { result ≡ plus sums answer }
 {
+    // The answer is C's struct of seven numbers.
     if answer.number != 0 {
         return Sums {
             refused: sums.refused + 1,

@@ -88,6 +88,7 @@ fn put_answer(answer: Answer, out: &mut [u8]) -> usize
     ensures counted { result ≡ length (line_of answer) }
     ensures written { out.new ≡ over (line_of answer) out.old }
 {
+    // An answer is C's struct: its number says whether it counts.
     if answer.number == 0 {
         let counts = [answer.gates, answer.wires, answer.before, answer.after];
         return put_words(b"accepted", &counts, out);

@@ -20,7 +20,8 @@ use rule::Rule;
 // The bytes of a short file: most files are, and clearing as many as the longest has would cost such a run more than the run itself.
 const FEW_BYTES: usize = 1024;
 
-// Writes a fused circuit that is prepared into bytes that hold it, and works its figures out from them, on inputs that no row refuses.
+// Writes a fused circuit that is prepared into bytes that hold it, and works its figures out from them, on inputs that no row refuses. What was
+// prepared stays in three: the counts go to the caller, the circuit and the groups nowhere.
 fn run_in(
     file: &mut [u8],
     rule: &[u8],
