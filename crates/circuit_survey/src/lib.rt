@@ -57,7 +57,8 @@ pub struct Surveyed {
     pub cost: usize,
 }
 
-// Over arrays side by side and no `Circuit`, here and below: a rule that is only read has none. Counts the conditions and adds up the costs in one walk; it marks the gates that stand first in a choice gate, in ranks that are lent clear: the others are 0.
+// Counts the conditions and adds up the costs in one walk; it marks the gates that stand first in a choice gate, in ranks that are lent clear: the others are
+// 0. Here and below arrays stand side by side, in no `Circuit`: a rule that is only read has none.
 pub fn survey(quads: &[u32; QUAD_ROOM], count: usize, ranks: &mut [u16; GATE_ROOM]) -> Surveyed
     requires { (count ≤ most_gates) × (Earlier (gates_in quads.now count) × (ranks.old ≡ replicate gate_room 0)) }
     ensures counted { result.conditions ≡ length (conditions (gates_in quads.now count)) }
