@@ -1,16 +1,17 @@
 -- Reading a circuit file: which of rows 60 to 62 the code's tests lead to, and the answer; showing a record: where it lies, found record by record, or nothing.
 use Rattle.std.specs.Prelude.{ℕ, ◌+◌, ◌≤◌, ◌<◌, ◌≡◌, refl, List, Bool, false, not, eqb, ltb, length, take, drop}
-use Rattle.std.proofs.Common.{sym, ap, ◌∙◌, arith}
+use Rattle.std.proofs.Common.{sym, ap, ◌∙◌, add-one, arith}
 use Rattle.std.proofs.Math.Bool.{true}
 use borrow.Author.Tests.{eq-eqb, ne_eqb, eqb-true, eqb-false, ltb-true, lt-ltb, le-ltb, not-true, not-false}
 use Rattle.base.specs.TestLaws.{split, both}
 use Rattle.base.specs.Answers.{success, refusal}
 use Rattle.base.specs.declared.Answer.{Answer}
-use Rattle.file.specs.FileFigures.{size_at, wire_count}
-use Rattle.file.specs.LaidOut.{record_place}
+use Rattle.file.specs.FileFigures.{size_at, first_record, wire_count}
+use Rattle.file.specs.FileLaws.{place_next}
+use Rattle.file.specs.LaidOut.{record_place, WholeAt}
 use Rattle.file.specs.CircuitRows.{headed, laid, standing, circuit_row}
 use Rattle.file.specs.RowLaws.{headed_right}
-use Rattle.file.specs.FormatLaws.{row_passed}
+use Rattle.file.specs.FormatLaws.{Passed, row_passed}
 use Rattle.file.specs.Answers.{circuit_answer, shown, part_start, part_length, record_part}
 
 -- the rows in their order; a, b and c: what the code's tests answer
@@ -102,3 +103,29 @@ module _ (f : List ℕ) where
         let (a, (b, _)) = part_shown h l (record_place f w) (size_at f (record_place f w)) refl refl in
         omega (arith, a, b, ((row_passed f h).layout.whole w l).inside))
         (λ t. let (a, (b, _)) = part_none t in omega (arith, a, b))
+
+-- amid the records before wire w
+pub record AmidPlaces (f : List ℕ) (w at i : ℕ) : Type 0 where
+  pub passed : Passed f
+  pub below : w < wire_count f
+  pub few : i ≤ w
+  pub place : at ≡ record_place f i
+
+pub places_start : (f : List ℕ) (w : ℕ) → circuit_row f ≡ 0 → w < wire_count f → AmidPlaces f w 8 0
+places_start f w h l = record { passed = row_passed f h; below = l; few = omega arith; place = refl }
+
+module _ (f : List ℕ) (w at i : ℕ) (p : AmidPlaces f w at i) where
+  pub places_done : w ≤ i → at ≡ record_place f w
+  places_done h = let e : i ≡ w = omega (arith, p.few) in p.place ∙ ap (record_place f) e
+
+  module _ (h : i < w) where
+    pub place_whole : WholeAt f at
+    place_whole = rw p.place (p.passed.layout.whole i (omega (arith, p.below)))
+
+    pub places_more : (n : ℕ) → n ≡ size_at f at → AmidPlaces f w (at + n) (i + 1)
+    places_more n e = record {
+      passed = p.passed;
+      below = p.below;
+      few = omega arith;
+      place = rw (e, p.place, add-one i) (sym (place_next i f first_record));
+    }
