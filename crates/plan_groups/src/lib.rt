@@ -10,7 +10,6 @@ ghost use Rattle.plan.specs.PlanFile as file;
 ghost use Rattle.plan.specs.Groups.{smallest};
 ghost use Rattle.plan.specs.Rows as checks;
 ghost use Rattle.plan_groups.specs.Tables.{group_table, place_table, each_alone};
-ghost use Rattle.plan.specs.Ungrouped.{Ungrouped};
 ghost use Rattle.plan_groups.specs.Tests.{put_all};
 ghost use Rattle.plan_groups.specs.Walks.{begins, Lie, ReadableGroup, Readable, Tells};
 ghost use Rattle.circuit.specs.Rooms.{gate_room};
@@ -181,7 +180,7 @@ fn join_members(plan: &[u8], at: usize, count: usize, grouping: &mut Grouping) -
 
 // 26: no gate is in two groups. Every gate's group, and the place of its group in the plan, in tables that are lent clear.
 fn join_groups(plan: &[u8], count: usize, grouping: &mut Grouping) -> bool
-    requires { Readable count plan.now × Ungrouped grouping.old }
+    requires { Readable count plan.now × ((grouping.old.group ≡ replicate gate_room 0) × (grouping.old.places ≡ replicate gate_room 0)) }
     ensures once { result ≡ checks.apart (file.groups_in plan.now) }
     ensures groups { result ≡ true → grouping.new.group ≡ group_table count (file.groups_in plan.now) }
     ensures places { result ≡ true → grouping.new.places ≡ place_table count plan.now }
@@ -199,14 +198,14 @@ fn join_groups(plan: &[u8], count: usize, grouping: &mut Grouping) -> bool
 }
 
 // Rows 20 to 26 of the plan for a circuit of `count` gates: the first that refuses it. Where none does, each gate's group, by its smallest member, is noted,
-// and the place of that group in the plan, 0 for a gate that no group lists. The grouping is lent clear, and clear after a refusal.
+// and the place of that group in the plan, 0 for a gate that no group lists. Both tables are lent clear, and clear after a refusal.
 pub fn group_gates(plan: &[u8], count: usize, grouping: &mut Grouping) -> Result<(), Row>
-    requires { (count ≤ most_gates) × Ungrouped grouping.old }
+    requires { (count ≤ most_gates) × ((grouping.old.group ≡ replicate gate_room 0) × (grouping.old.places ≡ replicate gate_room 0)) }
     ensures number { row_in result ≡ checks.first_failing (checks.layout_rows count plan.now) }
     ensures groups { row_in result ≡ 0 → grouping.new.group ≡ group_table count (file.groups_in plan.now) }
     ensures places { row_in result ≡ 0 → grouping.new.places ≡ place_table count plan.now }
     ensures rest { (grouping.new.order ≡ grouping.old.order) × (grouping.new.groups ≡ grouping.old.groups) }
-    ensures refused { (row_in result ≡ 0 → ⊥) → Ungrouped grouping.new }
+    ensures refused { (row_in result ≡ 0 → ⊥) → (grouping.new.group ≡ replicate gate_room 0) × (grouping.new.places ≡ replicate gate_room 0) }
 {
     check_layout(plan, count)?;
     if !join_groups(plan, count, grouping) {

@@ -12,10 +12,10 @@ ghost use Rattle.rule.specs.Rule.{read_rule};
 ghost use Rattle.rule.specs.Limits.{least_rule_bytes, most_rule_bytes, most_variables};
 
 use base::{Answer, Counts, Form, Kind, Refusal, Row};
-use rule::Rule;
+use rule::Kinded;
 
 // 10 variable, its code at `at`.
-fn read_variable(rule: Rule, at: usize, want: Kind, deep: u8) -> Result<usize, Refusal>
+fn read_variable(rule: Kinded, at: usize, want: Kind, deep: u8) -> Result<usize, Refusal>
     requires { at < length rule.bytes.now }
     ensures { step_in result ≡ step_of (read_variable rule.entry.bytes.now want deep at) }
 {
@@ -74,7 +74,7 @@ fn read_bit(s: &[u8], at: usize, want: Kind, deep: u8) -> Result<usize, Refusal>
 }
 
 // Is a variable of the kind wanted read at `at`? Most arguments are one, and take no further call.
-fn is_variable(rule: Rule, at: usize, want: Kind, deep: u8) -> bool
+fn is_variable(rule: Kinded, at: usize, want: Kind, deep: u8) -> bool
     ensures { result ≡ true → (at + 1 < length rule.entry.bytes.now) × (Past (at + 2) ≡ step_of (read_expr deep rule.entry.bytes.now want at)) }
 {
     let s = rule.bytes;
@@ -97,7 +97,7 @@ fn is_variable(rule: Rule, at: usize, want: Kind, deep: u8) -> bool
 
 // An expression of the kind wanted, at most `deep` levels deep. It hands on a copy of the slice: else the compiler moves the slice as
 // one piece, whose two words its callers stored apart, and each call waits for both.
-fn read_expr(rule: Rule, at: usize, want: Kind, deep: u8) -> Result<usize, Refusal>
+fn read_expr(rule: Kinded, at: usize, want: Kind, deep: u8) -> Result<usize, Refusal>
     ensures { step_in result ≡ step_of (read_expr deep rule.entry.bytes.now want at) }
 {
     let s = rule.bytes;
@@ -137,7 +137,7 @@ fn read_expr(rule: Rule, at: usize, want: Kind, deep: u8) -> Result<usize, Refus
 }
 
 // 01 variable expression, its code at `at`.
-fn read_assign(rule: Rule, at: usize) -> Result<usize, Refusal>
+fn read_assign(rule: Kinded, at: usize) -> Result<usize, Refusal>
     requires { at < length rule.bytes.now }
     ensures { step_in result ≡ step_of (read_assign rule.entry.bytes.now at) }
 {
@@ -158,7 +158,7 @@ fn read_assign(rule: Rule, at: usize) -> Result<usize, Refusal>
 
 // A statement, its code at `at`. `nest` is how many ifs may still nest.
 #[cycle(read_block_read_statement)]
-fn read_statement(rule: Rule, at: usize, nest: u8) -> Result<usize, Refusal>
+fn read_statement(rule: Kinded, at: usize, nest: u8) -> Result<usize, Refusal>
     requires { at < length rule.bytes.now }
     ensures { step_in result ≡ step_of (read_statement rule.entry.bytes.now nest at) }
 {
@@ -182,7 +182,7 @@ fn read_statement(rule: Rule, at: usize, nest: u8) -> Result<usize, Refusal>
 
 // A block: statements closed by 00. A loop over them, so that only nesting takes stack.
 #[cycle(read_block_read_statement)]
-pub fn read_block(rule: Rule, at: usize, nest: u8) -> Result<usize, Refusal>
+pub fn read_block(rule: Kinded, at: usize, nest: u8) -> Result<usize, Refusal>
     ensures { step_in result ≡ step_of (read_block rule.entry.bytes.now nest at) }
 {
     let s = rule.bytes;
@@ -236,7 +236,7 @@ fn read_bytes(s: &[u8]) -> Result<usize, Refusal>
     ensures { step_in result ≡ step_of (read_rule s.now) }
 {
     let body = read_header(s)?;
-    let end = read_block(Rule { bytes: s }, body, rule::NESTED)?;
+    let end = read_block(Kinded { bytes: s }, body, rule::NESTED)?;
     if end < s.len() {
         return Err(Refusal(Row::BytesLeft, end));
     }

@@ -16,7 +16,7 @@ ghost use Rattle.run.specs.Direct.{run_answer, run_results};
 
 use base::{Answer, Counts, Refusal, Row};
 use circuit::VARIABLE_ROOM;
-use rule::Rule;
+use rule::{Kinded, Rule};
 
 // What a run writes of the figures at its end, into the first V results: 0 for a working variable.
 fn write_results(rule: Rule, figures: &[u32; VARIABLE_ROOM], results: &mut [u32])
@@ -46,7 +46,7 @@ fn run_checked(rule: &[u8], inputs: &[u32], results: &mut [u32])
 }
 
 // Rows 40 to 42 of the inputs of a rule, the lowest first. `room` is how many results there is place for.
-pub fn inputs_refusal(rule: Rule, inputs: &[u32], room: usize) -> Result<(), Row>
+pub fn inputs_refusal(rule: Kinded, inputs: &[u32], room: usize) -> Result<(), Row>
     ensures { row_in result ≡ input_row rule.entry.bytes.now inputs.now room }
 {
     base_answers::inputs_refusal(rule.bytes[5], |x| rule.kind_at(x), inputs, room)
@@ -58,7 +58,7 @@ fn try_run(rule: &[u8], inputs: &[u32], results: &mut [u32]) -> Result<Counts, R
     ensures results { results.new ≡ run_results (rule_answer rule.now) rule.now inputs.now results.old }
 {
     let counts = circuit_build::read(rule)?;
-    inputs_refusal(Rule { bytes: rule }, inputs, results.len())?;
+    inputs_refusal(Kinded { bytes: rule }, inputs, results.len())?;
     run_checked(rule, inputs, results);
     Ok(counts)
 }

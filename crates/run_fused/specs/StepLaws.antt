@@ -15,7 +15,6 @@ use Rattle.base.specs.declared.Refusal.{Refusal}
 use Rattle.base.specs.declared.Row.{Row}
 use Rattle.base.specs.RowLaws.{some_row}
 use Rattle.rule.specs.Header.{variables, HasKinds}
-use Rattle.rule.specs.Limits.{most_variables}
 use Rattle.rule.specs.FirstStatement.{rule_read}
 use Rattle.circuit.specs.WholeLaws.{accepted}
 use Rattle.plan.specs.Rows.{plan_answer}
@@ -56,9 +55,6 @@ module _ (s p : List ℕ) where
 
     pub kinds_there : HasKinds s
     kinds_there = (rule_read s (accepted s ((plan_accepted s p).0 taken).0).read).header.kinds
-
-    pub few_there : variables s ≤ most_variables
-    few_there = (rule_read s (accepted s ((plan_accepted s p).0 taken).0).read).header.few
 
     -- refused inputs
     pub inputs_refused : (inputs d : List ℕ) (row : Row) → number_of row ≡ input_row s inputs (length d)

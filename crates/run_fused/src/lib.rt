@@ -15,7 +15,7 @@ ghost use Rattle.run.specs.FusedRun.{fused_results};
 use base::{Answer, Counts, Refusal};
 use circuit::Circuit;
 use plan::Grouping;
-use rule::Rule;
+use rule::Kinded;
 
 // The bytes of a short file: most files are, and clearing as many as the longest has would cost such a run more than the run itself.
 const FEW_BYTES: usize = 1024;
@@ -47,7 +47,7 @@ fn try_run(rule: &[u8], plan: &[u8], inputs: &[u32], results: &mut [u32]) -> Res
     let mut circuit = Circuit::clear();
     let mut grouping = Grouping::clear();
     let counts = fused_write::prepare(rule, plan, &mut circuit, &mut grouping)?;
-    run_direct::inputs_refusal(Rule { bytes: rule }, inputs, results.len())?;
+    run_direct::inputs_refusal(Kinded { bytes: rule }, inputs, results.len())?;
     if counts.bytes <= FEW_BYTES {
         let mut file = [0u8; FEW_BYTES];
         run_in(

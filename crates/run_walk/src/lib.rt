@@ -11,7 +11,7 @@ ghost use Rattle.circuit.specs.Rooms.{variable_room};
 
 use base::{Form, Kind};
 use circuit::VARIABLE_ROOM;
-use rule::Rule;
+use rule::{Kinded, Rule};
 
 // An expression's figure, and the place after the expression; no pair, since both are numbers and the names tell them apart.
 #[derive(Clone, Copy)]
@@ -111,7 +111,7 @@ fn pass_block(rule: Rule, at: usize, nest: u8) -> usize
     requires { IsRead (read_block rule.bytes.now nest at) }
     ensures { Passed (read_block rule.entry.bytes.now nest at) result }
 {
-    rule_reader::read_block(rule, at, nest).unwrap()
+    rule_reader::read_block(Kinded { bytes: rule.bytes }, at, nest).unwrap()
 }
 
 // The statement at `at`. An if works out its bit once, and only the block that the bit names runs.

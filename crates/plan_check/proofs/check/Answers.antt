@@ -31,7 +31,7 @@ pub group_gates-requires : goal.group_gates-requires
 group_gates-requires c =
     let e = c.in_ok-counts.ensures in
     let b = is_built _ _ c.build.new.circuit e.answer e.quads e.needs e.outputs e.conditions e.count in
-    (gates_room _ c.args.plan.now _ _ b refl, c.requires.1)
+    (gates_room _ c.args.plan.now _ _ b refl, (c.requires.1.0, c.requires.1.1.0))
 
 pub returns-in_err-group_gates : goal.returns-in_err-group_gates
 returns-in_err-group_gates c =
@@ -39,7 +39,8 @@ returns-in_err-group_gates c =
     let b = is_built _ _ c.build.new.circuit e.answer e.quads e.needs e.outputs e.conditions e.count in
     let g = c.in_err-group_gates.ensures in
     let some = row_some c.in_err-group_gates.field-0.0 in
-    let r = row_handed _ c.args.plan.now _ _ b _ (g.refused some) g.rest.1 _ (layout_refused _ _ _ _ b refl _ g.number some) in
+    let u = g.refused some in
+    let r = row_handed _ c.args.plan.now _ _ b _ (u.0, (u.1, g.rest.0 ∙ c.requires.1.1.1)) g.rest.1 _ (layout_refused _ _ _ _ b refl _ g.number some) in
     record { answer = passed_at_0 _ _ c.from_residual-in_err-group_gates.ensures.1 r.0; handed = r.1 }
 
 pub check_groups-requires : goal.check_groups-requires

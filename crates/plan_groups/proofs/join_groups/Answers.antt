@@ -5,7 +5,7 @@ use Rattle.plan_groups.proofs.join_groups.Goals as goal
 
 pub loop-init : goal.loop-init
 loop-init c = (
-  joining_start _ _ _ _ _ c.requires.0 (omega (arith, c.groups_counted-end.ensures)) c.number_gates.ensures c.requires.1.1.0,
+  joining_start _ _ _ _ _ c.requires.0 (omega (arith, c.groups_counted-end.ensures)) c.number_gates.ensures c.requires.1.1,
   (refl, refl),
 )
 

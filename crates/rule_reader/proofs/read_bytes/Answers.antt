@@ -3,7 +3,7 @@ use Rattle.rule.specs.RuleLaws.{header_past, rule_header, rule_block, rule_after
 use Rattle.rule_reader.proofs.read_bytes.Goals as goal
 
 pub invariant_of-read_block : goal.invariant_of-read_block
-invariant_of-read_block c = let h = header_past c.args.s.now c.requires.0 c.in_ok-body.ensures in record { kinds = h.kinds; few = h.few }
+invariant_of-read_block c = let h = header_past c.args.s.now c.requires.0 c.in_ok-body.ensures in record { kinds = h.kinds }
 
 pub returns-in_err-body : goal.returns-in_err-body
 returns-in_err-body c = passed _ _ c.from_residual.ensures.1 (rule_header c.args.s.now c.requires.0 c.requires.1 c.in_err-body.ensures)

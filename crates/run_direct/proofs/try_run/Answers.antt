@@ -23,7 +23,7 @@ returns-in_err-counts c = let s = c.args.rule.now in
 pub invariant_of-inputs_refusal : goal.invariant_of-inputs_refusal
 invariant_of-inputs_refusal c = let s = c.args.rule.now in
     let h = (rule_read s (accepted s (ap (λ (b : Answer). b.number) (sym c.in_ok-counts.ensures))).read).header in
-    record { kinds = h.kinds; few = h.few }
+    record { kinds = h.kinds }
 
 pub returns-in_err-inputs_refusal : goal.returns-in_err-inputs_refusal
 returns-in_err-inputs_refusal c = let s = c.args.rule.now in let inputs = c.args.inputs.now in let results = c.args.results.now in

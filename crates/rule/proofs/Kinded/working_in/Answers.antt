@@ -1,6 +1,6 @@
 use mathlib.Core.Path.{refl}
 use Rattle.rule.specs.Header.{working_of}
-use Rattle.rule.proofs.Rule.working_at.Goals as goal
+use Rattle.rule.proofs.Kinded.working_in.Goals as goal
 
 pub returns : goal.returns
 unfolding working_of
