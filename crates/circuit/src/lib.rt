@@ -4,7 +4,8 @@
 ghost use Rattle.std.specs.Prelude.{◌≡◌};
 ghost use Rattle.circuit.specs.Clear.{clear, Clear};
 
-// A gate's number in the plain circuit; never taken for a wire number of a circuit file.
+// A gate's number in the plain circuit; never taken for a wire number of a circuit file. That it is below 256 is asked where it counts and is no field: gates
+// above 256 are numbered too, before row 10 refuses them.
 #[derive(Clone, Copy, PartialEq, Eq, PartialOrd, Ord)]
 pub struct GateId(pub u16);
 

@@ -4,7 +4,8 @@
 ghost use Rattle.std.specs.Prelude.{◌≡◌};
 ghost use Rattle.file.specs.Versions.{version_of, most_guard_wires, table_bytes};
 
-// The number of a wire of a circuit file: its record's number. A rule's gate number is never taken for one: it has a type of its own.
+// The number of a wire of a circuit file: its record's number. A rule's gate number is never taken for one: it has a type of its own. That it is below 640 is
+// asked where it counts and is no field: as an output FF FF is one too.
 #[derive(Clone, Copy, PartialEq, Eq, PartialOrd, Ord)]
 pub struct WireId(pub u16);
 

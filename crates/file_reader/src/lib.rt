@@ -50,7 +50,7 @@ pub fn read(file: &[u8]) -> Answer
     Answer::from(count(file))
 }
 
-// The place of a wire's record in a file that is read.
+// The place of a wire's record in a file that is read. That it is read is asked here and below, where the caller has just tested it.
 fn record_place(file: &[u8], wire: WireId) -> usize
     requires { (circuit_row file.now ≡ 0) × (wire.0 < wire_count file.now) }
     ensures { result ≡ record_place file.now wire.0 }

@@ -141,7 +141,7 @@ impl Earlier<'_> {
         self.all_fit(at, 2, d, Kind::Bit) && table_fits(&self.file[table..after], count)
     }
 
-    // The record at a place, as record `end` of a file of v variables.
+    // The record at a place, as record `end` of a file of v variables. Whole it is by what is asked, and no `Record`: that has a file of its own beside ours.
     fn stands(self, at: usize, v: usize) -> bool
         requires { WholeAt self.file.now at }
         ensures { result ≡ stands v (held_kind self.entry.kinds.now) self.entry.end.0 (record_at self.entry.file.now at) }

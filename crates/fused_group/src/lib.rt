@@ -51,7 +51,8 @@ fn put_pair(out: &mut [u8], guarding: WireId, value: WireId)
     base_words::put16(&mut out[2..], value.0);
 }
 
-// A joined group: the plan and the place in it at which the group lies, the circuit whose gates it joins, and the wires that stand for gates.
+// A joined group: the plan and the place in it at which the group lies, the circuit whose gates it joins, and the wires that stand for gates. What is asked
+// of it has names (LiesIn, GuardedIn, PairedIn ..) and is no field: each method asks another part, and some ask it of an argument place.
 #[derive(Clone, Copy)]
 pub struct Joint<'a> {
     pub plan: &'a [u8],
