@@ -191,7 +191,8 @@ fn work_out(file: &[u8], inputs: &[u32], figures: &mut [u32; MOST_WIRES]) -> usi
     at
 }
 
-// Of a file that passes rows 60 to 62, which is asked and no type, since the fused run hands on the bytes that it wrote: what a run writes for every variable into the first results, from the inputs; nothing after them is touched.
+// Of a file that passes rows 60 to 62: what a run writes for every variable into the first results, from the inputs; nothing after them is touched. That it
+// passes is asked and no type: the fused run hands on the bytes that it wrote.
 pub fn run_file(file: &[u8], inputs: &[u32], results: &mut [u32])
     requires { (circuit_row file.now ≡ 0)
         × (length inputs.now ≡ file_variables file.now)
