@@ -13,6 +13,11 @@ abbrev pub step_in : Result ℕ Refusal → Step
 step_in (Ok next) = Past next
 step_in (Err r) = Refused (number_of r.0) r.1
 
+-- the same of a reader that says where it stopped and leaves the refusal's number to its caller
+abbrev pub step_at : ℕ → Result ℕ ℕ → Step
+step_at number (Ok next) = Past next
+step_at number (Err place) = Refused number place
+
 -- the answer, by what the code of an operation returns
 abbrev pub answer_in : Result Counts Refusal → Answer
 answer_in (Ok c) = success c.gates c.wires c.bytes c.before c.after

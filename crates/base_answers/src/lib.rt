@@ -3,21 +3,21 @@
 
 ghost use Rattle.std.specs.Prelude.{◌≡◌, ℕ, ◌≤◌, ◌<◌, length};
 ghost use Rattle.base.specs.Parsing.{step_of, read_mark};
-ghost use Rattle.base.specs.Refusals.{step_in};
-ghost use Rattle.base.specs.Rows.{number_of, row_in};
+ghost use Rattle.base.specs.Refusals.{step_at};
+ghost use Rattle.base.specs.Rows.{row_in};
 ghost use Rattle.base.specs.Inputs.{inputs_row};
 ghost use Rattle.base.specs.declared.Kind.{Kind};
 
-use base::{Kind, Refusal, Row};
+use base::{Kind, Row};
 
-// The bytes of `mark` stand at the start of the file, or the row lies on the first that does not.
-pub fn read_mark(s: &[u8], mark: &[u8], row: Row) -> Result<usize, Refusal>
+// The bytes of `mark` stand at the start of the file: the place past them, or that of the first that does not. Whichever number the caller refuses by lies there.
+pub fn read_mark(s: &[u8], mark: &[u8]) -> Result<usize, usize>
     requires { length mark.now ≤ length s.now }
-    ensures { step_in result ≡ step_of (read_mark (number_of row) mark.now s.now 0) }
+    ensures { (number : ℕ) → step_at number result ≡ step_of (read_mark number mark.now s.now 0) }
 {
     for at in 0..mark.len() {
         if s[at] != mark[at] {
-            return Err(row.at(at));
+            return Err(at);
         }
     }
     Ok(mark.len())

@@ -2,7 +2,8 @@
 // the implementation in compare/ printed, which was not written from this code.
 #![tactic(auto)]
 
-ghost use Rattle.std.specs.Prelude.{◌<◌, ◌≤◌};
+ghost use Rattle.std.specs.Prelude.{◌<◌, ◌≤◌, length};
+ghost use Rattle.streams.specs.Counts.{IsPrefixLen};
 
 use base::Answer;
 use std::fs;
@@ -58,7 +59,9 @@ fn cuts(rt: &impl Print, label: &str, rule: &[u8]) {
 }
 
 // What the file has, as far as buf has room for it; a read that fails is the end here, and in `fuse` it is no file.
-fn read_file<'a>(files: &impl Files, path: &str, buf: &'a mut [u8]) -> &'a [u8] {
+fn read_file<'a>(files: &impl Files, path: &str, buf: &'a mut [u8]) -> &'a [u8]
+    ensures { IsPrefixLen (length result.now) buf.old }
+{
     let Ok(mut file) = fs::open(files, path) else {
         return &buf[..0];
     };

@@ -7,10 +7,11 @@ ghost use Rattle.base.specs.Buffers.{over};
 ghost use Rattle.fused.specs.Answers.{write_answer, written_over};
 ghost use Rattle.report.specs.Line.{line_of};
 ghost use Rattle.report.specs.Limits.{most_line};
+ghost use Rattle.streams.specs.Counts.{IsPrefixLen};
 
 use std::fmt::InlineText;
 use std::fs::{OpenFile, OpenOptions, Permissions};
-use std::io::{Error, ErrorKind, Read, Write};
+use std::io::{Eprint, Error, ErrorKind, Read, Write};
 use std::os::unix::fs::{OpenOptionsExt, PermissionsExt};
 use std::random::RandomSource;
 use std::rt::Files;
@@ -31,7 +32,9 @@ fn at_end(file: &mut impl Read) -> bool {
 }
 
 // What an open file has, as far as buf has room for it. A file that a failing read cuts short is one that cannot be read, and counts as empty.
-fn read_open<'a>(file: &mut impl Read, buf: &'a mut [u8]) -> &'a [u8] {
+fn read_open<'a>(file: &mut impl Read, buf: &'a mut [u8]) -> &'a [u8]
+    ensures { IsPrefixLen (length result.now) buf.old }
+{
     let n = streams::read_full(file, buf);
     if n < buf.len() && !at_end(file) {
         return &buf[..0];
@@ -41,7 +44,9 @@ fn read_open<'a>(file: &mut impl Read, buf: &'a mut [u8]) -> &'a [u8] {
 
 // What the file has, as far as buf has room for it; a file that cannot be read has nothing. `conform_rules` has one that takes a cut read as it is: a
 // common one would ask which.
-fn read_file<'a>(files: &impl Files, path: &str, buf: &'a mut [u8]) -> &'a [u8] {
+fn read_file<'a>(files: &impl Files, path: &str, buf: &'a mut [u8]) -> &'a [u8]
+    ensures { IsPrefixLen (length result.now) buf.old }
+{
     match fs::open(files, path) {
         Ok(mut file) => read_open(&mut file, buf),
         Err(_) => &buf[..0],
@@ -91,12 +96,24 @@ fn put<R: Files>(rt: &R, file: R::File, name: &str, bytes: &[u8]) -> io::Result<
     fs::rename(rt, name, "fused.cir")
 }
 
-// Writes the bytes under a name of their own and renames that, so that fused.cir is whole or not there; the other file goes where that fails.
-fn save<R: Files + RandomSource>(rt: &R, bytes: &[u8]) -> io::Result<()> {
-    let temp = create_temp(rt)?;
+// What was done, or nothing where it failed and that was told.
+fn told<T>(rt: &impl Eprint, done: io::Result<T>) -> Option<T> {
+    match done {
+        Ok(value) => Some(value),
+        Err(e) => {
+            streams::fail(rt, "fused.cir", e);
+            None
+        }
+    }
+}
+
+// Writes the bytes under a name of their own and renames that, so that fused.cir is whole or not there. Where that fails it is told first; then the other
+// file goes.
+fn save<R: Files + RandomSource + Eprint>(rt: &R, bytes: &[u8]) -> Option<()> {
+    let temp = told(rt, create_temp(rt))?;
     let name = temp.name;
-    let saved = put(rt, temp.file, name.as_str(), bytes);
-    if saved.is_err() {
+    let saved = told(rt, put(rt, temp.file, name.as_str(), bytes));
+    if saved.is_none() {
         let _ = fs::remove_file(rt, name.as_str());
     }
     saved
@@ -140,8 +157,7 @@ fn main(rt: HostRuntime) {
     let plan = read_file(&rt, "rule.pln", &mut plan);
     let fused = fuse_rule(rule, plan, &mut file, &mut line);
     if let Some(bytes) = fused.file {
-        if let Err(e) = save(&rt, &file[..bytes]) {
-            streams::fail(&rt, "fused.cir", e);
+        if save(&rt, &file[..bytes]).is_none() {
             return;
         }
     }

@@ -62,7 +62,7 @@ fn marked(plan: &[u8]) -> bool
     requires { least_plan_bytes ≤ length plan.now }
     ensures { result ≡ same (take 5 plan.now) file.mark }
 {
-    base_answers::read_mark(plan, b"PLN\x00\x01", Row::PlanMark).is_ok()
+    base_answers::read_mark(plan, b"PLN\x00\x01").is_ok()
 }
 
 // 23: as many groups as the plan counts lie in the file and end where it ends.

@@ -219,7 +219,9 @@ fn read_header(s: &[u8]) -> Result<usize, Refusal>
     requires { least_rule_bytes ≤ length s.now }
     ensures { step_in result ≡ step_of (read_header s.now) }
 {
-    base_answers::read_mark(s, b"RUL\x00\x01", Row::RuleMark)?;
+    if let Err(at) = base_answers::read_mark(s, b"RUL\x00\x01") {
+        return Err(Row::RuleMark.at(at));
+    }
     let count = s[5];
     if count == 0 {
         return Err(Refusal(Row::RuleHead, 5));
