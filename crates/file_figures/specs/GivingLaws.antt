@@ -1,7 +1,7 @@
 -- The loop that gives the outputs: no wire (FF FF) gives 0, any other its wire's figure; after all V of them the results begin with the file's figures, and the rest is as before.
 use Rattle.std.specs.Prelude.{ℕ, ◌+◌, ◌*◌, ◌≤◌, ◌<◌, ◌≡◌, cond, ◌⊎◌, eqb, length, set}
 use Rattle.std.proofs.Math.Path.{sym, ap}
-use Rattle.std.proofs.Common.{subst, ◌∙◌, inl, inr, add-one, arith, eq-eqb}
+use Rattle.std.proofs.Common.{subst, ◌∙◌, inl, inr, ⊎_elim, add-one, arith, eq-eqb, ne_eqb}
 use mathlib.Core.List.{List, [], ◌∷◌, ◌++◌, map, map-append}
 use Rattle.std.proofs.Math.Logic.{⊎_map}
 use Rattle.std.proofs.lemmas.List.{length-map}
@@ -13,11 +13,24 @@ use Rattle.base.specs.ListLaws.{map_same}
 use Rattle.file.specs.CircuitFile.{no_wire}
 use Rattle.file.specs.FileFigures.{wires_at, file_variables, wire_count, file_outputs, file_figures}
 use Rattle.file.specs.FilePartLaws.{wires_next, wires_length, wire_of_lem, outputs_of_lem, figures_of_lem}
+use Rattle.file.specs.Limits.{most_wires}
 use Rattle.file.specs.LaidOut.{record_place}
 use Rattle.file.specs.FormatLaws.{Passed}
 use Rattle.file_figures.specs.Working.{held, Output, output_held, figures_of}
 use Rattle.file_figures.specs.WorkingLaws.{figures_length, held_over}
 use Rattle.file_figures.specs.AcceptedLaws.{outputs_there}
+
+-- an output, n its number as the code has it: no wire gives 0; any other is below the most wires, and gives what is held for it
+module _ (figures : List ℕ) (n w : ℕ) (e : n ≡ w) where
+  pub output_none : n ≡ no_wire → 0 ≡ output_held figures w
+  output_none h = rw (eq-eqb w no_wire (sym e ∙ h))
+
+  module _ (h : n ≡ no_wire → ⊥) where
+    pub output_below : Output w → n < most_wires
+    output_below = ⊎_elim (λ z. absurd (h (e ∙ z))) (λ l. rw e l)
+
+    pub output_held_lem : (g : ℕ) → g ≡ held figures n → g ≡ output_held figures w
+    output_held_lem g q = rw (ne_eqb w no_wire (λ z. h (e ∙ z)), ← e) q
 
 -- one output's figure more
 given_more : (f figures : List ℕ) (at x : ℕ)

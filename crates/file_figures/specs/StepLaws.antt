@@ -1,4 +1,4 @@
--- The figures of a pick and a guard, turn by turn: the sum of the values whose guards are 1, and the number of the wires.
+-- The figures of a choice, a pick and a guard, turn by turn: the value that the condition picks, the sum of the values whose guards are 1, and the number of the wires.
 use Rattle.std.specs.Prelude.{ℕ, zero, suc, ◌+◌, ◌-◌, ◌*◌, ◌%◌, ◌^◌, ◌≤◌, ◌<◌, ◌≡◌, refl, Bool, cond, List}
 use Rattle.std.proofs.Common.{sym, ap, ◌∙◌, inl, inr, arith, pow_mono, eq-eqb, ne_eqb}
 use Rattle.base.specs.Numbers.{number_at, sum_of}
@@ -13,6 +13,13 @@ use Rattle.file.specs.WireFigures.{sum_figure}
 use Rattle.file.specs.FileFigures.{wires_at, pairs_at}
 use Rattle.file.specs.FilePartLaws.{wires_length}
 use Rattle.file_figures.specs.Working.{held}
+
+-- a choice: its condition is 1, or it is not
+pub chosen_first : (x a b g r : ℕ) → g ≡ x → g ≡ 1 → r ≡ a → r ≡ cond (is_one x) a b
+chosen_first x a b g r e one h = h ∙ rw (eq-eqb _ 1 (sym e ∙ one))
+
+pub chosen_second : (x a b g r : ℕ) → g ≡ x → (g ≡ 1 → ⊥) → r ≡ b → r ≡ cond (is_one x) a b
+chosen_second x a b g r e none h = h ∙ rw (ne_eqb _ 1 (λ z. none (e ∙ z)))
 
 -- the wires of pair i
 pub pair_of : (k n : ℕ) (f : List ℕ) (at i : ℕ) → Inside k (pair_wires (pairs_at n f at)) → i < n → (number_at 2 f (at + 4 * i) < k) × (number_at 2 f (at + 4 * i + 2) < k)

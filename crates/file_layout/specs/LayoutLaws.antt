@@ -1,15 +1,15 @@
--- Row 61: how many bytes a record says it has, by its first byte, and whether they are there; the walk over the records, to the outputs and the file's end.
-use Rattle.std.specs.Prelude.{ℕ, zero, suc, ◌+◌, ◌*◌, ◌-◌, ◌≤◌, ◌≡◌, Bool, ◌&&◌, Some, None, List, get_or}
+-- Rows 60 and 61: the mark byte by byte; how many bytes a record says it has, by its first byte, and whether they are there; the walk over the records, to the outputs and the file's end.
+use Rattle.std.specs.Prelude.{ℕ, zero, suc, ◌+◌, ◌*◌, ◌-◌, ◌≤◌, ◌<◌, ◌≡◌, Bool, ◌&&◌, ◌||◌, Option, Some, None, List, [], ◌∷◌, eqb, get_or}
 use Rattle.std.proofs.Math.Path.{refl}
-use Rattle.std.proofs.Common.{◌∙◌, arith, leb-true, leb-false, le-leb}
-use Rattle.std.proofs.Math.Bool.{true, false, cond}
+use Rattle.std.proofs.Common.{sym, ◌∙◌, arith, eqb-true, eq-eqb, leb-true, leb-false, le-leb}
+use Rattle.std.proofs.Math.Bool.{true, false, cond, and-true}
 use Rattle.std.proofs.Math.Dec.{leb}
 use Rattle.std.proofs.Math.ListN.{length}
 use Rattle.std.proofs.lemmas.Bool.{lt-leb}
 use Rattle.std.specs.Bool.{then_some}
 use Rattle.base.specs.Lists.{elem}
 use Rattle.base.specs.MemberLaws.{∈→elem, elem→∈}
-use Rattle.base.specs.TestLaws.{split}
+use Rattle.base.specs.TestLaws.{split, same_test}
 use Rattle.base.specs.Codes.{entry_of, byte_of, start_code}
 use Rattle.base.specs.declared.Kind.{Kind}
 use Rattle.base.specs.declared.Kind.TheVariants as kind
@@ -17,14 +17,32 @@ use Rattle.base.specs.declared.Operation.{Operation}
 use Rattle.base.specs.declared.Operation.TheVariants.{Sum, Difference, Product, LessThan, Equal, And, Or}
 use Rattle.file.specs.Records.{Record}
 use Rattle.file.specs.Versions.{most_guard_wires, table_bytes}
-use Rattle.file.specs.FileFigures.{version_in, record_at, size_at, first_record, wire_count}
+use Rattle.file.specs.FileFigures.{version_in, record_at, size_at, first_record, file_variables, wire_count}
 use Rattle.file.specs.FilePartLaws.{wires_length, pairs_length}
 use Rattle.file.specs.RecordBounds.{Coded, is_input, is_word, is_bit_lem, is_operation, is_choice, is_pick, is_guard, operation_code_lem, known_coded}
 use Rattle.file.specs.FoundForms.{form_input, form_word, form_bit, form_operation, form_choice, form_pick, form_guard}
 use Rattle.file.specs.LaidOut.{record_codes}
-use Rattle.file.specs.CircuitRows.{bounded, whole_at, laid_from, laid}
+use Rattle.file.specs.CircuitRows.{marked, bounded, whole_at, laid_from, laid}
 use Rattle.file.specs.RowLaws.{whole_right}
 use Rattle.file_layout.specs.Said.{said_size}
+
+-- the first five bytes, each against those of the mark; the last is one version's or the other's
+pub marked_by : (f : List ℕ) → first_record ≤ length f
+    → marked f
+    ≡ (eqb (get_or f 0 0) 0x43 && (eqb (get_or f 1 0) 0x49 && (eqb (get_or f 2 0) 0x52 && (eqb (get_or f 3 0) 0x00 && (eqb (get_or f 4 0) 0x01 || eqb (get_or f 4 0) 0x02)))))
+marked_by [] h = absurd (omega arith)
+marked_by (a ∷ []) h = absurd (omega arith)
+marked_by (a ∷ b ∷ []) h = absurd (omega arith)
+marked_by (a ∷ b ∷ c ∷ []) h = absurd (omega arith)
+marked_by (a ∷ b ∷ c ∷ d ∷ []) h = absurd (omega arith)
+marked_by (a ∷ b ∷ c ∷ d ∷ e ∷ l) h = go (eqb a 0x43) (eqb b 0x49) (eqb c 0x52) (eqb d 0x00) (eqb e 0x01) (eqb e 0x02)
+  where
+    go : (a b c d x y : Bool) → ((a && (b && (c && (d && (x && true))))) || (a && (b && (c && (d && (y && true)))))) ≡ (a && (b && (c && (d && (x || y)))))
+    go false b c d x y = refl
+    go true false c d x y = refl
+    go true true false d x y = refl
+    go true true true false x y = refl
+    go true true true true x y = rw (and-true x, and-true y)
 
 -- what a test lets through
 if_some : (b : Bool) (n : ℕ) → cond b (Some n) None ≡ then_some b n
@@ -113,7 +131,28 @@ module _ (f : List ℕ) (at : ℕ) where
       go true false e = cc
       go false b e = cc
 
--- the walk over the records goes on after a whole one
+  -- the bytes that it says are the record's where they are there, or it says none; where they are not, no whole record begins
+  module _ (l : at ≤ length f) where
+    pub whole_said : ((n : ℕ) → said_size f at ≡ Some n → n ≤ length f - at) → said_size f at ≡ cond (whole_at f at) (Some (size_at f at)) None
+    whole_said h = go (said_size f at) refl
+      where
+        go : (s : Option ℕ) → said_size f at ≡ s → said_size f at ≡ cond (whole_at f at) (Some (size_at f at)) None
+        go None e = e ∙ sym (none_said e)
+        go (Some n) e = e ∙ sym (size_said n e l ∙ rw (le-leb n (length f - at) (h n e)) refl)
+
+    pub whole_short : (n : ℕ) → said_size f at ≡ Some n → length f - at < n → None ≡ cond (whole_at f at) (Some (size_at f at)) None
+    whole_short n e h = sym (size_said n e l ∙ rw (lt-leb n (length f - at) h) refl)
+
+-- the bytes of a guard of n wires, by the most wires and the table's bytes of the file's version: none where it has more wires
+module _ (f : List ℕ) (n most : ℕ) (p : most ≡ most_guard_wires (version_in f)) where
+  pub guard_few : (bytes : ℕ) → bytes ≡ table_bytes (version_in f) → n ≤ most
+      → Some (2 + 2 * n + bytes) ≡ then_some (leb n (most_guard_wires (version_in f))) (2 + 2 * n + table_bytes (version_in f))
+  guard_few bytes q h = rw (← p, le-leb n most h, q) refl
+
+  pub guard_many : most < n → None ≡ then_some (leb n (most_guard_wires (version_in f))) (2 + 2 * n + table_bytes (version_in f))
+  guard_many h = rw (← p, lt-leb n most h) refl
+
+-- the walk over the records: it goes on after a whole one, one that is not whole ends it, and the outputs end where the file ends
 pub laid_start : (f : List ℕ) → laid f ≡ laid_from (wire_count f) f first_record
 unfolding laid
 laid_start f = refl
@@ -123,3 +162,17 @@ laid_next f at left size e =
     split (whole_at f at)
     (λ t. let z : Some (size_at f at) ≡ Some size = rw t at e in let q : size_at f at ≡ size = cc in (rw (t, q), rw (← q) ((whole_right f at).0 t).inside))
     (λ t. let z : None ≡ Some size = rw t at e in absurd cc)
+
+pub laid_broken : (f : List ℕ) (at n : ℕ) (size : Option ℕ) → 0 < n → size ≡ cond (whole_at f at) (Some (size_at f at)) None → size ≡ None → laid_from n f at ≡ false
+laid_broken f at zero size l s e = absurd (omega arith)
+laid_broken f at (suc n) size l s e =
+    split (whole_at f at)
+    (λ t. let z : None ≡ Some (size_at f at) = sym e ∙ s ∙ rw t refl in absurd cc)
+    (λ t. rw t refl)
+
+pub laid_end : (n : ℕ) (f : List ℕ) (at : ℕ) → n ≤ 0 → at ≤ length f → laid_from n f at ≡ eqb (length f - at) (2 * file_variables f)
+laid_end zero f at h l =
+    same_test (eqb (at + 2 * file_variables f) (length f)) (eqb (length f - at) (2 * file_variables f))
+    (λ t. eq-eqb (length f - at) (2 * file_variables f) (omega (arith, l, eqb-true (at + 2 * file_variables f) (length f) t)))
+    (λ t. eq-eqb (at + 2 * file_variables f) (length f) (omega (arith, l, eqb-true (length f - at) (2 * file_variables f) t)))
+laid_end (suc n) f at h l = absurd (omega arith)

@@ -56,6 +56,10 @@ bits_used d h =
     let e : d ≡ 3 + (d - 3) = omega arith in
     ap (λ (n : ℕ). 2 ^ n) (ap (λ (n : ℕ). 2 ^ n) e ∙ pow-add 2 3 (d - 3)) ∙ bits_bytes (2 ^ (d - 3))
 
+-- one byte at least is used
+pub used_some : (d : ℕ) → 1 ≤ used_bytes d
+used_some d = split (leb 3 d) (λ t. rw t (pow_pos (d - 3))) (λ t. rw t (omega arith))
+
 -- the bits fit the used bytes, and are there alone where the first of these is small enough
 used_bound : (d : ℕ) → 2 ^ 2 ^ d ≤ 256 ^ used_bytes d
 used_bound d =

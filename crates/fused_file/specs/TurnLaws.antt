@@ -1,17 +1,18 @@
 -- A turn: what the code finds in the arrays at turn i, and what the turn adds to the stage.
 use Rattle.std.specs.Prelude.{ℕ, suc, ◌+◌, ◌-◌, ◌≤◌, ◌<◌, ◌≡◌, List, [], ◌∷◌, ◌++◌, ◌⊎◌, length, get_or, set, replicate}
 use Rattle.std.proofs.Math.Path.{refl}
-use Rattle.std.proofs.Common.{sym, ap, ◌∙◌, inl, inr, add-one, arith, length-append, ne_eqb}
+use Rattle.std.proofs.Common.{sym, ap, ◌∙◌, append-nil, inl, inr, add-one, arith, length-append, ne_eqb}
 use Rattle.base.specs.TestLaws.{same?}
 use Rattle.circuit.specs.Limits.{most_gates}
 use Rattle.base.specs.Lists.{Inside}
+use Rattle.base.specs.Buffers.{over}
 use Rattle.plan.specs.PlanFile.{group_at}
 use Rattle.plan.specs.NumberLaws.{length_group}
 use Rattle.file.specs.Versions.{written_version}
 use Rattle.file.specs.Records.{Record, records_cost}
-use Rattle.file.specs.CircuitFile.{records_bytes}
+use Rattle.file.specs.CircuitFile.{record_bytes, records_bytes}
 use Rattle.file.specs.SizeLaws.{size_append, cost_append}
-use Rattle.fused_gate.specs.Emitted.{wire_in, Writable}
+use Rattle.fused_gate.specs.Emitted.{wire_in, alone_in, Writable}
 use Rattle.fused_group.specs.Joined.{emit_in, JoinWritable}
 use Rattle.fused_group.specs.EmitLaws.{emit_some}
 use Rattle.fused_size.specs.Sizes.{sum_of, Measured}
@@ -27,6 +28,32 @@ members_alone p at q e = rw e
 
 pub members_joined : (p : List ℕ) (at q : ℕ) → (at ≡ 0 → ⊥) → members_of p at q ≡ group_at p at
 members_joined p at q n = rw (ne_eqb at 0 n)
+
+-- The bytes of a group, alone or joined: room for the group's is room for those of the gate alone or of the joined group; those written, and how many, are the group's.
+
+module _ (p quads : List ℕ) (count : ℕ) (needs : List ℕ) (wire : ℕ → ℕ) (at q n : ℕ) where
+  module _ (e : at ≡ 0) where
+    alone_same : records_bytes written_version (emit_in quads count needs wire n (members_of p at q)) ≡ record_bytes written_version (alone_in quads wire q)
+    alone_same = rw (members_alone p at q e) (append-nil (record_bytes written_version (alone_in quads wire q)))
+
+    pub alone_room : (k : ℕ) → length (records_bytes written_version (emit_in quads count needs wire n (members_of p at q))) ≤ k → length (record_bytes written_version (alone_in quads wire q)) ≤ k
+    alone_room k h = rw alone_same at h
+
+    pub alone_put : (k : ℕ) (d o : List ℕ) → k ≡ length (record_bytes written_version (alone_in quads wire q)) → o ≡ over (record_bytes written_version (alone_in quads wire q)) d
+        → (k ≡ length (records_bytes written_version (emit_in quads count needs wire n (members_of p at q))))
+        × ((1 ≡ length (emit_in quads count needs wire n (members_of p at q))) × (o ≡ over (records_bytes written_version (emit_in quads count needs wire n (members_of p at q))) d))
+    alone_put k d o x y = (rw alone_same x, (rw (members_alone p at q e), rw alone_same y))
+
+  module _ (e : at ≡ 0 → ⊥) where
+    pub joined_room : (k : ℕ) → length (records_bytes written_version (emit_in quads count needs wire n (members_of p at q))) ≤ k → length
+        (records_bytes written_version (emit_in quads count needs wire n (group_at p at))) ≤ k
+    joined_room k h = rw (members_joined p at q e) at h
+
+    pub joined_put : (k u : ℕ) (d o : List ℕ) → k ≡ length (records_bytes written_version (emit_in quads count needs wire n (group_at p at)))
+        → u ≡ length (emit_in quads count needs wire n (group_at p at)) → o ≡ over (records_bytes written_version (emit_in quads count needs wire n (group_at p at))) d
+        → (k ≡ length (records_bytes written_version (emit_in quads count needs wire n (members_of p at q))))
+        × ((u ≡ length (emit_in quads count needs wire n (members_of p at q))) × (o ≡ over (records_bytes written_version (emit_in quads count needs wire n (members_of p at q))) d))
+    joined_put k u d o x z y = rw (members_joined p at q e) (x, (z, y))
 
 -- as many records as a joined group has
 pub joined_many : (p quads : List ℕ) (count : ℕ) (needs : List ℕ) (wire : ℕ → ℕ) (at q n : ℕ) → (at ≡ 0 → ⊥) → (u : ℕ)

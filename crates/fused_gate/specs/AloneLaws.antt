@@ -35,6 +35,18 @@ module _ (quads : List ℕ) (g : ℕ) where
       go (applies h) = absurd (outside h o)
       go (starts _ x) = let z : FitsGate (code_at quads g) (start (first_at quads g)) = subst (FitsGate (code_at quads g)) x f.fits in inr (omega (arith, z.0))
 
+  -- a gate that fits and is none of the others is an operation
+  pub applies_in : Coded quads g → (code_at quads g ≡ choice_code → ⊥) → (code_at quads g ≡ 0x11 → ⊥) → (code_at quads g ≡ 0x12 → ⊥) → 2 ≤ code_at quads g → Applies
+      (code_at quads g)
+  applies_in f n w b l = go (kind_in_lem quads g)
+    where
+      go : KindIn quads g → Applies (code_at quads g)
+      go (chooses e) = absurd (n e)
+      go (is_word e) = absurd (w e)
+      go (is_bit_lem e) = absurd (b e)
+      go (applies h) = h
+      go (starts _ e) = let z : FitsGate (code_at quads g) (start (first_at quads g)) = subst (FitsGate (code_at quads g)) e f.fits in absurd (omega (arith, l, z.0))
+
   -- every code that fits is a byte
   pub coded_byte : Coded quads g → code_at quads g < 256
   coded_byte f = go (kind_in_lem quads g)

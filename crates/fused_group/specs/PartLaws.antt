@@ -1,6 +1,6 @@
 -- The parts of a joined group: guards, a pick, the operation, each written or not by the decision.
-use Rattle.std.specs.Prelude.{ℕ, suc, ◌+◌, ◌*◌, ◌≤◌, ◌≡◌, refl, Bool, true, false, cond, List, [], ◌∷◌, length, get_or}
-use Rattle.std.proofs.Common.{sym, ap, ap₂, ◌∙◌, append-nil, arith}
+use Rattle.std.specs.Prelude.{ℕ, suc, ◌+◌, ◌*◌, ◌≤◌, ◌≡◌, refl, Bool, true, false, cond, ◌||◌, List, [], ◌∷◌, length, get_or}
+use Rattle.std.proofs.Common.{sym, ap, ap₂, ◌∙◌, true≢false, append-nil, arith}
 use Rattle.base.specs.Buffers.{over}
 use Rattle.base.specs.BufferLaws.{over_nil}
 use Rattle.base.specs.CodeLaws.{byte_back}
@@ -13,7 +13,7 @@ use Rattle.file.specs.CircuitFile.{wires_bytes, record_bytes, records_bytes}
 use Rattle.file.specs.SizeLaws.{wires_size, pick_size, size_one}
 use Rattle.fused_gate.specs.Emitted.{Written}
 use Rattle.fused_group.specs.Joined.{guards_in, pairs_in}
-use Rattle.fused_group.specs.Decisions.{has_pick, kept_in, place_in, read_in, operation_in}
+use Rattle.fused_group.specs.Decisions.{has_pick, count_in, kept_in, place_in, read_in, operation_in}
 use Rattle.fused_group.specs.LoopLaws.{pairs_count}
 use Rattle.fused_group.specs.declared.Picks.{Picks}
 
@@ -26,6 +26,19 @@ cond_map f false x y = refl
 pub one_most : (b : Bool) → cond b 1 0 ≤ 1
 one_most true = omega arith
 one_most false = omega arith
+
+-- how many records: with a pick the guards, each pick and the operation, with none the operation alone
+module _ (size : ℕ) (picks : Picks) (b : Bool) (e : b ≡ has_pick picks) where
+  pub count_guarded : (x y : ℕ) → x ≡ cond picks.first 1 0 → y ≡ cond picks.second 1 0 → b ≡ true → size + x + y + 1 ≡ count_in size picks
+  count_guarded x y f g h = rw (f, g, sym e ∙ h) (omega arith)
+
+  pub count_bare : b ≡ false → 1 ≡ count_in size picks
+  count_bare h = go picks.first picks.second (sym e ∙ h)
+    where
+      go : (x y : Bool) → (x || y) ≡ false → 1 ≡ cond (x || y) size 0 + (cond x 1 0 + cond y 1 0) + 1
+      go true y z = absurd (true≢false z)
+      go false true z = absurd (true≢false z)
+      go false false z = refl
 
 -- nothing is written
 pub none_put : (R : List Record) (d : List ℕ) → R ≡ [] → Written (records_bytes written_version R) 0 d d

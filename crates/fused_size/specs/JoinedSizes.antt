@@ -155,6 +155,18 @@ place_small size picked s h (w, (b, c)) =
     let one : s.wires ≤ 1 = rw w (none_more picked 1) in
     (omega (arith, one), (omega (arith, most, h), omega (arith, two, h)))
 
+-- the bytes and the cost of a joined group are small
+pub joined_small : (sets p : List ℕ) (at : ℕ) (picks : Picks) (k x y : Size) → get_or p at 0 < 256 → GuardsSized sets p at picks k
+    → PlaceSized (get_or p at 0) picks.first x → PlaceSized (get_or p at 0) picks.second y → (k.bytes + x.bytes + y.bytes + 5 < 65536) × (k.cost + x.cost + y.cost < 65536)
+joined_small sets p at picks k x y h (kw, (kb, kc)) (xw, (xb, xc)) (yw, (yb, yc)) =
+    let most : k.bytes ≤ guards_bytes sets (group_at p at) = rw kb (none_more (has_pick picks) (guards_bytes sets (group_at p at))) in
+    let one : k.cost ≤ get_or p at 0 = rw kc (none_more (has_pick picks) (get_or p at 0)) in
+    let first : x.bytes ≤ 2 + 4 * get_or p at 0 = rw xb (none_more picks.first (2 + 4 * get_or p at 0)) in
+    let second : y.bytes ≤ 2 + 4 * get_or p at 0 = rw yb (none_more picks.second (2 + 4 * get_or p at 0)) in
+    let third : x.cost ≤ 2 * get_or p at 0 = rw xc (none_more picks.first (2 * get_or p at 0)) in
+    let fourth : y.cost ≤ 2 * get_or p at 0 = rw yc (none_more picks.second (2 * get_or p at 0)) in
+    (omega (arith, most, rested_few sets p at, length_group p at, first, second, h), omega (arith, one, third, fourth, h))
+
 -- so the sums fit
 pub sums_fit : (k x y o : Size) → Small k → Small x → Small y → Small o → Together k x × (Together (sum_of k x) y × Together (sum_of (sum_of k x) y) o)
 sums_fit k x y o (kw, (kb, kc)) (xw, (xb, xc)) (yw, (yb, yc)) (ow, (ob, oc)) = (

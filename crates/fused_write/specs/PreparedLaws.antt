@@ -76,6 +76,10 @@ module _ (s p : List ℕ) (c : Counts) (e : answer_in (Ok c) ≡ fused_answer s 
   unfolding fused_answer
   counts = rw (eq-eqb _ _ prepared_taken)
 
+  pub prepared_gates : c.gates ≡ gate_count s
+  unfolding fused_counts
+  prepared_gates = ap (λ (b : Answer). b.gates) (e ∙ counts)
+
   pub prepared_wires : c.wires ≡ length (records_of s p)
   unfolding fused_counts
   prepared_wires = ap (λ (b : Answer). b.wires) (e ∙ counts)

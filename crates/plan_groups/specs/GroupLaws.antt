@@ -1,5 +1,5 @@
 -- A pass over the groups of a plan: where it stands, one group more, its end.
-use Rattle.std.specs.Prelude.{ℕ, zero, suc, ◌+◌, ◌≤◌, ◌<◌, ◌≡◌, refl, List, Bool, true, false, eqb, length, get_or}
+use Rattle.std.specs.Prelude.{ℕ, zero, suc, ◌+◌, ◌-◌, ◌≤◌, ◌<◌, ◌≡◌, refl, List, Bool, true, false, eqb, length, get_or}
 use Rattle.std.proofs.Common.{sym, ap, ◌∙◌, inl, inr, arith, le-leb}
 use Rattle.std.proofs.lemmas.Bool.{lt-leb}
 use Rattle.base.specs.Lists.{◌∈◌}
@@ -8,6 +8,10 @@ use Rattle.plan.specs.Limits.{least_plan_bytes, most_plan_bytes}
 use Rattle.plan.specs.Rows.{every_group}
 use Rattle.plan.specs.LayoutLaws.{length_numbers}
 use Rattle.plan_groups.specs.Walks.{begins_from, begins, Readable, Lie, Ahead, ReadableGroup, Tells}
+
+-- one more than n, less one, is n
+pub pred : (n : ℕ) → suc n - 1 ≡ n
+pred n = omega arith
 
 -- loop invariant, for 23: what is left of the groups decides
 pub record Ending (p : List ℕ) (left at : ℕ) : Type 0 where
@@ -44,13 +48,18 @@ lie_here p (suc n) at w h = (w.ended.0, w.short)
 pub lie_inside : (p : List ℕ) (left at : ℕ) → Lie p left at → 0 < left → (at < length p) × (length p ≤ most_plan_bytes)
 lie_inside p left at w h = omega (arith, lie_here p left at w h)
 
-lie_step : (p : List ℕ) (rest at : ℕ) → Lie p (suc rest) at → Lie p rest (after p at)
-lie_step p rest at w = record { short = w.short; begun = omega (arith, w.begun); ended = w.ended.1 }
+lie_next : (p : List ℕ) (rest at : ℕ) → Lie p (suc rest) at → Lie p rest (after p at)
+lie_next p rest at w = record { short = w.short; begun = omega (arith, w.begun); ended = w.ended.1 }
+
+-- the same, by the count that is left
+pub lie_step : (p : List ℕ) (left at : ℕ) → Lie p left at → 0 < left → Lie p (left - 1) (after p at)
+lie_step p zero at w h = absurd (omega arith)
+lie_step p (suc n) at w h = rw (pred n) (lie_next p n at w)
 
 lie_from : (p : List ℕ) (left at : ℕ) → Lie p left at → (q : ℕ) → q ∈ begins_from left p at → after p q ≤ length p
 lie_from p zero at w q m = absurd m
 lie_from p (suc n) at w q (inl e) = rw e w.ended.0
-lie_from p (suc n) at w q (inr m) = lie_from p n (after p at) (lie_step p n at w) q m
+lie_from p (suc n) at w q (inr m) = lie_from p n (after p at) (lie_next p n at w) q m
 
 pub lie_each : (p : List ℕ) → Lie p (groups_counted p) least_plan_bytes → (at : ℕ) → at ∈ begins p → (after p at ≤ length p) × (length p ≤ most_plan_bytes)
 unfolding begins
@@ -74,7 +83,7 @@ module _ (post : ℕ → Bool → Type 0) (p : List ℕ) where
   passing_next : (rest at : ℕ) → Passing post p (suc rest) at → post at true → Passing post p rest (after p at)
   passing_next rest at w f =
       record {
-        lie = lie_step p rest at w.lie;
+        lie = lie_next p rest at w.lie;
         ahead = λ q m. w.ahead q (inr m);
         same = λ t s. w.same t s ∙ rw (sym (s at true (passing_here (suc rest) at w (omega arith)) f)) refl;
       }
@@ -116,7 +125,7 @@ pub ahead_step : (n : ℕ) (p : List ℕ) (rest at next : ℕ) → Ahead n p (su
 ahead_step n p rest at next w q =
     rw q (record {
       room = w.room;
-      lie = lie_step p rest at w.lie;
+      lie = lie_next p rest at w.lie;
       joins = w.joins.1;
       rising = w.rising.1;
       exist = w.exist.1;
