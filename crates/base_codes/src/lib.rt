@@ -10,6 +10,9 @@ use base::{Code, Form, Kind, Operation};
 // The code of a variable, for readers that test for it before they ask for the whole code.
 pub const VARIABLE: u8 = 0x10;
 
+// The code of a skip, for the same.
+pub const SKIP: u8 = 0x02;
+
 // The kind that the code of an input names, in a circuit file. No From: any byte but 01 is a word's here, and elsewhere it is none.
 pub fn start_kind(b: u8) -> Kind
     ensures { result ≡ start_kind b }

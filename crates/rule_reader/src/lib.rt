@@ -194,6 +194,11 @@ pub fn read_block(rule: Kinded, at: usize, nest: u8) -> Result<usize, Refusal>
         if s[here] == 0 {
             return Ok(here + 1);
         }
+        // A skip goes on by itself: what a statement gives comes back through memory, which takes longer than to read one.
+        if s[here] == base_codes::SKIP {
+            here += 1;
+            continue;
+        }
         here = read_statement(rule, here, nest)?;
     }
 }
