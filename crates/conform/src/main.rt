@@ -51,7 +51,7 @@ impl fmt::Display for Hex<'_> {
                 pair[1] = DIGITS[usize::from(b % 16)];
             }
             let spelled = &text[..2 * bytes.len().min(SPELLED)];
-            f.write_str(str::from_utf8(spelled).map_err(|_| fmt::Error)?)?;
+            f.write_str(std::str::from_utf8(spelled).map_err(|_| fmt::Error)?)?;
         }
         Ok(())
     }
