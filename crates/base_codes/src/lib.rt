@@ -10,12 +10,8 @@ use base::{Code, Form, Kind, Operation};
 // The code of a variable, for readers that test for it before they ask for the whole code.
 pub const VARIABLE: u8 = 0x10;
 
-// The codes of an assignment, a skip and a constant word, for the same.
-pub const ASSIGN: u8 = 0x01;
-
+// The code of a skip, for the same.
 pub const SKIP: u8 = 0x02;
-
-pub const WORD: u8 = 0x11;
 
 // The kind that the code of an input names, in a circuit file. No From: any byte but 01 is a word's here, and elsewhere it is none.
 pub fn start_kind(b: u8) -> Kind

@@ -1,7 +1,7 @@
 // Reads a rule file: any bytes are taken, or refused by a number and a place.
 #![tactic(auto)]
 
-ghost use Rattle.std.specs.Prelude.{◌≡◌, true, ℕ, ◌+◌, ◌≤◌, ◌<◌, length, IfSome};
+ghost use Rattle.std.specs.Prelude.{◌≡◌, true, ◌+◌, ◌≤◌, ◌<◌, length};
 ghost use Rattle.base.specs.Answers.{answer_of};
 ghost use Rattle.base.specs.Parsing.{step_of, Past};
 ghost use Rattle.base.specs.Refusals.{step_in};
@@ -9,7 +9,7 @@ ghost use Rattle.rule.specs.Header.{variables, read_kinds, read_header};
 ghost use Rattle.rule.specs.Expressions.{read_variable, read_word, read_bit, read_expr};
 ghost use Rattle.rule.specs.Blocks.{read_assign, read_statement, read_block};
 ghost use Rattle.rule.specs.Rule.{read_rule};
-ghost use Rattle.rule.specs.Limits.{least_rule_bytes, most_rule_bytes, most_variables, deepest};
+ghost use Rattle.rule.specs.Limits.{least_rule_bytes, most_rule_bytes, most_variables};
 
 use base::{Answer, Counts, Form, Kind, Refusal, Row};
 use rule::Kinded;
@@ -150,53 +150,10 @@ fn read_assign(rule: Kinded, at: usize) -> Result<usize, Refusal>
         return Err(Refusal(Row::NoVariable, at + 1));
     }
     let want = rule.kind_at(x);
-    read_expr(rule, at + 2, want, rule::DEEPEST)
-}
-
-// Is a constant word of the kind wanted read at `at`, at the outermost level?
-fn is_word(s: &[u8], at: usize, want: Kind) -> bool
-    ensures { result ≡ true → (at + 4 < length s.now) × (Past (at + 5) ≡ step_of (read_expr deepest s.now want at)) }
-{
-    if s.len() <= at {
-        return false;
-    }
-    if s.len() - at < 5 {
-        return false;
-    }
-    if s[at] != base_codes::WORD {
-        return false;
-    }
-    Kind::Word == want
-}
-
-// Where a short statement ends: a skip, or an assignment of a variable or of a constant word. None for any other and for one that is refused, which are read as
-// statements. What a statement gives comes back through memory, which takes longer than to read so few bytes; this does so in registers.
-fn short_statement(rule: Kinded, at: usize) -> Option<usize>
-    requires { at < length rule.bytes.now }
-    ensures { IfSome result (λ next. (nest : ℕ) → Past next ≡ step_of (read_statement rule.entry.bytes.now nest at)) }
-{
-    let s = rule.bytes;
-    if s[at] == base_codes::SKIP {
-        return Some(at + 1);
-    }
-    if s[at] != base_codes::ASSIGN {
-        return None;
-    }
-    if s.len() <= at + 1 {
-        return None;
-    }
-    let x = s[at + 1];
-    if rule.variables() <= x {
-        return None;
-    }
-    let want = rule.kind_at(x);
     if is_variable(rule, at + 2, want, rule::DEEPEST) {
-        return Some(at + 4);
+        return Ok(at + 4);
     }
-    if is_word(s, at + 2, want) {
-        return Some(at + 7);
-    }
-    None
+    read_expr(rule, at + 2, want, rule::DEEPEST)
 }
 
 // A statement, its code at `at`. `nest` is how many ifs may still nest.
@@ -237,8 +194,9 @@ pub fn read_block(rule: Kinded, at: usize, nest: u8) -> Result<usize, Refusal>
         if s[here] == 0 {
             return Ok(here + 1);
         }
-        if let Some(next) = short_statement(rule, here) {
-            here = next;
+        // A skip goes on by itself: what a statement gives comes back through memory, which takes longer than to read one.
+        if s[here] == base_codes::SKIP {
+            here += 1;
             continue;
         }
         here = read_statement(rule, here, nest)?;

@@ -2,6 +2,8 @@ use mathlib.Core.Path.{refl, sym, ap, ◌∙◌}
 use native.Mathlib.Omega.{arith}
 use Rattle.base.specs.declared.Kind.TheVariants.{Bit}
 use Rattle.base.specs.declared.Form.TheVariants as form
+use Rattle.std.proofs.Common.{◌≡◌, get_or}
+use Rattle.base.specs.Codes.{code_of}
 use Rattle.base.specs.Parsing.{step_of}
 use Rattle.base.specs.ParsingLaws.{forward_past}
 use Rattle.rule.specs.Limits.{deepest}
@@ -29,17 +31,15 @@ read_block-loop-here-preserved t c = let a = c.args in
       block_more a.rule.bytes.now a.nest l.here c.if-s-here.false c.if-s-here-eq0.false step ∙ l.invariant.1,
     )
 
-pub read_block-loop-here-smaller-in-Some : goal.read_block-loop-here-smaller-in-Some
-read_block-loop-here-smaller-in-Some t c = let a = c.args in
+-- a skip's own code: what is read there is one byte
+pub read_block-loop-here-preserved-then-s-here-eq-SKIP : goal.read_block-loop-here-preserved-then-s-here-eq-SKIP
+unfolding code_of
+read_block-loop-here-preserved-then-s-here-eq-SKIP t c = let s = c.args.rule.bytes.now in
     let l = c.loop-here in
-    omega (arith, forward_past (read_statement a.rule.bytes.now a.nest l.here) (statement_forward a.rule.bytes.now a.nest l.here) (c.in-Some.ensures a.nest))
-
-pub read_block-loop-here-preserved-in-Some : goal.read_block-loop-here-preserved-in-Some
-read_block-loop-here-preserved-in-Some t c = let a = c.args in
-    let l = c.loop-here in
-    let step = c.in-Some.ensures a.nest in (
-      omega (arith, l.invariant.0, forward_past (read_statement a.rule.bytes.now a.nest l.here) (statement_forward a.rule.bytes.now a.nest l.here) step),
-      block_more a.rule.bytes.now a.nest l.here c.if-s-here.false c.if-s-here-eq0.false step ∙ l.invariant.1,
+    let code : get_or s l.here 0 ≡ 0x02 = c.if-s-here-eq-SKIP.true in
+    let step = ap step_of (sym (statement_as s c.args.nest l.here (code_of (get_or s l.here 0)) form.Skip refl (ap (λ n. (code_of n).form) code))) in (
+      omega (arith, l.invariant.0),
+      block_more s c.args.nest l.here c.if-s-here.false c.if-s-here-eq0.false step ∙ l.invariant.1,
     )
 
 pub read_block-returns-in_err-here : goal.read_block-returns-in_err-here
