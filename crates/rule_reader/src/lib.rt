@@ -95,8 +95,7 @@ fn is_variable(rule: Kinded, at: usize, want: Kind, deep: u8) -> bool
     rule.kind_at(x) == want
 }
 
-// An expression of the kind wanted, at most `deep` levels deep. It hands on a copy of the slice: else the compiler moves the slice as
-// one piece, whose two words its callers stored apart, and each call waits for both.
+// An expression of the kind wanted, at most `deep` levels deep.
 fn read_expr(rule: Kinded, at: usize, want: Kind, deep: u8) -> Result<usize, Refusal>
     ensures { step_in result ≡ step_of (read_expr deep rule.entry.bytes.now want at) }
 {
@@ -172,9 +171,14 @@ fn read_statement(rule: Kinded, at: usize, nest: u8) -> Result<usize, Refusal>
             if nest == 0 {
                 return Err(Refusal(Row::TooDeep, at));
             }
-            let first = read_expr(rule, at + 1, Kind::Bit, rule::DEEPEST)?;
-            let second = read_block(rule, first, nest - 1)?;
-            read_block(rule, second, nest - 1)
+            // A refusal goes on in its two parts. By `?` here the compiler moves what an assignment gives in one piece, which waits until its parts are stored.
+            match read_expr(rule, at + 1, Kind::Bit, rule::DEEPEST) {
+                Ok(first) => match read_block(rule, first, nest - 1) {
+                    Ok(second) => read_block(rule, second, nest - 1),
+                    Err(Refusal(row, place)) => Err(Refusal(row, place)),
+                },
+                Err(Refusal(row, place)) => Err(Refusal(row, place)),
+            }
         }
         _ => Err(Refusal(Row::UnknownCode, at)),
     }
@@ -194,7 +198,7 @@ pub fn read_block(rule: Kinded, at: usize, nest: u8) -> Result<usize, Refusal>
         if s[here] == 0 {
             return Ok(here + 1);
         }
-        // A skip goes on by itself: what a statement gives comes back through memory, which takes longer than to read one.
+        // A skip goes on by itself: there is nothing to read but its code.
         if s[here] == base_codes::SKIP {
             here += 1;
             continue;

@@ -50,32 +50,30 @@ read_block-returns-in_err-here t c = let a = c.args in
 
 pub read_statement-read_block-requires : goal.read_statement-read_block-requires
 read_statement-read_block-requires t c = let a = c.args in
-    omega (arith, forward_past (read_expr deepest a.rule.bytes.now Bit (a.at + 1)) (expr_forward deepest a.rule.bytes.now Bit (a.at + 1)) c.in_ok-first-in-Branch.ensures)
+    omega (arith, forward_past (read_expr deepest a.rule.bytes.now Bit (a.at + 1)) (expr_forward deepest a.rule.bytes.now Bit (a.at + 1)) c.in-Ok.ensures)
 
-pub read_statement-read_block-requires-in-Branch : goal.read_statement-read_block-requires-in-Branch
-read_statement-read_block-requires-in-Branch t c = let a = c.args in
-    let first = c.in_ok-first-in-Branch.first in
+pub read_statement-read_block-requires-in-Ok-read_block : goal.read_statement-read_block-requires-in-Ok-read_block
+read_statement-read_block-requires-in-Ok-read_block t c = let a = c.args in
+    let first = c.in-Ok.first in
     omega (
       arith,
-      forward_past (read_expr deepest a.rule.bytes.now Bit (a.at + 1)) (expr_forward deepest a.rule.bytes.now Bit (a.at + 1)) c.in_ok-first-in-Branch.ensures,
-      forward_past (read_block a.rule.bytes.now (a.nest - 1) first) (block_forward a.rule.bytes.now (a.nest - 1) first) c.in_ok-second-in-Branch.ensures,
+      forward_past (read_expr deepest a.rule.bytes.now Bit (a.at + 1)) (expr_forward deepest a.rule.bytes.now Bit (a.at + 1)) c.in-Ok.ensures,
+      forward_past (read_block a.rule.bytes.now (a.nest - 1) first) (block_forward a.rule.bytes.now (a.nest - 1) first) c.in-Ok-read_block.ensures,
     )
 
-pub read_statement-returns-in_ok-second-in-Branch : goal.read_statement-returns-in_ok-second-in-Branch
-read_statement-returns-in_ok-second-in-Branch t c = let a = c.args in
+pub read_statement-returns-in-Ok-read_block : goal.read_statement-returns-in-Ok-read_block
+read_statement-returns-in-Ok-read_block t c = let a = c.args in
     branch_second a.rule.bytes.now a.nest a.at c.code_of-c.result c.code_of-c.ensures c.in-Branch.is c.if-nest-eq0.false
-    c.in_ok-first-in-Branch.ensures c.in_ok-second-in-Branch.ensures c.read_block-in-Branch.ensures
+    c.in-Ok.ensures c.in-Ok-read_block.ensures c.read_block-in-Ok-read_block.ensures
 
-pub read_statement-returns-in_err-second-in-Branch : goal.read_statement-returns-in_err-second-in-Branch
-read_statement-returns-in_err-second-in-Branch t c = let a = c.args in
-    passed _ _ c.from_residual-in_err-second-in-Branch.ensures.1
-    (branch_first a.rule.bytes.now a.nest a.at c.code_of-c.result c.code_of-c.ensures c.in-Branch.is c.if-nest-eq0.false
-    c.in_ok-first-in-Branch.ensures c.in_err-second-in-Branch.ensures)
+pub read_statement-returns-in-Err-read_block : goal.read_statement-returns-in-Err-read_block
+read_statement-returns-in-Err-read_block t c = let a = c.args in
+    branch_first a.rule.bytes.now a.nest a.at c.code_of-c.result c.code_of-c.ensures c.in-Branch.is c.if-nest-eq0.false
+    c.in-Ok.ensures c.in-Err-read_block.ensures
 
-pub read_statement-returns-in_err-first-in-Branch : goal.read_statement-returns-in_err-first-in-Branch
-read_statement-returns-in_err-first-in-Branch t c = let a = c.args in
-    passed _ _ c.from_residual.ensures.1
-    (branch_refused a.rule.bytes.now a.nest a.at c.code_of-c.result c.code_of-c.ensures c.in-Branch.is c.if-nest-eq0.false c.in_err-first-in-Branch.ensures)
+pub read_statement-returns-in-Err : goal.read_statement-returns-in-Err
+read_statement-returns-in-Err t c = let a = c.args in
+    branch_refused a.rule.bytes.now a.nest a.at c.code_of-c.result c.code_of-c.ensures c.in-Branch.is c.if-nest-eq0.false c.in-Err.ensures
 
 pub read_statement-returns-in_default : goal.read_statement-returns-in_default
 read_statement-returns-in_default t c = let a = c.args in
